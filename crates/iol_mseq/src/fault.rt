@@ -1,0 +1,40 @@
+ghost use Rattle.std.specs.Prelude.{◌≡◌};
+
+use thiserror::Error;
+
+/// Why a code, a length or octets were refused.
+#[derive(Clone, Copy, Debug, PartialEq, Eq, Error)]
+pub enum MseqFault {
+    /// 2: no layout has this M-sequence code.
+    #[error("UnsupportedCode")]
+    UnsupportedCode,
+    /// 3: a process data length is above 32 octets.
+    #[error("BadLength")]
+    BadLength,
+    /// 4: there are more or fewer octets than the layout has.
+    #[error("WrongLength")]
+    WrongLength,
+    /// 5: the M-sequence type isn't the layout's.
+    #[error("WrongType")]
+    WrongType,
+    /// 6: the six checksum bits aren't the checksum of the octets.
+    #[error("BadChecksum")]
+    BadChecksum,
+}
+
+impl MseqFault {
+    ghost use Rattle.iol_mseq.specs.Fault.{fault_number};
+
+    /// The number of the refusal.
+    pub fn code(&self) -> u8
+        ensures { result ≡ fault_number self.now }
+    {
+        match self {
+            MseqFault::UnsupportedCode => 2,
+            MseqFault::BadLength => 3,
+            MseqFault::WrongLength => 4,
+            MseqFault::WrongType => 5,
+            MseqFault::BadChecksum => 6,
+        }
+    }
+}

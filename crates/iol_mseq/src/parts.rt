@@ -1,0 +1,64 @@
+//! The buffers of messages and of their parts.
+ghost use Rattle.std.specs.Prelude.{◌≡◌, ◌+◌, ◌<◌, ◌≤◌, ◌%◌, length, slice_index, slice_set, [], ◌∷◌, ◌++◌, IsTrue};
+ghost use Rattle.arrayvec.specs.ArrayVec.{array_vec_len};
+ghost use Rattle.iol_octets.specs.Checksum.{checksum_of, has_checksum, with_checksum};
+ghost use Rattle.iol_mseq.specs.Texts.{closed_by};
+
+use arrayvec::ArrayVec;
+use iol_octets::checksum6;
+
+/// The octets of a master message, at most 66, or of a reply, at most 65.
+pub type Message = ArrayVec<u8, 66>;
+
+/// The octets of one part of a message: on-request data, or process data in or out.
+pub type Part = ArrayVec<u8, 32>;
+
+/// A part with these octets.
+pub(crate) fn part_of(octets: &[u8]) -> Part
+    requires { length octets.now ≤ 32 }
+    ensures { result.items ≡ octets.now }
+{
+    ArrayVec::try_from(octets).unwrap()
+}
+
+/// Puts a part at the end.
+pub(crate) fn append(message: &mut Message, part: &[u8])
+    requires { array_vec_len message.old + length part.now ≤ 66 }
+    ensures { message.new.items ≡ message.old.items ++ part.now }
+{
+    message.try_extend_from_slice(part).unwrap();
+}
+
+/// Puts an octet into a place.
+fn write_octet(message: &mut Message, place: usize, octet: u8)
+    requires { place < array_vec_len message.old }
+    ensures { message.new.items ≡ slice_set message.old.items place octet }
+{
+    message[place] = octet;
+}
+
+/// Puts the checksum into the octet at a place, whose low six bits are 0.
+#[tactic(auto, using(crate::proofs::Masks::or_low))]
+pub(crate) fn seal(octets: &mut Message, place: usize)
+    requires place { place < array_vec_len octets.old }
+    requires clear { slice_index octets.old.items place % 64 ≡ 0 }
+    ensures value { octets.new.items ≡ with_checksum place octets.old.items }
+    ensures small { checksum_of octets.old.items < 64 }
+    ensures sealed { IsTrue (has_checksum place octets.new.items) }
+{
+    let octet = octets[place] | checksum6(octets);
+    write_octet(octets, place, octet);
+}
+
+/// Puts the last octet of a reply at the end: these bits, and the checksum of all.
+pub(crate) fn push_sealed(octets: &mut Message, bits: u8)
+    requires room { array_vec_len octets.old < 66 }
+    requires clear { bits % 64 ≡ 0 }
+    ensures value { octets.new.items ≡ closed_by octets.old.items bits }
+    ensures small { checksum_of (octets.old.items ++ bits ∷ []) < 64 }
+    ensures sealed { IsTrue (has_checksum (array_vec_len octets.old) octets.new.items) }
+{
+    let place = octets.len();
+    octets.push(bits);
+    seal(octets, place);
+}

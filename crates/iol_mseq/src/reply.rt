@@ -1,0 +1,107 @@
+ghost use Rattle.std.specs.Prelude.{◌≡◌, Bool, ◌%◌, ◌≤◌, ◌↔◌, IsOk, IfOk, Ok};
+ghost use Rattle.std.specs.Result.{result_err, result_ok};
+ghost use Rattle.iol_octets.specs.CheckOctets.{status_bits};
+ghost use Rattle.iol_mseq.specs.Replies.{answered_od, reply_fault, reply_in, reply_of, HasReplyParts, FitsReply, SpellsReply, IsGoodReply};
+ghost use Rattle.iol_mseq.specs.Texts.{reply_text};
+ghost use Rattle.iol_mseq.specs.declared.reply.Reply.{Reply};
+
+use crate::fault::MseqFault;
+use crate::layouts::Layout;
+use crate::parts::{Message, Part, append, part_of, push_sealed};
+use iol_octets::{Cks, has_checksum6};
+
+/// What a device says in one reply.
+#[derive(Clone, Debug, PartialEq, Eq, Drop)]
+pub struct Reply {
+    /// The on-request data, to a read: as many octets as the layout has. To a write there is none.
+    pub od: Part,
+    /// The process data in: as many octets as the layout has.
+    pub input: Part,
+    /// The Event flag: the device has an event to be read.
+    pub event: bool,
+    /// PD status 1: the process data in is invalid.
+    pub invalid: bool,
+}
+
+/// Reads a reply in a layout, to a read or to a write (IEC 61131-9, A.2).
+///
+/// Octets that are well-formed there spell one reply, and that is the answer. Refusals, the first that
+/// holds: 4 WrongLength; 6 BadChecksum.
+pub fn read_reply(layout: &Layout, read: bool, octets: &[u8]) -> Result<Reply, MseqFault>
+    ensures good { IsOk result ↔ IsGoodReply layout.now read octets.now }
+    ensures refused { result_err result ≡ reply_fault layout.now read octets.now }
+    ensures spelled { IfOk result (λ r. SpellsReply layout.now read r octets.now) }
+    ensures only { (r : Reply) → SpellsReply layout.now read r octets.now → result ≡ Ok r }
+    ensures value { result_ok result ≡ reply_in layout.now read octets.now }
+{
+    match fault_of(layout, read, octets) {
+        Some(fault) => Err(fault),
+        None => Ok(spelled_by(layout, read, octets)),
+    }
+}
+
+/// Writes a reply in a layout, whose parts have the layout's sizes: to a read if there is on-request data,
+/// to a write if there is none.
+pub fn encode_reply(layout: &Layout, reply: &Reply) -> Message
+    requires { FitsReply layout.now reply.now }
+    ensures spelled { (read : Bool) → HasReplyParts layout.now read reply.now → SpellsReply layout.now read reply.now result.items }
+    ensures text { result.items ≡ reply_text reply.now }
+{
+    let mut octets = Message::new();
+    append(&mut octets, &reply.od);
+    append(&mut octets, &reply.input);
+    push_sealed(&mut octets, status_of(reply.event, reply.invalid));
+    octets
+}
+
+/// The two bits above the checksum.
+fn status_of(event: bool, invalid: bool) -> u8
+    ensures value { result ≡ status_bits event invalid }
+    ensures clear { result % 64 ≡ 0 }
+{
+    match (event, invalid) {
+        (true, true) => 0xC0,
+        (true, false) => 0x80,
+        (false, true) => 0x40,
+        (false, false) => 0,
+    }
+}
+
+/// How many octets of on-request data the reply has.
+fn answered_od(layout: &Layout, read: bool) -> usize
+    ensures value { result ≡ answered_od layout.now read }
+    ensures small { result ≤ 32 }
+{
+    if read { layout.od() as usize } else { 0 }
+}
+
+/// The first part of being well-formed that fails.
+fn fault_of(layout: &Layout, read: bool, octets: &[u8]) -> Option<MseqFault>
+    ensures { result ≡ reply_fault layout.now read octets.now }
+{
+    let place = answered_od(layout, read) + layout.pd_in() as usize;
+    if octets.len() != place + 1 {
+        return Some(MseqFault::WrongLength);
+    }
+    if !has_checksum6(octets, place) {
+        return Some(MseqFault::BadChecksum);
+    }
+    None
+}
+
+/// The reply that well-formed octets spell.
+fn spelled_by(layout: &Layout, read: bool, octets: &[u8]) -> Reply
+    requires { IsGoodReply layout.now read octets.now }
+    ensures spelled { SpellsReply layout.now read result octets.now }
+    ensures value { result ≡ reply_of layout.now read octets.now }
+{
+    let (od, rest) = octets.split_at(answered_od(layout, read));
+    let (input, check) = rest.split_at(layout.pd_in() as usize);
+    let cks = Cks::from_octet(check[0]);
+    Reply {
+        od: part_of(od),
+        input: part_of(input),
+        event: cks.event,
+        invalid: cks.invalid,
+    }
+}

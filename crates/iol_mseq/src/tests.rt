@@ -1,0 +1,160 @@
+use super::*;
+use iol_octets::Channel;
+use std::test::Fail;
+
+/// The start-up of a device, then OPERATE with eight octets of on-request data and no process data.
+const STARTUP: [(&[u8], &[u8]); 12] = [
+    (&[0xA2, 0x00], &[0x17, 0x1B]),
+    (&[0xA3, 0x11], &[0x2D, 0x28]),
+    (&[0xA4, 0x33], &[0x11, 0x28]),
+    (&[0xA5, 0x22], &[0x00, 0x2D]),
+    (&[0xA6, 0x12], &[0x00, 0x2D]),
+    (&[0xA7, 0x03], &[0x12, 0x18]),
+    (&[0xA8, 0x03], &[0x34, 0x0F]),
+    (&[0xA9, 0x12], &[0x00, 0x2D]),
+    (&[0xAA, 0x22], &[0x01, 0x3C]),
+    (&[0xAB, 0x33], &[0x07, 0x0F]),
+    (&[0x20, 0x36, 0x95], &[0x2D]),
+    (&[0x20, 0x36, 0x9A], &[0x2D]),
+];
+
+const EIGHT_OCTETS: [(&[u8], &[u8]); 13] = [
+    (&[0x21, 0x76, 0x17, 0, 0, 0, 0, 0, 0, 0], &[0x2D]),
+    (&[0x20, 0x5E, 0x99, 0, 0, 0, 0, 0, 0, 0], &[0x2D]),
+    (&[0xF1, 0x64], &[0, 0, 0, 0, 0, 0, 0, 0, 0x2D]),
+    (&[0x70, 0x5D, 0x93, 0x10, 0x83, 0, 0, 0, 0, 0], &[0x2D]),
+    (&[0xF0, 0x75], &[0x01, 0, 0, 0, 0, 0, 0, 0, 0x3C]),
+    (&[0xF0, 0x75], &[0xD4, 0x41, 0x42, 0xD7, 0, 0, 0, 0, 0x2D]),
+    (&[0xE1, 0x70], &[0, 0, 0, 0, 0, 0, 0, 0, 0x2D]),
+    (&[0xFF, 0x75], &[0, 0, 0, 0, 0, 0, 0, 0, 0x2D]),
+    (&[0xC0, 0x45], &[0x81, 0, 0, 0, 0, 0, 0, 0, 0xBC]),
+    (&[0xC1, 0x54], &[0xF4, 0, 0, 0, 0, 0, 0, 0, 0x97]),
+    (&[0xC2, 0x64], &[0x42, 0, 0, 0, 0, 0, 0, 0, 0xBC]),
+    (&[0xC3, 0x75], &[0x10, 0, 0, 0, 0, 0, 0, 0, 0x91]),
+    (&[0x40, 0x6D, 0, 0, 0, 0, 0, 0, 0, 0], &[0x2D]),
+];
+
+/// OPERATE with two octets of process data in and one out.
+const PROCESS_DATA: [(&[u8], &[u8]); 4] = [
+    (&[0xF1, 0x94, 0x00], &[0x00, 0x12, 0x34, 0x3A]),
+    (&[0xF1, 0x94, 0x00], &[0x00, 0x00, 0x00, 0x75]),
+    (&[0x20, 0xB0, 0x5A, 0x98], &[0x12, 0x34, 0x3A]),
+    (&[0x20, 0xA1, 0x5A, 0x99], &[0x12, 0x34, 0x3A]),
+];
+
+/// Reads a message and its reply, and writes both again.
+fn there_and_back(layout: &Layout, message: &[u8], reply: &[u8]) -> Result<bool, MseqFault> {
+    let spoken = read_master(layout, message)?;
+    let answered = read_reply(layout, spoken.mc.read, reply)?;
+    Ok(
+        encode_master(layout, &spoken).as_slice() == message
+            && encode_reply(layout, &answered).as_slice() == reply,
+    )
+}
+
+#[test]
+fn vectors(rt: HostRuntime) -> Result<(), Fail> {
+    for (message, reply) in STARTUP {
+        assert!(rt; there_and_back(&Layout::startup(), message, reply)?);
+    }
+    for (message, reply) in EIGHT_OCTETS {
+        assert!(rt; there_and_back(&Layout::preoperate(2)?, message, reply)?);
+        assert!(rt; there_and_back(&Layout::operate(6, 0, 0)?, message, reply)?);
+    }
+    for (message, reply) in PROCESS_DATA {
+        assert!(rt; there_and_back(&Layout::operate(0, 2, 1)?, message, reply)?);
+    }
+    Ok(())
+}
+
+#[test]
+fn masks_that_no_checksum_sees(rt: HostRuntime) {
+    for mask in [0xF0, 0x0F, 0xFF] {
+        assert!(rt; read_master(&Layout::startup(), &[0x20, 0x36, 0x95 ^ mask]).is_ok());
+        assert!(rt; read_reply(&Layout::startup(), true, &[0x17 ^ mask, 0x1B]).is_ok());
+    }
+}
+
+fn number_of<T: Drop>(answer: Result<T, MseqFault>) -> u8 {
+    match answer {
+        Ok(_) => 0,
+        Err(fault) => fault.code(),
+    }
+}
+
+#[test]
+fn refusals(rt: HostRuntime) {
+    let startup = Layout::startup();
+    for (octets, number) in [
+        ([0xA2].as_slice(), 4),
+        (&[], 4),
+        (&[0xA2, 0x00, 0x00], 4),
+        (&[0x20, 0x06], 4),
+        (&[0xA2, 0x40], 5),
+        (&[0xA2, 0xC0], 5),
+        (&[0xA2, 0x01], 6),
+        (&[0xA2, 0x00], 0),
+    ] {
+        assert_eq!(rt; number_of(read_master(&startup, octets)), number);
+    }
+    for (octets, number) in [
+        ([].as_slice(), 4),
+        (&[0x17], 4),
+        (&[0x17, 0x1A], 6),
+        (&[0x17, 0x1B], 0),
+    ] {
+        assert_eq!(rt; number_of(read_reply(&startup, true, octets)), number);
+    }
+    assert_eq!(rt; number_of(Layout::preoperate(4)), 2);
+    assert_eq!(rt; number_of(Layout::operate(1, 33, 0)), 2);
+    assert_eq!(rt; number_of(Layout::operate(0, 33, 0)), 3);
+    assert_eq!(rt; number_of(Layout::operate(0, 0, 33)), 3);
+}
+
+#[test]
+fn faults_have_names(rt: HostRuntime) -> Result<(), Fail> {
+    for (fault, number, name) in [
+        (MseqFault::UnsupportedCode, 2, "UnsupportedCode"),
+        (MseqFault::BadLength, 3, "BadLength"),
+        (MseqFault::WrongLength, 4, "WrongLength"),
+        (MseqFault::WrongType, 5, "WrongType"),
+        (MseqFault::BadChecksum, 6, "BadChecksum"),
+    ] {
+        assert_eq!(rt; fault.code(), number);
+        let text = fault.to_string(rt.alloc())?;
+        assert_eq!(rt; text.as_str(), name);
+    }
+    Ok(())
+}
+
+/// Code, process data in and out; M-sequence type and octets of on-request data.
+const LAYOUTS: [(u8, u8, u8, u8, u8); 12] = [
+    (0, 0, 0, 0, 1),
+    (4, 0, 0, 0, 1),
+    (1, 0, 0, 1, 2),
+    (5, 0, 0, 1, 2),
+    (6, 0, 0, 1, 8),
+    (7, 0, 0, 1, 32),
+    (0, 1, 0, 2, 1),
+    (4, 0, 2, 2, 1),
+    (5, 2, 1, 2, 2),
+    (6, 32, 32, 2, 8),
+    (7, 0, 1, 2, 32),
+    (0, 32, 0, 2, 1),
+];
+
+#[test]
+fn layouts(rt: HostRuntime) -> Result<(), Fail> {
+    for (code, pd_in, pd_out, kind, od) in LAYOUTS {
+        let layout = Layout::operate(code, pd_in, pd_out)?;
+        assert_eq!(rt; layout.kind(), kind);
+        assert_eq!(rt; layout.od(), od);
+        assert_eq!(rt; layout.pd_in(), pd_in);
+        assert_eq!(rt; layout.pd_out(), pd_out);
+    }
+    let message = read_master(&Layout::operate(0, 2, 1)?, &[0x20, 0xB0, 0x5A, 0x98])?;
+    assert!(rt; !message.mc.read && message.mc.channel == Channel::Page);
+    assert_eq!(rt; message.out.as_slice(), [0x5A].as_slice());
+    assert_eq!(rt; message.od.as_slice(), [0x98].as_slice());
+    Ok(())
+}

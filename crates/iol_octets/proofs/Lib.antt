@@ -1,0 +1,3 @@
+mod ControlLemmas
+mod Flips
+mod Tables

@@ -1,0 +1,21 @@
+//! The single octets of IO-Link messages, and the six-bit checksum that guards them.
+//!
+//! A master message begins with the M-sequence control octet ([`Mc`]) and the checksum / M-sequence
+//! type octet ([`Ckt`]); a reply ends with the checksum / status octet ([`Cks`]). On the ISDU channel
+//! the address of the control octet is the flow control ([`Flow`]). IEC 61131-9, A.1 and 7.3.6.
+#![tactic(auto)]
+
+mod check_octets;
+mod checksum;
+mod control;
+mod fault;
+mod flow_control;
+
+pub use check_octets::{Cks, Ckt};
+pub use checksum::{checksum6, has_checksum6, one_flip_is_seen};
+pub use control::{Channel, Mc};
+pub use fault::OctetFault;
+pub use flow_control::Flow;
+
+#[cfg(test)]
+mod tests;

@@ -1,0 +1,3 @@
+pub mod Commands
+pub mod Fault
+pub mod Page

@@ -1,0 +1,18 @@
+//! Direct parameter page 1: what a device says of itself before it is used, and the commands that a
+//! master writes there (IEC 61131-9, B.1).
+#![tactic(auto)]
+
+mod capability;
+mod fault;
+mod lengths;
+mod master_command;
+mod page;
+
+pub use capability::Capability;
+pub use fault::PageFault;
+pub use lengths::PdLength;
+pub use master_command::MasterCommand;
+pub use page::{Layouts, Page};
+
+#[cfg(test)]
+mod tests;

@@ -1,0 +1,89 @@
+ghost use Rattle.std.specs.Prelude.{◌≡◌};
+
+use crate::capability::Capability;
+use crate::fault::PageFault;
+use crate::lengths::PdLength;
+use iol_mseq::Layout;
+use std::marker::Model;
+
+const CAPABILITY: u8 = 0x03;
+
+const REVISION: u8 = 0x04;
+
+const PROCESS_DATA_IN: u8 = 0x05;
+
+const PROCESS_DATA_OUT: u8 = 0x06;
+
+/// RevisionID of V1.1.
+const VERSION_1_1: u8 = 0x11;
+
+/// The layouts that a page asks for, after STARTUP.
+#[derive(Clone, Copy, Debug, PartialEq, Eq)]
+pub struct Layouts {
+    /// That of PREOPERATE.
+    pub pre: Layout,
+    /// That of OPERATE.
+    pub run: Layout,
+}
+
+/// The octets of direct parameter page 1 that a device fills: addresses 0x02 to 0x0B (IEC 61131-9, B.1.1).
+#[derive(Clone, Copy, Debug, PartialEq, Eq)]
+pub struct Page {
+    octets: [u8; 10],
+}
+
+impl Model for Page {
+    ghost use Rattle.std.specs.Prelude.{List, ℕ};
+
+    ghost Value = { List ℕ };
+
+    ghost view = { λ p. p.octets };
+
+    ghost inverse = { λ octets. record { octets = octets } };
+}
+
+impl Page {
+    ghost use Rattle.iol_page.specs.Page.{layouts_of, page_octet};
+
+    /// The page with these octets, that of address 0x02 first.
+    pub fn from_octets(octets: &[u8; 10]) -> Page
+        ensures { result ≡ octets.now }
+    {
+        Page { octets: *octets }
+    }
+
+    /// The octet at an address. What lies outside 0x02 to 0x0B reads as 0 (profile).
+    pub fn octet(&self, address: u8) -> u8
+        ensures { result ≡ page_octet self.now address }
+    {
+        match address {
+            0x02..=0x0B => self.octets[address as usize - 2],
+            _ => 0,
+        }
+    }
+
+    /// The layouts that the page asks for.
+    ///
+    /// Refusals, the first that holds: 8 Revision, the RevisionID isn't 0x11; 20 NoIsdu; 7 BadPdLength,
+    /// of ProcessDataIn, then of ProcessDataOut; 2 UnsupportedCode.
+    pub fn layouts(&self) -> Result<Layouts, PageFault>
+        ensures { result ≡ layouts_of self.now }
+    {
+        let revision = self.octet(REVISION);
+        if revision != VERSION_1_1 {
+            return Err(PageFault::Revision(revision));
+        }
+        let capability = Capability::from_octet(self.octet(CAPABILITY));
+        if !capability.isdu {
+            return Err(PageFault::NoIsdu);
+        }
+        let pd_in = PdLength::from_octet(self.octet(PROCESS_DATA_IN))?;
+        let pd_out = PdLength::from_octet(self.octet(PROCESS_DATA_OUT))?;
+        let pre = Layout::preoperate(capability.pre);
+        let run = Layout::operate(capability.run, pd_in.0, pd_out.0);
+        match (pre, run) {
+            (Ok(pre), Ok(run)) => Ok(Layouts { pre, run }),
+            _ => Err(PageFault::UnsupportedCode),
+        }
+    }
+}
