@@ -1,0 +1,112 @@
+ghost use Rattle.std.specs.Prelude.{◌≡◌, ◌/◌, slice_index, IfOk, IfSome, Ok, is_some, length};
+ghost use Rattle.std.specs.Result.{result_err};
+ghost use Rattle.iol_isdu.specs.Frame.{text_at, isdu_fault, total_of};
+ghost use Rattle.iol_isdu.specs.Answers.{BeginsWithAnswer, IsAnswerBody, IsAnswerText, AnswersKind, answer_accepts, answer_fault, answers_read, is_read};
+ghost use Rattle.iol_isdu.specs.Texts.{answer_text};
+ghost use Rattle.iol_isdu.specs.declared.values.Answer.{Answer};
+
+use crate::fault::IsduFault;
+use crate::frame::{frame_of, framed, xor_of};
+use crate::service::Service;
+use crate::values::{Answer, Octets, Request, Text};
+
+/// The text of the answer to this request (IEC 61131-9, A.5).
+///
+/// Only a read is answered by `Read`, and only a write by `Written`.
+pub fn encode_answer(request: &Request, answer: &Answer) -> Text
+    requires { AnswersKind (is_read request.now) answer.now }
+    ensures spells { IsAnswerText (is_read request.now) answer.now result.items }
+    ensures text { result.items ≡ answer_text (is_read request.now) answer.now }
+{
+    text_to(request, answer)
+}
+
+fn text_to(request: &Request, answer: &Answer) -> Text
+    requires { AnswersKind (is_read request.now) answer.now }
+    ensures { IsAnswerText (is_read request.now) answer.now result.items }
+{
+    match (answer, request) {
+        (Answer::Read(octets), _) => framed(Service::ReadDone, octets, &[]),
+        (Answer::Written, _) => framed(Service::WriteDone, &[], &[]),
+        (Answer::Refused(error, additional), Request::Read(_)) => {
+            framed(Service::ReadRefused, &[*error, *additional], &[])
+        }
+        (Answer::Refused(error, additional), Request::Write(_, _)) => {
+            framed(Service::WriteRefused, &[*error, *additional], &[])
+        }
+    }
+}
+
+/// The answer to this request whose text the octets begin with; what stands behind the text is
+/// ignored (IEC 61131-9, A.5).
+///
+/// The first of these that holds refuses:
+/// - 10 `Truncated`: no octet;
+/// - 11 `BadIsduLength`: the low four bits of the first octet are 0;
+/// - 10 `Truncated`: they are 1, and there is no ExtLength;
+/// - 11 `BadIsduLength`: they are 1, and ExtLength is not 17 to 238;
+/// - 10 `Truncated`: fewer octets than the total length;
+/// - 12 `BadService`: the service is no answer's, or its texts don't have this total length;
+/// - 13 `BadChkpdu`: the XOR of all octets of the text is not 0;
+/// - 14 `WrongAnswerKind`: it answers a write and the request is a read, or the other way round.
+pub fn read_answer(request: &Request, octets: &[u8]) -> Result<Answer, IsduFault>
+    ensures refused { result_err result ≡ answer_fault (is_read request.now) octets.now }
+    ensures found { IfOk result (BeginsWithAnswer (is_read request.now) octets.now) }
+    ensures only { (a : Answer) → BeginsWithAnswer (is_read request.now) octets.now a → result ≡ Ok a }
+{
+    answer_to(is_read(request), octets)
+}
+
+fn is_read(request: &Request) -> bool
+    ensures { result ≡ is_read request.now }
+{
+    matches!(request, Request::Read(_))
+}
+
+/// The answer to a read or to a write whose text the octets begin with.
+fn answer_to(read: bool, octets: &[u8]) -> Result<Answer, IsduFault>
+    ensures refused { result_err result ≡ answer_fault read octets.now }
+    ensures found { IfOk result (λ a. IsAnswerText read a (text_at octets.now)) }
+{
+    let (to_read, answer) = framed_answer(octets)?;
+    if to_read != read {
+        return Err(IsduFault::WrongAnswerKind);
+    }
+    Ok(answer)
+}
+
+/// Whether the octets begin with an answer to a read, and that answer.
+fn framed_answer(octets: &[u8]) -> Result<(bool, Answer), IsduFault>
+    ensures refused { result_err result ≡ isdu_fault answer_accepts octets.now }
+    ensures kind { IfOk result (λ a. a.0 ≡ answers_read (slice_index octets.now 0 / 16)) }
+    ensures found { IfOk result (λ a. IsAnswerText a.0 a.1 (text_at octets.now)) }
+{
+    let frame = frame_of(octets)?;
+    let Some(answer) = answer_in(frame.service, frame.body) else {
+        return Err(IsduFault::BadService);
+    };
+    if xor_of(frame.text) != 0 {
+        return Err(IsduFault::BadChkpdu);
+    }
+    Ok(answer)
+}
+
+/// The answer of a service and the octets between its first octets and its CHKPDU, and whether
+/// it is to a read.
+fn answer_in(service: u8, body: &[u8]) -> Option<(bool, Answer)>
+    ensures accepted { is_some result ≡ answer_accepts service (total_of (length body.now)) }
+    ensures kind { IfSome result (λ a. a.0 ≡ answers_read service) }
+    ensures found { IfSome result (λ a. IsAnswerBody a.0 a.1 service body.now) }
+{
+    match (Service::from_bits(service)?, body) {
+        (Service::WriteRefused, [error, additional]) => {
+            Some((false, Answer::Refused(*error, *additional)))
+        }
+        (Service::WriteDone, []) => Some((false, Answer::Written)),
+        (Service::ReadRefused, [error, additional]) => {
+            Some((true, Answer::Refused(*error, *additional)))
+        }
+        (Service::ReadDone, octets) => Some((true, Answer::Read(Octets::try_from(octets).ok()?))),
+        _ => None,
+    }
+}

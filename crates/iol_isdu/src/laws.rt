@@ -1,0 +1,21 @@
+ghost use Rattle.iol_isdu.specs.Laws.{OneRequestInFront, OneAnswerInFront, OneShortText, OneAnswerText, RequestHoldsLength, AnswerHoldsLength, EachTextIsFound};
+
+/// A text, whatever octets follow it, is the only text that they begin with.
+///
+/// A law of the definitions; it does nothing when it runs.
+pub fn one_text_in_front()
+    ensures request { OneRequestInFront }
+    ensures answer { OneAnswerInFront }
+{}
+
+/// The text that is sent for a request, and the text of an answer, as functions.
+///
+/// Each is the one text there is, holds its own length, and is found again in front of any octets.
+/// A law of the definitions; it does nothing when it runs.
+pub fn one_text_each()
+    ensures request { OneShortText }
+    ensures answer { OneAnswerText }
+    ensures request_length { RequestHoldsLength }
+    ensures answer_length { AnswerHoldsLength }
+    ensures found { EachTextIsFound }
+{}

@@ -1,0 +1,24 @@
+//! Requests and answers of the ISDU channel of IO-Link, and their texts (IEC 61131-9, A.5 and 7.3.6).
+//!
+//! An ISDU is the text that carries one request of the master to a parameter of the device, or
+//! the device's answer to it. Both are read and written here as whole texts; how a text is cut
+//! into messages is no concern of this crate. Nothing allocates.
+#![tactic(auto)]
+
+mod answers;
+mod fault;
+mod frame;
+mod laws;
+mod requests;
+mod service;
+mod values;
+
+pub use answers::{encode_answer, read_answer};
+pub use fault::IsduFault;
+pub use frame::total_of;
+pub use laws::{one_text_each, one_text_in_front};
+pub use requests::{encode_request, read_request};
+pub use values::{Answer, Cause, Octets, Place, Request, Text};
+
+#[cfg(test)]
+mod tests;

@@ -1,0 +1,123 @@
+ghost use Rattle.std.specs.Prelude.{◌≡◌, ◌+◌, ◌++◌, ◌∷◌, [], IfOk, IfSome, Ok, is_some, nat_le, length};
+ghost use Rattle.std.specs.Result.{result_err, result_ok};
+ghost use Rattle.iol_isdu.specs.Frame.{text_at, isdu_fault, total_of};
+ghost use Rattle.iol_isdu.specs.Requests.{WideIndexSub, Holds, index_part, BeginsWithRequest, IsRequestBody, IsRequestText, IsShortText, request_accepts};
+ghost use Rattle.iol_isdu.specs.Texts.{request_text};
+ghost use Rattle.iol_isdu.specs.Parse.{request_of};
+ghost use Rattle.iol_isdu.specs.declared.values.Request.{Request};
+
+use crate::fault::IsduFault;
+use crate::frame::{frame_of, framed, xor_of};
+use crate::service::{Form, Service};
+use crate::values::{Octets, Place, Request, Text};
+
+/// The text that the master sends for a request, in the shortest form that says its place
+/// (IEC 61131-9, A.5).
+pub fn encode_request(request: &Request) -> Text
+    ensures short { IsShortText request.now result.items }
+    ensures text { result.items ≡ request_text request.now }
+{
+    short_text(request)
+}
+
+fn short_text(request: &Request) -> Text
+    ensures { IsShortText request.now result.items }
+{
+    match request {
+        Request::Read(place) => {
+            let form = Form::shortest(place);
+            framed(Service::Read(form), &form.index_part(place), &[])
+        }
+        Request::Write(place, octets) => {
+            let form = Form::shortest(place);
+            framed(Service::Write(form), &form.index_part(place), octets)
+        }
+    }
+}
+
+/// The request whose text the octets begin with; what stands behind the text is ignored
+/// (IEC 61131-9, A.5).
+///
+/// A place is taken in each form that says it, also in one that isn't the shortest (profile).
+/// The first of these that holds refuses:
+/// - 10 `Truncated`: no octet;
+/// - 11 `BadIsduLength`: the low four bits of the first octet are 0;
+/// - 10 `Truncated`: they are 1, and there is no ExtLength;
+/// - 11 `BadIsduLength`: they are 1, and ExtLength is not 17 to 238;
+/// - 10 `Truncated`: fewer octets than the total length;
+/// - 12 `BadService`: the service is no request's, or its texts don't have this total length;
+/// - 13 `BadChkpdu`: the XOR of all octets of the text is not 0.
+pub fn read_request(octets: &[u8]) -> Result<Request, IsduFault>
+    ensures refused { result_err result ≡ isdu_fault request_accepts octets.now }
+    ensures found { IfOk result (BeginsWithRequest octets.now) }
+    ensures only { (r : Request) → BeginsWithRequest octets.now r → result ≡ Ok r }
+    ensures value { result_ok result ≡ request_of octets.now }
+{
+    framed_request(octets)
+}
+
+/// The request of the frame that the octets begin with.
+fn framed_request(octets: &[u8]) -> Result<Request, IsduFault>
+    ensures refused { result_err result ≡ isdu_fault request_accepts octets.now }
+    ensures found { IfOk result (λ r. IsRequestText r (text_at octets.now)) }
+{
+    let frame = frame_of(octets)?;
+    let Some(request) = request_in(frame.service, frame.body) else {
+        return Err(IsduFault::BadService);
+    };
+    if xor_of(frame.text) != 0 {
+        return Err(IsduFault::BadChkpdu);
+    }
+    Ok(request)
+}
+
+/// The request of a service and the octets between its first octets and its CHKPDU.
+fn request_in(service: u8, body: &[u8]) -> Option<Request>
+    ensures accepted { is_some result ≡ request_accepts service (total_of (length body.now)) }
+    ensures found { IfSome result (λ r. IsRequestBody r service body.now) }
+{
+    match (Service::from_bits(service)?, body) {
+        (Service::Write(Form::Index), [index, octets @ ..]) => write_of(narrow(*index, 0), octets),
+        (Service::Write(Form::IndexSub), [index, sub, octets @ ..]) => {
+            write_of(narrow(*index, *sub), octets)
+        }
+        (Service::Write(Form::WideIndexSub), [high, low, sub, octets @ ..]) => {
+            write_of(wide([*high, *low], *sub), octets)
+        }
+        (Service::Read(Form::Index), [index]) => Some(Request::Read(narrow(*index, 0))),
+        (Service::Read(Form::IndexSub), [index, sub]) => Some(Request::Read(narrow(*index, *sub))),
+        (Service::Read(Form::WideIndexSub), [high, low, sub]) => {
+            Some(Request::Read(wide([*high, *low], *sub)))
+        }
+        _ => None,
+    }
+}
+
+/// The place of an 8-bit index.
+fn narrow(index: u8, sub: u8) -> Place
+    ensures { result ≡ record { index = index; sub = sub } }
+{
+    Place {
+        index: u16::from(index),
+        sub,
+    }
+}
+
+/// The place of a 16-bit index, whose high octet comes first.
+fn wide(index: [u8; 2], sub: u8) -> Place
+    ensures holds { Holds WideIndexSub result }
+    ensures says { index_part WideIndexSub result ≡ index ++ sub ∷ [] }
+{
+    Place {
+        index: u16::from_be_bytes(index),
+        sub,
+    }
+}
+
+fn write_of(place: Place, octets: &[u8]) -> Option<Request>
+    ensures fits { is_some result ≡ nat_le (length octets.now) 232 }
+    ensures value { IfSome result (λ r. r ≡ Request.Write place (record { items = octets.now })) }
+{
+    let octets = Octets::try_from(octets).ok()?;
+    Some(Request::Write(place, octets))
+}

@@ -1,0 +1,78 @@
+ghost use Rattle.std.specs.Prelude.{◌≡◌, ◌<◌, ◌↔◌, IsErrOf, IfOk, length};
+
+use crate::fault::IsduFault;
+use arrayvec::ArrayVec;
+
+/// The octets of a parameter: at most 232, so that they fit into one ISDU
+/// beside the longest form of a place (IEC 61131-9, A.5).
+pub type Octets = ArrayVec<u8, 232>;
+
+/// The text of an ISDU, from its first octet to its CHKPDU: 2 to 238 octets
+/// (IEC 61131-9, A.5).
+pub type Text = ArrayVec<u8, 238>;
+
+/// Where a parameter lies in the device (IEC 61131-9, A.5).
+#[derive(Clone, Copy, Debug, PartialEq, Eq)]
+pub struct Place {
+    /// The index of the parameter, 0 to 65,535.
+    pub index: u16,
+    /// The subindex, a part of the parameter; 0 is the whole of it.
+    pub sub: u8,
+}
+
+/// What the master asks of the device by one ISDU (IEC 61131-9, A.5).
+#[derive(Clone, Debug, PartialEq, Eq, Drop)]
+pub enum Request {
+    /// Read the parameter at this place.
+    Read(Place),
+    /// Write these octets to the parameter at this place.
+    Write(Place, Octets),
+}
+
+/// What the device answers to one request (IEC 61131-9, A.5).
+#[derive(Clone, Debug, PartialEq, Eq, Drop)]
+pub enum Answer {
+    /// Read response (+): the octets of the parameter that was read.
+    Read(Octets),
+    /// Write response (+): the octets were written.
+    Written,
+    /// Read or write response (-): ErrorCode and AdditionalCode, in this order.
+    Refused(u8, u8),
+}
+
+/// Why the master cut off a request that it had begun (profile).
+///
+/// Whether the device has carried the request out is not known then.
+#[derive(Clone, Copy, Debug, PartialEq, Eq)]
+pub enum Cause {
+    /// The device no longer replied.
+    LinkLost,
+    /// The master was told to start the link again.
+    Restarted,
+    /// The device was busy for as many replies as the master allows.
+    BusyTooLong,
+    /// The device sent no text of an answer.
+    Protocol,
+}
+
+impl Request {
+    ghost use Rattle.iol_isdu.specs.declared.values.Request.{Request};
+
+    /// A read of the parameter at this place.
+    pub fn read(place: Place) -> Request
+        ensures { result ≡ Request.Read place }
+    {
+        Request::Read(place)
+    }
+
+    /// A write of these octets to the parameter at this place.
+    ///
+    /// Refused with 9 `DataTooLong` where there are more than 232.
+    pub fn write(place: Place, octets: &[u8]) -> Result<Request, IsduFault>
+        ensures long { IsErrOf result IsduFault.DataTooLong ↔ (232 < length octets.now) }
+        ensures value { IfOk result (λ request. request ≡ Request.Write place (record { items = octets.now })) }
+    {
+        let octets = Octets::try_from(octets).map_err(|_| IsduFault::DataTooLong)?;
+        Ok(Request::Write(place, octets))
+    }
+}
