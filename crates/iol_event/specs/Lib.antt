@@ -1,0 +1,4 @@
+pub mod Memory
+pub mod Reading
+pub mod Faults
+pub mod Laws
