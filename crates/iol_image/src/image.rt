@@ -1,0 +1,51 @@
+ghost use Rattle.std.specs.Prelude.{◌≡◌, ◌↔◌, ℕ, List, IfOk, IsOk, IfErr};
+ghost use Rattle.iol_image.specs.Image.{IsImage};
+ghost use Rattle.iol_image.specs.declared.fault.ImageFault.TheVariants.{WrongImageLength};
+
+use crate::fault::ImageFault;
+use arrayvec::ArrayVec;
+use std::marker::Model;
+
+/// Process data of one direction, whole: 1 to 32 octets, as the lengths on direct parameter page 1 allow (B.1).
+///
+/// A clause sees the list of the octets in the order of the wire. No valid process data is no image:
+/// where that is possible there is an `Option<Image>`.
+#[derive(Clone, Debug, Drop, PartialEq, Eq)]
+pub struct Image {
+    octets: ArrayVec<u8, 32>,
+}
+
+impl Model for Image {
+    ghost Value = { List ℕ };
+
+    ghost view = { λ image. image.octets.items };
+
+    ghost invariant = { λ image. IsImage image.octets.items };
+
+    ghost inverse = { λ octets. record { octets = record { items = octets } } };
+}
+
+impl Image {
+    /// The image of these octets.
+    ///
+    /// 29 WrongImageLength: there is no octet, or there are more than 32.
+    pub fn new(octets: &[u8]) -> Result<Image, ImageFault>
+        ensures octets { IfOk result (λ image. image ≡ octets.now) }
+        ensures length { IsOk result ↔ IsImage octets.now }
+        ensures fault { IfErr result (λ fault. fault ≡ WrongImageLength) }
+    {
+        let mut image = ArrayVec::new();
+        if octets.is_empty() || image.try_extend_from_slice(octets).is_err() {
+            return Err(ImageFault::WrongImageLength);
+        }
+        Ok(Image { octets: image })
+    }
+
+    /// Its octets, 1 to 32.
+    pub fn octets(&self) -> &[u8]
+        ensures octets { result.now ≡ self.now }
+        ensures length { IsImage result.now }
+    {
+        self.octets.as_slice()
+    }
+}
