@@ -1,0 +1,4 @@
+pub mod ReplayLemmas
+pub mod QueueLemmas
+pub mod NumberLemmas
+pub mod TakingLemmas

@@ -1,0 +1,157 @@
+-- What callers see of a book, and what its calls answer and leave.
+use Rattle.std.specs.Prelude.{◌≡◌, ℕ, ◌+◌, ◌*◌, ◌^◌, ◌≤◌, Bool, true, false, ◌||◌, ◌&&◌, not, List, [], ◌∷◌, ◌++◌, Option, None, Some, Result, Ok, Err, is_some, is_ok, length, nat_eq, nat_lt, nat_le, if◌then◌else◌, slice_get, drop}
+use Rattle.std.specs.Option.{option_map, option_map_or}
+use Rattle.std.specs.Map.{lookup}
+use Rattle.iol_isdu.specs.declared.values.Request.{Request}
+use Rattle.iol_isdu.specs.declared.values.Cause.TheVariants.{LinkLost, Restarted, BusyTooLong, Protocol}
+use Rattle.iol_book.specs.declared.entries.Ticket.{Ticket}
+use Rattle.iol_book.specs.declared.entries.Limits.{Limits}
+use Rattle.iol_book.specs.declared.entries.Outcome.{Outcome}
+use Rattle.iol_book.specs.declared.entries.Outcome.TheVariants.{Done, Unknown, Withdrawn}
+use Rattle.iol_book.specs.declared.entries.Entry.{Entry}
+use Rattle.iol_book.specs.declared.entries.Entry.TheVariants.{Submitted, Taken, Answered, Withdrawn as WithdrawnEntry, Collected}
+use Rattle.iol_book.specs.declared.fault.BookFault.{BookFault}
+use Rattle.iol_book.specs.declared.fault.BookFault.TheVariants.{Full, JournalFull, TicketsSpent, OutOfMemory, UnknownTicket, NotYet, TakenAlready}
+use Rattle.iol_book.specs.Replay.{Standing, nothing, step, replay, same_ticket}
+
+pub record BookState : Type 0 where
+  -- the entries since the book was opened or last archived
+  pub journal : List Entry
+  -- the last ticket given
+  pub last : ℕ
+  -- which requests wait, which one is taken, which tickets have an outcome
+  pub standing : Standing
+  -- whether a request that was cut off may still be carried out
+  pub unsure : Bool
+  -- the most entries that the journal may have
+  pub limit : ℕ
+
+pub record BookValue : Type 0 where
+  pub state : BookState
+  -- for how many submits the memory is there already: where it is 0, the next one asks for more
+  pub room : ℕ
+
+-- the journal alone says where every ticket stands
+abbrev pub IsReplayed : BookState → Type 0
+IsReplayed book = book.standing ≡ replay book.journal
+
+-- what a book may be opened with
+abbrev pub AreLimits : Limits → Type 0
+AreLimits limits = (4 ≤ limits.journal) × (limits.journal ≤ 1000000) × (2 ≤ limits.busy)
+
+-- an empty book
+abbrev pub opened : Limits → BookState
+opened limits = record { journal = []; last = limits.given; standing = nothing; unsure = false; limit = limits.journal }
+
+-- the book after one more entry
+abbrev pub entered : BookState → Entry → BookState
+entered book entry = record book { journal = book.journal ++ entry ∷ []; standing = step book.standing entry }
+
+abbrev pub entered_if : BookState → Option Entry → BookState
+entered_if book None = book
+entered_if book (Some entry) = entered book entry
+
+-- how many requests are taken: one or none
+abbrev pub taken_count : Standing → ℕ
+taken_count standing = if is_some standing.taken then 1 else 0
+
+-- how many tickets are outstanding
+abbrev pub outstanding : Standing → ℕ
+outstanding standing = length standing.waiting + taken_count standing + length standing.outcomes
+
+-- the entries that the outstanding tickets will still get: taken, answered and collected, or withdrawn and collected
+abbrev pub owed : Standing → ℕ
+owed standing = 3 * length standing.waiting + 2 * taken_count standing + length standing.outcomes
+
+-- the first reason why a request can't be submitted, where it can't
+abbrev pub submit_refusal : BookState → Option BookFault
+submit_refusal book =
+    if nat_le 64 (outstanding book.standing) then Some Full
+    else if nat_lt book.limit (length book.journal + owed book.standing + 4) then Some JournalFull
+    else if nat_eq (book.last + 1) (2 ^ 64) then Some TicketsSpent
+    else None
+
+-- the ticket of the next submit
+abbrev pub next_ticket : BookState → Ticket
+next_ticket book = record { 0 = book.last + 1 }
+
+-- the book after it, where the request waits behind the others
+abbrev pub submitted : BookState → Request → BookState
+submitted book request = record (entered book (Submitted (next_ticket book) request)) { last = book.last + 1 }
+
+-- a submit that is refused says the first of its reasons that holds, or that a growth was refused
+abbrev pub RefusesFor : Option BookFault → BookFault → ℕ → Type 0
+RefusesFor (Some why) fault room = fault ≡ why
+RefusesFor None fault room = (fault ≡ OutOfMemory) × (room ≡ 0)
+
+-- the request that is taken next
+abbrev pub next_taken : Standing → Option (Ticket × Request)
+next_taken standing = if is_some standing.taken then None else slice_get standing.waiting 0
+
+-- the book after that request is taken
+abbrev pub took : BookState → Ticket × Request → BookState
+took book taken = record book {
+  journal = book.journal ++ Taken taken.0 ∷ [];
+  standing = record book.standing { waiting = drop 1 book.standing.waiting; taken = Some taken };
+}
+
+-- whether the request may still be carried out, though it has its outcome
+abbrev pub leaves_unsure : Outcome → Bool
+leaves_unsure (Done answer) = false
+leaves_unsure (Unknown LinkLost) = true
+leaves_unsure (Unknown Restarted) = true
+leaves_unsure (Unknown BusyTooLong) = false
+leaves_unsure (Unknown Protocol) = false
+leaves_unsure Withdrawn = false
+
+-- the book after the request that is taken has this outcome
+abbrev pub posted : BookState → Outcome → BookState
+posted book outcome =
+    record (entered_if book (option_map (λ taken. Answered taken.0 outcome) book.standing.taken)) {
+      unsure = book.unsure || leaves_unsure outcome;
+    }
+
+-- whether the request of a ticket waits
+abbrev pub waits : Standing → Ticket → Bool
+waits standing ticket = is_some (lookup (same_ticket ticket) standing.waiting)
+
+-- whether it is the one that is taken
+abbrev pub is_taken : Standing → Ticket → Bool
+is_taken standing ticket = option_map_or (λ taken. same_ticket ticket taken.0) standing.taken false
+
+-- the outcome, or this refusal where there is none
+abbrev pub outcome_or : Option Outcome → BookFault → Result Outcome BookFault
+outcome_or None fault = Err fault
+outcome_or (Some outcome) fault = Ok outcome
+
+-- what a collect answers: the outcome of the ticket, or why there is none
+abbrev pub collect_answer : Standing → Ticket → Result Outcome BookFault
+collect_answer standing ticket = outcome_or (lookup (same_ticket ticket) standing.outcomes)
+    (if waits standing ticket || is_taken standing ticket then NotYet else UnknownTicket)
+
+-- the book after a collect
+abbrev pub collected : BookState → Ticket → BookState
+collected book ticket = if is_ok (collect_answer book.standing ticket) then entered book (Collected ticket) else book
+
+-- why a ticket can't be withdrawn, where it can't
+abbrev pub withdraw_refusal : Standing → Ticket → Option BookFault
+withdraw_refusal standing ticket =
+    if waits standing ticket then None
+    else if is_taken standing ticket || is_some (lookup (same_ticket ticket) standing.outcomes) then Some TakenAlready
+    else Some UnknownTicket
+
+-- the book after a withdraw
+abbrev pub withdrawn : BookState → Ticket → BookState
+withdrawn book ticket = if is_some (withdraw_refusal book.standing ticket) then book else entered book (WithdrawnEntry ticket)
+
+-- the book after a wake of the device
+abbrev pub reset : BookState → BookState
+reset book = record book { unsure = false }
+
+-- whether nothing is outstanding, and no request that was cut off may still be carried out
+abbrev pub may_archive : BookState → Bool
+may_archive book = nat_eq (outstanding book.standing) 0 && not book.unsure
+
+-- the book after an archive
+abbrev pub archived : BookState → BookState
+archived book = if may_archive book then record book { journal = [] } else book

@@ -1,0 +1,52 @@
+ghost use Rattle.std.specs.Prelude.{◌≡◌};
+
+use thiserror::Error;
+
+/// Why a book refuses a call.
+#[derive(Clone, Copy, Debug, PartialEq, Eq, Error)]
+pub enum BookFault {
+    /// 21: 64 tickets are outstanding.
+    #[error("Full")]
+    Full,
+    /// 22: the journal has no room for the entries of one more request.
+    #[error("JournalFull")]
+    JournalFull,
+    /// 23: the last ticket was 2^64 - 1.
+    #[error("TicketsSpent")]
+    TicketsSpent,
+    /// 24: a request for memory was refused.
+    #[error("OutOfMemory")]
+    OutOfMemory,
+    /// 25: no such ticket is outstanding.
+    #[error("UnknownTicket")]
+    UnknownTicket,
+    /// 26: the ticket has no outcome yet.
+    #[error("NotYet")]
+    NotYet,
+    /// 27: the request no longer waits.
+    #[error("TakenAlready")]
+    TakenAlready,
+    /// 28: a ticket is outstanding, or the device may still carry out a request that was cut off.
+    #[error("Outstanding")]
+    Outstanding,
+}
+
+impl BookFault {
+    ghost use Rattle.iol_book.specs.Faults.{fault_number};
+
+    /// Its number among the refusals.
+    pub fn code(&self) -> u8
+        ensures { result ≡ fault_number self.now }
+    {
+        match self {
+            BookFault::Full => 21,
+            BookFault::JournalFull => 22,
+            BookFault::TicketsSpent => 23,
+            BookFault::OutOfMemory => 24,
+            BookFault::UnknownTicket => 25,
+            BookFault::NotYet => 26,
+            BookFault::TakenAlready => 27,
+            BookFault::Outstanding => 28,
+        }
+    }
+}
