@@ -1,0 +1,80 @@
+-- A text joined from its segments (IEC 61131-9, 7.3.6).
+use Rattle.std.specs.Prelude.{ℕ, ◌+◌, ◌%◌, Bool, true, false, not, ◌&&◌, ◌==◌, nat_le, if◌then◌else◌, List, [], ◌++◌, length, take, Option, Some, None, Result, Ok, Err}
+use Rattle.iol_octets.specs.declared.flow_control.Flow.{Flow}
+use Rattle.iol_octets.specs.declared.flow_control.Flow.TheVariants.{Start, Count}
+use Rattle.iol_isdu.specs.declared.fault.IsduFault.{IsduFault}
+use Rattle.iol_isdu.specs.declared.fault.IsduFault.TheVariants as isdu
+use Rattle.iol_isdu.specs.Frame.{total_at}
+use Rattle.iol_segment.specs.declared.took.Took.{Took}
+use Rattle.iol_segment.specs.declared.took.Took.TheVariants.{Repeat, More, Whole}
+use Rattle.iol_segment.specs.declared.took.JoinFault.{JoinFault}
+use Rattle.iol_segment.specs.declared.took.JoinFault.TheVariants.{WrongCount, BadIsduLength}
+
+-- what joined octets are: too few yet, a text with octets behind it or none, or of a total length that no text has
+pub data Stage : Type 0 where
+  Open : Stage
+  Complete : List ℕ → Stage
+  Wrong : Stage
+
+-- octets with the total length that they begin with
+abbrev pub stage_by : Result ℕ IsduFault → List ℕ → Stage
+stage_by (Err isdu.Truncated) octets = Open
+stage_by (Err any) octets = Wrong
+stage_by (Ok n) octets = if nat_le n (length octets) then Complete (take n octets) else Open
+
+abbrev pub stage : List ℕ → Stage
+stage octets = stage_by (total_at octets) octets
+
+-- there are as many octets as that length
+abbrev pub is_whole_by : Result ℕ IsduFault → List ℕ → Bool
+is_whole_by (Err fault) text = false
+is_whole_by (Ok n) text = nat_le n (length text)
+
+-- the text is as long as it says
+abbrev pub is_whole : List ℕ → Bool
+is_whole text = is_whole_by (total_at text) text
+
+-- What a contract sees of a joiner: what it joins, whether START was taken, the last COUNT behind it, the text so far
+pub record Joining : Type 0 where
+  pub requests : Bool
+  pub started : Bool
+  pub count : Option ℕ
+  pub text : List ℕ
+
+-- nothing was taken
+abbrev pub empty : Bool → Joining
+empty requests = record { requests = requests; started = false; count = None; text = [] }
+
+-- the answer to a segment, and the joiner after it
+pub record Taken : Type 0 where
+  pub took : Result Took JoinFault
+  pub joining : Joining
+
+-- a segment was taken under START, or under a COUNT, and the octets are these
+abbrev pub staged : Bool → Option ℕ → List ℕ → Stage → Taken
+staged requests count octets Open = record { took = Ok More; joining = record { requests = requests; started = true; count = count; text = octets } }
+staged requests count octets (Complete text) = record { took = Ok Whole; joining = record { requests = requests; started = true; count = count; text = text } }
+staged requests count octets Wrong = record { took = Err BadIsduLength; joining = empty requests }
+
+-- 1 behind START, 0 behind 15
+abbrev pub next_count : Option ℕ → ℕ
+next_count None = 1
+next_count (Some c) = (c + 1) % 16
+
+-- the COUNT was the last one taken; right behind START there is none
+abbrev pub is_last : Option ℕ → ℕ → Bool
+is_last None c = false
+is_last (Some d) c = d == c
+
+-- a COUNT once START was taken: the same again, the next, or a wrong one
+abbrev pub counted : Joining → ℕ → List ℕ → Taken
+counted j c octets =
+    if is_last j.count c then record { took = Ok Repeat; joining = j } else
+    if (c == next_count j.count) && not (is_whole j.text) then staged j.requests (Some c) (j.text ++ octets) (stage (j.text ++ octets)) else
+    record { took = Err WrongCount; joining = empty j.requests }
+
+-- a segment under its flow
+abbrev pub taken : Joining → Flow → List ℕ → Taken
+taken j Start octets = staged j.requests None octets (stage octets)
+taken j (Count c) octets = if j.started then counted j c octets else record { took = Err WrongCount; joining = empty j.requests }
+taken j any octets = record { took = Err WrongCount; joining = empty j.requests }

@@ -1,0 +1,7 @@
+pub mod Fault
+pub mod Cut
+pub mod Join
+pub mod Parts
+pub mod SourceLaws
+pub mod TextLaws
+pub mod JoinLaws

@@ -1,0 +1,193 @@
+ghost use Rattle.std.specs.Prelude.{◌≡◌, ◌≤◌, ◌<◌, ◌+◌, ◌++◌, true, false, None, Some, Ok, Err, IfOk, IfSome, IsTrue, List, ℕ, length};
+ghost use Rattle.std.specs.Result.{result_err, result_ok};
+ghost use Rattle.iol_isdu.specs.declared.values.Request.{Request};
+ghost use Rattle.iol_isdu.specs.declared.values.Answer.{Answer};
+ghost use Rattle.iol_isdu.specs.Frame.{isdu_fault};
+ghost use Rattle.iol_isdu.specs.Requests.{BeginsWithRequest, request_accepts};
+ghost use Rattle.iol_isdu.specs.Answers.{BeginsWithAnswer, answer_fault, is_read};
+ghost use Rattle.iol_isdu.specs.Parse.{request_of};
+ghost use Rattle.iol_segment.specs.Join.{Joining, empty, taken, counted, staged, stage, is_whole, next_count};
+ghost use Rattle.iol_segment.specs.declared.took.Took.TheVariants.{Whole};
+ghost use Rattle.iol_segment.specs.declared.took.JoinFault.TheVariants.{WrongCount};
+
+use crate::parts::Parts;
+use crate::took::{JoinFault, Took};
+use iol_isdu::{Answer, IsduFault, Request};
+use iol_octets::Flow;
+use std::marker::Model;
+
+/// The text of a request or of an answer, joined from its segments (IEC 61131-9, 7.3.6).
+///
+/// Contracts see what it joins, whether START was taken, the last COUNT taken behind it, and the text
+/// so far. The data of the text are kept where the value has them, so they are not copied.
+#[derive(Drop)]
+pub struct Joiner {
+    started: bool,
+    /// The last COUNT taken, none right behind START.
+    count: Option<u8>,
+    parts: Parts,
+}
+
+impl Model for Joiner {
+    ghost use Rattle.std.specs.Prelude.{◌<◌, IfSome};
+    ghost use Rattle.iol_segment.specs.Join.{Joining};
+    ghost use Rattle.iol_segment.specs.Parts.{IsParted, text_of};
+
+    ghost Value = { Joining };
+
+    ghost view = { λ j. record { requests = j.parts.requests; started = j.started; count = j.count; text = text_of j.parts } };
+
+    ghost invariant = { λ j. IsParted j.parts.requests j.parts × IfSome j.count (λ c. c < 16) };
+}
+
+impl Joiner {
+    /// An empty joiner of requests.
+    pub fn requests() -> Joiner
+        ensures { result ≡ empty true }
+    {
+        Joiner::empty(true)
+    }
+
+    /// An empty joiner of answers.
+    pub fn answers() -> Joiner
+        ensures { result ≡ empty false }
+    {
+        Joiner::empty(false)
+    }
+
+    /// Takes a segment under its flow (IEC 61131-9, 7.3.6).
+    ///
+    /// START empties the joiner and takes the segment. The COUNT taken last is a repeat, and is not
+    /// taken again; right behind START there is none. The next COUNT, 1 behind START and 0 behind 15,
+    /// is taken while the text is not whole. The segment may have any number of octets; those behind
+    /// the text are ignored (profile).
+    ///
+    /// Either refusal leaves the joiner empty, so that only START is taken then (profile):
+    /// - 15 `WrongCount`: any other flow;
+    /// - 11 `BadIsduLength`: the octets so far hold a total length that no text has.
+    pub fn take(&mut self, flow: Flow, octets: &[u8]) -> Result<Took, JoinFault>
+        ensures took { result ≡ (taken self.old flow octets.now).took }
+        ensures joining { self.new ≡ (taken self.old flow octets.now).joining }
+        ensures kind { self.new.requests ≡ self.old.requests }
+        ensures whole { result ≡ Ok Whole → IsTrue (is_whole self.new.text) }
+    {
+        match flow {
+            Flow::Start => {
+                *self = Joiner::empty(self.parts.requests);
+                self.add(None, octets)
+            }
+            Flow::Count(count) if self.started => self.take_count(count, octets),
+            _ => self.refuse(),
+        }
+    }
+
+    /// Whether the text is whole: it has as many octets as it says.
+    pub fn is_whole(&self) -> bool
+        ensures { result ≡ is_whole self.now.text }
+    {
+        self.parts.is_whole()
+    }
+
+    /// The request whose text was taken, as `iol_isdu::read_request` reads it. A refusal gives the joiner
+    /// up all the same.
+    ///
+    /// The text is whole, as [`take`](Joiner::take) has answered. The first of these that holds refuses:
+    /// - 12 `BadService`: the service is no request's, or its texts don't have this total length;
+    /// - 13 `BadChkpdu`: the XOR of all octets of the text is not 0.
+    pub fn into_request(self) -> Result<Request, IsduFault>
+        requires kind { self.requests ≡ true }
+        requires whole { is_whole self.text ≡ true }
+        ensures refused { result_err result ≡ isdu_fault request_accepts self.text }
+        ensures found { IfOk result (BeginsWithRequest self.text) }
+        ensures only { (r : Request) → BeginsWithRequest self.text r → result ≡ Ok r }
+        ensures value { result_ok result ≡ request_of self.text }
+    {
+        self.parts.into_request()
+    }
+
+    /// The answer to this request whose text was taken, as `iol_isdu::read_answer` reads it. A refusal
+    /// gives the joiner up all the same.
+    ///
+    /// The text is whole, as [`take`](Joiner::take) has answered. The first of these that holds refuses:
+    /// - 12 `BadService`: the service is no answer's, or its texts don't have this total length;
+    /// - 13 `BadChkpdu`: the XOR of all octets of the text is not 0;
+    /// - 14 `WrongAnswerKind`: it answers a write and the request is a read, or the other way round.
+    pub fn into_answer(self, request: &Request) -> Result<Answer, IsduFault>
+        requires kind { self.requests ≡ false }
+        requires whole { is_whole self.text ≡ true }
+        ensures refused { result_err result ≡ answer_fault (is_read request.now) self.text }
+        ensures found { IfOk result (BeginsWithAnswer (is_read request.now) self.text) }
+        ensures only { (a : Answer) → BeginsWithAnswer (is_read request.now) self.text a → result ≡ Ok a }
+    {
+        self.parts.into_answer(is_read(request))
+    }
+
+    fn empty(requests: bool) -> Joiner
+        ensures { result ≡ empty requests }
+    {
+        Joiner {
+            started: false,
+            count: None,
+            parts: Parts::new(requests),
+        }
+    }
+
+    fn refuse(&mut self) -> Result<Took, JoinFault>
+        ensures took { result ≡ Err WrongCount }
+        ensures joining { self.new ≡ empty self.old.requests }
+    {
+        *self = Joiner::empty(self.parts.requests);
+        Err(JoinFault::WrongCount)
+    }
+
+    /// Takes a segment under COUNT.
+    fn take_count(&mut self, count: u8, octets: &[u8]) -> Result<Took, JoinFault>
+        ensures took { result ≡ (counted self.old count octets.now).took }
+        ensures joining { self.new ≡ (counted self.old count octets.now).joining }
+        ensures kind { self.new.requests ≡ self.old.requests }
+        ensures whole { result ≡ Ok Whole → IsTrue (is_whole self.new.text) }
+    {
+        if self.count == Some(count) {
+            return Ok(Took::Repeat);
+        }
+        if count == self.next_count() && !self.parts.is_whole() {
+            self.add(Some(count), octets)
+        } else {
+            self.refuse()
+        }
+    }
+
+    fn next_count(&self) -> u8
+        ensures value { result ≡ next_count self.now.count }
+        ensures small { result < 16 }
+    {
+        match self.count {
+            None => 1,
+            Some(count) => (count + 1) % 16,
+        }
+    }
+
+    /// Takes the next segment, the COUNT of which is kept.
+    fn add(&mut self, count: Option<u8>, octets: &[u8]) -> Result<Took, JoinFault>
+        requires count { IfSome count (λ c. c < 16) }
+        requires room { is_whole self.old.text ≡ false }
+        ensures took { result ≡ (staged self.old.requests count (self.old.text ++ octets.now) (stage (self.old.text ++ octets.now))).took }
+        ensures joining { self.new ≡ (staged self.old.requests count (self.old.text ++ octets.now) (stage (self.old.text ++ octets.now))).joining }
+        ensures kind { self.new.requests ≡ self.old.requests }
+        ensures whole { result ≡ Ok Whole → IsTrue (is_whole self.new.text) }
+    {
+        self.started = true;
+        self.count = count;
+        let took = self.parts.grow(octets);
+        if took.is_err() {
+            *self = Joiner::empty(self.parts.requests);
+        }
+        took
+    }
+}
+
+fn is_read(request: &Request) -> bool
+    ensures { result ≡ is_read request.now }
+{
+    matches!(request, Request::Read(_))
+}

@@ -1,0 +1,44 @@
+ghost use Rattle.std.specs.Prelude.{◌≤◌, ℕ};
+ghost use Rattle.iol_segment.specs.Cut.{CutIsPairs};
+ghost use Rattle.iol_segment.specs.JoinLaws.{JoinLaws};
+ghost use Rattle.iol_segment.specs.SourceLaws.{IsRequestSource, IsReactionSource};
+ghost use Rattle.iol_segment.specs.TextLaws.{TextLaws};
+
+use crate::source::{Reaction, Source};
+use iol_isdu::{Request, one_text_each};
+
+/// A law of the definitions, without code: what the octets of the two sources are.
+///
+/// Followed by their XOR they are the text that `iol_isdu` writes for the request, or for the answer.
+pub fn sources_are_texts()
+    ensures request { IsRequestSource ⟦<Request as Source>⟧.octets }
+    ensures reaction { IsReactionSource ⟦<Reaction as Source>⟧.octets }
+{
+    one_text_each();
+}
+
+/// A law of the definitions, without code: what a [`Cutter`](crate::Cutter) gives, one pair after the
+/// other and then none, is the cut of its text.
+pub fn cut_is_whole()
+    ensures { (size : ℕ) → 1 ≤ size → CutIsPairs size }
+{}
+
+/// A law of the definitions, without code: what the segments of a text say once they are joined.
+///
+/// A text that holds its own length isn't whole before its last segment, and is whole with it. Each
+/// request's and answer's text holds its own length. No answer's begins with 00 or with 01, which
+/// the device sends where it has no answer, or none yet.
+pub fn texts_join()
+    ensures { (size : ℕ) → 1 ≤ size → TextLaws size }
+{
+    one_text_each();
+}
+
+/// A law of the definitions, without code: what a [`Joiner`](crate::Joiner) says of the segments of a
+/// text that holds its own length, each given one or more times running.
+///
+/// It answers `Whole` at the first giving of the last, and `More` or `Repeat` before. It then holds
+/// the text, without the octets that fill the last segment.
+pub fn segments_join()
+    ensures { (size : ℕ) → 1 ≤ size → JoinLaws size }
+{}

@@ -1,0 +1,19 @@
+-- How the program ends.
+use Rattle.std.specs.Prelude.{◌≡◌, ◌≢◌, ℕ}
+use Rattle.clap.specs.Values.{kind_of}
+use Rattle.clap.specs.declared.error.Error.{Error}
+use Rattle.clap.specs.declared.error.ErrorKind.TheVariants as kind
+use Rattle.iolink.specs.declared.fault.ProgramFault.TheVariants as fault
+use Rattle.iolink.specs.declared.ending.Ending.{Ending}
+use Rattle.iolink.specs.declared.ending.Ending.TheVariants.{Failed, Refused, NoText}
+
+-- the exit status: 1 where the command failed, 2 where the command line is refused
+abbrev pub status_of : Ending → ℕ
+status_of (Failed e) = 1
+status_of (Refused error) = 2
+status_of NoText = 2
+
+-- a command line that is refused ends the program, but for want of memory
+pub record EndsBy (error : Error) (ending : Ending) : Type 0 where
+  pub memory : kind_of error ≡ kind.OutOfMemory → ending ≡ Failed fault.OutOfMemory
+  pub refused : kind_of error ≢ kind.OutOfMemory → ending ≡ Refused error

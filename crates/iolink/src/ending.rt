@@ -1,0 +1,65 @@
+//! How the program ends where a command isn't carried out: its status, and its text on standard error.
+ghost use Rattle.std.specs.Prelude.{◌≡◌};
+
+use crate::fault::ProgramFault;
+use clap::Error;
+use clap::error::ErrorKind;
+use std::fmt;
+
+/// Why the program ends with a status other than 0.
+#[derive(Debug, Drop)]
+pub(crate) enum Ending {
+    /// The command failed.
+    Failed(ProgramFault),
+    /// The command line is refused, or asks for help.
+    Refused(Error),
+    /// A word of the command line is no text.
+    NoText,
+}
+
+impl Ending {
+    ghost use Rattle.iolink.specs.Ending.{status_of};
+
+    /// The exit status.
+    pub(crate) fn status(&self) -> u8
+        ensures { result ≡ status_of self.now }
+    {
+        match self {
+            Ending::Failed(_) => 1,
+            Ending::Refused(_) | Ending::NoText => 2,
+        }
+    }
+}
+
+impl fmt::Display for Ending {
+    fn fmt<W: fmt::Write>(&self, f: &mut fmt::Formatter<W>) -> fmt::Result {
+        match self {
+            Ending::Failed(fault) => writeln!(f, "iolink: {fault}"),
+            Ending::Refused(error) => write!(f, "{error}"),
+            Ending::NoText => writeln!(f, "error: an argument is no text"),
+        }
+    }
+}
+
+impl From<ProgramFault> for Ending {
+    ghost use Rattle.iolink.specs.declared.ending.Ending.TheVariants.{Failed};
+
+    ghost from_gives = { λ fault ending. ending ≡ Failed fault };
+
+    fn from(fault: ProgramFault) -> Ending {
+        Ending::Failed(fault)
+    }
+}
+
+impl From<Error> for Ending {
+    ghost use Rattle.iolink.specs.Ending.{EndsBy};
+
+    ghost from_gives = { EndsBy };
+
+    fn from(error: Error) -> Ending {
+        match error.kind() {
+            ErrorKind::OutOfMemory => Ending::Failed(ProgramFault::OutOfMemory),
+            _ => Ending::Refused(error),
+        }
+    }
+}
