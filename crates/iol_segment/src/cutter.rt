@@ -84,6 +84,15 @@ impl<S: Source + Drop> Cutter<S> {
         Some((flow_of(number), piece.segment))
     }
 
+    /// Begins again: the next segment is the first.
+    pub fn restart(&mut self)
+        ensures { self.new ≡ record self.old { given = 0 } }
+    {
+        self.given = 0;
+        self.sum = 0;
+        self.sum_before = 0;
+    }
+
     /// The source whose text is cut.
     pub fn source(&self) -> &S
         ensures { result.now ≡ self.now.source }

@@ -1,0 +1,12 @@
+mod Flows
+mod Pages
+mod Sending
+mod Segments
+mod Replies
+mod Messages
+mod Once
+mod Standing
+mod Levels
+mod Sized
+mod Eventful
+mod LawProofs

@@ -1,0 +1,10 @@
+pub mod Isdu
+pub mod Codec
+pub mod Far
+pub mod Local
+pub mod Faults
+pub mod Device
+pub mod Inside
+pub mod Level
+pub mod SegmentLaws
+pub mod Laws

@@ -1,0 +1,390 @@
+//! What a device is without its application.
+ghost use Rattle.std.specs.Prelude.{◌≡◌, ℕ, ◌+◌, ◌-◌, ◌<◌, ◌≤◌, ◌↔◌, ◌∷◌, ◌==◌, replicate, length, slice_index, List, Option, Some, None, MatchOption, IsTrue, IsErr, IfErr, OnErr, option_copied, IfOk, bytes_eq, option_map, IfNone, OnSome, false, is_some, IsOk, unwrap_or, [], if◌then◌else◌};
+
+use crate::app::{App, Carried};
+use crate::commands::{Mode, Waiting, command_in, is_confirm, mode_asked};
+use crate::data::{
+    copy_of, first, first_of_zeros, flow_of, image_of, message_in, message_of, octets_of, part_of,
+    size_of, zeros,
+};
+use crate::fault::DeviceFault;
+use crate::isdu::IsduSide;
+use iol_event::{Event, EventMemory};
+use iol_image::Image;
+use iol_mseq::{Layout, MasterMsg, Message, Part, Reply};
+use iol_octets::{Channel, Mc};
+use iol_page::{Layouts, MasterCommand, Page};
+use std::alloc::{AllocError, Allocator, Global};
+use std::marker::Model;
+
+/// The far end of the line.
+#[derive(Drop)]
+pub(crate) struct FarEnd<A: Allocator + Copy = Global> {
+    awake: bool,
+    mode: Mode,
+    waits: Option<Waiting>,
+    isdu: IsduSide,
+    events: EventMemory,
+    input: Option<Image>,
+    out: Option<Image>,
+    valid: bool,
+    page: Page,
+    layouts: Layouts,
+    /// The octet of page address 0x01.
+    cycle_time: u8,
+    carried: Vec<Carried, A>,
+    room: u32,
+}
+
+impl<A: Allocator + Copy> Model for FarEnd<A> {
+    ghost use Rattle.std.specs.Prelude.{◌≤◌, [], option_map, unwrap_or, vec_capacity};
+    ghost use Rattle.iol_device.specs.Far.{Far};
+    ghost use Rattle.iol_device.specs.Inside.{IsSound};
+
+    ghost Value = { Far };
+
+    ghost view = { λ d. record {
+      awake = d.awake;
+      mode = d.mode;
+      waits = option_map (λ w. record { into = w.into; octets = w.octets.items }) d.waits;
+      isdu = d.isdu.state;
+      events = d.events;
+      input = d.input;
+      out = unwrap_or d.out [];
+      valid = d.valid;
+      page = d.page;
+      cycle_time = d.cycle_time;
+      carried = d.carried.items;
+      room = d.room;
+    } };
+
+    ghost invariant = { λ d. IsSound d.page d.mode d.layouts.pre d.layouts.run d.isdu.size d.input d.out
+        × (d.room ≤ vec_capacity d.carried) };
+}
+
+impl<A: Allocator + Copy> FarEnd<A> {
+    ghost use Rattle.iol_mseq.specs.Shape.{IsLayout};
+    ghost use Rattle.iol_page.specs.Page.{layouts_of};
+    ghost use Rattle.iol_event.specs.Memory.{is_full};
+    ghost use Rattle.iol_device.specs.Codec.{layout_in, flow_of};
+    ghost use Rattle.iol_device.specs.Far as far;
+    ghost use Rattle.iol_device.specs.Far.{layout_of, moved};
+    ghost use Rattle.iol_device.specs.Isdu.{handed};
+    ghost use Rattle.iol_device.specs.Local.{local, woken, can_carry, is_input, LocalStep, IsCarriedOut};
+    ghost use Rattle.iol_device.specs.Inside.{new_mode};
+    ghost use Rattle.iol_device.specs.Device.{octets_in};
+    ghost use Rattle.iol_device.specs.Laws.{IsSized};
+    ghost use Rattle.iol_device.specs.declared.fault.DeviceFault.{DeviceFault};
+
+    /// Asleep, as a device is delivered.
+    pub fn open(alloc: A, page: Page, room: u32) -> Result<FarEnd<A>, AllocError>
+        requires page { IsOk (layouts_of page) }
+        ensures { IfOk result (λ d. d ≡ far.opened page room) }
+    {
+        let layouts = page.layouts().unwrap();
+        Ok(FarEnd {
+            awake: false,
+            mode: Mode::Startup,
+            waits: None,
+            isdu: IsduSide::new(size_of(&Layout::startup())),
+            events: EventMemory::new(),
+            input: None,
+            out: None,
+            valid: false,
+            page,
+            layouts,
+            cycle_time: 0,
+            carried: Vec::with_capacity(alloc, room as usize)?,
+            room,
+        })
+    }
+
+    /// The layout of a mode.
+    fn layout_in(&self, mode: Mode) -> Layout
+        ensures { result ≡ layout_in self.now.page mode }
+    {
+        match mode {
+            Mode::Startup => Layout::startup(),
+            Mode::Preoperate => self.layouts.pre,
+            Mode::Operate => self.layouts.run,
+        }
+    }
+
+    /// The mode into which the octets would take it.
+    fn new_mode(&self, octets: &[u8]) -> Option<Mode>
+        ensures { result ≡ new_mode self.now.waits octets.now }
+    {
+        match &self.waits {
+            Some(command) if octets != command.octets.as_slice() => Some(command.into),
+            _ => None,
+        }
+    }
+
+    /// Takes the layout of a mode.
+    fn move_into(&mut self, mode: Mode)
+        ensures { self.new ≡ moved self.old mode }
+    {
+        let layout = self.layout_in(mode);
+        self.mode = mode;
+        self.waits = None;
+        self.isdu = IsduSide::new(size_of(&layout));
+        self.valid = false;
+    }
+
+    /// The message that the octets are, once it is in the layout in which it accepts them.
+    fn accept(&mut self, octets: &[u8]) -> Option<MasterMsg>
+        ensures length { OnSome result (length octets.now ≤ 66) }
+        ensures accepts { far.accepted self.old octets.now ≡ option_map (λ m. (self.new, m)) result }
+        ensures none { IfNone result (self.new ≡ self.old) }
+    {
+        if !self.awake {
+            return None;
+        }
+        match self.new_mode(octets) {
+            None => message_in(&self.layout_in(self.mode), octets),
+            Some(into) => {
+                let message = message_in(&self.layout_in(into), octets)?;
+                self.move_into(into);
+                Some(message)
+            }
+        }
+    }
+
+    /// What the far end does on hearing these octets.
+    pub fn hear(&mut self, octets: &[u8]) -> Option<Message>
+        ensures far { self.new ≡ (far.hear self.old octets.now).far }
+        ensures reply { octets_in result ≡ (far.hear self.old octets.now).reply }
+        ensures answers { is_some result ≡ is_some (far.accepted self.old octets.now) }
+        ensures silent { IfNone result (self.new ≡ self.old) }
+    {
+        let message = self.accept(octets)?;
+        self.work_message(octets, &message);
+        Some(self.reply(&message))
+    }
+
+    fn work_message(&mut self, octets: &[u8], message: &MasterMsg)
+        requires { length octets.now ≤ 66 }
+        ensures { self.new ≡ far.worked self.old octets.now message.now }
+    {
+        self.work_command(octets, command_in(message));
+        self.work_isdu(message);
+        self.work_events(message.mc);
+        self.work_output(&message.out);
+        self.work_cycle_time(message);
+    }
+
+    fn work_command(&mut self, octets: &[u8], command: Option<MasterCommand>)
+        requires { length octets.now ≤ 66 }
+        ensures { self.new ≡ record self.old {
+          waits = far.waits_after self.old.mode self.old.waits octets.now (far.mode_asked command);
+          valid = far.valid_after self.old.mode self.old.valid command;
+        } }
+    {
+        if let Some(into) = mode_asked(command)
+            && into != self.mode
+        {
+            self.waits = Some(Waiting {
+                into,
+                octets: message_of(octets),
+            });
+        }
+        if self.mode == Mode::Operate {
+            match command {
+                Some(MasterCommand::ProcessDataOutputOperate) => self.valid = true,
+                Some(MasterCommand::DeviceOperate) => self.valid = false,
+                _ => {}
+            }
+        }
+    }
+
+    fn work_isdu(&mut self, message: &MasterMsg)
+        ensures { self.new ≡ record self.old {
+          isdu = far.isdu_after (layout_of self.old).od self.old.isdu
+              message.now.mc.channel message.now.mc.read (flow_of message.now.mc.address) message.now.od.items;
+        } }
+    {
+        if message.mc.channel == Channel::Isdu {
+            let flow = flow_of(message.mc);
+            if message.mc.read {
+                self.isdu.read(flow);
+            } else {
+                self.isdu.write(flow, message.od.as_slice());
+            }
+        }
+    }
+
+    fn work_events(&mut self, mc: Mc)
+        ensures { self.new ≡ record self.old { events = far.events_after self.old.events (far.is_confirm mc.channel mc.read mc.address) } }
+    {
+        if is_confirm(mc) {
+            self.events.confirm();
+        } else {
+            self.events.other_heard();
+        }
+    }
+
+    fn work_output(&mut self, out: &Part)
+        ensures { self.new ≡ record self.old { out = far.out_after self.old.mode self.old.out out.now.items } }
+    {
+        if self.mode == Mode::Operate {
+            self.out = image_of(out);
+        }
+    }
+
+    fn work_cycle_time(&mut self, message: &MasterMsg)
+        ensures { self.new ≡ record self.old {
+          cycle_time = far.cycle_time_after self.old.cycle_time
+              message.now.mc.channel message.now.mc.read message.now.mc.address (slice_index message.now.od.items 0);
+        } }
+    {
+        let mc = message.mc;
+        if mc.channel == Channel::Page && !mc.read && mc.address == 1 {
+            self.cycle_time = first(&message.od);
+        }
+    }
+
+    /// The reply, read off the far end as it is after the message.
+    fn reply(&self, message: &MasterMsg) -> Message
+        ensures { Some result.items ≡ (far.replied self.now message.now).reply }
+    {
+        let layout = self.layout_in(self.mode);
+        let od = if message.mc.read {
+            self.data(message.mc.channel, message.mc.address)
+        } else {
+            Part::new()
+        };
+        let reply = Reply {
+            od,
+            input: self.input_part(),
+            event: self.events.flag(),
+            invalid: layout.pd_in() != 0 && self.input.is_none(),
+        };
+        octets_of(&layout, &reply)
+    }
+
+    /// The on-request data of the reply to a read.
+    fn data(&self, channel: Channel, address: u8) -> Part
+        ensures value { result.items ≡ far.data_of self.now (layout_of self.now).od channel address }
+        ensures size { length result.items ≡ (layout_of self.now).od }
+    {
+        let size = size_of(&self.layout_in(self.mode));
+        match channel {
+            Channel::Process => zeros(size),
+            Channel::Page => first_of_zeros(size, self.page_octet(address)),
+            Channel::Diagnosis => first_of_zeros(size, self.events.octet(address)),
+            Channel::Isdu => self.isdu.data(),
+        }
+    }
+
+    /// The octet at a page address.
+    fn page_octet(&self, address: u8) -> u8
+        ensures { result ≡ far.page_octet self.now address }
+    {
+        if address == 1 {
+            self.cycle_time
+        } else {
+            self.page.octet(address)
+        }
+    }
+
+    /// The process data in.
+    fn input_part(&self) -> Part
+        ensures value { result.items ≡ far.input_of self.now (layout_of self.now).pd_in }
+        ensures size { length result.items ≡ (layout_of self.now).pd_in }
+    {
+        let size = self.layout_in(self.mode).pd_in();
+        match &self.input {
+            Some(image) if size != 0 => part_of(image.octets()),
+            _ => zeros(size),
+        }
+    }
+
+    /// A handed request is carried out, where the record has room.
+    pub fn work<P: App>(&mut self, app: &mut P)
+        ensures carried { IsCarriedOut (handed self.old.isdu) self.old self.new }
+        ensures idle { can_carry self.old ≡ false → app.new ≡ app.old }
+    {
+        if self.carried.len() >= self.room as usize {
+            return;
+        }
+        if let Some(carried) = self.isdu.carry_out(app) {
+            self.carried.push_reserved(carried);
+        }
+    }
+
+    /// An event is raised.
+    pub fn raise(&mut self, event: Event) -> Result<(), DeviceFault>
+        ensures far { self.new ≡ local self.old (LocalStep.Raise event) }
+        ensures full { IsErr result ↔ IsTrue (is_full self.old.events) }
+        ensures refused { IfErr result (λ e. e ≡ DeviceFault.MemoryFull) }
+        ensures unchanged { OnErr result (self.new ≡ self.old) }
+    {
+        self.events
+            .raise(event)
+            .map_err(|_| DeviceFault::MemoryFull)
+    }
+
+    /// Whether an image can be the input.
+    fn is_input(&self, image: &Image) -> bool
+        ensures { result ≡ is_input self.now image.now }
+    {
+        image.octets().len() == self.layouts.run.pd_in() as usize
+    }
+
+    /// The process data in.
+    #[tactic(auto, using(crate::proofs::Pages::input_sized))]
+    pub fn set_input(&mut self, image: &Image) -> Result<(), DeviceFault>
+        ensures far { self.new ≡ local self.old (LocalStep.Input image.now) }
+        ensures fits { IsOk result ↔ IsTrue (is_input self.old image.now) }
+        ensures refused { IfErr result (λ e. e ≡ DeviceFault.WrongImageLength) }
+        ensures unchanged { OnErr result (self.new ≡ self.old) }
+    {
+        if !self.is_input(image) {
+            return Err(DeviceFault::WrongImageLength);
+        }
+        self.input = Some(copy_of(image));
+        Ok(())
+    }
+
+    /// No process data in.
+    pub fn clear_input(&mut self)
+        ensures { self.new ≡ local self.old LocalStep.NoInput }
+    {
+        self.input = None;
+    }
+
+    /// The power fails and comes back.
+    pub fn power_cycle(&mut self)
+        ensures { self.new ≡ local self.old LocalStep.Power }
+    {
+        self.awake = false;
+        self.isdu.clear();
+        self.events.clear();
+        self.input = None;
+        self.valid = false;
+    }
+
+    /// A wake-up request came.
+    pub fn wake(&mut self)
+        ensures { self.new ≡ woken self.old }
+    {
+        self.move_into(Mode::Startup);
+        self.awake = true;
+        self.events.other_heard();
+    }
+
+    /// The record.
+    pub fn carried(&self) -> &[Carried]
+        ensures value { result.now ≡ self.now.carried }
+        ensures sized { IsSized self.now }
+    {
+        self.carried.as_slice()
+    }
+
+    /// The process data out, only while it is valid.
+    pub fn output(&self) -> Option<&Image>
+        ensures { option_copied result ≡ far.output_of self.now }
+    {
+        if self.valid { self.out.as_ref() } else { None }
+    }
+}

@@ -1,0 +1,57 @@
+//! Laws of the definitions, each carried by a function that does nothing when it runs.
+ghost use Rattle.std.specs.Prelude.{◌≤◌, ℕ, List};
+ghost use Rattle.iol_event.specs.declared.event.Event.{Event};
+ghost use Rattle.iol_device.specs.SegmentLaws.{SegmentLaws};
+ghost use Rattle.iol_device.specs.Laws.{OnceIsEnough, MessagesAreHeard, RepliesAreRead, InputStaysSized, MuchStays, OutputStaysInOperate, LevelLaws, EventLaws};
+
+use iol_segment::texts_join;
+
+/// Hearing the same message again, after whatever the device does by itself, changes nothing: for every message but a
+/// START read.
+#[tactic(auto, using(crate::proofs::LawProofs::once_is_enough))]
+pub fn hearing_again_changes_nothing()
+    ensures { OnceIsEnough }
+{}
+
+/// Octets that spell a message in a layout are heard there as that message.
+#[tactic(auto, using(crate::proofs::Messages::messages_are_heard))]
+pub fn messages_are_heard()
+    ensures { MessagesAreHeard }
+{}
+
+/// What a device answers, in the layout that it speaks, is read back as that reply.
+#[tactic(auto, using(crate::proofs::Replies::replies_are_read, crate::proofs::LawProofs::input_stays_sized))]
+pub fn replies_are_read()
+    ensures read { RepliesAreRead }
+    ensures sized { InputStaysSized }
+{}
+
+/// Hearing carries nothing out, and nothing changes the page or the record's room; the output is valid in OPERATE alone.
+#[tactic(auto, using(crate::proofs::LawProofs::much_stays, crate::proofs::LawProofs::output_stays_in_operate))]
+pub fn page_and_room_stay()
+    ensures much { MuchStays }
+    ensures output { OutputStaysInOperate }
+{}
+
+/// The segments of a request are received one by one, and the last makes it whole; no answer begins as busy does.
+#[tactic(auto, using(crate::proofs::Segments::segment_laws))]
+pub fn requests_are_received()
+    ensures { (size : ℕ) → 1 ≤ size → SegmentLaws size }
+{
+    texts_join();
+}
+
+/// What a master may conclude of the device while a message is out, and from one good reply: where a request stands, which mode
+/// both ends are in, and what the record may have gained.
+#[tactic(auto, using(crate::proofs::LawProofs::level_laws))]
+pub fn ends_stay_level()
+    ensures { (size : ℕ) → 1 ≤ size → LevelLaws size }
+{
+    requests_are_received();
+}
+
+/// A list of frozen events stays while it is read, and its confirm, however often it is heard, clears nothing else.
+#[tactic(auto, using(crate::proofs::LawProofs::event_laws))]
+pub fn events_stay_until_confirmed()
+    ensures { (first : Event) (rest : List Event) → EventLaws first rest }
+{}

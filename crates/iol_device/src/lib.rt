@@ -1,0 +1,28 @@
+//! The device's end of the line: it hears master messages, and answers them.
+//!
+//! A [`Device`] holds direct parameter page 1, the state of one ISDU, the event memory, the process data of both
+//! directions and the record of the requests that its [`App`] carried out. What it does with octets is the
+//! definition `hear`, for all octets whatever (IEC 61131-9, 7.3 and Annexes A and B; the behaviour that the standard
+//! leaves open is a profile of this project).
+#![tactic(auto)]
+
+mod app;
+mod commands;
+mod data;
+mod device;
+mod far_end;
+mod fault;
+mod isdu;
+mod laws;
+
+pub use app::{App, Carried};
+pub use commands::Mode;
+pub use device::Device;
+pub use fault::DeviceFault;
+pub use laws::{
+    ends_stay_level, events_stay_until_confirmed, hearing_again_changes_nothing,
+    messages_are_heard, page_and_room_stay, replies_are_read, requests_are_received,
+};
+
+#[cfg(test)]
+mod tests;
