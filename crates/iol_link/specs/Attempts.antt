@@ -1,0 +1,33 @@
+-- A message, and how often it was sent without a good reply.
+use Rattle.std.specs.Prelude.{◌≡◌, ℕ, ◌+◌, ◌==◌, if◌then◌else◌, List, Option, Some, None, option_and_then}
+use Rattle.iol_mseq.specs.Shape.{Shape}
+use Rattle.iol_mseq.specs.Replies.{reply_in}
+use Rattle.iol_mseq.specs.declared.master.MasterMsg.{MasterMsg}
+use Rattle.iol_mseq.specs.declared.reply.Reply.{Reply}
+use Rattle.iol_link.specs.declared.handler.Attempt.{Attempt}
+use Rattle.iol_link.specs.declared.handler.Attempt.TheVariants.{Got, Again, Lost}
+
+pub record Sending : Type 0 where
+  pub message : MasterMsg
+  -- the attempts in a row without a good reply
+  pub tries : ℕ
+
+-- the reply that the answer spells, where it is well-formed in the layout as a reply to the message
+abbrev pub good_reply : Shape → MasterMsg → Option (List ℕ) → Option Reply
+good_reply layout message answer = option_and_then (reply_in layout message.mc.read) answer
+
+-- how an attempt ends after so many before it: without a good reply the third loses the link
+abbrev pub attempt_of : ℕ → Option Reply → Attempt
+attempt_of tries (Some reply) = Got reply
+attempt_of tries None = if tries == 2 then Lost else Again
+
+-- after a good reply, and after a loss, the attempts count from 0
+abbrev pub tries_after : ℕ → Option Reply → ℕ
+tries_after tries (Some reply) = 0
+tries_after tries None = if tries == 2 then 0 else tries + 1
+
+-- one attempt, by the answer of the wire
+pub record IsAttempt (layout : Shape) (old : Sending) (answer : Option (List ℕ)) (attempt : Attempt) (new : Sending) : Type 0 where
+  pub attempt_is : attempt ≡ attempt_of old.tries (good_reply layout old.message answer)
+  pub message_is : new.message ≡ old.message
+  pub tries_are : new.tries ≡ tries_after old.tries (good_reply layout old.message answer)

@@ -1,0 +1,59 @@
+-- What an honest wire does with octets and with a wake, and what becomes of the far end meanwhile.
+use Rattle.std.specs.Prelude.{◌≡◌, ℕ, ◌+◌, min, Bool, true, if◌then◌else◌, List, Option, Some, None}
+use Rattle.iol_mseq.specs.Shape.{Shape, IsLayout}
+use Rattle.iol_mseq.specs.Master.{master_in}
+use Rattle.iol_mseq.specs.Replies.{reply_in}
+use Rattle.iol_mseq.specs.declared.master.MasterMsg.{MasterMsg}
+use Rattle.iol_device.specs.Far.{Far, hear}
+use Rattle.iol_device.specs.Local.{LocalStep, locals, woken}
+
+-- nothing, or octets that are well-formed in no layout in which the sent octets spell a message
+abbrev pub IsUnread : List ℕ → Option (List ℕ) → Type 0
+IsUnread sent None = Unit {0}
+IsUnread sent (Some answer) =
+    (layout : Shape) (message : MasterMsg) → IsLayout layout → master_in layout sent ≡ Some message → reply_in layout message.mc.read answer ≡ None
+
+-- how far an exchange comes
+pub data Passage : Type 0 where
+  -- the sent octets are lost, or the far end hears others, which it doesn't accept: nothing changes there
+  OutLost : Passage
+  -- they are heard, and what comes back is nothing or damaged
+  BackLost : Passage
+  -- they are heard, and what the far end answers comes back unaltered
+  Clean : Passage
+
+-- the far end after it
+abbrev pub far_after : Passage → Far → List ℕ → Far
+far_after OutLost far sent = far
+far_after BackLost far sent = (hear far sent).far
+far_after Clean far sent = (hear far sent).far
+
+-- what comes back
+abbrev pub IsAnswer : Passage → Far → List ℕ → Option (List ℕ) → Type 0
+IsAnswer Clean far sent answer = answer ≡ (hear far sent).reply
+IsAnswer passage far sent answer = IsUnread sent answer
+
+-- the unaltered reply that an exchange brings, none where it brings none
+abbrev pub brought : Passage → Far → List ℕ → Option (List ℕ)
+brought Clean far sent = (hear far sent).reply
+brought passage far sent = None
+
+-- how many exchanges in a row, up to now, brought no unaltered reply, counted up to 3
+abbrev pub silence_after : ℕ → Option (List ℕ) → ℕ
+silence_after silence None = min 3 (silence + 1)
+silence_after silence (Some reply) = 0
+
+-- one exchange: some steps of the far end by itself, then the octets come as far as they do
+pub record HonestExchange (far : Far) (silence : ℕ) (sent : List ℕ) (answer : Option (List ℕ)) (far_new : Far) (silence_new : ℕ) : Type 0 where
+  pub steps : List LocalStep
+  pub passage : Passage
+  pub far_is : far_new ≡ far_after passage (locals far steps) sent
+  pub answer_is : IsAnswer passage (locals far steps) sent answer
+  pub silence_is : silence_new ≡ silence_after silence (brought passage (locals far steps) sent)
+
+-- one wake: some steps of the far end by itself, then the wake's effect or nothing; a rate is answered only where it took effect
+pub record HonestWake (far : Far) (answered : Bool) (far_new : Far) : Type 0 where
+  pub steps : List LocalStep
+  pub wakes : Bool
+  pub far_is : far_new ≡ (if wakes then woken (locals far steps) else locals far steps)
+  pub answered_is : answered ≡ true → wakes ≡ true

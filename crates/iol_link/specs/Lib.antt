@@ -1,0 +1,3 @@
+pub mod Honest
+pub mod Attempts
+pub mod Damage
