@@ -1,4 +1,4 @@
-ghost use Rattle.std.specs.Prelude.{◌≡◌, ◌≤◌, ◌↔◌, Some, None, IsTrue, IsErr, IsOk, IfOk, IfErr, IfNone, OnErr, false, is_some, option_copied};
+ghost use Rattle.std.specs.Prelude.{◌≡◌, ◌≤◌, ◌↔◌, Some, None, IsTrue, IsErr, IsOk, IfOk, IfErr, IfNone, OnErr, false, is_some, option_copied, length};
 
 use crate::app::{App, Carried};
 use crate::far_end::FarEnd;
@@ -120,6 +120,14 @@ impl<P: App, A: Allocator + Copy> Device<P, A> {
         ensures app { self.new.app ≡ self.old.app }
     {
         self.far.wake();
+    }
+
+    /// Direct parameter page 1, that of address 0x02 first.
+    pub fn page(&self) -> &[u8; 10]
+        ensures value { result.now ≡ self.now.far.page }
+        ensures length { length self.now.far.page ≡ 10 }
+    {
+        self.far.page()
     }
 
     /// The record: what was carried out, the oldest first.

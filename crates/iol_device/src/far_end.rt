@@ -373,6 +373,14 @@ impl<A: Allocator + Copy> FarEnd<A> {
         self.events.other_heard();
     }
 
+    /// The page.
+    pub fn page(&self) -> &[u8; 10]
+        ensures value { result.now ≡ self.now.page }
+        ensures length { length self.now.page ≡ 10 }
+    {
+        self.page.octets()
+    }
+
     /// The record.
     pub fn carried(&self) -> &[Carried]
         ensures value { result.now ≡ self.now.carried }

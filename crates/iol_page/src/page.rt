@@ -1,4 +1,4 @@
-ghost use Rattle.std.specs.Prelude.{◌≡◌};
+ghost use Rattle.std.specs.Prelude.{◌≡◌, length};
 
 use crate::capability::Capability;
 use crate::fault::PageFault;
@@ -50,6 +50,14 @@ impl Page {
         ensures { result ≡ octets.now }
     {
         Page { octets: *octets }
+    }
+
+    /// The ten octets, that of address 0x02 first.
+    pub fn octets(&self) -> &[u8; 10]
+        ensures value { result.now ≡ self.now }
+        ensures length { length self.now ≡ 10 }
+    {
+        &self.octets
     }
 
     /// The octet at an address. What lies outside 0x02 to 0x0B reads as 0 (profile).
