@@ -10,7 +10,8 @@ use Rattle.iol_mseq.specs.Master.{SpellsMaster}
 use Rattle.iol_mseq.specs.Replies.{reply_in}
 use Rattle.iol_mseq.specs.declared.master.MasterMsg.{MasterMsg}
 use Rattle.iol_event.specs.declared.event.Event.{Event}
-use Rattle.iol_event.specs.Memory.{Events}
+use Rattle.iol_event.specs.Memory.{Events, IsEventMemory}
+use Rattle.iol_image.specs.Image.{IsImage}
 use Rattle.iol_device.specs.declared.app.Carried.{Carried}
 use Rattle.iol_device.specs.declared.commands.Mode.TheVariants.{Startup, Operate}
 use Rattle.iol_device.specs.Isdu.{isdu_data}
@@ -39,6 +40,14 @@ MessagesAreHeard = (layout : Shape) (message : MasterMsg) (octets : List ℕ) �
 -- what a far end answers, in the layout that it speaks, is read back as that reply, where its input has the page's length
 abbrev pub IsSized : Far → Type 0
 IsSized far = IfSome far.input (λ image. length image ≡ input_size far)
+
+-- the parts of a far end as they can be: its page has the ten octets of 0x02 to 0x0B, its input the page's length, which is 1 to 32, and its
+-- event memory is one that events and messages lead to
+pub record IsRegular (far : Far) : Type 0 where
+  pub page : length far.page ≡ 10
+  pub sized : IsSized far
+  pub input : IfSome far.input IsImage
+  pub memory : IsEventMemory far.events
 
 abbrev pub RepliesAreRead : Type 0
 RepliesAreRead =

@@ -1,4 +1,4 @@
-ghost use Rattle.std.specs.Prelude.{◌≡◌, ◌≤◌, ◌↔◌, Some, None, IsTrue, IsErr, IsOk, IfOk, IfErr, IfNone, OnErr, false, is_some, option_copied, length};
+ghost use Rattle.std.specs.Prelude.{◌≡◌, ◌≤◌, ◌↔◌, Some, None, IsTrue, IsErr, IsOk, IfOk, IfErr, IfNone, OnErr, false, is_some, option_copied};
 
 use crate::app::{App, Carried};
 use crate::far_end::FarEnd;
@@ -32,7 +32,7 @@ impl<P: App, A: Allocator + Copy> Device<P, A> {
     ghost use Rattle.iol_device.specs.Isdu.{handed};
     ghost use Rattle.iol_device.specs.Local.{local, woken, can_carry, is_input, LocalStep, IsCarriedOut};
     ghost use Rattle.iol_device.specs.Device.{octets_in};
-    ghost use Rattle.iol_device.specs.Laws.{IsSized};
+    ghost use Rattle.iol_device.specs.Laws.{IsRegular};
     ghost use Rattle.iol_device.specs.declared.fault.DeviceFault.{DeviceFault};
 
     /// A device of this page, asleep, whose record has room for so many requests.
@@ -124,16 +124,14 @@ impl<P: App, A: Allocator + Copy> Device<P, A> {
 
     /// Direct parameter page 1, that of address 0x02 first.
     pub fn page(&self) -> &[u8; 10]
-        ensures value { result.now ≡ self.now.far.page }
-        ensures length { length self.now.far.page ≡ 10 }
+        ensures { result.now ≡ self.now.far.page }
     {
         self.far.page()
     }
 
     /// The record: what was carried out, the oldest first.
     pub fn carried(&self) -> &[Carried]
-        ensures value { result.now ≡ self.now.far.carried }
-        ensures sized { IsSized self.now.far }
+        ensures { result.now ≡ self.now.far.carried }
     {
         self.far.carried()
     }
@@ -143,6 +141,14 @@ impl<P: App, A: Allocator + Copy> Device<P, A> {
         ensures { option_copied result ≡ output_of self.now.far }
     {
         self.far.output()
+    }
+
+    /// A law of each device, without code of its own: its page has ten octets, its input the page's length, and its event
+    /// memory is one that events and messages lead to.
+    pub fn parts_are_regular(&self)
+        ensures { IsRegular self.now.far }
+    {
+        self.far.parts_are_regular();
     }
 
     /// The application.

@@ -73,7 +73,7 @@ impl<A: Allocator + Copy> FarEnd<A> {
     ghost use Rattle.iol_device.specs.Local.{local, woken, can_carry, is_input, LocalStep, IsCarriedOut};
     ghost use Rattle.iol_device.specs.Inside.{new_mode};
     ghost use Rattle.iol_device.specs.Device.{octets_in};
-    ghost use Rattle.iol_device.specs.Laws.{IsSized};
+    ghost use Rattle.iol_device.specs.Laws.{IsRegular};
     ghost use Rattle.iol_device.specs.declared.fault.DeviceFault.{DeviceFault};
 
     /// Asleep, as a device is delivered.
@@ -373,10 +373,20 @@ impl<A: Allocator + Copy> FarEnd<A> {
         self.events.other_heard();
     }
 
+    /// A law of its value, without code of its own: its parts are as they can be.
+    pub fn parts_are_regular(&self)
+        ensures { IsRegular self.now }
+    {
+        self.page.octets();
+        self.events.flag();
+        if let Some(image) = &self.input {
+            image.octets();
+        }
+    }
+
     /// The page.
     pub fn page(&self) -> &[u8; 10]
-        ensures value { result.now ≡ self.now.page }
-        ensures length { length self.now.page ≡ 10 }
+        ensures { result.now ≡ self.now.page }
     {
         self.page.octets()
     }
@@ -384,7 +394,6 @@ impl<A: Allocator + Copy> FarEnd<A> {
     /// The record.
     pub fn carried(&self) -> &[Carried]
         ensures value { result.now ≡ self.now.carried }
-        ensures sized { IsSized self.now }
     {
         self.carried.as_slice()
     }

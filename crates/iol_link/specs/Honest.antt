@@ -1,12 +1,12 @@
 -- What an honest wire does with octets and with a wake, and what becomes of the far end meanwhile.
-use Rattle.std.specs.Prelude.{◌≡◌, ℕ, ◌+◌, min, Bool, true, if◌then◌else◌, List, length, Option, Some, None}
+use Rattle.std.specs.Prelude.{◌≡◌, ℕ, ◌+◌, min, Bool, true, if◌then◌else◌, List, Option, Some, None}
 use Rattle.iol_mseq.specs.Shape.{Shape, IsLayout}
 use Rattle.iol_mseq.specs.Master.{master_in}
 use Rattle.iol_mseq.specs.Replies.{reply_in}
 use Rattle.iol_mseq.specs.declared.master.MasterMsg.{MasterMsg}
 use Rattle.iol_device.specs.Far.{Far, hear}
 use Rattle.iol_device.specs.Local.{LocalStep, locals, woken}
-use Rattle.iol_device.specs.Laws.{IsSized}
+use Rattle.iol_device.specs.Laws.{IsRegular}
 
 -- nothing, or octets that are well-formed in no layout in which the sent octets spell a message
 abbrev pub IsUnread : List ℕ → Option (List ℕ) → Type 0
@@ -44,11 +44,10 @@ abbrev pub silence_after : ℕ → Option (List ℕ) → ℕ
 silence_after silence None = min 3 (silence + 1)
 silence_after silence (Some reply) = 0
 
--- one exchange: some steps of the far end by itself, then the octets come as far as they do; the far end's page has its ten octets, and
--- its input the page's length
+-- one exchange: some steps of the far end by itself, then the octets come as far as they do; the far end is one
+-- that can be
 pub record HonestExchange (far : Far) (silence : ℕ) (sent : List ℕ) (answer : Option (List ℕ)) (far_new : Far) (silence_new : ℕ) : Type 0 where
-  pub page_is_whole : length far.page ≡ 10
-  pub sized : IsSized far
+  pub regular : IsRegular far
   pub steps : List LocalStep
   pub passage : Passage
   pub far_is : far_new ≡ far_after passage (locals far steps) sent
