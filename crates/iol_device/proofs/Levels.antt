@@ -24,7 +24,7 @@ use Rattle.iol_device.proofs.Standing.{heard_first, left, asked_busy, asked_firs
 use Rattle.iol_device.proofs.Once.{isdu_again, waits_again, mine_after, reads_again, bytes_of, not_handed, carried_awake}
 
 -- hearing, where the octets are accepted there as that message
-hear_there : (g : Far) (o : List ℕ) (there : Far) (m : MasterMsg) → g.awake ≡ true → accepted_by g.waits g o ≡ Some (there, m) →
+pub hear_there : (g : Far) (o : List ℕ) (there : Far) (m : MasterMsg) → g.awake ≡ true → accepted_by g.waits g o ≡ Some (there, m) →
     hear g o ≡ replied (worked there o m) m
 hear_there g o there m awake e =
     ap (λ (b : Bool). heard_as g o (if b then accepted_by g.waits g o else None)) awake ∙ ap (heard_as g o) e
@@ -214,7 +214,7 @@ module _ (size : ℕ) (laws : SegmentLaws size) (base : List Carried) (p : Progr
 
 -- The whole far end, while the message is out
 
-mine_taken : (w : Option WaitingCommand) (link : Link) (o : List ℕ) → link.waits ≡ w → IfSome (taken_by w link o).waits (λ v. v.octets ≡ o)
+pub mine_taken : (w : Option WaitingCommand) (link : Link) (o : List ℕ) → link.waits ≡ w → IfSome (taken_by w link o).waits (λ v. v.octets ≡ o)
 mine_taken None link o e = let P : Option WaitingCommand → Type 0 = λ w. IfSome w (λ v. v.octets ≡ o) in subst P (sym e) tt
 mine_taken (Some w) link o e = split (bytes_eq o w.octets) refl
   where
@@ -222,11 +222,11 @@ mine_taken (Some w) link o e = split (bytes_eq o w.octets) refl
     split true same = let P : Option WaitingCommand → Type 0 = λ w. IfSome w (λ v. v.octets ≡ o) in subst P (sym e) (sym (bytes_of o w.octets same))
     split false same = tt
 
-carried_page : (g : Far) (a : Answer) (s : IsduState) → (carried_by s g a).page ≡ g.page
+pub carried_page : (g : Far) (a : Answer) (s : IsduState) → (carried_by s g a).page ≡ g.page
 carried_page g a (Handed r) = elim (has_room g && fits r a) as (λ b. (if b then record g { isdu = Answered r a None; carried = grown_by g.carried r a } else g).page ≡ g.page) [ true ↦ refl | false ↦ refl ]
 carried_page g a s = refl
 
-carried_link : (g : Far) (a : Answer) (s : IsduState) → link_of (carried_by s g a) ≡ link_of g
+pub carried_link : (g : Far) (a : Answer) (s : IsduState) → link_of (carried_by s g a) ≡ link_of g
 carried_link g a (Handed r) = elim (has_room g && fits r a) as (λ b. link_of (if b then record g { isdu = Answered r a None; carried = grown_by g.carried r a } else g) ≡ link_of g) [ true ↦ refl | false ↦ refl ]
 carried_link g a s = refl
 
@@ -373,12 +373,12 @@ module _ (page : List ℕ) (size : ℕ) (laws : SegmentLaws size) (base : List C
 
 -- What keeps the ends level
 
-happened_more : (rest more : List Happening) (g : Far) (o : List ℕ) → happened g o (rest ++ more) ≡ happened (happened g o rest) o more
+pub happened_more : (rest more : List Happening) (g : Far) (o : List ℕ) → happened g o (rest ++ more) ≡ happened (happened g o rest) o more
 happened_more [] more g o = refl
 happened_more (Own step ∷ rest) more g o = happened_more rest more (local g step) o
 happened_more (Hears ∷ rest) more g o = happened_more rest more (hear g o).far o
 
-hearings_more : (rest more : List Happening) → hearings (rest ++ more) ≡ hearings rest + hearings more
+pub hearings_more : (rest more : List Happening) → hearings (rest ++ more) ≡ hearings rest + hearings more
 hearings_more [] more = omega arith
 hearings_more (Own step ∷ rest) more = hearings_more rest more
 hearings_more (Hears ∷ rest) more = let e = hearings_more rest more in omega arith

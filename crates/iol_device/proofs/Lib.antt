@@ -10,3 +10,5 @@ mod Levels
 mod Sized
 mod Eventful
 mod LawProofs
+mod Linking
+mod Sent

@@ -18,7 +18,7 @@ use Rattle.iol_mseq.specs.declared.master.MasterMsg.{MasterMsg}
 use Rattle.iol_device.specs.Codec.{message_in}
 use Rattle.iol_device.specs.Laws.{MessagesAreHeard}
 
-code_small : (c : Channel) → channel_code c < 4
+pub code_small : (c : Channel) → channel_code c < 4
 code_small Process = omega arith
 code_small Page = omega arith
 code_small Diagnosis = omega arith

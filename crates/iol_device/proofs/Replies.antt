@@ -28,7 +28,7 @@ use Rattle.iol_device.proofs.Sending.{segment_size}
 
 -- The checksum
 
-sum_below : (octets : List ℕ) → checksum_of octets < 64
+pub sum_below : (octets : List ℕ) → checksum_of octets < 64
 unfolding checksum_of compressed
 sum_below octets = omega arith
 

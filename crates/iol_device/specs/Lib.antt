@@ -8,3 +8,4 @@ pub mod Inside
 pub mod Level
 pub mod SegmentLaws
 pub mod Laws
+pub mod Linked

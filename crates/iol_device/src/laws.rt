@@ -3,6 +3,7 @@ ghost use Rattle.std.specs.Prelude.{◌≤◌, ℕ, List};
 ghost use Rattle.iol_event.specs.declared.event.Event.{Event};
 ghost use Rattle.iol_device.specs.SegmentLaws.{SegmentLaws};
 ghost use Rattle.iol_device.specs.Laws.{OnceIsEnough, MessagesAreHeard, RepliesAreRead, InputStaysSized, MuchStays, OutputStaysInOperate, LevelLaws, EventLaws};
+ghost use Rattle.iol_device.specs.Linked.{LinkLaws, TextsAreHeard};
 
 use iol_segment::texts_join;
 
@@ -54,4 +55,17 @@ pub fn ends_stay_level()
 #[tactic(auto, using(crate::proofs::LawProofs::event_laws))]
 pub fn events_stay_until_confirmed()
     ensures { (first : Event) (rest : List Event) → EventLaws first rest }
+{}
+
+/// What a master may conclude of the device's mode while a message is out, and from one good reply, whatever is under way on the
+/// ISDU channel.
+#[tactic(auto, using(crate::proofs::Linking::link_laws))]
+pub fn links_stay_level()
+    ensures { LinkLaws }
+{}
+
+/// The octets that a master writes for a message are heard as that message.
+#[tactic(auto, using(crate::proofs::Sent::texts_are_heard))]
+pub fn texts_are_heard()
+    ensures { TextsAreHeard }
 {}

@@ -1,3 +1,4 @@
 pub mod Honest
 pub mod Attempts
 pub mod Damage
+pub mod Meeting

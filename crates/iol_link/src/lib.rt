@@ -10,7 +10,7 @@ mod laws;
 mod wire;
 
 pub use handler::{Attempt, Handler};
-pub use laws::damaged_replies_are_unread;
+pub use laws::{damaged_replies_are_unread, exchanges_keep_ends_level};
 pub use wire::{Rate, Wire};
 
 #[cfg(test)]

@@ -1,0 +1,6 @@
+mod Controls
+mod Pages
+mod Outs
+mod Startups
+mod Operates
+mod Preoperates

@@ -1,0 +1,310 @@
+//! A link, and what a turn makes of it.
+ghost use Rattle.std.specs.Prelude.{ℕ, Bool, List, [], ◌≡◌, ◌<◌, true, false, Option, Some, None, IsTrue, IfSome, is_some};
+ghost use Rattle.std.specs.Option.{option_copied, option_map};
+ghost use Rattle.arrayvec.specs.ArrayVec.{ArrayVec};
+ghost use Rattle.iol_mseq.specs.Shape.{startup_shape};
+ghost use Rattle.iol_mseq.specs.Master.{HasMasterParts};
+ghost use Rattle.iol_mseq.specs.Texts.{master_text};
+ghost use Rattle.iol_device.specs.Device.{octets_in};
+ghost use Rattle.iol_link.specs.Attempts.{good_reply};
+ghost use Rattle.iol_link.specs.Honest.{HonestExchange, HonestWake};
+ghost use Rattle.iol_mode.specs.Messages.{stays};
+ghost use Rattle.iol_mode.specs.States.{OperateFits, OutcomeFits, waked, startup_turned, preoperate_turned, operate_turned, sending_of};
+ghost use Rattle.iol_device.specs.Level.{Link as FarLink};
+ghost use Rattle.iol_mode.specs.Stands.{OperateStands, OutcomeStands, IsTold, IsOperating, IsAccepted};
+ghost use Rattle.iol_mode.specs.Next.{wire_of, outcome_of, told_by, message_out, MetFits, LostFits, FaultFits, EnteredFits};
+ghost use Rattle.iol_mode.specs.Laws.{Laws};
+
+use crate::states::{
+    Down, Mode, Operate, Outcome, Preoperate, Startup, Step, Up, operate_done, preoperate_done,
+    sending, startup_done, woken,
+};
+use crate::why::Why;
+use iol_device::{ends_stay_level, links_stay_level, texts_are_heard};
+use iol_link::{Wire, exchanges_keep_ends_level};
+use iol_mseq::{Layout, MasterMsg, Reply};
+use iol_page::Layouts;
+use std::marker::Model;
+
+/// A link in the mode `S`, which owns the wire.
+///
+/// A clause sees the wire, and what is kept in the mode. On an honest wire both ends are level, outside `Down`: the device
+/// sleeps, or it comes from the state before the message that is out by steps of its own and hearings of that message.
+#[derive(Drop)]
+pub struct Link<W: Wire, S: Mode> {
+    wire: W,
+    state: S,
+}
+
+impl<W: Wire, S: Mode> Model for Link<W, S> {
+    ghost use Rattle.std.specs.Prelude.{IsTrue};
+    ghost use Rattle.iol_mode.specs.Kept.{Kept, kept_code};
+
+    ghost Value = { Kept W S };
+
+    ghost coded = { kept_code W.code S.code };
+
+    ghost view = { λ link. record { wire = link.wire; state = link.state } };
+
+    ghost invariant = { λ link. S.fits link.state
+        × (IsTrue (W.honest link.wire) → S.stands link.state (W.silence link.wire) (W.far link.wire)) };
+}
+
+/// The link after a turn, in its new mode.
+#[derive(Drop)]
+pub enum Next<W: Wire> {
+    Down(Link<W, Down>),
+    Startup(Link<W, Startup>),
+    Preoperate(Link<W, Preoperate>),
+    /// With the good reply that the turn brought, none where it brought none.
+    Operate(Link<W, Operate>, Option<Reply>),
+}
+
+/// What is known of every exchange over an honest wire.
+fn laws()
+    ensures { Laws }
+{
+    texts_are_heard();
+    ends_stay_level();
+    links_stay_level();
+    exchanges_keep_ends_level();
+}
+
+/// The wire in the link of that mode.
+fn linked<W: Wire>(wire: W, outcome: Outcome) -> Next<W>
+    requires fits { OutcomeFits outcome }
+    requires stands { IsTrue (W.honest wire) → OutcomeStands outcome (W.silence wire) (W.far wire) }
+    ensures wire { wire_of result ≡ wire }
+    ensures outcome { outcome_of result ≡ outcome }
+{
+    match outcome {
+        Outcome::Down(state) => Next::Down(Link { wire, state }),
+        Outcome::Startup(state) => Next::Startup(Link { wire, state }),
+        Outcome::Preoperate(state) => Next::Preoperate(Link { wire, state }),
+        Outcome::Operate(state, reply) => Next::Operate(Link { wire, state }, reply),
+    }
+}
+
+impl<W: Wire, S: Mode> Link<W, S> {
+    /// The wire.
+    pub fn wire(&self) -> &W
+        ensures { result.now ≡ self.now.wire }
+    {
+        &self.wire
+    }
+}
+
+impl<W: Wire, S: Up + Drop> Link<W, S> {
+    /// Gives the link up, without a reason.
+    pub fn down(self) -> Link<W, Down>
+        ensures wire { result.wire ≡ self.wire }
+        ensures why { result.state.why ≡ None }
+    {
+        Link::new(self.wire)
+    }
+}
+
+impl<W: Wire> Link<W, Down> {
+    /// A link over this wire, which no turn was made on.
+    pub fn new(wire: W) -> Link<W, Down>
+        ensures wire { result.wire ≡ wire }
+        ensures why { result.state.why ≡ None }
+    {
+        Link {
+            wire,
+            state: Down { why: None },
+        }
+    }
+
+    /// Why the link is down; none where it is new, or was taken down.
+    pub fn why(&self) -> Option<Why>
+        ensures { result ≡ self.now.state.why }
+    {
+        self.state.why
+    }
+
+    /// The wire, given back.
+    pub fn into_wire(self) -> W
+        ensures { result ≡ self.wire }
+    {
+        self.wire
+    }
+
+    /// Makes a wake-up request: STARTUP, where the device answers it, else Down with `NoWake`.
+    pub fn turn(self) -> Next<W>
+        ensures honest { W.honest (wire_of result) ≡ W.honest self.wire }
+        ensures quiet { W.silence (wire_of result) ≡ W.silence self.wire }
+        ensures wakes { (answered : Bool) × (outcome_of result ≡ waked answered)
+            × (IsTrue (W.honest self.wire) → HonestWake (W.far self.wire) answered (W.far (wire_of result))) }
+        ensures stands { IsTrue (W.honest self.wire)
+            → OutcomeStands (outcome_of result) (W.silence (wire_of result)) (W.far (wire_of result)) }
+    {
+        laws();
+        let Link { mut wire, state: _ } = self;
+        let answer = wire.wake();
+        linked(wire, woken(answer.is_some()))
+    }
+}
+
+impl<W: Wire> Link<W, Startup> {
+    /// Sends the message of the step once.
+    ///
+    /// With its good reply the next step begins: the page is read from 0x02 to 0x0B and then checked, MasterIdent and
+    /// DevicePreoperate are written. Down with a fault of the page, or with `Lost` at the third attempt in a row that
+    /// had no good reply.
+    pub fn turn(self) -> Next<W>
+        ensures honest { W.honest (wire_of result) ≡ W.honest self.wire }
+
+        // the wire is called once, with the octets of the message; its answer alone says what becomes of the mode
+        ensures exchange { (answer : Option (ArrayVec ℕ))
+            × W.exchange_gives self.wire (master_text startup_shape self.state.sent.message) answer (wire_of result)
+            × (IsTrue (W.honest self.wire) → HonestExchange (W.far self.wire) (W.silence self.wire)
+            (master_text startup_shape self.state.sent.message) (octets_in answer) (W.far (wire_of result)) (W.silence (wire_of result)))
+            × (outcome_of result ≡ startup_turned self.state (good_reply startup_shape self.state.sent.message (octets_in answer))) }
+
+        ensures fits { OutcomeFits (outcome_of result) }
+
+        // on an honest wire
+        ensures stands { IsTrue (W.honest self.wire)
+            → OutcomeStands (outcome_of result) (W.silence (wire_of result)) (W.far (wire_of result)) }
+        ensures met { IsTrue (W.honest self.wire) → MetFits (outcome_of result) (W.far (wire_of result)) }
+        ensures lost { IsTrue (W.honest self.wire) → LostFits (outcome_of result) (W.silence (wire_of result)) }
+        ensures still { IsTrue (W.honest self.wire) → (W.far (wire_of result)).carried ≡ (W.far self.wire).carried }
+        ensures fault { IsTrue (W.honest self.wire) → FaultFits (outcome_of result) (W.far (wire_of result)) }
+    {
+        laws();
+        let Link { mut wire, state } = self;
+        let Startup { mut sent, step } = state;
+        let attempt = sent.attempt(&mut wire, &Layout::startup());
+        linked(wire, startup_done(Startup { sent, step }, attempt))
+    }
+
+    /// The layouts that the page asks for, once this start-up has checked it.
+    pub fn told(&self) -> Option<&Layouts>
+        ensures told { option_copied result ≡ told_by self.now.state.step }
+        ensures page { IsTrue (W.honest self.now.wire) → IfSome result (λ t. IsTold t.now (W.far self.now.wire)) }
+    {
+        match &self.state.step {
+            Step::Read(_) => None,
+            Step::Ident(told) => Some(&told.layouts),
+            Step::Leave(told) => Some(&told.layouts),
+        }
+    }
+}
+
+impl<W: Wire> Link<W, Preoperate> {
+    /// Sends MasterCycleTime, or after its good reply DeviceOperate, once.
+    ///
+    /// With the good reply to DeviceOperate the mode is OPERATE. Down with `Lost` at the third attempt in a row that
+    /// had no good reply.
+    pub fn turn(self) -> Next<W>
+        ensures honest { W.honest (wire_of result) ≡ W.honest self.wire }
+
+        // the wire is called once, with the octets of the message; its answer alone says what becomes of the mode
+        ensures exchange { (answer : Option (ArrayVec ℕ))
+            × W.exchange_gives self.wire (master_text self.state.layouts.pre self.state.sent.message) answer (wire_of result)
+            × (IsTrue (W.honest self.wire) → HonestExchange (W.far self.wire) (W.silence self.wire)
+            (master_text self.state.layouts.pre self.state.sent.message) (octets_in answer) (W.far (wire_of result)) (W.silence (wire_of result)))
+            × (outcome_of result ≡ preoperate_turned self.state (good_reply self.state.layouts.pre self.state.sent.message (octets_in answer))) }
+
+        ensures fits { OutcomeFits (outcome_of result) }
+
+        // on an honest wire
+        ensures stands { IsTrue (W.honest self.wire)
+            → OutcomeStands (outcome_of result) (W.silence (wire_of result)) (W.far (wire_of result)) }
+        ensures met { IsTrue (W.honest self.wire) → MetFits (outcome_of result) (W.far (wire_of result)) }
+        ensures lost { IsTrue (W.honest self.wire) → LostFits (outcome_of result) (W.silence (wire_of result)) }
+        ensures still { IsTrue (W.honest self.wire) → (W.far (wire_of result)).carried ≡ (W.far self.wire).carried }
+        ensures entered { IsTrue (W.honest self.wire)
+            → EnteredFits (outcome_of result) (W.silence (wire_of result)) (W.far (wire_of result)) }
+    {
+        laws();
+        let Link { mut wire, state } = self;
+        let Preoperate {
+            mut sent,
+            cycle_written,
+            layouts,
+        } = state;
+        let attempt = sent.attempt(&mut wire, &layouts.pre);
+        let state = Preoperate {
+            sent,
+            cycle_written,
+            layouts,
+        };
+        linked(wire, preoperate_done(state, attempt))
+    }
+
+    /// The layouts that the page asks for.
+    pub fn told(&self) -> Option<&Layouts>
+        ensures told { option_copied result ≡ Some self.now.state.layouts }
+        ensures page { IsTrue (W.honest self.now.wire) → IfSome result (λ t. IsTold t.now (W.far self.now.wire)) }
+    {
+        Some(&self.state.layouts)
+    }
+}
+
+impl<W: Wire> Link<W, Operate> {
+    /// Sends once the message that is out, where there is one, else this one.
+    ///
+    /// The message has the sizes of the layout, and is no command that leaves OPERATE. Down with `Lost` at the third
+    /// attempt in a row that had no good reply.
+    pub fn turn(self, message: &MasterMsg) -> Next<W>
+        requires fits { HasMasterParts self.state.layouts.run message.now }
+        requires stays { IsTrue (stays message.now) }
+        ensures honest { W.honest (wire_of result) ≡ W.honest self.wire }
+
+        // the wire is called once, with the octets of the message; its answer alone says what becomes of the mode
+        ensures exchange { (answer : Option (ArrayVec ℕ))
+            × W.exchange_gives self.wire (master_text self.state.layouts.run (sending_of self.state.out message.now).message) answer (wire_of result)
+            × (IsTrue (W.honest self.wire) → HonestExchange (W.far self.wire) (W.silence self.wire)
+            (master_text self.state.layouts.run (sending_of self.state.out message.now).message) (octets_in answer) (W.far (wire_of result)) (W.silence (wire_of result)))
+            × (outcome_of result ≡ operate_turned self.state message.now
+            (good_reply self.state.layouts.run (sending_of self.state.out message.now).message (octets_in answer))) }
+
+        ensures fits { OutcomeFits (outcome_of result) }
+
+        // how the link stood before, and on an honest wire how it stands now
+        ensures stood { OperateFits self.state
+            × (IsTrue (W.honest self.wire) → OperateStands self.state (W.silence self.wire) (W.far self.wire)) }
+        ensures few { (sending_of self.state.out message.now).tries < 3 }
+        ensures accepted { IsTrue (W.honest self.wire) → (link : FarLink) → IsOperating self.state.layouts link
+            → IsAccepted self.state.layouts (W.far self.wire).page link (sending_of self.state.out message.now).message }
+        ensures stands { IsTrue (W.honest self.wire)
+            → OutcomeStands (outcome_of result) (W.silence (wire_of result)) (W.far (wire_of result)) }
+        ensures met { IsTrue (W.honest self.wire) → MetFits (outcome_of result) (W.far (wire_of result)) }
+        ensures lost { IsTrue (W.honest self.wire) → LostFits (outcome_of result) (W.silence (wire_of result)) }
+    {
+        laws();
+        let Link { mut wire, state } = self;
+        let Operate { out, layouts } = state;
+        let mut sent = sending(out, message);
+        let attempt = sent.attempt(&mut wire, &layouts.run);
+        linked(wire, operate_done(sent, layouts, attempt))
+    }
+
+    /// The message that had no good reply yet.
+    pub fn out(&self) -> Option<&MasterMsg>
+        ensures out { option_map (λ m. m.now) result ≡ message_out self.now.state.out }
+        ensures fits { IfSome result (λ m. HasMasterParts self.now.state.layouts.run m.now × IsTrue (stays m.now)) }
+    {
+        match &self.state.out {
+            Some(sent) => Some(sent.message()),
+            None => None,
+        }
+    }
+
+    /// The layout of OPERATE.
+    pub fn layout(&self) -> Layout
+        ensures { result ≡ self.now.state.layouts.run }
+    {
+        self.state.layouts.run
+    }
+
+    /// The layouts that the page asks for.
+    pub fn told(&self) -> Option<&Layouts>
+        ensures told { option_copied result ≡ Some self.now.state.layouts }
+        ensures page { IsTrue (W.honest self.now.wire) → IfSome result (λ t. IsTold t.now (W.far self.now.wire)) }
+    {
+        Some(&self.state.layouts)
+    }
+}

@@ -1,0 +1,116 @@
+//! The messages of a start-up, not sent yet (IEC 61131-9, A.1.2 and B.1).
+ghost use Rattle.std.specs.Prelude.{◌≡◌, ◌-◌, ◌∷◌, ◌<◌, ◌≤◌, replicate, length, slice_index, true, false};
+ghost use Rattle.iol_octets.specs.Control.{control_of};
+ghost use Rattle.iol_mseq.specs.Shape.{IsLayout, startup_shape};
+ghost use Rattle.iol_mseq.specs.Master.{HasMasterParts};
+ghost use Rattle.iol_device.specs.Far.{first_of_zeros};
+ghost use Rattle.iol_mode.specs.Messages.{page_control, page_read, page_write, command_message, cycle_message, unsent, stays};
+
+use iol_link::Handler;
+use iol_mseq::{Layout, MasterMsg, Part};
+use iol_octets::{Channel, Mc};
+use iol_page::MasterCommand;
+
+const COMMAND: u8 = 0x00;
+
+const CYCLE_TIME: u8 = 0x01;
+
+/// The control octet of a message to the page.
+fn page_control(read: bool, address: u8) -> Mc
+    requires { address ≤ 31 }
+    ensures { result ≡ page_control read address }
+{
+    Mc {
+        read,
+        channel: Channel::Page,
+        address,
+    }
+}
+
+/// An octet, and zeros up to the size.
+fn first_of_zeros(size: u8, octet: u8) -> Part
+    requires some { 1 ≤ size }
+    requires most { size ≤ 32 }
+    ensures { result.items ≡ first_of_zeros size octet }
+{
+    let mut part = Part::new();
+    part.push(octet);
+    for _i in 1..size {
+        part.push(0);
+    }
+    part
+}
+
+/// Reads the page at an address, in STARTUP.
+#[tactic(auto, using(crate::proofs::Controls::read_parts))]
+pub(crate) fn page_read(address: u8) -> Handler
+    requires { address ≤ 31 }
+    ensures value { result ≡ unsent (page_read address) }
+    ensures parts { HasMasterParts startup_shape (page_read address) }
+{
+    Handler::new(MasterMsg {
+        mc: page_control(true, address),
+        out: Part::new(),
+        od: Part::new(),
+    })
+}
+
+/// Writes an octet to the page, in a layout without process data.
+fn page_write(layout: &Layout, address: u8, octet: u8) -> Handler
+    requires address { address ≤ 31 }
+    requires plain { layout.now.pd_out ≡ 0 }
+    ensures value { result ≡ unsent (page_write layout.now address octet) }
+    ensures parts { HasMasterParts layout.now (page_write layout.now address octet) }
+{
+    Handler::new(MasterMsg {
+        mc: page_control(false, address),
+        out: Part::new(),
+        od: first_of_zeros(layout.od(), octet),
+    })
+}
+
+/// A master command.
+pub(crate) fn command_message(layout: &Layout, command: MasterCommand) -> Handler
+    requires { layout.now.pd_out ≡ 0 }
+    ensures value { result ≡ unsent (command_message layout.now command) }
+    ensures parts { HasMasterParts layout.now (command_message layout.now command) }
+{
+    page_write(layout, COMMAND, command.octet())
+}
+
+/// MasterCycleTime.
+pub(crate) fn cycle_message(layout: &Layout, octet: u8) -> Handler
+    requires { layout.now.pd_out ≡ 0 }
+    ensures value { result ≡ unsent (cycle_message layout.now octet) }
+    ensures parts { HasMasterParts layout.now (cycle_message layout.now octet) }
+{
+    page_write(layout, CYCLE_TIME, octet)
+}
+
+fn part_of(octets: &[u8]) -> Part
+    requires { length octets.now ≤ 32 }
+    ensures { result.items ≡ octets.now }
+{
+    Part::try_from(octets).unwrap()
+}
+
+/// A copy of a message.
+pub(crate) fn copy_of(message: &MasterMsg) -> MasterMsg
+    ensures { result ≡ message.now }
+{
+    MasterMsg {
+        mc: message.mc,
+        out: part_of(&message.out),
+        od: part_of(&message.od),
+    }
+}
+
+/// The first octet, 0 where there is none.
+pub(crate) fn first(part: &Part) -> u8
+    ensures { result ≡ slice_index part.now.items 0 }
+{
+    match part.as_slice() {
+        [octet, ..] => *octet,
+        [] => 0,
+    }
+}
