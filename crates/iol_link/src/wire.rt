@@ -4,6 +4,7 @@ ghost use Rattle.iol_octets.specs.Checksum.{has_checksum};
 ghost use Rattle.iol_device.specs.Device.{octets_in};
 ghost use Rattle.iol_device.specs.Far.{Far};
 ghost use Rattle.iol_link.specs.Honest.{HonestExchange, HonestWake};
+ghost use Rattle.iol_link.specs.declared.wire.Rate.{Rate};
 
 use iol_mseq::Message;
 
@@ -32,6 +33,9 @@ pub trait Wire {
     /// How many exchanges in a row, up to now, brought no unaltered reply, counted up to 3.
     ghost silence: { Self → ℕ };
 
+    /// What one wake gives: the wire before it, the answer, the wire after it.
+    ghost wake_gives: { Self → Option Rate → Self → Type 0 };
+
     /// What one exchange gives: the wire before it, the octets sent, the answer, the wire after it.
     ghost exchange_gives: { Self → List ℕ → Option (ArrayVec ℕ) → Self → Type 0 };
 
@@ -39,6 +43,7 @@ pub trait Wire {
     fn wake(&mut self) -> Option<Rate>
         ensures honesty { honest self.new ≡ honest self.old }
         ensures quiet { silence self.new ≡ silence self.old }
+        ensures gives { wake_gives self.old result self.new }
         ensures wakes { IsTrue (honest self.old) → HonestWake (far self.old) (is_some result) (far self.new) };
 
     /// Sends the octets of one message, and answers the octets that come back in the time of a reply; none where

@@ -28,6 +28,9 @@ page_parts false address h =
     let code : (0x20 + address) / 32 % 4 ≡ 1 = omega arith in
     record { read_is = grind (arith, nat_tests); channel_is = ap channel_of code; address_is = omega arith }
 
+pub write_channel : (layout : Shape) (address octet : ℕ) → address ≤ 31 → (page_write layout address octet).mc.channel ≡ Page
+write_channel layout address octet h = (page_parts false address h).channel_is
+
 -- a control octet of these parts
 same_control : (a b : Mc) → a.read ≡ b.read → a.channel ≡ b.channel → a.address ≡ b.address → a ≡ b
 same_control a b read channel address =

@@ -31,7 +31,7 @@ use Rattle.iol_mode.specs.States.{sending_of, operate_by, operate_turned, lost, 
 use Rattle.iol_mode.specs.Stands.{entering_link, operate_link, IsOperating, IsTold, IsAccepted, tries_in, text_in, OperateStands, OutcomeStands}
 use Rattle.iol_mode.specs.Next.{MetFits, LostFits}
 use Rattle.iol_mode.specs.Laws.{Laws}
-use Rattle.iol_mode.proofs.Controls.{write_parts}
+use Rattle.iol_mode.proofs.Controls.{write_channel, write_parts}
 use Rattle.iol_mode.proofs.Outs.{pre_layout, run_layout}
 
 bytes_of : (xs ys : List ℕ) → bytes_eq xs ys ≡ true → xs ≡ ys
@@ -117,10 +117,6 @@ operate_first : (layout : Shape) → slice_index (master_text layout (command_me
 unfolding control_of
 operate_first layout = refl
 
-operate_page : (layout : Shape) → (command_message layout DeviceOperate).mc.channel ≡ Page
-unfolding control_of
-operate_page layout = refl
-
 module _ (laws : Laws) (layouts : Layouts) (m : MasterMsg) (far : Far) (told : IsTold layouts far) (proper : IsProper layouts)
     (parts : HasMasterParts layouts.run m) (stay : stays m ≡ true) where
   -- DeviceOperate, as it was sent in PREOPERATE
@@ -147,7 +143,7 @@ module _ (laws : Laws) (layouts : Layouts) (m : MasterMsg) (far : Far) (told : I
       let first : slice_index o 0 ≡ 0x20 = ap (λ (ys : List ℕ). slice_index ys 0) e ∙ operate_first layouts.pre in
       let one : layouts.pre ≡ layouts.run = one_layout layouts.pre layouts.run (slice_index o 0) _ command m proper.pre proper.run proper.pre_in proper.pre_out (omega (arith, first)) d s in
       let page : m.mc.channel ≡ Page =
-      sym (ap (λ (q : MasterMsg). q.mc.channel) s.message_is) ∙ ap (λ (q : MasterMsg). q.mc.channel) d.message_is ∙ operate_page layouts.pre in
+      sym (ap (λ (q : MasterMsg). q.mc.channel) s.message_is) ∙ ap (λ (q : MasterMsg). q.mc.channel) d.message_is ∙ write_channel layouts.pre 0 0x99 (omega arith) in
       let same : bytes_eq o (master_text layouts.pre command) ≡ true = ap (λ (ys : List ℕ). bytes_eq o ys) (sym e) ∙ bytes_same o in
       let taken_is : taken (entering_link layouts) o ≡ entering_link layouts = ap (λ (b : Bool). if b then entering_link layouts else operate_link) same in
       record {

@@ -25,7 +25,7 @@ use Rattle.iol_mode.specs.States.{preoperate_after, preoperate_by, preoperate_tu
 use Rattle.iol_mode.specs.Stands.{preoperate_link, entering_link, IsTold, PreoperateStands, OutcomeStands}
 use Rattle.iol_mode.specs.Next.{EnteredFits, MetFits, LostFits}
 use Rattle.iol_mode.specs.Laws.{Laws}
-use Rattle.iol_mode.proofs.Controls.{some_od}
+use Rattle.iol_mode.proofs.Controls.{write_channel, some_od}
 use Rattle.iol_mode.proofs.Outs.{pre_layout, out_text, begins, IsGot, IsMissed, got, missed}
 
 -- The messages
@@ -35,25 +35,17 @@ cycle_differs : (pre : Shape) (octet : ℕ) → bytes_eq (master_text pre (cycle
 unfolding control_of
 cycle_differs pre octet = refl
 
-cycle_page : (pre : Shape) (octet : ℕ) → (cycle_message pre octet).mc.channel ≡ Page
-unfolding control_of
-cycle_page pre octet = refl
-
 cycle_asks : (pre : Shape) (octet : ℕ) → mode_asked (command_in (cycle_message pre octet)) ≡ None
 unfolding control_of
 cycle_asks pre octet = refl
-
-operate_page : (pre : Shape) → (command_message pre DeviceOperate).mc.channel ≡ Page
-unfolding control_of
-operate_page pre = refl
 
 operate_asks : (pre : Shape) → mode_asked (command_in (command_message pre DeviceOperate)) ≡ Some FarOperate
 unfolding control_of
 operate_asks pre = refl
 
 sends_page : (written : Bool) (pre : Shape) (m : MasterMsg) → PreoperateSends written pre m → m.mc.channel ≡ Page
-sends_page false pre m e = ap (λ (q : MasterMsg). q.mc.channel) e ∙ cycle_page pre (slice_index m.od.items 0)
-sends_page true pre m e = ap (λ (q : MasterMsg). q.mc.channel) e ∙ operate_page pre
+sends_page false pre m e = ap (λ (q : MasterMsg). q.mc.channel) e ∙ write_channel pre 1 (slice_index m.od.items 0) (omega arith)
+sends_page true pre m e = ap (λ (q : MasterMsg). q.mc.channel) e ∙ write_channel pre 0 0x99 (omega arith)
 
 -- The far end accepts the message in PREOPERATE's layout, and then its link is this
 

@@ -40,7 +40,7 @@ use Rattle.iol_mode.specs.States.{step_message, begun, checked, page_after, step
 use Rattle.iol_mode.specs.Stands.{startup_link, preoperate_link, StepStands, StartupStands, OutcomeStands}
 use Rattle.iol_mode.specs.Next.{MetFits, LostFits, FaultFits}
 use Rattle.iol_mode.specs.Laws.{Laws}
-use Rattle.iol_mode.proofs.Controls.{PageParts, page_parts, some_od}
+use Rattle.iol_mode.proofs.Controls.{PageParts, page_parts, write_channel, some_od}
 use Rattle.iol_mode.proofs.Outs.{out_text, begins, IsGot, IsMissed, got, missed}
 
 -- The messages of the steps
@@ -52,13 +52,10 @@ startup_accepts : (page o : List ℕ) → layout_in page (taken startup_link o).
 unfolding layout_in
 startup_accepts page o = refl
 
-write_page : (address octet : ℕ) → address ≤ 31 → (page_control false address).channel ≡ Page
-write_page address octet h = (page_parts false address h).channel_is
-
 step_page : (step : Step) → StepFits step → (step_message step).mc.channel ≡ Page
 step_page (Read octets) few = (page_parts true (2 + length octets.items) (omega arith)).channel_is
-step_page (Ident told) fits = (page_parts false 0 (omega arith)).channel_is
-step_page (Leave told) fits = (page_parts false 0 (omega arith)).channel_is
+step_page (Ident told) fits = write_channel startup_shape 0 0x95 (omega arith)
+step_page (Leave told) fits = write_channel startup_shape 0 0x9A (omega arith)
 
 -- what they ask of the far end's mode
 turned_read : (o : List ℕ) (address : ℕ) → address ≤ 31 → turned startup_link o (page_read address) ≡ startup_link

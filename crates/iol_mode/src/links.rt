@@ -6,6 +6,7 @@ ghost use Rattle.iol_mseq.specs.Shape.{startup_shape};
 ghost use Rattle.iol_mseq.specs.Master.{HasMasterParts};
 ghost use Rattle.iol_mseq.specs.Texts.{master_text};
 ghost use Rattle.iol_device.specs.Device.{octets_in};
+ghost use Rattle.iol_link.specs.declared.wire.Rate.{Rate};
 ghost use Rattle.iol_link.specs.Attempts.{good_reply};
 ghost use Rattle.iol_link.specs.Honest.{HonestExchange, HonestWake};
 ghost use Rattle.iol_mode.specs.Messages.{stays};
@@ -134,8 +135,13 @@ impl<W: Wire> Link<W, Down> {
     pub fn turn(self) -> Next<W>
         ensures honest { W.honest (wire_of result) ≡ W.honest self.wire }
         ensures quiet { W.silence (wire_of result) ≡ W.silence self.wire }
-        ensures wakes { (answered : Bool) × (outcome_of result ≡ waked answered)
-            × (IsTrue (W.honest self.wire) → HonestWake (W.far self.wire) answered (W.far (wire_of result))) }
+
+        // the wire is woken once; its answer alone says what becomes of the mode
+        ensures wakes { (answer : Option Rate) × W.wake_gives self.wire answer (wire_of result)
+            × (IsTrue (W.honest self.wire) → HonestWake (W.far self.wire) (is_some answer) (W.far (wire_of result)))
+            × (outcome_of result ≡ waked (is_some answer)) }
+
+        // on an honest wire
         ensures stands { IsTrue (W.honest self.wire)
             → OutcomeStands (outcome_of result) (W.silence (wire_of result)) (W.far (wire_of result)) }
     {

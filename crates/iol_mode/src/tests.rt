@@ -80,6 +80,8 @@ impl<'a> Wire for Script<'a> {
 
     ghost silence = { λ w. 0 };
 
+    ghost wake_gives = { λ w answer v. ⊤ };
+
     ghost exchange_gives = { λ w sent answer v. ⊤ };
 
     fn wake(&mut self) -> Option<Rate> {

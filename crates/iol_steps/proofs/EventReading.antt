@@ -1,0 +1,148 @@
+-- The reading of events goes with the far end's frozen list.
+use Rattle.std.proofs.Common.{◌≡◌, ℕ, ◌+◌, ◌*◌, ◌≤◌, ◌<◌, Bool, true, false, not, ◌&&◌, List, [], ◌∷◌, length, take, drop, refl, sym, ◌∙◌, ap, subst, arith}
+use Rattle.std.specs.Prelude.{Option, Some, None, if◌then◌else◌, nat_lt, IsOk}
+use Rattle.iol_mseq.specs.declared.master.MasterMsg.{MasterMsg}
+use Rattle.iol_isdu.specs.declared.values.Answer.{Answer}
+use Rattle.iol_event.specs.declared.event.Event.{Event}
+use Rattle.iol_event.specs.Memory.{Events, IsEventMemory, is_empty, released, event_octet}
+use Rattle.iol_event.specs.Reading.{Taken, taken, next_address, reading, IsEventList}
+use Rattle.iol_event.specs.Laws.{MemoryStaysValid, WaitsForAll, GivesFrozen, taken_from}
+use Rattle.iol_device.specs.Isdu.{IsduState, Handed, Answered, fits}
+use Rattle.iol_device.specs.Codec.{layout_in}
+use Rattle.iol_device.specs.Far.{Far, hear, heard_as, events_after}
+use Rattle.iol_device.specs.Local.{LocalStep, local, locals, carried_by, has_room, is_input}
+use Rattle.iol_device.specs.Local.{Carry as OwnCarry, Raise as OwnRaise, Input as OwnInput, NoInput as OwnNoInput, Power as OwnPower}
+use Rattle.iol_device.specs.Level.{grown_by}
+use Rattle.iol_device.specs.Laws.{IsFrozen}
+use Rattle.iol_device.specs.Laws.{confirms as octets_confirm}
+use Rattle.iol_steps.specs.Bridge.{confirms_by}
+use Rattle.iol_steps.specs.Station.{Reading, Resting, Flagged, Under, Due, is_due, wants_octet, read_so_far, EventsFit}
+use Rattle.iol_steps.specs.Exchange.{reading_with, reading_read, reading_flagged, reading_kept, list_of}
+use Rattle.iol_steps.proofs.Accepted.{by_accepted}
+use Rattle.iol_steps.proofs.FirstOctet.{confirms_of}
+use Rattle.std.proofs.lemmas.Bool.Decides.{nat_tests}
+use Rattle.std.proofs.lemmas.Grind.{common_steps}
+
+pub record ReaderLaws : Type 0 where
+  pub memory : MemoryStaysValid
+  pub waits : WaitsForAll
+  pub gives : GivesFrozen
+
+carried_events : (g : Far) (a : Answer) (s : IsduState) → (carried_by s g a).events ≡ g.events
+carried_events g a (Handed r) = elim (has_room g && fits r a) as (λ b. (if b then record g { isdu = Answered r a None; carried = grown_by g.carried r a } else g).events ≡ g.events) [ true ↦ refl | false ↦ refl ]
+carried_events g a s = refl
+
+module _ (laws : ReaderLaws) where
+  memory_step : (far : Far) (step : LocalStep) → IsEventMemory far.events → IsEventMemory (local far step).events
+  memory_step far (OwnCarry a) h = subst IsEventMemory (sym (carried_events far a far.isdu)) h
+  memory_step far (OwnRaise e) h = laws.memory.raise far.events e h
+  memory_step far (OwnInput image) h = elim (is_input far image) as (λ b. IsEventMemory (if b then record far { input = Some image } else far).events) [ true ↦ h | false ↦ h ]
+  memory_step far OwnNoInput h = h
+  memory_step far OwnPower h = laws.memory.at_first
+
+  pub memory_locals : (steps : List LocalStep) (far : Far) → IsEventMemory far.events → IsEventMemory (locals far steps).events
+  memory_locals [] far h = h
+  memory_locals (step ∷ steps) far h = memory_locals steps (local far step) (memory_step far step h)
+
+  memory_worked : (m : Events) (c : Bool) → IsEventMemory m → IsEventMemory (events_after m c)
+  memory_worked m true h = laws.memory.confirm m h
+  memory_worked m false h = laws.memory.other m h
+
+  pub memory_hear : (far : Far) (o : List ℕ) → IsEventMemory far.events → IsEventMemory (hear far o).far.events
+  memory_hear far o h = by_accepted (λ q. IsEventMemory (heard_as far o q).far.events) far o h
+      (λ w m e. memory_worked far.events (confirms_by m.mc) h)
+      (λ w c k m e. memory_worked far.events (confirms_by m.mc) h)
+
+  -- the octet that the reading wants brings it on
+  abbrev Reads : List ℕ → ℕ → Events → Type 0
+  Reads octets octet m = EventsFit (reading_read octets octet) false m × IsOk (taken octets octet).answer
+
+  read_on : (e : Event) (es : List Event) (i : ℕ) (m : Events) → IsEventList (e ∷ es) → i ≤ 3 * length (e ∷ es) → IsFrozen e es m →
+      Reads (reading (e ∷ es) i) (event_octet (e ∷ es) (next_address (reading (e ∷ es) i))) m
+  read_on e es i m list most frozen = by_test (nat_lt i (3 * length (e ∷ es))) refl
+    where
+      Fits : Taken → Type 0
+      Fits t = EventsFit (reading_with t.answer t.reader) false m × IsOk t.answer
+
+      more : i < 3 * length (e ∷ es) → Fits (taken_from (event_octet (e ∷ es)) (reading (e ∷ es) i))
+      more lt = subst Fits (sym (laws.waits (e ∷ es) list i lt)) ((e, es, frozen, (i + 1, (let k : i < 3 * length (e ∷ es) = lt in omega arith), refl)), refl)
+
+      last : i ≡ 3 * length (e ∷ es) → Fits (taken_from (event_octet (e ∷ es)) (reading (e ∷ es) i))
+      last is = subst (λ (j : ℕ). Fits (taken_from (event_octet (e ∷ es)) (reading (e ∷ es) j))) (sym is) (subst Fits (sym (laws.gives (e ∷ es) list)) (frozen, refl))
+
+      by_test : (b : Bool) → nat_lt i (3 * length (e ∷ es)) ≡ b → Fits (taken_from (event_octet (e ∷ es)) (reading (e ∷ es) i))
+      by_test true t = more (grind (arith, nat_tests, common_steps))
+      by_test false t = last (let k : i ≤ 3 * length (e ∷ es) = most in grind (arith, nat_tests, common_steps))
+
+  frozen_list : (e : Event) (es : List Event) (m : Events) → IsEventMemory m → IsFrozen e es m → IsEventList (e ∷ es)
+  frozen_list e es m valid frozen = record { some = omega arith; most = subst (λ (l : List Event). length l ≤ 6) frozen.0 valid.frozen }
+
+  pub reads_next : (r : Reading) (c : Bool) (m : Events) (address : ℕ) → IsEventMemory m → EventsFit r c m → wants_octet r ≡ true → address ≡ next_address (read_so_far r) →
+      Reads (read_so_far r) (event_octet m.frozen address) m
+  reads_next Resting c m address valid fit wants is = absurd (let z : false ≡ true = wants in cc)
+  reads_next (Due e es) c m address valid fit wants is = absurd (let z : false ≡ true = wants in cc)
+  reads_next Flagged c m address valid fit wants is =
+      subst (λ (l : List Event). Reads [] (event_octet l address) m) (sym fit.2.0)
+      (subst (λ (a : ℕ). Reads [] (event_octet (fit.0 ∷ fit.1) a) m) (sym is)
+      (read_on fit.0 fit.1 0 m (frozen_list fit.0 fit.1 m valid fit.2) (omega arith) fit.2))
+  reads_next (Under octets) c m address valid fit wants is =
+      let i = fit.3.0 in
+      let so_far : octets ≡ reading (fit.0 ∷ fit.1) i = fit.3.2 in
+      subst (λ (l : List Event). Reads octets (event_octet l address) m) (sym fit.2.0)
+      (subst (λ (a : ℕ). Reads octets (event_octet (fit.0 ∷ fit.1) a) m) (sym is)
+      (subst (λ (o : List ℕ). Reads o (event_octet (fit.0 ∷ fit.1) (next_address o)) m) (sym so_far)
+      (read_on fit.0 fit.1 i m (frozen_list fit.0 fit.1 m valid fit.2) fit.3.1 fit.2)))
+
+-- the list that is whole then is the frozen one
+pub list_frozen : (r : Reading) (m : Events) (events : List Event) → list_of r ≡ Some events → EventsFit r false m → (m.frozen ≡ events) × (is_due r ≡ true)
+list_frozen Resting m events is fit = absurd (let z : Path (Option (List Event)) None (Some events) = is in cc)
+list_frozen Flagged m events is fit = absurd (let z : Path (Option (List Event)) None (Some events) = is in cc)
+list_frozen (Under octets) m events is fit = absurd (let z : Path (Option (List Event)) None (Some events) = is in cc)
+list_frozen (Due e es) m events is fit = let z : Path (Option (List Event)) (Some (e ∷ es)) (Some events) = is in let k : e ∷ es ≡ events = cc in (fit.0 ∙ k, refl)
+
+pub no_list : (r : Reading) → list_of r ≡ None → is_due r ≡ false
+no_list Resting is = refl
+no_list Flagged is = refl
+no_list (Under octets) is = refl
+no_list (Due e es) is = absurd (let z : Path (Option (List Event)) (Some (e ∷ es)) None = is in cc)
+
+pub undue : (r : Reading) → wants_octet r ≡ true → is_due r ≡ false
+undue Resting h = refl
+undue Flagged h = refl
+undue (Under octets) h = refl
+undue (Due e es) h = absurd (let z : false ≡ true = h in cc)
+
+-- what is kept
+pub kept_due : (r : Reading) (event : Bool) → is_due (reading_kept r event) ≡ is_due r
+kept_due Resting true = refl
+kept_due Resting false = refl
+kept_due Flagged true = refl
+kept_due Flagged false = refl
+kept_due (Under octets) event = refl
+kept_due (Due e es) event = refl
+
+flagged_fits : (event : Bool) (m : Events) → event ≡ not (is_empty m.frozen) → m.held ≡ false → EventsFit (reading_flagged event) false m
+flagged_fits event m is held = by_list m.frozen refl event is
+  where
+    by_list : (l : List Event) → m.frozen ≡ l → (b : Bool) → b ≡ not (is_empty m.frozen) → EventsFit (reading_flagged b) false m
+    by_list l e false k = tt
+    by_list [] e true k = absurd (let z : true ≡ false = k ∙ ap (λ (x : List Event). not (is_empty x)) e in cc)
+    by_list (x ∷ xs) e true k = (x, xs, (e, held))
+
+pub kept_fits : (r : Reading) (event : Bool) (m : Events) → event ≡ not (is_empty m.frozen) → m.held ≡ false → EventsFit r false m → EventsFit (reading_kept r event) false m
+kept_fits Resting event m is held fit = flagged_fits event m is held
+kept_fits Flagged event m is held fit = flagged_fits event m is held
+kept_fits (Under octets) event m is held fit = fit
+kept_fits (Due e es) event m is held fit = fit
+
+-- what is heard and is no confirm ends the hold
+released_held : (m : Events) → (released m).held ≡ false
+released_held m = elim (is_empty m.frozen) as (λ b. (if b then (let x : Events = record { frozen = take 6 m.waiting; waiting = drop 6 m.waiting; held = false } in x) else record m { held = false }).held ≡ false) [ true ↦ refl | false ↦ refl ]
+
+pub ends_hold : (far : Far) (o reply : List ℕ) → octets_confirm o ≡ false → (hear far o).reply ≡ Some reply → (hear far o).far.events.held ≡ false
+ends_hold far o reply other = by_accepted P far o (λ r. absurd (let z : Path (Option (List ℕ)) None (Some reply) = r in cc))
+    (λ w m e r. rw (confirms_of (layout_in far.page far.mode) o m e, other) (released_held far.events))
+    (λ w c k m e r. rw (confirms_of (layout_in far.page c.into) o m e, other) (released_held far.events))
+  where
+    P : Option (Far × MasterMsg) → Type 0
+    P q = (heard_as far o q).reply ≡ Some reply → (heard_as far o q).far.events.held ≡ false

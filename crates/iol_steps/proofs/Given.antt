@@ -1,0 +1,43 @@
+-- The laws of the device's definitions, all together.
+use Rattle.std.proofs.Common.{◌≡◌, ℕ, suc, ◌≤◌, List, [], ◌∷◌, refl, ◌∙◌}
+use Rattle.iol_event.specs.declared.event.Event.{Event}
+use Rattle.iol_link.specs.Honest.{Passage, OutLost, BackLost, Clean, far_after}
+use Rattle.iol_device.specs.declared.app.Carried.{Carried}
+use Rattle.iol_device.specs.Far.{Far}
+use Rattle.iol_device.specs.Local.{LocalStep, local, locals}
+use Rattle.iol_device.specs.Level.{Progress, Link, IsLevel}
+use Rattle.iol_device.specs.Laws.{IsSized, RepliesAreRead, InputStaysSized, MuchStays, LevelLaws, EventLaws}
+
+pub record Laws : Type 0 where
+  pub level : (size : ℕ) → 1 ≤ size → LevelLaws size
+  pub much : MuchStays
+  pub reads : RepliesAreRead
+  pub sized : InputStaysSized
+  pub events : (first : Event) (rest : List Event) → EventLaws first rest
+
+abbrev pub all_laws : ((size : ℕ) → 1 ≤ size → LevelLaws size) → MuchStays → RepliesAreRead → InputStaysSized → ((first : Event) (rest : List Event) → EventLaws first rest) → Laws
+all_laws level much reads sized events = record { level = level; much = much; reads = reads; sized = sized; events = events }
+
+module _ (laws : Laws) where
+  pub page_locals : (steps : List LocalStep) (far : Far) → (locals far steps).page ≡ far.page
+  page_locals [] far = refl
+  page_locals (step ∷ steps) far = page_locals steps (local far step) ∙ laws.much.page_kept far step
+
+  pub page_after : (passage : Passage) (far : Far) (o : List ℕ) → (far_after passage far o).page ≡ far.page
+  page_after OutLost far o = refl
+  page_after BackLost far o = laws.much.page_heard far o
+  page_after Clean far o = laws.much.page_heard far o
+
+  pub sized_locals : (steps : List LocalStep) (far : Far) → IsSized far → IsSized (locals far steps)
+  sized_locals [] far h = h
+  sized_locals (step ∷ steps) far h = sized_locals steps (local far step) (laws.sized.steps far step h)
+
+  module _ (page : List ℕ) (size : ℕ) (has : 1 ≤ size) (base : List Carried) (link : Link) (p : Progress) (o : List ℕ) where
+    pub level_locals : (most : ℕ) (steps : List LocalStep) (far : Far) → IsLevel page size base link p o most far → IsLevel page size base link p o most (locals far steps)
+    level_locals most [] far h = h
+    level_locals most (step ∷ steps) far h = level_locals most steps (local far step) (((laws.level size has).stays page base link p o).steps most far step h)
+
+    pub level_after : (most : ℕ) (passage : Passage) (far : Far) → IsLevel page size base link p o most far → IsLevel page size base link p o (suc most) (far_after passage far o)
+    level_after most OutLost far h = ((laws.level size has).stays page base link p o).loses most far h
+    level_after most BackLost far h = ((laws.level size has).stays page base link p o).hears most far h
+    level_after most Clean far h = ((laws.level size has).stays page base link p o).hears most far h

@@ -1,0 +1,127 @@
+-- Outside down the frozen list is told exactly while the far end is awake and the confirm due or out.
+use Rattle.std.proofs.Common.{◌≡◌, inl, inr, ℕ, Bool, true, false, not, ◌&&◌, List, [], ◌∷◌, refl, sym, ◌∙◌, ap}
+use Rattle.std.specs.Prelude.{Some, None, if◌then◌else◌}
+use Rattle.iol_isdu.specs.declared.values.Answer.{Answer}
+use Rattle.iol_event.specs.declared.event.Event.{Event}
+use Rattle.iol_event.specs.Memory.{Events, is_empty, freezes_at_once}
+use Rattle.iol_event.specs.Reading.{reading}
+use Rattle.iol_link.specs.Honest.{Passage, OutLost, BackLost, Clean, far_after}
+use Rattle.iol_device.specs.Isdu.{IsduState, Handed, Answered, fits}
+use Rattle.iol_device.specs.Codec.{layout_in}
+use Rattle.iol_device.specs.Far.{Far, hear, heard_as}
+use Rattle.iol_device.specs.Local.{LocalStep, local, locals, carried_by, has_room, is_input}
+use Rattle.iol_device.specs.Local.{Carry as OwnCarry, Raise as OwnRaise, Input as OwnInput, NoInput as OwnNoInput, Power as OwnPower}
+use Rattle.iol_device.specs.Level.{grown_by}
+use Rattle.iol_device.specs.Laws.{EventLaws}
+use Rattle.iol_device.specs.Laws.{confirms as octets_confirm}
+use Rattle.iol_steps.specs.Bridge.{told_after, told_through, told_released, told_worked, told_heard_as, told_heard, told_passed, told_exchanged}
+use Rattle.iol_steps.specs.Station.{Reading, Resting, Flagged, Under, Due, is_due, EventsFit}
+use Rattle.iol_steps.proofs.Accepted.{by_accepted}
+use Rattle.iol_steps.proofs.FirstOctet.{confirms_of}
+use Rattle.iol_steps.proofs.FrozenPart.{ConfirmsTold}
+
+-- no local step wakes, and hearing neither wakes nor puts to sleep
+carried_awake : (g : Far) (a : Answer) (s : IsduState) → (carried_by s g a).awake ≡ g.awake
+carried_awake g a (Handed r) = elim (has_room g && fits r a) as (λ b. (if b then record g { isdu = Answered r a None; carried = grown_by g.carried r a } else g).awake ≡ g.awake) [ true ↦ refl | false ↦ refl ]
+carried_awake g a s = refl
+
+input_awake : (far : Far) (image : List ℕ) → (local far (OwnInput image)).awake ≡ far.awake
+input_awake far image = elim (is_input far image) as (λ b. (if b then record far { input = Some image } else far).awake ≡ far.awake) [ true ↦ refl | false ↦ refl ]
+
+pub was_awake : (far : Far) (step : LocalStep) → (local far step).awake ≡ true → far.awake ≡ true
+was_awake far (OwnCarry a) w = sym (carried_awake far a far.isdu) ∙ w
+was_awake far (OwnRaise e) w = w
+was_awake far (OwnInput image) w = sym (input_awake far image) ∙ w
+was_awake far OwnNoInput w = w
+was_awake far OwnPower w = absurd (let z : false ≡ true = w in cc)
+
+pub heard_awake : (far : Far) (o : List ℕ) → (hear far o).far.awake ≡ far.awake
+heard_awake far o = by_accepted (λ q. (heard_as far o q).far.awake ≡ far.awake) far o refl (λ w m e. refl) (λ w command k m e. refl)
+
+-- the events fit while the far end is awake, and told is that it is awake and the confirm due
+abbrev pub IsTold : Reading → Bool → Far → Bool → Type 0
+IsTold reading c far t = (far.awake ≡ true → EventsFit reading c far.events) × (t ≡ (far.awake && is_due reading))
+
+keeps_false : (b t : Bool) → t ≡ false → (if b then false else t) ≡ false
+keeps_false true t e = refl
+keeps_false false t e = e
+
+raise_due : (c : Bool) (x : Event) (xs : List Event) (m : Events) (t : Bool) → EventsFit (Due x xs) c m → (if freezes_at_once m then false else t) ≡ t
+raise_due false x xs m t h = rw h.0 refl
+raise_due true x xs m t (inl h) = rw h.0 refl
+raise_due true x xs m t (inr h) = rw (h.0, h.1) refl
+
+raise_told : (reading : Reading) (c : Bool) (m : Events) (awake : Bool) (t : Bool) → (awake ≡ true → EventsFit reading c m) → t ≡ (awake && is_due reading) → (if freezes_at_once m then false else t) ≡ (awake && is_due reading)
+raise_told r c m false t fits is = keeps_false (freezes_at_once m) t is
+raise_told Resting c m true t fits is = keeps_false (freezes_at_once m) t is
+raise_told Flagged c m true t fits is = keeps_false (freezes_at_once m) t is
+raise_told (Under octets) c m true t fits is = keeps_false (freezes_at_once m) t is
+raise_told (Due x xs) c m true t fits is = raise_due c x xs m t (fits refl) ∙ is
+
+release_told : (reading : Reading) (m : Events) (awake t : Bool) → (awake ≡ true → EventsFit reading false m) → awake ≡ true → t ≡ (awake && is_due reading) → told_released m t ≡ t
+release_told Resting m awake t fits w is = keeps_false (is_empty m.frozen && not (is_empty m.waiting)) t (is ∙ ap (λ (b : Bool). b && false) w) ∙ sym (is ∙ ap (λ (b : Bool). b && false) w)
+release_told Flagged m awake t fits w is = let h = fits w in rw h.2.0 refl
+release_told (Under octets) m awake t fits w is = let h = fits w in rw h.2.0 refl
+release_told (Due x xs) m awake t fits w is = let h = fits w in rw h.0 refl
+
+worked_told : (reading : Reading) (c : Bool) (m : Events) (awake t : Bool) → (awake ≡ true → EventsFit reading c m) → awake ≡ true → t ≡ (awake && is_due reading) → told_worked m c t ≡ t
+worked_told r true m awake t fits w is = refl
+worked_told r false m awake t fits w is = release_told r m awake t fits w is
+
+module _ (laws : (first : Event) (rest : List Event) → EventLaws first rest) where
+  fit_step : (reading : Reading) (c : Bool) (far : Far) (step : LocalStep) → (far.awake ≡ true → EventsFit reading c far.events) → (local far step).awake ≡ true → EventsFit reading c (local far step).events
+  fit_step Resting c far step h w = tt
+  fit_step Flagged c far step h w = let k = h (was_awake far step w) in (k.0, k.1, (laws k.0 k.1).frozen_steps far step (λ a. k.2) w)
+  fit_step (Under octets) c far step h w = let k = h (was_awake far step w) in (k.0, k.1, (laws k.0 k.1).frozen_steps far step (λ a. k.2) w, k.3)
+  fit_step (Due x xs) false far step h w = (laws x xs).frozen_steps far step h w
+  fit_step (Due x xs) true far step h w = (laws x xs).confirming_steps far step h w
+
+  told_step : (reading : Reading) (c : Bool) (far : Far) (step : LocalStep) (t : Bool) → IsTold reading c far t → IsTold reading c (local far step) (told_after far step t)
+  told_step reading c far step t h = (fit_step reading c far step h.0, stays far step h)
+    where
+      same : (g : Far) (far : Far) → g.awake ≡ far.awake → t ≡ (far.awake && is_due reading) → t ≡ (g.awake && is_due reading)
+      same g far e k = k ∙ ap (λ (b : Bool). b && is_due reading) (sym e)
+
+      stays : (far : Far) (step : LocalStep) → IsTold reading c far t → told_after far step t ≡ ((local far step).awake && is_due reading)
+      stays far (OwnCarry a) h = same (local far (OwnCarry a)) far (carried_awake far a far.isdu) h.1
+      stays far (OwnRaise e) h = raise_told reading c far.events far.awake t h.0 h.1
+      stays far (OwnInput image) h = same (local far (OwnInput image)) far (input_awake far image) h.1
+      stays far OwnNoInput h = h.1
+      stays far OwnPower h = refl
+
+  pub told_locals : (reading : Reading) (c : Bool) (steps : List LocalStep) (far : Far) (t : Bool) → IsTold reading c far t → IsTold reading c (locals far steps) (told_through far steps t)
+  told_locals r c [] far t h = h
+  told_locals r c (step ∷ steps) far t h = told_locals r c steps (local far step) (told_after far step t) (told_step r c far step t h)
+
+  -- hearing the message that is out
+  fit_hear : (reading : Reading) (c : Bool) (far : Far) (o : List ℕ) → octets_confirm o ≡ c → (c ≡ true → is_due reading ≡ true) → (far.awake ≡ true → EventsFit reading c far.events) → far.awake ≡ true → EventsFit reading c (hear far o).far.events
+  fit_hear Resting c far o is due h w = tt
+  fit_hear Flagged true far o is due h w = absurd (let k : false ≡ true = due refl in cc)
+  fit_hear Flagged false far o is due h w = let k = h w in (k.0, k.1, (laws k.0 k.1).frozen_hears far o is (λ a. k.2) (heard_awake far o ∙ w))
+  fit_hear (Under octets) true far o is due h w = absurd (let k : false ≡ true = due refl in cc)
+  fit_hear (Under octets) false far o is due h w = let k = h w in (k.0, k.1, (laws k.0 k.1).frozen_hears far o is (λ a. k.2) (heard_awake far o ∙ w), k.3)
+  fit_hear (Due x xs) false far o is due h w = (laws x xs).frozen_hears far o is h (heard_awake far o ∙ w)
+  fit_hear (Due x xs) true far o is due h w = (laws x xs).confirming_hears far o is h (heard_awake far o ∙ w)
+
+  module _ (o : List ℕ) (reading : Reading) (due : octets_confirm o ≡ true → is_due reading ≡ true) where
+    pub told_hear : (far : Far) (t : Bool) → IsTold reading (octets_confirm o) far t → IsTold reading (octets_confirm o) (hear far o).far (told_heard far o t)
+    told_hear far t h = (
+      (λ w. fit_hear reading (octets_confirm o) far o refl due h.0 (sym (heard_awake far o) ∙ w)),
+      by_accepted (λ q. told_heard_as q t ≡ ((heard_as far o q).far.awake && is_due reading)) far o h.1
+          (λ w m spells. rw (confirms_of (layout_in far.page far.mode) o m spells) (worked_told reading (octets_confirm o) far.events far.awake t h.0 w h.1 ∙ h.1))
+          (λ w command k m spells. rw (confirms_of (layout_in far.page command.into) o m spells) (worked_told reading (octets_confirm o) far.events far.awake t h.0 w h.1 ∙ h.1)),
+    )
+
+    told_pass : (passage : Passage) (far : Far) (t : Bool) → IsTold reading (octets_confirm o) far t → IsTold reading (octets_confirm o) (far_after passage far o) (told_passed passage far o t)
+    told_pass OutLost far t h = h
+    told_pass BackLost far t h = told_hear far t h
+    told_pass Clean far t h = told_hear far t h
+
+    -- an exchange keeps it
+    pub told_exchange : (steps : List LocalStep) (passage : Passage) (far : Far) (t : Bool) → IsTold reading (octets_confirm o) far t →
+        IsTold reading (octets_confirm o) (far_after passage (locals far steps) o) (told_exchanged far steps passage o t)
+    told_exchange steps passage far t h = told_pass passage (locals far steps) (told_through far steps t) (told_locals reading (octets_confirm o) steps far t h)
+
+    -- a confirm that is accepted finds its list told
+    pub confirms_told : (far : Far) (t : Bool) → IsTold reading (octets_confirm o) far t → ConfirmsTold o far t
+    confirms_told far t h w c = h.1 ∙ ap (λ (b : Bool). b && is_due reading) w ∙ due c

@@ -1,0 +1,158 @@
+-- What may happen at one port: an alphabet of steps, and a turn as they are judged in it.
+use Rattle.std.specs.Prelude.{ℕ, ◌+◌, min, Bool, true, false, not, ◌&&◌, cond, List, [], ◌∷◌, Option, Some, None, Result, Ok, Err, ⊤}
+use Rattle.std.specs.List.{list_all}
+use Rattle.iol_page.specs.Page.{layouts_of}
+use Rattle.iol_page.specs.declared.page.Layouts.{Layouts}
+use Rattle.iol_page.specs.declared.fault.PageFault.{PageFault}
+use Rattle.iol_isdu.specs.declared.values.Request.{Request}
+use Rattle.iol_isdu.specs.declared.values.Answer.{Answer}
+use Rattle.iol_isdu.specs.declared.values.Cause.{Cause}
+use Rattle.iol_event.specs.declared.event.Event.{Event}
+use Rattle.iol_device.specs.declared.commands.Mode.TheVariants.{Operate as FarOperate}
+use Rattle.iol_device.specs.Codec.{layout_in}
+use Rattle.iol_steps.specs.declared.mode.Mode.{Mode}
+use Rattle.iol_steps.specs.declared.mode.Mode.TheVariants.{Down, Startup, Preoperate, Operate}
+use Rattle.iol_mode.specs.declared.why.Why.{Why}
+use Rattle.iol_mode.specs.Why.{why_of}
+use Rattle.iol_steps.specs.declared.said.Said.{Said}
+use Rattle.iol_steps.specs.declared.said.Said.TheVariants.{Answered, Cut, Reported}
+
+-- the octets of one direction's process data
+abbrev pub Image : Type 0
+Image = List ℕ
+
+pub data Step : Type 0 where
+  -- a request, under the number of its ticket, is under way
+  Take : ℕ → Request → Step
+  -- the device carries out the request under way, and answers this
+  Carry : Answer → Step
+  -- the request under way has this answer, or is cut off
+  Done : Answer → Step
+  Unknown : Cause → Step
+  -- the device carries out a request that was cut off
+  LateCarry : Answer → Step
+  -- a wake-up request had success
+  Reset : Step
+  -- the device freezes events; the master has read them; the device hears the confirm
+  Freeze : List Event → Step
+  Report : List Event → Step
+  Confirm : Step
+  -- the port's image becomes the device's input, or none
+  ShowImage : Step
+  DropImage : Step
+  -- a message is made in OPERATE, with the output wanted
+  Make : Step
+  -- a message is heard, after which the device's output is the one sent, or none
+  OutputOn : Step
+  OutputOff : Step
+  -- the device's input becomes this
+  Input : Option Image → Step
+  -- the device has a power cycle
+  PowerLoss : Step
+  -- the device's page is read and checked
+  TellLength : Step
+  -- the device replies that it is busy with the request
+  Busy : Step
+  -- the link takes another mode, or is down for a cause
+  Move : Mode → Option Why → Step
+
+-- The one call of the wire in a turn: a wake, and whether it was answered; an exchange, and whether it brought a good reply
+pub data WireCall : Type 0 where
+  Woke : Bool → WireCall
+  Exchanged : Bool → WireCall
+
+-- how many exchanges in a row brought no unaltered reply, counted up to 3
+abbrev pub silence_by : WireCall → ℕ → ℕ
+silence_by (Woke answered) silence = silence
+silence_by (Exchanged true) silence = 0
+silence_by (Exchanged false) silence = min 3 (silence + 1)
+
+-- a port that is down wakes its device, any other makes an exchange
+abbrev pub CallFits : Mode → WireCall → Type 0
+CallFits Down (Woke answered) = ⊤
+CallFits Startup (Exchanged replied) = ⊤
+CallFits Preoperate (Exchanged replied) = ⊤
+CallFits Operate (Exchanged replied) = ⊤
+CallFits mode call = ⊥
+
+-- what doesn't change while a port runs: how many busy replies a request may have, and the page of its device
+pub record Terms : Type 0 where
+  pub busy_limit : ℕ
+  pub page : List ℕ
+
+-- how many octets the device takes as process data
+abbrev pub output_length : List ℕ → ℕ
+output_length page = (layout_in page FarOperate).pd_out
+
+abbrev pub fault_in : Result Layouts PageFault → Option Why
+fault_in (Ok layouts) = None
+fault_in (Err fault) = Some (why_of fault)
+
+-- why a page can't be taken into use
+abbrev pub page_fault : List ℕ → Option Why
+page_fault octets = fault_in (layouts_of octets)
+
+-- a turn, as its steps are judged: the mode and the silence at its beginning, and its wire call
+pub record Moment : Type 0 where
+  pub terms : Terms
+  pub began : Mode
+  pub silence : ℕ
+  pub call : WireCall
+
+-- the silence at its end
+abbrev pub silence_left : Moment → ℕ
+silence_left moment = silence_by moment.call moment.silence
+
+-- Steps of one turn beside each other
+
+-- two steps that don't stand in one turn: a second of a kind, and a busy reply beside the taking or the carrying out of
+-- its request
+abbrev pub clash : Step → Step → Bool
+clash (Take ticket request) (Take other next) = true
+clash (Done answer) (Done other) = true
+clash (Unknown cause) (Unknown other) = true
+clash (Report events) (Report others) = true
+clash Confirm Confirm = true
+clash Make Make = true
+clash Reset Reset = true
+clash Busy Busy = true
+clash Busy (Take ticket request) = true
+clash (Take ticket request) Busy = true
+clash Busy (Carry answer) = true
+clash (Carry answer) Busy = true
+clash step other = false
+
+abbrev pub is_clash_free : List Step → Bool
+is_clash_free [] = true
+is_clash_free (step ∷ steps) = list_all (λ other. not (clash step other)) steps && is_clash_free steps
+
+-- the steps that the book hears of
+abbrev pub is_for_book : Step → Bool
+is_for_book (Take ticket request) = true
+is_for_book (Done answer) = true
+is_for_book (Unknown cause) = true
+is_for_book Reset = true
+is_for_book step = false
+
+-- and the steps that bring events to the port
+abbrev pub is_report : Step → Bool
+is_report (Report events) = true
+is_report step = false
+
+-- what a turn says tells of its steps
+abbrev pub book_said : Said → List Step
+book_said (Answered answer) = Done answer ∷ []
+book_said (Cut cause) = Unknown cause ∷ []
+book_said said = []
+
+abbrev pub reports_said : Said → List Step
+reports_said (Reported events) = Report events ∷ []
+reports_said said = []
+
+abbrev pub is_down : Mode → Bool
+is_down Down = true
+is_down mode = false
+
+-- a wake had success in this turn
+abbrev pub woke_up : Mode → Mode → List Step
+woke_up began ended = cond (is_down began && not (is_down ended)) (Reset ∷ []) []
