@@ -1,0 +1,4 @@
+pub mod Scripts
+pub mod Calls
+pub mod Entries
+pub mod Copies

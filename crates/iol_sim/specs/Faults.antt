@@ -1,0 +1,8 @@
+-- The number of each refusal.
+use Rattle.std.specs.Prelude.{ℕ}
+use Rattle.iol_sim.specs.declared.fault.SimFault.{SimFault}
+use Rattle.iol_sim.specs.declared.fault.SimFault.TheVariants.{OutOfMemory, BadParam}
+
+abbrev pub fault_number : SimFault → ℕ
+fault_number OutOfMemory = 24
+fault_number BadParam = 35

@@ -1,0 +1,4 @@
+pub mod Faults
+pub mod Params
+pub mod Script
+pub mod Sim

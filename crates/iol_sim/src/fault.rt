@@ -1,0 +1,28 @@
+ghost use Rattle.std.specs.Prelude.{◌≡◌};
+
+use thiserror::Error;
+
+/// Why a call was refused.
+#[derive(Clone, Copy, Debug, PartialEq, Eq, Error)]
+pub enum SimFault {
+    /// 24: there is no memory for the script or the messages.
+    #[error("OutOfMemory")]
+    OutOfMemory,
+    /// 35: a parameter too many, one at a place that is taken, or one of more than 232 octets.
+    #[error("BadParam")]
+    BadParam,
+}
+
+impl SimFault {
+    ghost use Rattle.iol_sim.specs.Faults.{fault_number};
+
+    /// The number of the refusal.
+    pub fn code(&self) -> u8
+        ensures { result ≡ fault_number self.now }
+    {
+        match self {
+            SimFault::OutOfMemory => 24,
+            SimFault::BadParam => 35,
+        }
+    }
+}

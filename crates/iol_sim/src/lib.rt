@@ -1,0 +1,21 @@
+//! A wire that is simulated: a device stands at its far end, and a script says what happens to it and to each call.
+//!
+//! A [`Sim`] loses and damages messages as its script says, and it is an honest wire whatever the script. A [`Raw`]
+//! answers given messages in order, and is not honest. [`Params`] is an application for the device: parameters that
+//! are read and written.
+#![tactic(auto)]
+
+mod fault;
+mod params;
+mod raw;
+mod script;
+mod sim;
+
+pub use fault::SimFault;
+pub use params::Params;
+pub use raw::Raw;
+pub use script::{Fate, Step};
+pub use sim::Sim;
+
+#[cfg(test)]
+mod tests;

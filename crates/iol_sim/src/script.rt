@@ -1,0 +1,40 @@
+use iol_event::Event;
+use iol_image::Image;
+
+/// What becomes of one call of the wire. Damage flips bit 0 of the last octet.
+#[derive(Clone, Copy, Debug, PartialEq, Eq)]
+pub enum Fate {
+    /// Nothing happens to it.
+    Clean,
+    /// What the master sends is lost.
+    OutLost,
+    /// The device's reply is lost; that to a wake as well, so that the master doesn't see it.
+    BackLost,
+    /// What the master sends comes damaged; a wake is lost.
+    OutDamaged,
+    /// The device's reply comes damaged; that to a wake isn't seen.
+    BackDamaged,
+    /// A wake is lost, and so is a message.
+    NoWake,
+    /// This call and all after it are lost, until the wire is mended.
+    Silent,
+}
+
+/// One step of a script.
+#[derive(Clone, Debug, PartialEq, Eq, Drop)]
+pub enum Step {
+    /// What becomes of the next call, for which no further step is used.
+    Fate(Fate),
+    /// The application carries out a request that was handed over.
+    Work,
+    /// Whether it does so before each call from now on, behind the steps.
+    Auto(bool),
+    /// The device raises an event; where it takes no further one, nothing happens.
+    Raise(Event),
+    /// The device has this process data in; where it isn't of its length, nothing happens.
+    Input(Image),
+    /// It has no valid process data in.
+    NoInput,
+    /// A power cycle of the device.
+    Power,
+}

@@ -1,0 +1,265 @@
+ghost use Rattle.std.specs.Prelude.{◌≡◌, ℕ, [], true, false, List, Some, IfOk, IfErr, IfSome, IsTrue, MatchBool, is_some, length, min, ◌+◌, ◌≤◌, if◌then◌else◌, ◌∷◌};
+ghost use Rattle.arrayvec.specs.ArrayVec.{ArrayVec};
+ghost use Rattle.std.specs.Vec.Iter.{into_iter_items};
+ghost use Rattle.iol_octets.specs.Checksum.{has_checksum, AreOctets};
+ghost use Rattle.iol_device.specs.Device.{octets_in};
+ghost use Rattle.iol_link.specs.Honest.{HonestExchange, HonestWake};
+ghost use Rattle.iol_sim.specs.Sim.{damaged};
+
+use crate::fault::SimFault;
+use crate::script::{Fate, Step};
+use iol_device::{App, Device, replies_are_read};
+use iol_link::{Rate, Wire, damaged_replies_are_unread};
+use iol_mseq::Message;
+use iol_octets::one_flip_is_seen;
+use std::alloc::{Allocator, Global};
+use std::marker::Model;
+use std::vec::IntoIter;
+
+/// The most octets that a message can have.
+const LONGEST: usize = 66;
+
+/// A wire with a device at its far end, and a script of what happens to it and to each call.
+///
+/// Each call first uses the steps of the script up to and with the next fate, then has the application work where
+/// that is automatic, as it is at first, and then goes as the fate says. An ended script is clean.
+#[derive(Drop)]
+pub struct Sim<P: App, A: Allocator + Copy = Global> {
+    // In front, so that the device lies where it does in the refusal of `new`: else LLVM takes minutes over a move.
+    line: Line,
+    device: Device<P, A>,
+    /// The steps of the script that were not used yet.
+    steps: IntoIter<Step, A>,
+}
+
+/// How the line stands.
+#[derive(Clone, Copy)]
+struct Line {
+    auto: bool,
+    silent: bool,
+    /// The exchanges in a row that brought no unaltered reply, counted up to 3.
+    silence: u8,
+}
+
+impl<P: App, A: Allocator + Copy> Model for Sim<P, A> {
+    ghost use Rattle.std.specs.Prelude.{◌≤◌};
+    ghost use Rattle.std.specs.Vec.Iter.{into_iter_items};
+    ghost use Rattle.iol_sim.specs.Sim.{Simulated};
+
+    ghost Value = { Simulated P };
+
+    ghost view = { λ sim. record {
+      device = sim.device;
+      steps = into_iter_items sim.steps;
+      auto = sim.line.auto;
+      silent = sim.line.silent;
+      silence = sim.line.silence;
+    } };
+
+    ghost invariant = { λ sim. sim.line.silence ≤ 3 };
+}
+
+impl<P: App, A: Allocator + Copy> Sim<P, A> {
+    ghost use Rattle.iol_device.specs.Far.{hear};
+    ghost use Rattle.iol_sim.specs.declared.fault.SimFault.{SimFault};
+    ghost use Rattle.iol_sim.specs.declared.script.Fate.{Fate};
+    ghost use Rattle.iol_sim.specs.Script.{fate_of, rest_of, auto_of, IsDone, AreDone};
+    ghost use Rattle.iol_sim.specs.Sim.{fate_now, prepared, IsReady, woken_by, rate_by, exchanged, silence_by};
+
+    /// A wire to this device, with a copy of the script.
+    ///
+    /// Refused with 24 OutOfMemory, the device handed back, where there is no memory for the script.
+    pub fn new(
+        alloc: A,
+        device: Device<P, A>,
+        steps: &[Step],
+    ) -> Result<Sim<P, A>, (SimFault, Device<P, A>)>
+        ensures value { IfOk result (λ sim. sim ≡ record { device = device; steps = steps.now; auto = true; silent = false; silence = 0 }) }
+        ensures refused { IfErr result (λ e. e.0 ≡ SimFault.OutOfMemory) }
+        ensures back { IfErr result (λ e. e.1 ≡ device) }
+    {
+        match Vec::from_clones(alloc, steps) {
+            Ok(steps) => Ok(Sim {
+                line: Line {
+                    auto: true,
+                    silent: false,
+                    silence: 0,
+                },
+                device,
+                steps: steps.into_iter(),
+            }),
+            Err(_) => Err((SimFault::OutOfMemory, device)),
+        }
+    }
+
+    /// The device at the far end.
+    pub fn device(&self) -> &Device<P, A>
+        ensures { result.now ≡ self.now.device }
+    {
+        &self.device
+    }
+
+    /// From now on the wire is no longer silent, and goes on with the script.
+    pub fn mend(&mut self)
+        ensures { self.new ≡ record self.old { silent = false } }
+    {
+        self.line.silent = false;
+    }
+
+    /// Does one step that is no fate.
+    fn act(&mut self, step: &Step)
+        ensures device { IsDone step.now self.old.device self.new.device }
+        ensures rest { self.new ≡ record self.old { device = self.new.device; auto = auto_of self.old.auto (step.now ∷ []) } }
+    {
+        match step {
+            Step::Fate(_) => {}
+            Step::Work => self.device.work(),
+            Step::Auto(on) => self.line.auto = *on,
+            // A refusal changes nothing.
+            Step::Raise(event) => {
+                let _ = self.device.raise(*event);
+            }
+            Step::Input(image) => {
+                let _ = self.device.set_input(image);
+            }
+            Step::NoInput => self.device.clear_input(),
+            Step::Power => self.device.power_cycle(),
+        }
+    }
+
+    /// Does the steps up to and with the next fate, which is answered.
+    fn next_fate(&mut self) -> Fate
+        ensures fate { result ≡ fate_of self.old.steps }
+        ensures device { AreDone self.old.steps self.old.device self.new.device }
+        ensures rest { self.new ≡ record self.old { device = self.new.device; steps = rest_of self.old.steps; auto = auto_of self.old.auto self.old.steps } }
+    {
+        while let Some(step) = self.steps.next() {
+            if let Step::Fate(fate) = step {
+                return fate;
+            }
+            self.act(&step);
+        }
+        Fate::Clean
+    }
+
+    /// Uses the steps before a call, whose fate is answered; none where it is silent.
+    fn begin(&mut self) -> Fate
+        ensures fate { result ≡ fate_now self.old }
+        ensures device { MatchBool self.old.silent (self.new.device ≡ self.old.device) (AreDone self.old.steps self.old.device self.new.device) }
+        ensures rest { self.new ≡ prepared self.old self.new.device }
+    {
+        if self.line.silent {
+            return Fate::Silent;
+        }
+        let fate = self.next_fate();
+        self.line.silent = fate == Fate::Silent;
+        fate
+    }
+
+    /// Does all that comes before a call, whose fate is answered.
+    fn prepare(&mut self) -> Fate
+        ensures fate { result ≡ fate_now self.old }
+        ensures device { IsReady self.old self.new.device }
+        ensures rest { self.new ≡ prepared self.old self.new.device }
+    {
+        let fate = self.begin();
+        if self.line.auto {
+            self.device.work();
+        }
+        fate
+    }
+
+    /// The wake-up request is made, and the rate that the master finds is answered.
+    fn reach(&mut self, fate: Fate) -> Option<Rate>
+        ensures rate { result ≡ rate_by fate }
+        ensures device { self.new ≡ record self.old { device = woken_by fate self.old.device } }
+    {
+        match fate {
+            Fate::Clean => {
+                self.device.wake();
+                Some(Rate::Com2)
+            }
+            Fate::BackLost | Fate::BackDamaged => {
+                self.device.wake();
+                None
+            }
+            Fate::OutLost | Fate::OutDamaged | Fate::NoWake | Fate::Silent => None,
+        }
+    }
+
+    /// The octets are sent, and what comes back is answered.
+    fn pass(&mut self, fate: Fate, sent: &[u8]) -> Option<Message>
+        ensures answer { octets_in result ≡ (exchanged fate self.old.device.far sent.now).reply }
+        ensures device { self.new ≡ record self.old { device = record self.old.device { far = (exchanged fate self.old.device.far sent.now).far } } }
+        ensures octets { fate ≡ Fate.BackDamaged → IfSome (hear self.old.device.far sent.now).reply AreOctets }
+    {
+        match fate {
+            Fate::Clean => self.device.hear(sent),
+            Fate::BackLost => {
+                let _ = self.device.hear(sent);
+                None
+            }
+            Fate::BackDamaged => {
+                let reply = self.device.hear(sent)?;
+                Some(damaged(reply.as_slice()))
+            }
+            Fate::OutDamaged if sent.len() <= LONGEST => {
+                self.device.hear(damaged(sent).as_slice())
+            }
+            Fate::OutDamaged | Fate::OutLost | Fate::NoWake | Fate::Silent => None,
+        }
+    }
+
+    /// Counts an exchange that ended so.
+    fn count(&mut self, fate: Fate, answer: &Option<Message>)
+        ensures { self.new ≡ record self.old { silence = silence_by fate self.old.silence (octets_in answer.now) } }
+    {
+        self.line.silence = match (fate, answer) {
+            (Fate::Clean, Some(_)) => 0,
+            _ => 3.min(self.line.silence + 1),
+        };
+    }
+}
+
+/// The octets of a message with bit 0 of the last one flipped.
+fn damaged(octets: &[u8]) -> Message
+    requires { length octets.now ≤ LONGEST }
+    ensures value { result.items ≡ damaged octets.now }
+    ensures octets { AreOctets octets.now }
+{
+    let mut message = Message::try_from(octets).unwrap();
+    if let Some(octet) = message.last_mut() {
+        *octet ^= 1;
+    }
+    message
+}
+
+impl<P: App, A: Allocator + Copy> Wire for Sim<P, A> {
+    ghost use Rattle.iol_sim.specs.Sim.{IsWake, IsExchange};
+
+    ghost far = { λ sim. sim.device.far };
+
+    ghost honest = { λ sim. true };
+
+    ghost silence = { λ sim. sim.silence };
+
+    ghost wake_gives = { IsWake };
+
+    ghost exchange_gives = { IsExchange };
+
+    fn wake(&mut self) -> Option<Rate> {
+        let fate = self.prepare();
+        self.reach(fate)
+    }
+
+    fn exchange(&mut self, sent: &[u8]) -> Option<Message> {
+        replies_are_read();
+        damaged_replies_are_unread();
+        one_flip_is_seen();
+        self.device.parts_are_regular();
+        let fate = self.prepare();
+        let answer = self.pass(fate, sent);
+        self.count(fate, &answer);
+        answer
+    }
+}
