@@ -1,0 +1,15 @@
+pub mod Staging
+pub mod Cutting
+pub mod Joining
+pub mod Sessions
+pub mod Sending
+pub mod Confirms
+pub mod Following
+pub mod Accepting
+pub mod TakingUp
+pub mod Stations
+pub mod Turns
+pub mod Settling
+pub mod Requesting
+pub mod Seeing
+pub mod SeenWake

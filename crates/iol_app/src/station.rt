@@ -1,0 +1,283 @@
+//! A station: the link in its mode, and the session over it.
+ghost use Rattle.std.specs.Prelude.{◌≡◌, None, Some, false, is_some, IsSome, IfSome, IsTrue, OnOk, OnErr, ◌&&◌};
+ghost use Rattle.std.specs.Result.{result_err};
+ghost use Rattle.std.specs.Option.{option_copied};
+ghost use Rattle.iol_mode.specs.Next.{wire_of as wire_in, outcome_of};
+ghost use Rattle.iol_app.specs.EventReading.{is_refused};
+ghost use Rattle.iol_app.specs.State.{opened, aborted_in, begun_in, wanting, output_refusal, left, IsHearable};
+ghost use Rattle.iol_app.specs.Requests.{request_in, request_after};
+ghost use Rattle.iol_app.specs.Due.{is_ready};
+ghost use Rattle.iol_app.specs.StationState.{wire_of, mode_of, why_of, is_operating, linked, is_waked, waked_session, settled_session, reply_session, IsReplySaid, LinkFits, NextFits, IsSettledSaid, IsTurn};
+
+use crate::output::OutputFault;
+use crate::session::Session;
+use core::mem::replace_with;
+use iol_image::Image;
+use iol_isdu::{Cause, Request};
+use iol_link::Wire;
+use iol_mode::{Down, Link, Next, Operate, Preoperate, Startup, Why};
+use iol_mseq::Reply;
+use iol_steps::{Mode, Said};
+use std::marker::Model;
+
+/// How a station is.
+#[derive(Clone, Copy, Debug, PartialEq, Eq)]
+pub struct Status {
+    pub mode: Mode,
+    /// Why the link is down, where a turn led there.
+    pub why: Option<Why>,
+    /// Whether a StatusCode was refused since the last start-up.
+    pub event_form: bool,
+}
+
+/// The link in one of its modes.
+#[derive(Drop)]
+pub(crate) enum AnyLink<W: Wire> {
+    Down(Link<W, Down>),
+    Startup(Link<W, Startup>),
+    Preoperate(Link<W, Preoperate>),
+    Operate(Link<W, Operate>),
+}
+
+/// The master's end of one port: a link, and the session over it.
+#[derive(Drop)]
+pub struct Station<W: Wire> {
+    link: AnyLink<W>,
+    session: Session,
+}
+
+impl<W: Wire> Model for Station<W> {
+    ghost use Rattle.iol_app.specs.StationState.{StationState, LinkFits};
+
+    ghost Value = { StationState W };
+
+    ghost view = { λ s. record { link = s.link; session = s.session } };
+
+    ghost invariant = { λ s. LinkFits s.link s.session };
+}
+
+impl<W: Wire> Station<W> {
+    /// A station over this wire; a request is cut off at the busy reply of this number.
+    pub fn new(wire: W, busy: u16) -> Station<W>
+        ensures wire { wire_of result.link ≡ wire }
+        ensures mode { mode_of result.link ≡ Mode.Down }
+        ensures why { why_of result.link ≡ None }
+        ensures session { result.session ≡ opened busy }
+    {
+        Station {
+            link: AnyLink::Down(Link::new(wire)),
+            session: Session::new(busy),
+        }
+    }
+
+    /// The wire.
+    pub fn wire(&self) -> &W
+        ensures { result.now ≡ wire_of self.now.link }
+    {
+        match &self.link {
+            AnyLink::Down(link) => link.wire(),
+            AnyLink::Startup(link) => link.wire(),
+            AnyLink::Preoperate(link) => link.wire(),
+            AnyLink::Operate(link) => link.wire(),
+        }
+    }
+
+    /// The mode, why the link is down, and whether a StatusCode was refused since the last start-up.
+    pub fn status(&self) -> Status
+        ensures mode { result.mode ≡ mode_of self.now.link }
+        ensures why { result.why ≡ why_of self.now.link }
+        ensures event_form { result.event_form ≡ is_refused self.now.session.events.reading }
+    {
+        let (mode, why) = match &self.link {
+            AnyLink::Down(link) => (Mode::Down, link.why()),
+            AnyLink::Startup(_) => (Mode::Startup, None),
+            AnyLink::Preoperate(_) => (Mode::Preoperate, None),
+            AnyLink::Operate(_) => (Mode::Operate, None),
+        };
+        Status {
+            mode,
+            why,
+            event_form: self.session.event_form(),
+        }
+    }
+
+    /// The process data in of the last good reply in OPERATE, none where it was invalid.
+    pub fn image(&self) -> Option<&Image>
+        ensures { option_copied result ≡ self.now.session.image }
+    {
+        self.session.image()
+    }
+
+    /// Whether the next turn sends IDLE 1, where there is room for events or not: then a request may be begun.
+    pub fn ready(&self, room: bool) -> bool
+        ensures value { result ≡ (is_operating self.now.link && is_ready self.now.session room) }
+        ensures free { IsTrue result → (mode_of self.now.link ≡ Mode.Operate) × (self.now.session.current ≡ None) }
+    {
+        matches!(self.link, AnyLink::Operate(_)) && self.session.ready(room)
+    }
+
+    /// Begins a request, in OPERATE, while none is under way.
+    pub fn begin(&mut self, request: Request)
+        requires operate { mode_of self.old.link ≡ Mode.Operate }
+        requires free { self.old.session.current ≡ None }
+        ensures { self.new ≡ record self.old { session = begun_in request self.old.session } }
+    {
+        self.session.begin(request);
+    }
+
+    /// Lets an abort of the request under way wait. A second one changes nothing.
+    pub fn abort(&mut self, cause: Cause)
+        requires { IsSome self.old.session.current }
+        ensures { self.new ≡ record self.old { session = aborted_in cause self.old.session } }
+    {
+        self.session.abort(cause);
+    }
+
+    /// Wants this output. Refused, with nothing changed, by the first of these that holds:
+    /// - 34 `NoLayout`: no start-up has told the lengths yet;
+    /// - 29 `WrongImageLength`: the image has not the length that was told last.
+    pub fn set_output(&mut self, image: &Image) -> Result<(), OutputFault>
+        ensures refused { result_err result ≡ output_refusal image.now self.old.session.layout }
+        ensures ok { OnOk result (self.new ≡ record self.old { session = wanting (Some image.now) self.old.session }) }
+        ensures err { OnErr result (self.new ≡ self.old) }
+    {
+        self.session.set_output(image)
+    }
+
+    /// Wants no output.
+    pub fn clear_output(&mut self)
+        ensures { self.new ≡ record self.old { session = wanting None self.old.session } }
+    {
+        self.session.clear_output();
+    }
+
+    /// Takes the link down. Answers whether a request was under way, which is cut off.
+    pub fn restart(&mut self) -> bool
+        ensures wire { wire_of self.new.link ≡ wire_of self.old.link }
+        ensures mode { mode_of self.new.link ≡ Mode.Down }
+        ensures why { why_of self.new.link ≡ None }
+        ensures session { self.new.session ≡ left self.old.session }
+        ensures cut { result ≡ is_some self.old.session.current }
+    {
+        replace_with(self, (), Station::restarted)
+    }
+
+    /// One turn: at most one wake or one exchange.
+    pub fn turn(&mut self, room: bool) -> Said
+        ensures request { request_in self.new.session.current ≡ request_after (request_in self.old.session.current) result }
+        ensures turn { IsTurn W.honest W.far W.silence W.wake_gives W.exchange_gives room self.old result self.new }
+    {
+        replace_with(self, room, Station::turned)
+    }
+
+    fn restarted(self, _: ()) -> (Station<W>, bool)
+        ensures wire { wire_of result.0.link ≡ wire_of self.link }
+        ensures mode { mode_of result.0.link ≡ Mode.Down }
+        ensures why { why_of result.0.link ≡ None }
+        ensures session { result.0.session ≡ left self.session }
+        ensures cut { result.1 ≡ is_some self.session.current }
+    {
+        let Station { link, mut session } = self;
+        let cut = session.leave();
+        let link = match link {
+            AnyLink::Down(link) => Link::new(link.into_wire()),
+            AnyLink::Startup(link) => link.down(),
+            AnyLink::Preoperate(link) => link.down(),
+            AnyLink::Operate(link) => link.down(),
+        };
+        let link = AnyLink::Down(link);
+        (Station { link, session }, cut)
+    }
+
+    fn turned(self, room: bool) -> (Station<W>, Said)
+        ensures request { request_in result.0.session.current ≡ request_after (request_in self.session.current) result.1 }
+        ensures turn { IsTurn W.honest W.far W.silence W.wake_gives W.exchange_gives room self result.1 result.0 }
+    {
+        let Station { link, session } = self;
+        match link {
+            AnyLink::Down(link) => waked(link, session),
+            AnyLink::Startup(link) => settled(link.turn(), session),
+            AnyLink::Preoperate(link) => settled(link.turn(), session),
+            AnyLink::Operate(link) => operated(link, session, room),
+        }
+    }
+}
+
+/// A turn in Down: a wake, and where it is answered a start-up begins.
+fn waked<W: Wire>(link: Link<W, Down>, session: Session) -> (Station<W>, Said)
+    requires { LinkFits (AnyLink.Down link) session }
+    ensures request { request_in result.0.session.current ≡ request_after (request_in session.current) result.1 }
+    ensures turn { IsTurn W.honest W.far W.silence W.wake_gives W.exchange_gives false (record { link = AnyLink.Down link; session = session }) result.1 result.0 }
+{
+    let mut session = session;
+    let next = link.turn();
+    follow_wake(&next, &mut session);
+    settled(next, session)
+}
+
+/// A wake that is answered begins a start-up.
+fn follow_wake<W: Wire>(next: &Next<W>, session: &mut Session)
+    ensures { session.new ≡ waked_session (is_waked (outcome_of next.now)) session.old }
+{
+    if matches!(next, Next::Startup(_)) {
+        session.start();
+    }
+}
+
+/// A turn in OPERATE: the message out again, or a new one for what is due.
+fn operated<W: Wire>(link: Link<W, Operate>, session: Session, room: bool) -> (Station<W>, Said)
+    requires { LinkFits (AnyLink.Operate link) session }
+    ensures request { request_in result.0.session.current ≡ request_after (request_in session.current) result.1 }
+    ensures turn { IsTurn W.honest W.far W.silence W.wake_gives W.exchange_gives room (record { link = AnyLink.Operate link; session = session }) result.1 result.0 }
+{
+    let mut session = session;
+    let message = session.next_message(link.out(), room);
+    settled(link.turn(&message), session)
+}
+
+/// The station after a turn of its link, and what the turn says.
+fn settled<W: Wire>(next: Next<W>, session: Session) -> (Station<W>, Said)
+    requires { NextFits (outcome_of next) session }
+    ensures link { result.0.link ≡ linked (wire_in next) (outcome_of next) }
+    ensures session { result.0.session ≡ settled_session (outcome_of next) session }
+    ensures said { IsSettledSaid (outcome_of next) session result.1 }
+    ensures request { request_in result.0.session.current ≡ request_after (request_in session.current) result.1 }
+{
+    let mut session = session;
+    match next {
+        Next::Down(link) => {
+            let said = session.lose();
+            let link = AnyLink::Down(link);
+            (Station { link, session }, said)
+        }
+        Next::Startup(link) => {
+            if let Some(layouts) = link.told() {
+                session.take_layout(&layouts.run);
+            }
+            let link = AnyLink::Startup(link);
+            (Station { link, session }, Said::Idle)
+        }
+        Next::Preoperate(link) => {
+            let link = AnyLink::Preoperate(link);
+            (Station { link, session }, Said::Idle)
+        }
+        Next::Operate(link, reply) => {
+            let said = heard(&mut session, reply);
+            let link = AnyLink::Operate(link);
+            (Station { link, session }, said)
+        }
+    }
+}
+
+/// Takes up the good reply of a turn in OPERATE, where it brought one.
+fn heard(session: &mut Session, reply: Option<Reply>) -> Said
+    requires { IfSome reply (λ r. IsHearable session.old r) }
+    ensures session { session.new ≡ reply_session reply session.old }
+    ensures said { IsReplySaid reply session.old result }
+    ensures request { request_in session.new.current ≡ request_after (request_in session.old.current) result }
+{
+    match reply {
+        Some(reply) => session.hear(&reply),
+        None => session.quiet(),
+    }
+}
