@@ -11,6 +11,7 @@ use iol_event::Event;
 use iol_image::Image;
 use iol_isdu::{Answer, Cause, Place, Request};
 use iol_mseq::{Layout, MasterMsg, Part, Reply};
+use iol_steps::Said;
 use std::test::Fail;
 
 /// What is compared of a turn: the control octet of its message, its data, and what the turn said.
