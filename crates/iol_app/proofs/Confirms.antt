@@ -18,7 +18,7 @@ use Rattle.iol_app.specs.declared.session.Exchange.TheVariants.{TellOutput, Drop
 use Rattle.iol_app.specs.Messages.{Head, head_for, progress_head, request_head}
 use Rattle.iol_app.specs.Moves.{confirms_events, ConfirmsConfirm}
 
-abbrev is_confirm_head : Head → Bool
+abbrev pub is_confirm_head : Head → Bool
 is_confirm_head head = is_confirm head.channel head.read head.address
 
 progress_none : (p : Progress) → is_confirm_head (progress_head p) ≡ false
@@ -31,14 +31,14 @@ request_none : (current : Option Current) → is_confirm_head (request_head curr
 request_none None = refl
 request_none (Some current) = progress_none current.progress
 
-by_exchange : (exchange : Exchange) (reading : Reading) (current : Option Current) → is_confirm_head (head_for exchange reading current) ≡ confirms_events exchange
-by_exchange TellOutput _ current = refl
-by_exchange DropOutput _ current = refl
-by_exchange Abort _ current = refl
-by_exchange ReadEvent _ current = refl
-by_exchange ConfirmEvents _ current = refl
-by_exchange NextMessage _ current = request_none current
-by_exchange Idle _ current = refl
+pub confirms_by_head : (exchange : Exchange) (reading : Reading) (current : Option Current) → is_confirm_head (head_for exchange reading current) ≡ confirms_events exchange
+confirms_by_head TellOutput _ current = refl
+confirms_by_head DropOutput _ current = refl
+confirms_by_head Abort _ current = refl
+confirms_by_head ReadEvent _ current = refl
+confirms_by_head ConfirmEvents _ current = refl
+confirms_by_head NextMessage _ current = request_none current
+confirms_by_head Idle _ current = refl
 
 some_message : (b : Bool) (m n : MasterMsg) → (if b then None else Some m) ≡ Some n → m ≡ n
 some_message true m n e = absurd (let k : None ≡ Some n = e in cc)
@@ -54,4 +54,4 @@ pub confirms_confirm : MessagesAreHeard → ConfirmsConfirm
 confirms_confirm heard exchange reading current layout message octets head spells =
     ap (λ (mc : Mc). is_confirm mc.channel mc.read mc.address) (control_is heard layout message octets spells)
     ∙ ap is_confirm_head head
-    ∙ by_exchange exchange reading current
+    ∙ confirms_by_head exchange reading current

@@ -71,7 +71,7 @@ asked_follows cutter abort busy limit od =
     (cases_Bool (slice_index od 0 == 0)))
     (cases_Bool (slice_index od 0 == 1))
 
-asked_after : (cutter : Cutting Request) (busy given : ℕ) (od : List ℕ) → cutter.given ≡ given → IsAllGiven cutter.size (text_of cutter) given
+pub asked_after : (cutter : Cutting Request) (busy given : ℕ) (od : List ℕ) → cutter.given ≡ given → IsAllGiven cutter.size (text_of cutter) given
     → after (asked_for cutter busy) Ask od ≡ level_asked cutter.source od
 asked_after cutter zero zero od e h = absurd h
 asked_after cutter zero (suc i) od e h = rw e refl

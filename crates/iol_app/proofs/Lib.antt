@@ -13,3 +13,17 @@ pub mod Settling
 pub mod Requesting
 pub mod Seeing
 pub mod SeenWake
+pub mod StartMessages
+pub mod StartSending
+pub mod Telling
+pub mod SeenStartup
+pub mod SeenPreoperate
+pub mod DueFacts
+pub mod OperateMessages
+pub mod OperateSending
+pub mod OperateReading
+pub mod OperateRequest
+pub mod SeenOperate
+pub mod Stepping
+pub mod SeenCalls
+pub mod Reporting

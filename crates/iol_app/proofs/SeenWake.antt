@@ -1,5 +1,5 @@
 -- A wake, as it is seen.
-use Rattle.std.proofs.Common.{◌≡◌, ◌≢◌, ℕ, Bool, true, false, [], List, refl, sym, ap, ◌∙◌, subst, lit<, Option, Some, None}
+use Rattle.std.proofs.Common.{◌≡◌, ◌≢◌, ℕ, Bool, true, false, List, refl, sym, ap, ◌∙◌, subst, lit<, lit≤, Option, None}
 use Rattle.std.specs.Prelude.{IsTrue, is_some}
 use Rattle.arrayvec.specs.ArrayVec.{ArrayVec}
 use Rattle.iol_octets.specs.Control.{control_of}
@@ -13,8 +13,6 @@ use Rattle.iol_mode.specs.declared.states.Down.{Down}
 use Rattle.iol_mode.specs.Messages.{page_read}
 use Rattle.iol_mode.specs.States.{OutcomeFits, waked}
 use Rattle.iol_mode.specs.Stands.{OutcomeStands}
-use Rattle.iol_isdu.specs.declared.values.Request.{Request}
-use Rattle.iol_steps.specs.declared.mode.Mode.{Mode}
 use Rattle.iol_steps.specs.declared.mode.Mode.TheVariants.{Down as ModeDown, Operate as ModeOperate}
 use Rattle.iol_steps.specs.declared.said.Said.{Said}
 use Rattle.iol_steps.specs.declared.said.Said.TheVariants.{Idle}
@@ -23,14 +21,12 @@ use Rattle.iol_steps.specs.Station.{Station, Unseen, Stands}
 use Rattle.iol_steps.specs.Exchange.{after_wake, woke, unwoken}
 use Rattle.iol_steps.specs.Promises.{WakeGives}
 use Rattle.iol_steps.specs.Turn.{TurnGives}
-use Rattle.iol_app.specs.declared.station.AnyLink.{AnyLink}
-use Rattle.iol_app.specs.declared.station.AnyLink.TheVariants.{Down as InDown, Startup as InStartup}
-use Rattle.iol_app.specs.declared.request.Current.{Current}
-use Rattle.iol_app.specs.State.{SessionState, started, left, lost_said}
+use Rattle.iol_app.specs.declared.station.AnyLink.TheVariants.{Down as InDown}
+use Rattle.iol_app.specs.State.{SessionState, started, lost_said}
 use Rattle.iol_app.specs.Requests.{request_in}
 use Rattle.iol_app.specs.Moves.{progress_of}
-use Rattle.iol_app.specs.StationState.{StationState, wire_of, linked, waked_session, settled_session, LinkFits, IsSettled, IsWake}
-use Rattle.iol_app.specs.Seen.{IsSeen, TurnSteps}
+use Rattle.iol_app.specs.StationState.{StationState, wire_of, waked_session, LinkFits, IsSettled, IsWake}
+use Rattle.iol_app.specs.Seen.{IsSeen}
 use Rattle.iol_app.proofs.Seeing.{Steps, steps_by, settled_seen, honest_by}
 
 first_parts : HasMasterParts startup_shape (page_read 2)
@@ -75,7 +71,7 @@ module _ {W : Type 0} (honest : W → Bool) (far : W → Far) (silence : W → �
         mode = refl;
         why = refl;
         link = refl;
-        start = (waked_fits true, both);
+        start = record { fits = waked_fits true; few = lit≤ tt; stands = both };
         out = refl;
         busy_limit = seen.busy_limit;
         request = seen.request;
@@ -83,10 +79,7 @@ module _ {W : Type 0} (honest : W → Bool) (far : W → Far) (silence : W → �
         progress = sym (ap progress_of fits.0);
         reading = (refl, (false, refl));
         event_form = refl;
-        image = seen.image;
-        wanted = seen.wanted;
-        sent = seen.sent;
-        told = seen.told;
+        shown = record { image = seen.shown.image; wanted = seen.shown.wanted; sent = seen.shown.sent; told = seen.shown.told };
         output_told = refl;
       }))
       (given true passes) (settled.said_is ∙ sym quiet)
@@ -107,10 +100,7 @@ module _ {W : Type 0} (honest : W → Bool) (far : W → Far) (silence : W → �
         progress = seen.progress ∙ ap progress_of fits.0;
         reading = tt;
         event_form = seen.event_form;
-        image = gone;
-        wanted = seen.wanted;
-        sent = seen.sent;
-        told = seen.told;
+        shown = record { image = gone; wanted = seen.shown.wanted; sent = seen.shown.sent; told = seen.shown.told };
         output_told = seen.output_told;
       }))
       (given false passes) (settled.said_is ∙ none_lost ∙ sym quiet)

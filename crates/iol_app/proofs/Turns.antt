@@ -74,7 +74,7 @@ preoperate_next state reply s h told = preoperate_by_next (counted state.sent re
 -- OPERATE
 
 -- a good reply has on-request data of the layout's size
-some_reply : (long checks : Bool) (found reply : Reply) → (if is_some (if not long then Some WrongLength else if not checks then Some BadChecksum else None) then None else Some found) ≡ Some reply
+pub some_reply : (long checks : Bool) (found reply : Reply) → (if is_some (if not long then Some WrongLength else if not checks then Some BadChecksum else None) then None else Some found) ≡ Some reply
     → (long ≡ true) × (found ≡ reply)
 some_reply false checks found reply e = absurd (let k : None ≡ Some reply = e in cc)
 some_reply true false found reply e = absurd (let k : None ≡ Some reply = e in cc)

@@ -8,3 +8,5 @@ pub mod Messages
 pub mod Moves
 pub mod StationState
 pub mod Seen
+pub mod StationLaws
+pub mod Reports

@@ -1,21 +1,25 @@
 -- What is seen of a station in the alphabet of steps that a port and its device share.
-use Rattle.std.specs.Prelude.{◌≡◌, ◌⊎◌, ℕ, zero, suc, ◌≤◌, min, Bool, true, List, Option, Some, None, IfSome, ⊤}
+use Rattle.std.specs.Prelude.{◌≡◌, ◌⊎◌, ℕ, zero, suc, ◌≤◌, min, Bool, true, List, Option, Some, None, IfSome, IsTrue, ⊤}
 use Rattle.std.specs.Option.{option_map}
 use Rattle.iol_mseq.specs.Shape.{Shape, startup_shape}
 use Rattle.iol_mseq.specs.Texts.{master_text}
 use Rattle.iol_mseq.specs.declared.master.MasterMsg.{MasterMsg}
+use Rattle.iol_isdu.specs.declared.values.Request.{Request}
 use Rattle.iol_isdu.specs.declared.values.Cause.{Cause}
 use Rattle.iol_isdu.specs.declared.values.Cause.TheVariants.{BusyTooLong}
 use Rattle.iol_page.specs.declared.page.Layouts.{Layouts}
 use Rattle.iol_device.specs.Far.{Far}
 use Rattle.iol_device.specs.Level.{Progress, Quiet, Move, Other, Link}
 use Rattle.iol_link.specs.Attempts.{Sending as Sent}
+use Rattle.iol_mode.specs.declared.states.Startup.{Startup}
+use Rattle.iol_mode.specs.declared.states.Preoperate.{Preoperate}
 use Rattle.iol_mode.specs.States.{StartupFits, PreoperateFits}
 use Rattle.iol_mode.specs.Stands.{startup_link, preoperate_link, entering_link, operate_link, StartupStands, PreoperateStands}
 use Rattle.iol_steps.specs.Step.{Image}
-use Rattle.iol_steps.specs.Station.{Station, Unseen, Out, Stands, is_due}
-use Rattle.iol_steps.specs.Station.{Reading as Seen_reading, Under}
-use Rattle.iol_steps.specs.Exchange.{reading_flagged}
+use Rattle.iol_steps.specs.Station.{Station, Shown, Unseen, Out, Stands, is_due}
+use Rattle.iol_steps.specs.Station as steps
+use Rattle.iol_steps.specs.Exchange.{reading_flagged, opened, unseen_opened, begun, wanting, restarted}
+use Rattle.iol_steps.specs.Promises.{Begins, Restarts}
 use Rattle.iol_steps.specs.Turn.{TurnGives}
 use Rattle.iol_steps.specs.declared.said.Said.{Said}
 use Rattle.iol_app.specs.declared.event_work.Events.{Events}
@@ -30,6 +34,7 @@ use Rattle.iol_app.specs.declared.station.AnyLink.TheVariants.{Down as InDown, S
 use Rattle.iol_app.specs.Requests.{request_in}
 use Rattle.iol_app.specs.EventReading.{is_refused}
 use Rattle.iol_app.specs.Moves.{progress_of, move_for}
+use Rattle.iol_app.specs.State.{SessionState}
 use Rattle.iol_app.specs.StationState.{StationState, wire_of, mode_of, why_of}
 
 -- so many busy replies: they are counted while the answer is asked for. No text of an answer was refused
@@ -49,20 +54,15 @@ abbrev pub BusySeen : ℕ → Option Current → ℕ → Type 0
 BusySeen limit None busy = ⊤
 BusySeen limit (Some current) busy = BusyAt current.progress busy × AbortAt limit current.abort busy
 
--- the last output that was wanted and that a message carried; before lengths were told none was
-abbrev pub SentSeen : Option Shape → List ℕ → Option Image → Type 0
-SentSeen None carried sent = sent ≡ None
-SentSeen (Some layout) carried sent = IfSome sent (λ image. image ≡ carried)
-
 -- the reading of events in OPERATE
-abbrev pub ReadingAt : Reading → Bool → Seen_reading → Type 0
+abbrev pub ReadingAt : Reading → Bool → steps.Reading → Type 0
 ReadingAt Resting flag seen = seen ≡ reading_flagged flag
-ReadingAt (UnderWay octets) flag seen = seen ≡ Under octets
+ReadingAt (UnderWay octets) flag seen = seen ≡ steps.Under octets
 ReadingAt ConfirmDue flag seen = is_due seen ≡ true
 ReadingAt Refused flag seen = ⊥
 
 -- in a start-up none is under way
-abbrev pub IsUnread : Events → Seen_reading → Type 0
+abbrev pub IsUnread : Events → steps.Reading → Type 0
 IsUnread events seen = (events.reading ≡ Resting) × ((event : Bool) × (seen ≡ reading_flagged event))
 
 -- a message that had no good reply yet, once it was sent
@@ -77,14 +77,40 @@ move_out (Some exchange) current = move_for exchange current
 
 abbrev pub out_in : Option Sent → Shape → Move → Option Out
 out_in None layout what = None
-out_in (Some sent) layout what = out_after sent.tries layout sent.message what
+out_in (Some sent) layout what = Some (record { octets = master_text layout sent.message; message = sent.message; what = what; tries = sent.tries })
 
 -- DeviceOperate waits at the device, and no segment of a request had a good reply; or no command waits
 abbrev pub OperateLink : Layouts → Progress → Link → Type 0
 OperateLink layouts progress link = ((link ≡ entering_link layouts) × (progress ≡ Quiet)) ⊎ (link ≡ operate_link)
 
+-- In a start-up: its message, the attempts made, and what was read of the page
+
+pub record StartupSeen (state : Startup) (silence : ℕ) (far : Far) : Type 0 where
+  pub fits : StartupFits state
+  pub few : state.sent.tries ≤ 2
+  pub stands : StartupStands state silence far
+
+pub record PreoperateSeen (state : Preoperate) (silence : ℕ) (far : Far) : Type 0 where
+  pub fits : PreoperateFits state
+  pub few : state.sent.tries ≤ 2
+  pub stands : PreoperateStands state silence far
+
+-- The process data
+
+-- the last output that was wanted and that a message carried; before lengths were told none was
+abbrev pub SentSeen : Option Shape → List ℕ → Option Image → Type 0
+SentSeen None carried sent = sent ≡ None
+SentSeen (Some layout) carried sent = IfSome sent (λ image. image ≡ carried)
+
+pub record ShownSeen (s : SessionState) (shown : Shown) : Type 0 where
+  pub image : shown.image ≡ s.image
+  pub wanted : shown.wanted ≡ s.output.wanted
+  pub sent : SentSeen s.layout s.output.carried.items shown.sent
+  -- the output length
+  pub told : shown.told ≡ option_map (λ layout. layout.pd_out) s.layout
+
 module _ {W : Type 0} (honest : W → Bool) (far : W → Far) (silence : W → ℕ) where
-  abbrev pub ReadingSeen : AnyLink W → Events → Seen_reading → Type 0
+  abbrev pub ReadingSeen : AnyLink W → Events → steps.Reading → Type 0
   ReadingSeen (InDown link) events seen = ⊤
   ReadingSeen (InStartup link) events seen = IsUnread events seen
   ReadingSeen (InPreoperate link) events seen = IsUnread events seen
@@ -103,11 +129,10 @@ module _ {W : Type 0} (honest : W → Bool) (far : W → Far) (silence : W → �
   OutSeen (InPreoperate link) exchange current seen = seen ≡ out_after link.state.sent.tries link.state.layouts.pre link.state.sent.message Other
   OutSeen (InOperate link) exchange current seen = seen ≡ out_in link.state.out link.state.layouts.run (move_out exchange current)
 
-  -- in a start-up: its message, and what was read of the page
   abbrev pub StartSeen : AnyLink W → Type 0
   StartSeen (InDown link) = ⊤
-  StartSeen (InStartup link) = StartupFits link.state × StartupStands link.state (silence link.wire) (far link.wire)
-  StartSeen (InPreoperate link) = PreoperateFits link.state × PreoperateStands link.state (silence link.wire) (far link.wire)
+  StartSeen (InStartup link) = StartupSeen link.state (silence link.wire) (far link.wire)
+  StartSeen (InPreoperate link) = PreoperateSeen link.state (silence link.wire) (far link.wire)
   StartSeen (InOperate link) = ⊤
 
   pub record IsSeen (old : StationState W) (s : Station) : Type 0 where
@@ -130,12 +155,32 @@ module _ {W : Type 0} (honest : W → Bool) (far : W → Far) (silence : W → �
     pub reading : ReadingSeen old.link old.session.events s.reading
     pub event_form : s.event_form ≡ is_refused old.session.events.reading
     -- the process data
-    pub image : s.shown.image ≡ old.session.image
-    pub wanted : s.shown.wanted ≡ old.session.output.wanted
-    pub sent : SentSeen old.session.layout old.session.output.carried.items s.shown.sent
-    pub told : s.shown.told ≡ option_map (λ layout. layout.pd_out) old.session.layout
+    pub shown : ShownSeen old.session s.shown
     pub output_told : s.output_told ≡ old.session.output.told
 
   -- A turn over an honest wire: one call of the wire and one list of steps, and both ends stand together afterwards
   unfoldable pub TurnSteps : StationState W → Said → StationState W → Type 0
   TurnSteps old said new = (s : Station) (u : Unseen) → IsSeen old s → Stands s u → (next : Station) × IsSeen new next × TurnGives s u said next
+
+  -- A station that is made: whatever its device did before, both ends stand together
+  unfoldable pub NewSteps : ℕ → StationState W → Type 0
+  NewSteps busy new =
+      IsTrue (honest (wire_of new.link))
+      → IsSeen new (opened busy (far (wire_of new.link)) (silence (wire_of new.link)))
+      × ((told : Bool) → Stands (opened busy (far (wire_of new.link)) (silence (wire_of new.link))) (unseen_opened (far (wire_of new.link)) told))
+
+  -- A request is begun: it is taken
+  unfoldable pub BeginSteps : Request → StationState W → StationState W → Type 0
+  BeginSteps request old new = (s : Station) (u : Unseen) → IsSeen old s → Stands s u → IsSeen new (begun request s) × Begins s u request
+
+  -- An abort is let wait, because the device was busy as often as it may be
+  unfoldable pub AbortSteps : Cause → StationState W → StationState W → Type 0
+  AbortSteps cause old new = (s : Station) → IsSeen old s → cause ≡ BusyTooLong → s.terms.busy_limit ≤ s.seen.busy → IsSeen new s
+
+  -- Another output is wanted, or none
+  unfoldable pub WantSteps : Option Image → StationState W → StationState W → Type 0
+  WantSteps wanted old new = (s : Station) (u : Unseen) → IsSeen old s → Stands s u → IsSeen new (wanting wanted s) × Stands (wanting wanted s) u
+
+  -- The link is taken down: a request under way is cut off
+  unfoldable pub RestartSteps : StationState W → StationState W → Type 0
+  RestartSteps old new = (s : Station) (u : Unseen) → IsSeen old s → Stands s u → IsSeen new (restarted s) × Restarts s u

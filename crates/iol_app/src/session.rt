@@ -3,6 +3,7 @@ ghost use Rattle.std.specs.Prelude.{◌≡◌, None, Some, is_some, IsSome, IfSo
 ghost use Rattle.std.specs.Option.{option_copied, option_map};
 ghost use Rattle.std.specs.Result.{result_err};
 ghost use Rattle.iol_mseq.specs.Master.{HasMasterParts};
+ghost use Rattle.iol_image.specs.Image.{IsImage};
 ghost use Rattle.iol_mseq.specs.Replies.{answered_od};
 ghost use Rattle.iol_app.specs.Due.{due_of, is_ready};
 ghost use Rattle.iol_app.specs.EventReading.{is_refused};
@@ -82,6 +83,13 @@ impl Session {
             events: Events::new(),
             image: None,
         }
+    }
+
+    /// What always holds of a session: a law, without code.
+    pub(crate) fn is_valid(&self)
+        ensures { IsSession self.now }
+    {
+        let _ = &self.limit;
     }
 
     /// What the next new message is for; `room` says whether events may be read.
@@ -220,6 +228,7 @@ impl Session {
         ensures refused { result_err result ≡ output_refusal image.now self.old.layout }
         ensures ok { OnOk result (self.new ≡ wanting (Some image.now) self.old) }
         ensures err { OnErr result (self.new ≡ self.old) }
+        ensures image { OnOk result (IsImage image.now) }
     {
         let Some(layout) = self.layout else {
             return Err(OutputFault::NoLayout);

@@ -4,11 +4,14 @@ ghost use Rattle.std.specs.Result.{result_err};
 ghost use Rattle.std.specs.Option.{option_copied};
 ghost use Rattle.iol_mode.specs.Next.{wire_of as wire_in, outcome_of};
 ghost use Rattle.iol_app.specs.EventReading.{is_refused};
-ghost use Rattle.iol_app.specs.State.{opened, aborted_in, begun_in, wanting, output_refusal, left, IsHearable};
+ghost use Rattle.iol_app.specs.State.{opened, aborted_in, begun_in, wanting, output_refusal, left, IsSession, IsHearable};
 ghost use Rattle.iol_app.specs.Requests.{request_in, request_after};
 ghost use Rattle.iol_app.specs.Due.{is_ready};
+ghost use Rattle.iol_app.specs.Reports.{is_reading, ReadingAfter};
+ghost use Rattle.iol_app.specs.Seen.{TurnSteps, NewSteps, BeginSteps, AbortSteps, WantSteps, RestartSteps};
 ghost use Rattle.iol_app.specs.StationState.{wire_of, mode_of, why_of, is_operating, linked, is_waked, waked_session, settled_session, reply_session, IsReplySaid, LinkFits, NextFits, IsSettledSaid, IsTurn};
 
+use crate::laws::station_laws;
 use crate::output::OutputFault;
 use crate::session::Session;
 use core::mem::replace_with;
@@ -17,7 +20,10 @@ use iol_isdu::{Cause, Request};
 use iol_link::Wire;
 use iol_mode::{Down, Link, Next, Operate, Preoperate, Startup, Why};
 use iol_mseq::Reply;
-use iol_steps::{Mode, Said};
+use iol_steps::{
+    Mode, Said, begin_takes_the_request, new_station_stands, restart_cuts_the_request,
+    wanted_output_stands,
+};
 use std::marker::Model;
 
 /// How a station is.
@@ -40,6 +46,10 @@ pub(crate) enum AnyLink<W: Wire> {
 }
 
 /// The master's end of one port: a link, and the session over it.
+///
+/// A clause sees the link in its mode, and the session. Over an honest wire it also sees the station as a record of the
+/// alphabet of steps that a port and its device share: `IsSeen` ties the two, and `Stands` ties that record to the device
+/// and to what nothing stores. A new station stands with its device, and each call keeps it so.
 #[derive(Drop)]
 pub struct Station<W: Wire> {
     link: AnyLink<W>,
@@ -63,7 +73,9 @@ impl<W: Wire> Station<W> {
         ensures mode { mode_of result.link ≡ Mode.Down }
         ensures why { why_of result.link ≡ None }
         ensures session { result.session ≡ opened busy }
+        ensures steps { NewSteps W.honest W.far W.silence busy result }
     {
+        new_station_stands();
         Station {
             link: AnyLink::Down(Link::new(wire)),
             session: Session::new(busy),
@@ -120,15 +132,21 @@ impl<W: Wire> Station<W> {
     pub fn begin(&mut self, request: Request)
         requires operate { mode_of self.old.link ≡ Mode.Operate }
         requires free { self.old.session.current ≡ None }
-        ensures { self.new ≡ record self.old { session = begun_in request self.old.session } }
+        ensures station { self.new ≡ record self.old { session = begun_in request self.old.session } }
+        ensures steps { BeginSteps W.honest W.far W.silence request self.old self.new }
     {
+        begin_takes_the_request();
         self.session.begin(request);
     }
 
     /// Lets an abort of the request under way wait. A second one changes nothing.
+    ///
+    /// Over an honest wire the station is seen as before where the cause is `BusyTooLong`, and the device was busy as often
+    /// as it may be. No clause says what becomes of an abort for another cause there.
     pub fn abort(&mut self, cause: Cause)
         requires { IsSome self.old.session.current }
-        ensures { self.new ≡ record self.old { session = aborted_in cause self.old.session } }
+        ensures station { self.new ≡ record self.old { session = aborted_in cause self.old.session } }
+        ensures steps { AbortSteps W.honest W.far W.silence cause self.old self.new }
     {
         self.session.abort(cause);
     }
@@ -140,14 +158,18 @@ impl<W: Wire> Station<W> {
         ensures refused { result_err result ≡ output_refusal image.now self.old.session.layout }
         ensures ok { OnOk result (self.new ≡ record self.old { session = wanting (Some image.now) self.old.session }) }
         ensures err { OnErr result (self.new ≡ self.old) }
+        ensures steps { OnOk result (WantSteps W.honest W.far W.silence (Some image.now) self.old self.new) }
     {
+        wanted_output_stands();
         self.session.set_output(image)
     }
 
     /// Wants no output.
     pub fn clear_output(&mut self)
-        ensures { self.new ≡ record self.old { session = wanting None self.old.session } }
+        ensures station { self.new ≡ record self.old { session = wanting None self.old.session } }
+        ensures steps { WantSteps W.honest W.far W.silence None self.old self.new }
     {
+        wanted_output_stands();
         self.session.clear_output();
     }
 
@@ -158,15 +180,25 @@ impl<W: Wire> Station<W> {
         ensures why { why_of self.new.link ≡ None }
         ensures session { self.new.session ≡ left self.old.session }
         ensures cut { result ≡ is_some self.old.session.current }
+        ensures steps { RestartSteps W.honest W.far W.silence self.old self.new }
     {
+        restart_cuts_the_request();
         replace_with(self, (), Station::restarted)
     }
 
     /// One turn: at most one wake or one exchange.
+    ///
+    /// It says `Reported`, `Answered` or `Cut` where that happened in it, else `Busy` where a request is under way after it,
+    /// else `Idle`. On every wire an answer and a cut end the request under way, and a report ends a reading of events that
+    /// an earlier turn began; `room` says whether this turn may begin one. Over an honest wire the turn is one call of the
+    /// wire and one list of steps, each allowed where it is taken.
     pub fn turn(&mut self, room: bool) -> Said
         ensures request { request_in self.new.session.current ≡ request_after (request_in self.old.session.current) result }
         ensures turn { IsTurn W.honest W.far W.silence W.wake_gives W.exchange_gives room self.old result self.new }
+        ensures reading { ReadingAfter room (is_reading self.old.session) result (is_reading self.new.session) }
+        ensures steps { TurnSteps W.honest W.far W.silence self.old result self.new }
     {
+        station_laws();
         replace_with(self, room, Station::turned)
     }
 
@@ -192,8 +224,11 @@ impl<W: Wire> Station<W> {
     fn turned(self, room: bool) -> (Station<W>, Said)
         ensures request { request_in result.0.session.current ≡ request_after (request_in self.session.current) result.1 }
         ensures turn { IsTurn W.honest W.far W.silence W.wake_gives W.exchange_gives room self result.1 result.0 }
+        ensures fits { LinkFits self.link self.session }
+        ensures valid { IsSession self.session }
     {
         let Station { link, session } = self;
+        session.is_valid();
         match link {
             AnyLink::Down(link) => waked(link, session),
             AnyLink::Startup(link) => settled(link.turn(), session),
