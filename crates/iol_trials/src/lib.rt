@@ -1,10 +1,20 @@
-//! Links over the simulated wire: whole runs, one after another.
+//! Links and stations over the simulated wire: whole runs, one after another.
 //!
-//! This crate has tests alone. What a link and a wire do at each call is proved in their own crates.
+//! This crate has tests alone. What a link, a station and a wire do at each call is proved in their own crates.
 #![tactic(auto)]
 
 #[cfg(test)]
+mod bench;
+#[cfg(test)]
+mod far;
+#[cfg(test)]
+mod play;
+#[cfg(test)]
+mod rows;
+#[cfg(test)]
 mod runs;
+#[cfg(test)]
+mod sessions;
 #[cfg(test)]
 mod tests;
 #[cfg(test)]

@@ -1,8 +1,10 @@
 use crate::runs::{At, after, linked, place_of, script, turned, wire_of, wired};
-use crate::watched::{Row, Watched};
-use iol_mode::Why;
+use crate::watched::{Row, START_UP, Watched};
+use iol_link::Wire;
+use iol_mode::{Next, Why};
 use iol_mseq::Message;
 use iol_sim::{Fate, Raw, Step};
+use std::process::Abort;
 use std::test::Fail;
 
 /// How many calls of the wire a start-up makes: the wake, and 14 exchanges.
@@ -14,66 +16,6 @@ const FATES: [Fate; 5] = [
     Fate::OutDamaged,
     Fate::BackDamaged,
     Fate::NoWake,
-];
-
-/// The exchanges of a start-up, in order.
-const START_UP: [Row; 14] = [
-    Row {
-        sent: &[0xA2, 0x00],
-        answer: Some(&[0x17, 0x1B]),
-    },
-    Row {
-        sent: &[0xA3, 0x11],
-        answer: Some(&[0x2D, 0x28]),
-    },
-    Row {
-        sent: &[0xA4, 0x33],
-        answer: Some(&[0x11, 0x28]),
-    },
-    Row {
-        sent: &[0xA5, 0x22],
-        answer: Some(&[0x00, 0x2D]),
-    },
-    Row {
-        sent: &[0xA6, 0x12],
-        answer: Some(&[0x00, 0x2D]),
-    },
-    Row {
-        sent: &[0xA7, 0x03],
-        answer: Some(&[0x12, 0x18]),
-    },
-    Row {
-        sent: &[0xA8, 0x03],
-        answer: Some(&[0x34, 0x0F]),
-    },
-    Row {
-        sent: &[0xA9, 0x12],
-        answer: Some(&[0x00, 0x2D]),
-    },
-    Row {
-        sent: &[0xAA, 0x22],
-        answer: Some(&[0x01, 0x3C]),
-    },
-    Row {
-        sent: &[0xAB, 0x33],
-        answer: Some(&[0x07, 0x0F]),
-    },
-    Row {
-        sent: &[0x20, 0x36, 0x95],
-        answer: Some(&[0x2D]),
-    },
-    Row {
-        sent: &[0x20, 0x36, 0x9A],
-        answer: Some(&[0x2D]),
-    },
-    Row {
-        sent: &[0x21, 0x76, 0x17, 0, 0, 0, 0, 0, 0, 0],
-        answer: Some(&[0x2D]),
-    },
-    Row {
-        sent: &[0x20, 0x5E, 0x99, 0, 0, 0, 0, 0, 0, 0],
-        answer: Some(&[0x2D]),
-    },
 ];
 
 /// Those from DevicePreoperate on, where its first reply is lost: it is repeated in the old layout.
@@ -110,13 +52,18 @@ const OLD_REVISION: [[u8; 2]; 10] = [
     [0x07, 0x0F],
 ];
 
+/// Compares where a link stands; the number says which run it is.
+fn stands<W: Wire>(rt: &impl Abort, next: &Next<W>, wanted: At, number: u32) {
+    assert_eq!(rt; place_of(next), wanted, "at {number}");
+}
+
 #[test]
 fn start_up_goes_octet_by_octet(rt: HostRuntime) -> Result<(), Fail> {
     let sim = wired(rt.alloc(), &[])?;
     let next = linked(Watched::new(sim, 0, &START_UP), CALLS - 1);
-    assert_eq!(rt; place_of(&next), At::Preoperate);
+    stands(&rt, &next, At::Preoperate, 0);
     let next = turned(next);
-    assert_eq!(rt; place_of(&next), At::Operate);
+    stands(&rt, &next, At::Operate, 0);
     let wire = wire_of(next);
     assert_eq!(rt; (wire.made, wire.agreed), (14, 14));
     Ok(())
@@ -127,9 +74,9 @@ fn mode_command_is_repeated_in_the_old_layout(rt: HostRuntime) -> Result<(), Fai
     let steps = script(rt.alloc(), 12, Step::Fate(Fate::BackLost))?;
     let sim = wired(rt.alloc(), &steps)?;
     let next = linked(Watched::new(sim, 11, &COMMAND_REPEATED), 15);
-    assert_eq!(rt; place_of(&next), At::Preoperate);
+    stands(&rt, &next, At::Preoperate, 0);
     let next = turned(next);
-    assert_eq!(rt; place_of(&next), At::Operate);
+    stands(&rt, &next, At::Operate, 0);
     let wire = wire_of(next);
     assert_eq!(rt; (wire.made, wire.agreed), (15, 4));
     Ok(())
@@ -141,9 +88,9 @@ fn one_fate_costs_one_turn(rt: HostRuntime) -> Result<(), Fail> {
         for fate in FATES {
             let steps = script(rt.alloc(), call, Step::Fate(fate))?;
             let next = linked(wired(rt.alloc(), &steps)?, CALLS);
-            assert_ne!(rt; place_of(&next), At::Operate, "{fate:?} at {call}");
+            assert!(rt; place_of(&next) != At::Operate);
             let next = turned(next);
-            assert_eq!(rt; place_of(&next), At::Operate, "{fate:?} at {call}");
+            stands(&rt, &next, At::Operate, call);
         }
     }
     Ok(())
@@ -158,11 +105,11 @@ fn power_cycle_loses_the_link(rt: HostRuntime) -> Result<(), Fail> {
             linked(sim, 0)
         } else {
             let lost = linked(sim, call + 3);
-            assert_eq!(rt; place_of(&lost), At::Down(Some(Why::Lost)), "at {call}");
+            stands(&rt, &lost, At::Down(Some(Why::Lost)), call);
             lost
         };
         let next = after(next, CALLS);
-        assert_eq!(rt; place_of(&next), At::Operate, "at {call}");
+        stands(&rt, &next, At::Operate, call);
     }
     Ok(())
 }
@@ -177,11 +124,11 @@ fn mended_wire_is_linked_anew(rt: HostRuntime) -> Result<(), Fail> {
             _ => (call + 3, Why::Lost),
         };
         let next = linked(sim, turns);
-        assert_eq!(rt; place_of(&next), At::Down(Some(why)), "at {call}");
+        stands(&rt, &next, At::Down(Some(why)), call);
         let mut sim = wire_of(next);
         sim.mend();
         let next = linked(sim, CALLS);
-        assert_eq!(rt; place_of(&next), At::Operate, "at {call}");
+        stands(&rt, &next, At::Operate, call);
     }
     Ok(())
 }
@@ -193,8 +140,8 @@ fn old_revision_is_refused(rt: HostRuntime) -> Result<(), Fail> {
         messages.push(Message::try_from(octets.as_slice()).map_err(|_| "too long")?)?;
     }
     let next = linked(Raw::new(rt.alloc(), &messages)?, 10);
-    assert_eq!(rt; place_of(&next), At::Startup);
+    stands(&rt, &next, At::Startup, 0);
     let next = turned(next);
-    assert_eq!(rt; place_of(&next), At::Down(Some(Why::Revision(0x10))));
+    stands(&rt, &next, At::Down(Some(Why::Revision(0x10))), 0);
     Ok(())
 }
