@@ -1,0 +1,57 @@
+-- The message that confirms events, and no other, is heard as a confirm.
+use Rattle.std.proofs.Common.{◌≡◌, ℕ, Bool, true, false, if◌then◌else◌, List, refl, ap, ◌∙◌, Option, Some, None}
+use Rattle.std.specs.Prelude.{slice_index, is_some}
+use Rattle.iol_octets.specs.Control.{control_of}
+use Rattle.iol_octets.specs.declared.control.Mc.{Mc}
+use Rattle.iol_mseq.specs.Shape.{Shape}
+use Rattle.iol_mseq.specs.Master.{SpellsMaster, master_fault, message_of}
+use Rattle.iol_mseq.specs.declared.master.MasterMsg.{MasterMsg}
+use Rattle.iol_device.specs.Codec.{message_in}
+use Rattle.iol_device.specs.Far.{is_confirm}
+use Rattle.iol_device.specs.Laws.{MessagesAreHeard}
+use Rattle.iol_app.specs.declared.event_work.Reading.{Reading}
+use Rattle.iol_app.specs.declared.request.Current.{Current}
+use Rattle.iol_app.specs.declared.request.Progress.{Progress}
+use Rattle.iol_app.specs.declared.request.Progress.TheVariants.{Sending, Asking, Receiving, Refused}
+use Rattle.iol_app.specs.declared.session.Exchange.{Exchange}
+use Rattle.iol_app.specs.declared.session.Exchange.TheVariants.{TellOutput, DropOutput, Abort, ReadEvent, ConfirmEvents, Request as NextMessage, Idle}
+use Rattle.iol_app.specs.Messages.{Head, head_for, progress_head, request_head}
+use Rattle.iol_app.specs.Moves.{confirms_events, ConfirmsConfirm}
+
+abbrev pub is_confirm_head : Head → Bool
+is_confirm_head head = is_confirm head.channel head.read head.address
+
+progress_none : (p : Progress) → is_confirm_head (progress_head p) ≡ false
+progress_none (Sending flow segment) = refl
+progress_none (Asking busy) = refl
+progress_none (Receiving joining had) = refl
+progress_none Refused = refl
+
+request_none : (current : Option Current) → is_confirm_head (request_head current) ≡ false
+request_none None = refl
+request_none (Some current) = progress_none current.progress
+
+pub confirms_by_head : (exchange : Exchange) (reading : Reading) (current : Option Current) → is_confirm_head (head_for exchange reading current) ≡ confirms_events exchange
+confirms_by_head TellOutput _ current = refl
+confirms_by_head DropOutput _ current = refl
+confirms_by_head Abort _ current = refl
+confirms_by_head ReadEvent _ current = refl
+confirms_by_head ConfirmEvents _ current = refl
+confirms_by_head NextMessage _ current = request_none current
+confirms_by_head Idle _ current = refl
+
+some_message : (b : Bool) (m n : MasterMsg) → (if b then None else Some m) ≡ Some n → m ≡ n
+some_message true m n e = absurd (let k : None ≡ Some n = e in cc)
+some_message false m n e = cc
+
+-- the control octet of a message is its first
+control_is : MessagesAreHeard → (layout : Shape) (message : MasterMsg) (octets : List ℕ) → SpellsMaster layout message octets → control_of (slice_index octets 0) ≡ message.mc
+unfolding message_in
+control_is heard layout message octets spells =
+    ap (λ m. m.mc) (some_message (is_some (master_fault layout octets)) (message_of layout octets) message (heard layout message octets spells))
+
+pub confirms_confirm : MessagesAreHeard → ConfirmsConfirm
+confirms_confirm heard exchange reading current layout message octets head spells =
+    ap (λ (mc : Mc). is_confirm mc.channel mc.read mc.address) (control_is heard layout message octets spells)
+    ∙ ap is_confirm_head head
+    ∙ confirms_by_head exchange reading current

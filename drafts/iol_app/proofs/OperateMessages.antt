@@ -1,0 +1,133 @@
+-- What the messages of OPERATE are for the device.
+use Rattle.std.proofs.Common.{◌≡◌, inl, inr, ℕ, zero, suc, ◌-◌, ◌≤◌, Bool, false, List, [], ◌∷◌, ◌++◌, length, replicate, drop, refl, sym, ap, ◌∙◌, arith, Option, Some, None}
+use Rattle.std.specs.Prelude.{◌⊎◌, slice_index}
+use Rattle.iol_octets.specs.declared.control.Channel.TheVariants.{Page, Diagnosis, Isdu}
+use Rattle.iol_mseq.specs.Shape.{Shape}
+use Rattle.iol_mseq.specs.Texts.{master_text}
+use Rattle.iol_mseq.specs.declared.master.MasterMsg.{MasterMsg}
+use Rattle.iol_page.specs.Commands.{command_octet}
+use Rattle.iol_page.specs.declared.master_command.MasterCommand.TheVariants.{ProcessDataOutputOperate, DeviceOperate}
+use Rattle.iol_device.specs.Far.{command_at, command_in, first_of_zeros}
+use Rattle.iol_mode.specs.Messages.{command_message}
+use Rattle.iol_steps.specs.declared.mode.Mode.TheVariants.{Operate}
+use Rattle.iol_steps.specs.Station.{confirms, reads_events, is_diagnosis_read, output_by}
+use Rattle.iol_app.specs.declared.event_work.Reading.{Reading}
+use Rattle.iol_app.specs.declared.request.Current.{Current}
+use Rattle.iol_app.specs.declared.request.Progress.{Progress as Cursor}
+use Rattle.iol_app.specs.declared.request.Progress.TheVariants.{Sending, Asking, Receiving, Refused}
+use Rattle.iol_app.specs.declared.session.Exchange.{Exchange}
+use Rattle.iol_app.specs.declared.session.Exchange.TheVariants.{TellOutput, DropOutput, Abort, ReadEvent, ConfirmEvents, Request as NextMessage, Idle}
+use Rattle.iol_app.specs.Messages.{Head, head_of, head_for, data_for, progress_head, request_head}
+use Rattle.iol_app.specs.Moves.{confirms_events}
+use Rattle.iol_app.proofs.Confirms.{is_confirm_head, confirms_by_head}
+use Rattle.iol_app.proofs.DueFacts.{output_for, reads_for}
+
+-- a confirm, a read of events
+
+pub exchange_confirms : (exchange : Exchange) (reading : Reading) (current : Option Current) (message : MasterMsg) → head_of message.mc ≡ head_for exchange reading current
+    → confirms message ≡ confirms_events exchange
+exchange_confirms exchange reading current message e = ap is_confirm_head e ∙ confirms_by_head exchange reading current
+
+abbrev reads_head : Head → Bool
+reads_head head = is_diagnosis_read head.channel head.read
+
+progress_reads : (p : Cursor) → reads_head (progress_head p) ≡ false
+progress_reads (Sending flow segment) = refl
+progress_reads (Asking busy) = refl
+progress_reads (Receiving joining had) = refl
+progress_reads Refused = refl
+
+request_reads : (current : Option Current) → reads_head (request_head current) ≡ false
+request_reads None = refl
+request_reads (Some current) = progress_reads current.progress
+
+reads_by_head : (exchange : Exchange) (reading : Reading) (current : Option Current) → reads_head (head_for exchange reading current) ≡ reads_for exchange
+reads_by_head TellOutput _ current = refl
+reads_by_head DropOutput _ current = refl
+reads_by_head Abort _ current = refl
+reads_by_head ReadEvent _ current = refl
+reads_by_head ConfirmEvents _ current = refl
+reads_by_head NextMessage _ current = request_reads current
+reads_by_head Idle _ current = refl
+
+pub exchange_reads : (exchange : Exchange) (reading : Reading) (current : Option Current) (message : MasterMsg) → head_of message.mc ≡ head_for exchange reading current
+    → reads_events message ≡ reads_for exchange
+exchange_reads exchange reading current message e = ap reads_head e ∙ reads_by_head exchange reading current
+
+-- an output command
+
+abbrev command_by : Head → ℕ → Option Bool
+command_by head octet = output_by Operate (command_at head.read head.channel head.address octet)
+
+progress_command : (p : Cursor) (octet : ℕ) → command_by (progress_head p) octet ≡ None
+progress_command (Sending flow segment) octet = refl
+progress_command (Asking busy) octet = refl
+progress_command (Receiving joining had) octet = refl
+progress_command Refused octet = refl
+
+request_command : (current : Option Current) (octet : ℕ) → command_by (request_head current) octet ≡ None
+request_command None octet = refl
+request_command (Some current) octet = progress_command current.progress octet
+
+command_is : (exchange : Exchange) (reading : Reading) (current : Option Current) (size : ℕ) → command_by (head_for exchange reading current) (slice_index (data_for exchange size current) 0) ≡ output_for exchange
+command_is TellOutput _ current size = refl
+command_is DropOutput _ current size = refl
+command_is Abort _ current size = refl
+command_is ReadEvent _ current size = refl
+command_is ConfirmEvents _ current size = refl
+command_is NextMessage _ current size = request_command current _
+command_is Idle _ current size = refl
+
+pub exchange_command : (exchange : Exchange) (reading : Reading) (current : Option Current) (size : ℕ) (message : MasterMsg) → head_of message.mc ≡ head_for exchange reading current
+    → message.od.items ≡ data_for exchange size current → output_by Operate (command_in message) ≡ output_for exchange
+exchange_command exchange reading current size message e d =
+    ap (λ (h : Head). command_by h (slice_index message.od.items 0)) e
+    ∙ ap (λ (o : List ℕ). command_by (head_for exchange reading current) (slice_index o 0)) d
+    ∙ command_is exchange reading current size
+
+-- ProcessDataOutputOperate in OPERATE isn't DeviceOperate in PREOPERATE
+
+zeros_only : (xs : List ℕ) (value : ℕ) (ys : List ℕ) (n : ℕ) → xs ++ value ∷ ys ≡ replicate n 0 → value ≡ 0
+zeros_only [] value ys zero e = absurd (let k : value ∷ ys ≡ [] = e in cc)
+zeros_only [] value ys (suc n) e = let k : value ∷ ys ≡ 0 ∷ replicate n 0 = e in cc
+zeros_only (x ∷ xs) value ys zero e = absurd (let k : x ∷ (xs ++ value ∷ ys) ≡ [] = e in cc)
+zeros_only (x ∷ xs) value ys (suc n) e = zeros_only xs value ys n (let k : x ∷ (xs ++ value ∷ ys) ≡ 0 ∷ replicate n 0 = e in cc)
+
+not_zero : (octet : ℕ) → octet ≡ 0x98 → octet ≡ 0 → ⊥
+not_zero octet e z = omega arith
+
+parts_differ : (out : List ℕ) (m n : ℕ) → 1 ≤ length out → out ++ first_of_zeros m (command_octet ProcessDataOutputOperate) ≡ first_of_zeros n (command_octet DeviceOperate) → ⊥
+parts_differ [] m n low e = omega arith
+parts_differ (x ∷ xs) m n low e =
+    let k : x ∷ (xs ++ 0x98 ∷ replicate (m - 1) 0) ≡ 0x99 ∷ replicate (n - 1) 0 = e in
+    not_zero 0x98 refl (zeros_only xs 0x98 (replicate (m - 1) 0) (n - 1) cc)
+
+text_parts : (layout : Shape) (message : MasterMsg) → drop 2 (master_text layout message) ≡ message.out.items ++ message.od.items
+text_parts layout message = refl
+
+pub tell_differs : (run pre : Shape) (message : MasterMsg) (size : ℕ) → 1 ≤ length message.out.items → message.od.items ≡ data_for TellOutput size None
+    → master_text run message ≡ master_text pre (command_message pre DeviceOperate) → ⊥
+tell_differs run pre message size low od e =
+    parts_differ message.out.items size pre.od low
+    (ap (λ (o : List ℕ). message.out.items ++ o) (sym od) ∙ sym (text_parts run message) ∙ ap (drop 2) e ∙ text_parts pre (command_message pre DeviceOperate))
+
+-- only output commands are of the page
+
+progress_channel : (p : Cursor) → (progress_head p).channel ≡ Isdu
+progress_channel (Sending flow segment) = refl
+progress_channel (Asking busy) = refl
+progress_channel (Receiving joining had) = refl
+progress_channel Refused = refl
+
+request_channel : (current : Option Current) → (request_head current).channel ≡ Isdu
+request_channel None = refl
+request_channel (Some current) = progress_channel current.progress
+
+pub page_command : (exchange : Exchange) (reading : Reading) (current : Option Current) → (head_for exchange reading current).channel ≡ Page → (exchange ≡ TellOutput) ⊎ (exchange ≡ DropOutput)
+page_command TellOutput _ current e = inl refl
+page_command DropOutput _ current e = inr refl
+page_command Abort _ current e = absurd (let k : Isdu ≡ Page = e in cc)
+page_command ReadEvent _ current e = absurd (let k : Diagnosis ≡ Page = e in cc)
+page_command ConfirmEvents _ current e = absurd (let k : Diagnosis ≡ Page = e in cc)
+page_command NextMessage _ current e = absurd (let k : Isdu ≡ Page = sym (request_channel current) ∙ e in cc)
+page_command Idle _ current e = absurd (let k : Isdu ≡ Page = e in cc)

@@ -1,0 +1,374 @@
+-- A turn in OPERATE, as it is seen.
+use Rattle.std.proofs.Common.{◌≡◌, ◌≢◌, inr, ⊎_elim, ℕ, suc, ◌+◌, ◌≤◌, ◌<◌, Bool, true, false, ◌==◌, List, length, drop, refl, sym, ap, ◌∙◌, subst, arith, Option, Some, None, Ok}
+use Rattle.std.specs.Prelude.{IsTrue, if◌then◌else◌}
+use Rattle.std.proofs.lemmas.Bool.Decides.{nat_tests}
+use Rattle.std.proofs.lemmas.List.{length-take-le, length-drop}
+use Rattle.std.proofs.Math.Numerals.{add-one}
+use Rattle.arrayvec.specs.ArrayVec.{ArrayVec}
+use Rattle.iol_octets.specs.declared.control.Channel.TheVariants.{Page}
+use Rattle.iol_mseq.specs.Shape.{Shape}
+use Rattle.iol_mseq.specs.Texts.{master_text}
+use Rattle.iol_mseq.specs.Replies.{answered_od, has_reply_length, is_checked, reply_of, reply_in}
+use Rattle.iol_mseq.specs.declared.master.MasterMsg.{MasterMsg}
+use Rattle.iol_mseq.specs.declared.reply.Reply.{Reply}
+use Rattle.iol_page.specs.Page.{layouts_of}
+use Rattle.iol_page.specs.declared.page.Layouts.{Layouts}
+use Rattle.iol_device.specs.Device.{octets_in}
+use Rattle.iol_device.specs.Far.{Far, command_in}
+use Rattle.iol_device.specs.Level.{Link, taken, turned}
+use Rattle.iol_device.specs.declared.commands.Mode.TheVariants.{Preoperate as FarPreoperate, Operate as FarOperate}
+use Rattle.iol_link.specs.declared.handler.Attempt.TheVariants.{Again, Lost}
+use Rattle.iol_link.specs.declared.wire.Rate.{Rate}
+use Rattle.iol_link.specs.Attempts.{Sending, good_reply}
+use Rattle.iol_link.specs.Honest.{HonestExchange}
+use Rattle.iol_mode.specs.Kept.{Kept}
+use Rattle.iol_mode.specs.declared.states.Operate.{Operate}
+use Rattle.iol_mode.specs.declared.states.Outcome.{Outcome}
+use Rattle.iol_mode.specs.declared.states.Outcome.TheVariants.{Operate as OutOperate}
+use Rattle.iol_mode.specs.Next.{message_out}
+use Rattle.iol_mode.specs.States.{operate_by, operate_turned, sending_of}
+use Rattle.iol_mode.specs.Stands.{entering_link, operate_link, IsOperating, IsAccepted}
+use Rattle.iol_steps.specs.declared.mode.Mode.{Mode}
+use Rattle.iol_steps.specs.declared.mode.Mode.TheVariants.{Down as ModeDown, Operate as ModeOperate}
+use Rattle.iol_steps.specs.declared.said.Said.{Said}
+use Rattle.iol_steps.specs.Kinds.{said_of, quiet_said, lost_said as link_lost_said}
+use Rattle.iol_steps.specs.Station.{Station, Unseen, Out, Shown, Stands, Suits, OutFits, far_mode, layout_at, reads_events, wants_octet, output_by}
+use Rattle.iol_steps.specs.Exchange.{Sends, IsNew, missed, had, made, image_had, told_by, reading_had}
+use Rattle.iol_steps.specs.Promises.{MissedGives, LostGives, HadGives, ReplyTells, TextNamesAnswer, Exchanges, Tells}
+use Rattle.iol_app.specs.declared.output.Output.{Output}
+use Rattle.iol_app.specs.declared.request.Current.{Current}
+use Rattle.iol_app.specs.declared.session.Exchange.{Exchange}
+use Rattle.iol_app.specs.declared.session.Exchange.TheVariants.{TellOutput, DropOutput}
+use Rattle.iol_app.specs.declared.station.AnyLink.TheVariants.{Operate as InOperate}
+use Rattle.iol_app.specs.Outputs.{carried_by, carrying, output_after}
+use Rattle.iol_app.specs.Requests.{request_in, Suits as SuitsCurrent}
+use Rattle.iol_app.specs.Due.{due_of}
+use Rattle.iol_app.specs.Messages.{data_for}
+use Rattle.iol_app.specs.Moves.{MessagesAreMoves, RepliesFollow, AnswersAreTakenUp}
+use Rattle.iol_app.specs.State.{SessionState, IsSession, od_size, sending, sent, sent_by, image_in, lost_said, quiet_said as session_quiet_said, OutSuits, IsMessageFor, IsOutBy, IsOutFor}
+use Rattle.iol_app.specs.StationState.{StationState, wire_of, LinkFits, IsSettled, IsMet, IsExchange, IsOperateTurn}
+use Rattle.iol_app.specs.Seen.{SentSeen, ShownSeen, move_out, out_in, IsSeen}
+use Rattle.iol_app.proofs.Turns.{some_reply}
+use Rattle.iol_app.proofs.Seeing.{Steps, steps_by, settled_seen, honest_by}
+use Rattle.iol_app.proofs.StartSending.{lost_steps}
+use Rattle.iol_app.proofs.DueFacts.{IsDue, due_is, output_for, reads_for}
+use Rattle.iol_app.proofs.OperateMessages.{exchange_reads, exchange_command}
+use Rattle.iol_app.proofs.OperateSending.{Ready, operate_out, made_out, made_seen, accepted_here, operate_new}
+use Rattle.iol_app.proofs.OperateReading.{ReadOn, read_on_seen}
+use Rattle.iol_app.proofs.OperateRequest.{BringsSome, exchange_brings}
+use Rattle.iol_app.proofs.Telling.{told_layout}
+
+-- what is known of OPERATE
+pub record OperateLaws : Type 0 where
+  pub missed : MissedGives
+  pub lost : LostGives
+  pub had : HadGives
+  pub tells : ReplyTells
+  pub names : TextNamesAnswer
+  pub moves : MessagesAreMoves
+  pub follows : RepliesFollow
+  pub taken : AnswersAreTakenUp
+
+-- The image of a good reply
+
+input_size : (layout : Shape) (read : Bool) (octets : List ℕ) (reply : Reply) → reply_in layout read octets ≡ Some reply → length reply.input.items ≡ layout.pd_in
+input_size layout read octets reply e =
+    let parts = some_reply (has_reply_length layout read octets) (is_checked octets) (reply_of layout read octets) reply e in
+    let test : has_reply_length layout read octets ≡ true = parts.0 in
+    let long : length octets ≡ answered_od layout read + layout.pd_in + 1 = grind (arith, nat_tests) in
+    let behind = length-drop (answered_od layout read) octets in
+    ap (λ r. length r.input.items) (sym parts.1) ∙ length-take-le layout.pd_in (drop (answered_od layout read) octets) (omega (arith, behind))
+
+good_input : (layout : Shape) (message : MasterMsg) (answer : Option (List ℕ)) (reply : Reply) → good_reply layout message answer ≡ Some reply → length reply.input.items ≡ layout.pd_in
+good_input layout message None reply e = absurd (let k : None ≡ Some reply = e in cc)
+good_input layout message (Some octets) reply e = input_size layout message.mc.read octets reply e
+
+same_image : (size : ℕ) (reply : Reply) → length reply.input.items ≡ size → image_had size reply ≡ image_in reply
+same_image size reply e = ap (λ (n : ℕ). image_had n reply) (sym e) ∙ by_tests (length reply.input.items == 0) reply.invalid
+  where
+    by_tests : (zero_is invalid : Bool) → ◌≡◌ {A = Option (List ℕ)} (if zero_is then None else if invalid then None else Some reply.input.items) (if invalid then None else if zero_is then None else Some reply.input.items)
+    by_tests true true = refl
+    by_tests true false = refl
+    by_tests false true = refl
+    by_tests false false = refl
+
+-- The output after it
+
+output_wanted : (exchange : Exchange) (output : Output) → (output_after exchange output).wanted ≡ output.wanted
+output_wanted TellOutput output = refl
+output_wanted DropOutput output = refl
+output_wanted other output = refl
+
+output_carried : (exchange : Exchange) (output : Output) → (output_after exchange output).carried ≡ output.carried
+output_carried TellOutput output = refl
+output_carried DropOutput output = refl
+output_carried other output = refl
+
+output_told : (exchange : Exchange) (output : Output) (told : Bool) → told ≡ output.told → told_by (output_for exchange) told ≡ (output_after exchange output).told
+output_told TellOutput output told e = refl
+output_told DropOutput output told e = refl
+output_told other output told e = e
+
+same_lost : (current : Option Current) → lost_said current ≡ link_lost_said (request_in current)
+same_lost None = refl
+same_lost (Some current) = refl
+
+same_quiet : (current : Option Current) → session_quiet_said current ≡ quiet_said (request_in current)
+same_quiet None = refl
+same_quiet (Some current) = refl
+
+module _ {W : Type 0} (honest : W → Bool) (far : W → Far) (silence : W → ℕ) (wakes : W → Option Rate → W → Type 0) (gives : W → List ℕ → Option (ArrayVec ℕ) → W → Type 0)
+    (laws : OperateLaws) (link : Kept W Operate) (session : SessionState) (valid : IsSession session) (fits : LinkFits {W = W} (InOperate link) session) (said : Said) (new : StationState W)
+    (s : Station) (u : Unseen) (seen : IsSeen honest far silence (record { link = InOperate link; session = session }) s) (stands : Stands s u)
+    (asked : layouts_of s.terms.page ≡ Ok link.state.layouts) where
+  abbrev layouts : Layouts
+  layouts = link.state.layouts
+
+  abbrev next_far : Far
+  next_far = far (wire_of new.link)
+
+  abbrev next_silence : ℕ
+  next_silence = silence (wire_of new.link)
+
+  ready : Ready session s
+  ready = record {
+    busy_limit = seen.busy_limit;
+    request = seen.request;
+    busy = seen.busy;
+    progress = seen.progress;
+    reading = seen.reading;
+    event_form = seen.event_form;
+    shown = seen.shown;
+    output_told = seen.output_told;
+  }
+
+  up : s.seen.mode ≢ ModeDown
+  up e = let k : ModeOperate ≡ ModeDown = sym seen.mode ∙ e in cc
+
+  at : layout_at s ≡ layouts.run
+  at = ap (λ (m : Mode). layout_at (record s { seen = record s.seen { mode = m } })) seen.mode ∙ told_layout s.terms.page FarOperate layouts asked
+
+  -- the session while its message is out
+  abbrev out_session : Exchange → Output → SessionState
+  out_session exchange output = record session { exchange = Some exchange; output = output }
+
+  -- what goes out
+  record Goes (exchange : Exchange) (output : Output) (message : MasterMsg) (tries : ℕ) : Type 0 where
+    pub sends : Sends s s.out (operate_out layouts.run message exchange session.current tries)
+    pub mode : (taken s.link (master_text layouts.run message)).mode ≡ FarOperate
+    pub wants : reads_events message ≡ true → wants_octet s.reading ≡ true
+    pub is_for : IsMessageFor exchange (out_session exchange output) message
+    pub suits : SuitsCurrent exchange session.current
+    pub told : output.told ≡ session.output.told
+    pub shown : ShownSeen (out_session exchange output) (made s).shown
+
+  module _ (exchange : Exchange) (output : Output) (message : MasterMsg) (tries : ℕ) (goes : Goes exchange output message tries) (few : tries < 3)
+      (accepted : IsAccepted layouts s.terms.page s.link message) where
+    abbrev octets : List ℕ
+    octets = master_text layouts.run message
+
+    abbrev out : Out
+    out = operate_out layouts.run message exchange session.current tries
+
+    od_is : message.od.items ≡ data_for exchange layouts.run.od session.current
+    od_is = goes.is_for.octets ∙ ap (λ (l : Option Shape). data_for exchange (od_size l) session.current) fits.told
+
+    exchanges : (answer : Option (List ℕ)) (reply : Option Reply) → HonestExchange (far link.wire) (silence link.wire) octets answer next_far next_silence → good_reply layouts.run message answer ≡ reply
+        → Exchanges s u out next_far next_silence reply
+    exchanges answer reply passes good = record {
+      stands = stands;
+      up = up;
+      sends = goes.sends;
+      answer = answer;
+      honest = subst (λ (n : ℕ). HonestExchange s.far n octets answer next_far next_silence) (sym seen.silence_is)
+          (subst (λ (f : Far). HonestExchange f (silence link.wire) octets answer next_far next_silence) (sym seen.far_is) passes);
+      reads = ap (λ (l : Shape). good_reply l message answer) at ∙ good;
+    }
+
+    -- No good reply
+
+    abbrev unanswered : Bool → Outcome
+    unanswered b = operate_by (record { message = message; tries = if b then 0 else tries + 1 }) layouts (if b then Lost else Again)
+
+    by_tries : (b : Bool) → (tries == 2) ≡ b → Exchanges s u out next_far next_silence None → IsSettled (unanswered b) (out_session exchange output) said new
+        → IsMet honest far silence wakes gives link.wire (unanswered b) (wire_of new.link) → Steps honest far silence s u said new
+    by_tries true two exchange_is settled both =
+        lost_steps honest far silence laws.lost s u out (out_session exchange output) said new exchange_is (grind (arith, nat_tests)) (seen.is_honest ∙ sym both.honesty) seen.busy_limit seen.event_form
+        goes.shown (seen.output_told ∙ sym goes.told) settled (settled.said_is ∙ same_lost session.current ∙ ap link_lost_said (sym seen.request))
+    by_tries false two exchange_is settled both =
+        let again : suc tries ≤ 2 = grind (arith, nat_tests) in
+        let next : Station = missed s out next_far next_silence in
+        steps_by honest far silence s u said (quiet_said s.seen.request) new next
+        (settled_seen honest far silence (unanswered false) (out_session exchange output) said new next settled (record {
+          is_honest = seen.is_honest ∙ sym both.honesty;
+          far_is = refl;
+          silence_is = refl;
+          mode = seen.mode;
+          why = seen.why;
+          link = seen.link;
+          start = tt;
+          out = sym (ap (λ (n : ℕ). let w : Option Out = Some (record out { tries = n }) in w) (add-one tries));
+          busy_limit = seen.busy_limit;
+          request = seen.request;
+          busy = seen.busy;
+          progress = seen.progress;
+          reading = seen.reading;
+          event_form = seen.event_form;
+          shown = goes.shown;
+          output_told = seen.output_told ∙ sym goes.told;
+        }))
+        (laws.missed s u out next_far next_silence exchange_is again) (settled.said_is ∙ same_quiet session.current ∙ ap quiet_said (sym seen.request))
+
+    -- A good reply
+
+    next_link : turned s.link octets message ≡ operate_link
+    next_link =
+        ⊎_elim
+        (λ (k : (turned s.link octets message ≡ entering_link layouts) × (message.mc.channel ≡ Page)).
+        absurd (let e : FarPreoperate ≡ FarOperate = sym (ap (λ (l : Link). l.mode) k.0) ∙ goes.mode in cc))
+        (λ (k : turned s.link octets message ≡ operate_link). k)
+        accepted.next
+
+    commands : output_by s.seen.mode (command_in message) ≡ output_for exchange
+    commands = ap (λ (m : Mode). output_by m (command_in message)) seen.mode ∙ exchange_command exchange session.events.reading session.current layouts.run.od message goes.is_for.head od_is
+
+    carried_on : (layout : Option Shape) (shown : Shown) → SentSeen layout output.carried.items shown.sent → SentSeen layout (output_after exchange output).carried.items shown.sent
+    carried_on layout shown h = subst (λ (c : List ℕ). SentSeen layout c shown.sent) (ap (λ (p : ArrayVec ℕ). p.items) (sym (output_carried exchange output))) h
+
+    by_brought : (reply : Reply) → length reply.input.items ≡ layouts.run.pd_in → Exchanges s u out next_far next_silence (Some reply)
+        → IsSettled (OutOperate (record { out = None; layouts = layouts }) (Some reply)) (out_session exchange output) said new
+        → IsMet honest far silence wakes gives link.wire (OutOperate (record { out = None; layouts = layouts }) (Some reply)) (wire_of new.link) → Steps honest far silence s u said new
+    by_brought reply sized exchange_is settled both =
+        let tells : Tells s out next_far next_silence reply = laws.tells s u out next_far next_silence reply exchange_is in
+        let on : ReadOn exchange reply.od.items session.events.reading reply.event (reading_had s out reply) =
+        read_on_seen session.events.reading session.events.flag s.reading seen.reading session.current message reply goes.wants tells.events exchange goes.is_for.head in
+        let reads : reads_events message ≡ reads_for exchange = exchange_reads exchange session.events.reading session.current message goes.is_for.head in
+        let brought : BringsSome s out reply session.limit _ said =
+        exchange_brings laws.names laws.taken laws.follows s session valid ready message layouts.run fits.told at tries reply next_far next_silence said exchange goes.suits tells reads on.list settled.said_is in
+        let brings = brought.1 in
+        let next : Station = had brought.0 s out reply next_far next_silence in
+        let image : image_had (layout_at s).pd_in reply ≡ image_in reply = same_image (layout_at s).pd_in reply (sized ∙ ap (λ (l : Shape). l.pd_in) (sym at)) in
+        steps_by honest far silence s u said (said_of brought.0 s.seen.request) new next
+        (settled_seen honest far silence (OutOperate (record { out = None; layouts = layouts }) (Some reply)) (out_session exchange output) said new next settled (record {
+          is_honest = seen.is_honest ∙ sym both.honesty;
+          far_is = refl;
+          silence_is = refl;
+          mode = brings.same_mode ∙ seen.mode;
+          why = brings.same_why ∙ seen.why;
+          link = inr next_link;
+          start = tt;
+          out = refl;
+          busy_limit = seen.busy_limit;
+          request = brings.request;
+          busy = brings.busy;
+          progress = brings.progress;
+          reading = on.at;
+          event_form = stands.no_event_form ∙ sym on.form;
+          shown = record {
+            image = image;
+            wanted = goes.shown.wanted ∙ sym (output_wanted exchange output);
+            sent = carried_on session.layout (made s).shown goes.shown.sent;
+            told = goes.shown.told;
+          };
+          output_told = ap (λ (c : Option Bool). told_by c s.output_told) commands ∙ output_told exchange output s.output_told (seen.output_told ∙ sym goes.told);
+        }))
+        (laws.had s u out next_far next_silence reply brought.0 exchange_is seen.mode brings.is) brings.said_is
+
+    by_reply : (answer : Option (List ℕ)) (reply : Option Reply) → good_reply layouts.run message answer ≡ reply → HonestExchange (far link.wire) (silence link.wire) octets answer next_far next_silence
+        → IsSettled (operate_turned (record { out = Some (record { message = message; tries = tries }); layouts = layouts }) message reply) (out_session exchange output) said new
+        → IsMet honest far silence wakes gives link.wire (operate_turned (record { out = Some (record { message = message; tries = tries }); layouts = layouts }) message reply) (wire_of new.link)
+        → Steps honest far silence s u said new
+    by_reply answer None good passes settled both = by_tries (tries == 2) refl (exchanges answer None passes good) settled both
+    by_reply answer (Some reply) good passes settled both = by_brought reply (good_input layouts.run message answer reply good) (exchanges answer (Some reply) passes good) settled both
+
+  -- The message of the turn: the one that is out, else a new one for what is due
+
+  module _ (room : Bool) (message : MasterMsg) (h : IsTrue (honest link.wire))
+      (is_for : IsOutFor (Some (sending_of link.state.out message).message) (sent (due_of session room) session))
+      (carries : message_out link.state.out ≡ None → message.out.items ≡ carried_by session.output) (few : (sending_of link.state.out message).tries < 3)
+      (accepts : (l : Link) → IsOperating layouts l → IsAccepted layouts s.terms.page l (sending_of link.state.out message).message)
+      (exchange : IsExchange honest far silence wakes gives link.wire layouts.run (sending_of link.state.out message).message (operate_turned link.state message) (sent (due_of session room) session) said new) where
+    abbrev sends : Sending
+    sends = sending_of link.state.out message
+
+    accepted : IsAccepted layouts s.terms.page s.link sends.message
+    accepted = accepted_here laws.moves s u stands session valid layouts seen.mode asked fits.told ready seen.link sends.message accepts
+
+    by_message : (due : Exchange) (output : Output) → Goes due output sends.message sends.tries → sent (due_of session room) session ≡ out_session due output → Steps honest far silence s u said new
+    by_message due output goes same =
+        let answer = octets_in exchange.answer in
+        by_reply due output sends.message sends.tries goes few accepted answer (good_reply layouts.run sends.message answer) refl (exchange.passes h)
+        (subst (λ (t : SessionState). IsSettled (operate_turned link.state message (good_reply layouts.run sends.message answer)) t said new) same exchange.settled) exchange.both
+
+    -- a new one
+    none_out : (out : Option Sending) → IsOutBy None session (message_out out) → out ≡ None
+    none_out None is = refl
+    none_out (Some sending) is = absurd is
+
+    by_due : session.exchange ≡ None → Steps honest far silence s u said new
+    by_due free =
+        let due : Exchange = due_of session room in
+        let same : sent due session ≡ sending due session = ap (λ (e : Option Exchange). sent_by e due session) free in
+        let no_message : link.state.out ≡ None = none_out link.state.out (subst (λ (e : Option Exchange). IsOutBy e session (message_out link.state.out)) free fits.out_for) in
+        let none : s.out ≡ None = seen.out ∙ ap (λ (o : Option Sending). out_in o layouts.run (move_out session.exchange session.current)) no_message in
+        let first : sends ≡ sending_of None message = ap (λ (o : Option Sending). sending_of o message) no_message in
+        let tries : sends.tries ≡ 0 = ap (λ (x : Sending). x.tries) first in
+        let made_message : sends.message ≡ message = ap (λ (x : Sending). x.message) first in
+        let is : IsMessageFor due (sending due session) sends.message = subst (λ (t : SessionState). IsOutFor (Some sends.message) t) same is_for in
+        let od : sends.message.od.items ≡ data_for due layouts.run.od session.current = is.octets ∙ ap (λ (l : Option Shape). data_for due (od_size l) session.current) fits.told in
+        let carried : sends.message.out.items ≡ carried_by session.output = ap (λ (m : MasterMsg). m.out.items) made_message ∙ carries (ap message_out no_message) in
+        let is_due : IsDue session room due = due_is session room in
+        let fresh : IsNew s (operate_out layouts.run sends.message due session.current 0) =
+        operate_new laws.moves s u stands session valid layouts seen.mode asked fits.told ready seen.link sends.message accepts room due is_due none is.head od carried in
+        by_message due (carrying session.output) (record {
+          sends = subst (λ (o : Option Out). Sends s o (operate_out layouts.run sends.message due session.current sends.tries)) (sym none)
+              (subst (λ (n : ℕ). IsNew s (operate_out layouts.run sends.message due session.current n)) (sym tries) fresh);
+          mode = fresh.suits.mode ∙ ap far_mode seen.mode;
+          wants = λ e. (fresh.suits.reads e).0;
+          is_for = record { head = is.head; octets = is.octets };
+          suits = is_due.suits;
+          told = refl;
+          shown = made_seen s session due layouts.run fits.told seen.mode none seen.shown;
+        }) same
+
+    -- the one that is out
+    some_out : (out : Option Sending) (exchange : Exchange) → IsOutBy (Some exchange) session (message_out out) → out ≡ Some (sending_of out message)
+    some_out None exchange is = absurd is
+    some_out (Some sending) exchange is = refl
+
+    by_out : (out_for : Exchange) → session.exchange ≡ Some out_for → Steps honest far silence s u said new
+    by_out out_for is_out =
+        let same : sent (due_of session room) session ≡ session = ap (λ (e : Option Exchange). sent_by e (due_of session room) session) is_out in
+        let here : session ≡ out_session out_for session.output = ap (λ (e : Option Exchange). let t : SessionState = record session { exchange = e } in t) is_out in
+        let is_sent : link.state.out ≡ Some sends = some_out link.state.out out_for (subst (λ (e : Option Exchange). IsOutBy e session (message_out link.state.out)) is_out fits.out_for) in
+        let w : Out = operate_out layouts.run sends.message out_for session.current sends.tries in
+        let out_is : s.out ≡ Some w =
+        seen.out ∙ ap (λ (o : Option Sending). out_in o layouts.run (move_out session.exchange session.current)) is_sent
+        ∙ ap (λ (e : Option Exchange). out_in (Some sends) layouts.run (move_out e session.current)) is_out in
+        let up_fits : OutFits s (Some w) = subst (λ (o : Option Out). OutFits s o) out_is (stands.up up).out in
+        let suits : Suits s w = up_fits.0 in
+        let is : IsMessageFor out_for (out_session out_for session.output) sends.message = subst (λ (t : SessionState). IsOutFor (Some sends.message) t) (same ∙ here) is_for in
+        by_message out_for session.output (record {
+          sends = subst (λ (o : Option Out). Sends s o w) (sym out_is) refl;
+          mode = suits.mode ∙ ap far_mode seen.mode;
+          wants = λ e. (suits.reads e).0;
+          is_for = is;
+          suits = subst (λ (e : Option Exchange). OutSuits e session.current) is_out valid.out;
+          told = refl;
+          shown = subst (λ (x : Shown). ShownSeen (out_session out_for session.output) x) (sym (made_out s w out_is)) (subst (λ (t : SessionState). ShownSeen t s.shown) here seen.shown);
+        }) (same ∙ here)
+
+    by_exchange : (e : Option Exchange) → session.exchange ≡ e → Steps honest far silence s u said new
+    by_exchange None e = by_due e
+    by_exchange (Some out_for) e = by_out out_for e
+
+module _ {W : Type 0} (honest : W → Bool) (far : W → Far) (silence : W → ℕ) (wakes : W → Option Rate → W → Type 0) (gives : W → List ℕ → Option (ArrayVec ℕ) → W → Type 0)
+    (laws : OperateLaws) (link : Kept W Operate) (session : SessionState) (valid : IsSession session) (fits : LinkFits {W = W} (InOperate link) session) (said : Said) (new : StationState W)
+    (s : Station) (u : Unseen) (seen : IsSeen honest far silence (record { link = InOperate link; session = session }) s) (stands : Stands s u) where
+  pub operate_seen : (room : Bool) → IsOperateTurn honest far silence wakes gives link.wire link.state session room said new → Steps honest far silence s u said new
+  operate_seen room turn =
+      let h : IsTrue (honest link.wire) = honest_by honest far silence (record { link = InOperate link; session = session }) s u seen stands in
+      let page : (far link.wire).page ≡ s.terms.page = ap (λ (f : Far). f.page) (sym seen.far_is) ∙ stands.page in
+      let asked : layouts_of s.terms.page ≡ Ok link.state.layouts = ap layouts_of (sym page) ∙ (turn.stood h).told in
+      by_exchange honest far silence wakes gives laws link session valid fits said new s u seen stands asked room turn.message h turn.is_for turn.carries turn.few
+      (λ l operating. subst (λ (p : List ℕ). IsAccepted link.state.layouts p l (sending_of link.state.out turn.message).message) page (turn.accepted h l operating)) turn.exchange session.exchange refl

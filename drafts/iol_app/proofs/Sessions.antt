@@ -1,0 +1,192 @@
+-- What always holds of a session.
+use Rattle.std.proofs.Common.{◌≡◌, ⊎_elim, ℕ, zero, suc, ◌-◌, ◌*◌, ◌<◌, ◌≤◌, Bool, true, false, ◌==◌, if◌then◌else◌, List, length, replicate, refl, sym, ap, subst, ◌∙◌, arith, Option, Some, None}
+use Rattle.std.specs.Prelude.{slice_index, IfSome, IsTrue, unwrap_or}
+use Rattle.std.proofs.lemmas.Bool.{cases_Bool}
+use Rattle.std.proofs.lemmas.List.{length-append, length-replicate}
+use Rattle.iol_mseq.specs.Shape.{Shape, IsLayout, is_size}
+use Rattle.iol_mseq.specs.Master.{HasMasterParts}
+use Rattle.iol_mseq.specs.Replies.{answered_od}
+use Rattle.iol_mseq.specs.declared.reply.Reply.{Reply}
+use Rattle.iol_mseq.specs.declared.master.MasterMsg.{MasterMsg}
+use Rattle.iol_isdu.specs.declared.values.Request.{Request}
+use Rattle.iol_isdu.specs.declared.values.Cause.{Cause}
+use Rattle.iol_isdu.specs.Texts.{IsRequest, request_front}
+use Rattle.iol_page.specs.Commands.{command_octet}
+use Rattle.iol_page.specs.declared.master_command.MasterCommand.TheVariants.{ProcessDataOutputOperate, DeviceOperate}
+use Rattle.iol_device.specs.Far.{first_of_zeros}
+use Rattle.iol_segment.specs.Cut.{Cutting, last_given}
+use Rattle.iol_segment.specs.Join.{stage}
+use Rattle.iol_app.specs.declared.output.Output.{Output}
+use Rattle.iol_app.specs.declared.event_work.Reading.{Reading}
+use Rattle.iol_app.specs.declared.request.Current.{Current}
+use Rattle.iol_app.specs.declared.request.Progress.{Progress}
+use Rattle.iol_app.specs.declared.request.Progress.TheVariants.{Sending, Asking, Receiving, Refused}
+use Rattle.iol_app.specs.declared.session.Exchange.{Exchange}
+use Rattle.iol_app.specs.declared.session.Exchange.TheVariants.{TellOutput, DropOutput, Abort, ReadEvent, ConfirmEvents, Request as NextMessage, Idle}
+use Rattle.iol_app.specs.Outputs.{output_after, carried_by, IsOutput}
+use Rattle.iol_app.specs.Requests.{text_of, Outcome, GoesOn, HasText, asked, replied_at, replied, going, one_after, current_after, ProgressFits, IsCurrent}
+use Rattle.iol_app.specs.State.{SessionState, IsSession, od_size, output_length, absorbed}
+use Rattle.iol_app.specs.Messages.{head_of, head_for, data_for, progress_head, progress_data, request_head, request_data}
+use Rattle.iol_app.proofs.Cutting.{length-segment, is_pair, given_goes_on, sent_on_fits}
+use Rattle.iol_app.proofs.Joining.{StaysCurrent, refused_stays, joined_stays, received_stays}
+
+-- a text has an octet
+text_some : (cutter : Cutting Request) → 0 < length (text_of cutter)
+text_some cutter = let whole = length-append (request_front cutter.source) in omega (arith, whole)
+
+-- the reply to a START read
+asked_stays : (cutter : Cutting Request) (abort : Option Cause) (busy limit : ℕ) (od : List ℕ) → (current : Current) → IsCurrent current → current.cutter ≡ cutter
+    → ProgressFits cutter abort (Asking busy) → length od ≡ cutter.size → StaysCurrent cutter.size (asked cutter abort busy limit od)
+asked_stays cutter abort busy limit od current h same all size =
+    let request : IsRequest cutter.source = subst (λ (c : Cutting Request). IsRequest c.source) same h.request in
+    let some : 1 ≤ cutter.size = subst (λ (c : Cutting Request). 1 ≤ c.size) same h.some in
+    let most : cutter.size ≤ 32 = subst (λ (c : Cutting Request). c.size ≤ 32) same h.most in
+    let one : length od ≡ suc 0 * cutter.size = omega arith in
+    ⊎_elim
+    (λ (b : (slice_index od 0 == 1) ≡ true). rw b (record { request = request; some = some; most = most; progress = all }, refl))
+    (λ (n : (slice_index od 0 == 1) ≡ false).
+    ⊎_elim
+    (λ (z : (slice_index od 0 == 0) ≡ true). rw (n, z) (refused_stays cutter abort request some most))
+    (λ (m : (slice_index od 0 == 0) ≡ false). rw (n, m) (joined_stays cutter abort 0 od (stage od) refl one request some most))
+    (cases_Bool (slice_index od 0 == 0)))
+    (cases_Bool (slice_index od 0 == 1))
+
+-- on-request data of the reply to a message of the request, by the direction of that message
+abbrev pub IsAnswered : ℕ → Progress → List ℕ → Type 0
+IsAnswered size (Sending flow segment) od = Unit {0}
+IsAnswered size any od = length od ≡ size
+
+replied_stays : (current : Current) (p : Progress) (limit : ℕ) (od : List ℕ) → IsCurrent current → current.progress ≡ p → IsAnswered current.cutter.size p od
+    → StaysCurrent current.cutter.size (replied_at p limit od current)
+replied_stays current (Sending flow segment) limit od h e size =
+    let fits : ProgressFits current.cutter current.abort (Sending flow segment) = subst (ProgressFits current.cutter current.abort) e h.progress in
+    (sent_on_fits current.cutter current.abort h.request h.some h.most (text_some current.cutter) (given_goes_on current.cutter.size (text_of current.cutter) current.cutter.given flow segment fits), refl)
+replied_stays current (Asking busy) limit od h e size =
+    asked_stays current.cutter current.abort busy limit od current h refl (subst (ProgressFits current.cutter current.abort) e h.progress) size
+replied_stays current (Receiving joining had) limit od h e size =
+    received_stays current.cutter current.abort joining had od (subst (ProgressFits current.cutter current.abort) e h.progress) size h.request h.some h.most
+replied_stays current Refused limit od h e size = (h, refl)
+
+-- the request under way after a reply
+abbrev pub StaysGoing : ℕ → Option Current → Type 0
+StaysGoing size current = IfSome current IsCurrent × IfSome current (λ c. c.cutter.size ≡ size)
+
+going_stays : (size : ℕ) (outcome : Outcome) → StaysCurrent size outcome → StaysGoing size (going outcome)
+going_stays size (GoesOn current) h = h
+going_stays size (HasText text) h = (tt, tt)
+
+one_stays : (exchange : Exchange) (limit : ℕ) (od : List ℕ) (current : Current) → IsCurrent current → (exchange ≡ NextMessage → IsAnswered current.cutter.size current.progress od)
+    → StaysGoing current.cutter.size (one_after exchange limit od current)
+one_stays TellOutput limit od current h size = (h, refl)
+one_stays DropOutput limit od current h size = (h, refl)
+one_stays Abort limit od current h size = (tt, tt)
+one_stays ReadEvent limit od current h size = (h, refl)
+one_stays ConfirmEvents limit od current h size = (h, refl)
+one_stays NextMessage limit od current h size =
+    going_stays current.cutter.size (replied limit od current) (replied_stays current current.progress limit od h refl (size refl))
+one_stays Idle limit od current h size = (h, refl)
+
+output_stays : (size : ℕ) (exchange : Exchange) (output : Output) → IsOutput size output → IsOutput size (output_after exchange output)
+output_stays size TellOutput output h = record { carried = h.carried; wanted = h.wanted }
+output_stays size DropOutput output h = record { carried = h.carried; wanted = h.wanted }
+output_stays size Abort output h = h
+output_stays size ReadEvent output h = h
+output_stays size ConfirmEvents output h = h
+output_stays size NextMessage output h = h
+output_stays size Idle output h = h
+
+-- the reply has on-request data of the layout's size where the request's message was a read
+answered_as : (layout : Option Shape) (size : ℕ) (p : Progress) (reading : Reading) (od : List ℕ) (current : Current) → current.progress ≡ p → 1 ≤ size → size ≡ od_size layout
+    → IfSome layout (λ l. length od ≡ answered_od l (head_for NextMessage reading (Some current)).read) → IsAnswered size p od
+answered_as None size p _ od current e some same h = absurd (let k : size ≡ 0 = same in omega arith)
+answered_as (Some layout) size p events od current e some same h = by_progress p e
+  where
+    by_progress : (p : Progress) → current.progress ≡ p → IsAnswered size p od
+    by_progress (Sending flow segment) e = tt
+    by_progress (Asking busy) e = (rw e at h) ∙ sym same
+    by_progress (Receiving joining had) e = (rw e at h) ∙ sym same
+    by_progress Refused e = (rw e at h) ∙ sym same
+
+current_stays : (layout : Option Shape) (reading : Reading) (exchange : Exchange) (limit : ℕ) (od : List ℕ) (current : Option Current) → IfSome current IsCurrent
+    → IfSome current (λ c. c.cutter.size ≡ od_size layout) → IfSome layout (λ l. length od ≡ answered_od l (head_for exchange reading current).read)
+    → StaysGoing (od_size layout) (current_after exchange limit od current)
+current_stays layout _ exchange limit od None h size fits = (tt, tt)
+current_stays layout events exchange limit od (Some current) h size fits =
+    subst (λ n. StaysGoing n (one_after exchange limit od current)) size
+    (one_stays exchange limit od current h (λ (e : exchange ≡ NextMessage). answered_as layout current.cutter.size current.progress events od current refl h.some size (rw e at fits)))
+
+-- a session that takes up a good reply
+pub absorbed_stays : (s : SessionState) (exchange : Exchange) (reply : Reply) → IsSession s
+    → IfSome s.layout (λ layout. length reply.od.items ≡ answered_od layout (head_for exchange s.events.reading s.current).read) → IsSession (absorbed exchange reply s)
+absorbed_stays s exchange reply h fits =
+    let going = current_stays s.layout s.events.reading exchange s.limit reply.od.items s.current h.current h.size fits in
+    record {
+      layout = h.layout;
+      output = output_stays (output_length s.layout) exchange s.output h.output;
+      current = going.0;
+      size = going.1;
+      out = tt;
+    }
+
+-- A new message has the parts of the layout
+
+carried_length : (size : ℕ) (wanted : Option (List ℕ)) (carried : List ℕ) → length carried ≡ size → IfSome wanted (λ image. length image ≡ size) → length (unwrap_or wanted carried) ≡ size
+carried_length size None carried e h = e
+carried_length size (Some image) carried e h = h
+
+length-first_of_zeros : (size octet : ℕ) → 1 ≤ size → length (first_of_zeros size octet) ≡ size
+length-first_of_zeros size octet some =
+    let zeros : length (replicate {A = ℕ} (size - 1) 0) ≡ size - 1 = length-replicate (size - 1) 0 in
+    omega arith
+
+-- of the size of on-request data in a write, and none in a read
+abbrev IsData : ℕ → Bool → List ℕ → Type 0
+IsData size read od = length od ≡ (if read then 0 else size)
+
+progress_data_length : (current : Current) (p : Progress) → current.progress ≡ p → IsCurrent current → IsData current.cutter.size (progress_head p).read (progress_data p)
+progress_data_length current (Sending flow segment) e h =
+    let fits : ProgressFits current.cutter current.abort (Sending flow segment) = subst (ProgressFits current.cutter current.abort) e h.progress in
+    by_given current.cutter.given fits
+  where
+    by_given : (given : ℕ) → last_given current.cutter.size (text_of current.cutter) given ≡ Some (flow, segment) → length segment.items ≡ current.cutter.size
+    by_given zero e = absurd (let k : None ≡ Some (flow, segment) = e in cc)
+    by_given (suc i) e = ap length (is_pair current.cutter.size (text_of current.cutter) i flow segment e).octets ∙ length-segment current.cutter.size (text_of current.cutter) i
+progress_data_length current (Asking busy) e h = refl
+progress_data_length current (Receiving joining had) e h = refl
+progress_data_length current Refused e h = refl
+
+request_data_length : (size : ℕ) (current : Option Current) → IfSome current IsCurrent → IfSome current (λ c. c.cutter.size ≡ size) → IsData size (request_head current).read (request_data current)
+request_data_length size None h same = refl
+request_data_length size (Some current) h same =
+    subst (λ (n : ℕ). IsData n (progress_head current.progress).read (progress_data current.progress)) same (progress_data_length current current.progress refl h)
+
+data_length : (exchange : Exchange) (size : ℕ) (reading : Reading) (current : Option Current) → 1 ≤ size → IfSome current IsCurrent → IfSome current (λ c. c.cutter.size ≡ size)
+    → IsData size (head_for exchange reading current).read (data_for exchange size current)
+data_length TellOutput size _ current some h same = length-first_of_zeros size (command_octet ProcessDataOutputOperate) some
+data_length DropOutput size _ current some h same = length-first_of_zeros size (command_octet DeviceOperate) some
+data_length Abort size _ current some h same = refl
+data_length ReadEvent size _ current some h same = refl
+data_length ConfirmEvents size _ current some h same = length-first_of_zeros size 0 some
+data_length NextMessage size _ current some h same = request_data_length size current h same
+data_length Idle size _ current some h same = refl
+
+od_some : (layout : Shape) → IsLayout layout → 1 ≤ layout.od
+od_some layout h = by_size layout.od h.od
+  where
+    by_size : (od : ℕ) → IsTrue (is_size od) → 1 ≤ od
+    by_size zero h = absurd (let k : false ≡ true = h in cc)
+    by_size (suc n) h = omega arith
+
+pub parts_fit : (s : SessionState) (exchange : Exchange) (message : MasterMsg) (layout : Shape) → IsSession s → s.layout ≡ Some layout
+    → head_of message.mc ≡ head_for exchange s.events.reading s.current → message.od.items ≡ data_for exchange layout.od s.current → message.out.items ≡ carried_by s.output
+    → IfSome s.layout (λ l. HasMasterParts l message)
+parts_fit s exchange message layout h told head od out =
+    let valid : IsLayout layout = subst (λ (l : Option Shape). IfSome l IsLayout) told h.layout in
+    let output : IsOutput layout.pd_out s.output = subst (λ (l : Option Shape). IsOutput (output_length l) s.output) told h.output in
+    let size : IfSome s.current (λ c. c.cutter.size ≡ layout.od) = subst (λ (l : Option Shape). IfSome s.current (λ c. c.cutter.size ≡ od_size l)) told h.size in
+    let read : message.mc.read ≡ (head_for exchange s.events.reading s.current).read = ap (λ x. x.read) head in
+    let parts : HasMasterParts layout message = record {
+      out = ap length out ∙ carried_length layout.pd_out s.output.wanted s.output.carried.items output.carried output.wanted;
+      od = ap length od ∙ data_length exchange layout.od s.events.reading s.current (od_some layout valid) h.current size ∙ ap (λ b. if b then 0 else layout.od) (sym read);
+    } in
+    subst (λ (l : Option Shape). IfSome l (λ k. HasMasterParts k message)) (sym told) parts

@@ -1,0 +1,44 @@
+-- Which message is due.
+use Rattle.std.specs.Prelude.{List, [], ◌∷◌, Bool, true, false, not, ◌&&◌, if◌then◌else◌, is_some, is_none}
+use Rattle.iol_app.specs.declared.event_work.Reading.{Reading}
+use Rattle.iol_app.specs.declared.event_work.Reading.TheVariants.{Resting, UnderWay, ConfirmDue}
+use Rattle.iol_app.specs.declared.session.Exchange.{Exchange}
+use Rattle.iol_app.specs.declared.session.Exchange.TheVariants.{TellOutput, DropOutput, Abort, ReadEvent, ConfirmEvents, Request, Idle}
+use Rattle.iol_app.specs.Requests.{aborts}
+use Rattle.iol_app.specs.State.{SessionState}
+
+-- the exchange at the first test that holds
+abbrev pub first_of : List (Bool × Exchange) → Exchange
+first_of [] = Idle
+first_of (entry ∷ entries) = if entry.0 then entry.1 else first_of entries
+
+abbrev pub is_under_way : Reading → Bool
+is_under_way (UnderWay reader) = true
+is_under_way other = false
+
+abbrev pub is_confirm_due : Reading → Bool
+is_confirm_due ConfirmDue = true
+is_confirm_due other = false
+
+abbrev pub is_resting : Reading → Bool
+is_resting Resting = true
+is_resting other = false
+
+-- what the next new message is for, where there is room for events or not
+abbrev pub due_of : SessionState → Bool → Exchange
+due_of s room = first_of (
+    (is_some s.output.wanted && not s.output.told, TellOutput) ∷
+    (is_none s.output.wanted && s.output.told, DropOutput) ∷
+    (aborts s.current, Abort) ∷
+    (is_under_way s.events.reading, ReadEvent) ∷
+    (is_confirm_due s.events.reading, ConfirmEvents) ∷
+    (is_resting s.events.reading && s.events.flag && room, ReadEvent) ∷
+    (is_some s.current, Request) ∷ [])
+
+abbrev pub is_idle : Exchange → Bool
+is_idle Idle = true
+is_idle other = false
+
+-- no message is out, and the next one is IDLE 1
+abbrev pub is_ready : SessionState → Bool → Bool
+is_ready s room = is_none s.exchange && is_idle (due_of s room)

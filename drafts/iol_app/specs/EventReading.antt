@@ -1,0 +1,57 @@
+-- The reading of events: StatusCode, the octets of the marked places, the confirm (IEC 61131-9, 7.3.8).
+use Rattle.std.specs.Prelude.{ℕ, Bool, true, false, List, [], Option, Some, None, Result, Ok, Err, slice_index}
+use Rattle.iol_mseq.specs.declared.reply.Reply.{Reply}
+use Rattle.iol_event.specs.declared.event.Event.{Event}
+use Rattle.iol_event.specs.declared.faults.EventForm.{EventForm}
+use Rattle.iol_event.specs.Reading.{taken}
+use Rattle.iol_app.specs.declared.event_work.Events.{Events}
+use Rattle.iol_app.specs.declared.event_work.Reading.{Reading}
+use Rattle.iol_app.specs.declared.event_work.Reading.TheVariants.{Resting, UnderWay, ConfirmDue, Refused}
+use Rattle.iol_app.specs.declared.session.Exchange.{Exchange}
+use Rattle.iol_app.specs.declared.session.Exchange.TheVariants.{ReadEvent, ConfirmEvents}
+
+-- as a start-up begins
+abbrev pub no_events : Events
+no_events = record { flag = false; reading = Resting }
+
+-- the octets that the reading has
+abbrev pub reader_of : Reading → List ℕ
+reader_of (UnderWay reader) = reader
+reader_of other = []
+
+-- a StatusCode was refused since the last start-up
+abbrev pub is_refused : Reading → Bool
+is_refused Refused = true
+is_refused other = false
+
+-- goes on, ends with a list that is to be confirmed, or is refused
+abbrev pub reading_by : Result (Option (List Event)) EventForm → List ℕ → Reading
+reading_by (Ok None) reader = UnderWay reader
+reading_by (Ok (Some list)) reader = ConfirmDue
+reading_by (Err form) reader = Refused
+
+abbrev pub list_by : Result (Option (List Event)) EventForm → Option (List Event)
+list_by (Ok list) = list
+list_by (Err form) = None
+
+-- the reading after one more octet, and the list that is whole with it
+abbrev pub reading_after : Reading → ℕ → Reading
+reading_after reading octet = reading_by (taken (reader_of reading) octet).answer (taken (reader_of reading) octet).reader
+
+abbrev pub list_after : Reading → ℕ → Option (List Event)
+list_after reading octet = list_by (taken (reader_of reading) octet).answer
+
+-- the reading after the good reply to a message that was sent for this, with these on-request data
+abbrev pub read_on : Exchange → List ℕ → Reading → Reading
+read_on ReadEvent od reading = reading_after reading (slice_index od 0)
+read_on ConfirmEvents od _ = Resting
+read_on any od so_far = so_far
+
+-- and the list that became whole
+abbrev pub list_read : Exchange → List ℕ → Reading → Option (List Event)
+list_read ReadEvent od reading = list_after reading (slice_index od 0)
+list_read any od _ = None
+
+-- the event work after that reply
+abbrev pub events_after : Exchange → Reply → Events → Events
+events_after exchange reply events = record { flag = reply.event; reading = read_on exchange reply.od.items events.reading }

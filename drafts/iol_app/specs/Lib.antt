@@ -1,0 +1,12 @@
+pub mod Faults
+pub mod Outputs
+pub mod EventReading
+pub mod Requests
+pub mod State
+pub mod Due
+pub mod Messages
+pub mod Moves
+pub mod StationState
+pub mod Seen
+pub mod StationLaws
+pub mod Reports

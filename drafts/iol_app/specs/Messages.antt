@@ -1,0 +1,75 @@
+-- What the messages of OPERATE say (IEC 61131-9, A.1.2 and 7.3.6).
+use Rattle.std.specs.Prelude.{ℕ, ◌+◌, ◌%◌, Bool, true, false, List, [], Option, Some, None}
+use Rattle.iol_octets.specs.declared.control.Mc.{Mc}
+use Rattle.iol_octets.specs.declared.control.Channel.{Channel}
+use Rattle.iol_octets.specs.declared.control.Channel.TheVariants.{Page, Diagnosis, Isdu}
+use Rattle.iol_octets.specs.declared.flow_control.Flow.{Flow}
+use Rattle.iol_octets.specs.declared.flow_control.Flow.TheVariants.{Start, Count, Idle1, Abort as AbortFlow}
+use Rattle.iol_octets.specs.Flow.{flow_address}
+use Rattle.iol_page.specs.Commands.{command_octet}
+use Rattle.iol_page.specs.declared.master_command.MasterCommand.TheVariants.{ProcessDataOutputOperate, DeviceOperate}
+use Rattle.iol_event.specs.Reading.{next_address}
+use Rattle.iol_device.specs.Far.{first_of_zeros}
+use Rattle.iol_app.specs.declared.event_work.Reading.{Reading}
+use Rattle.iol_app.specs.declared.request.Current.{Current}
+use Rattle.iol_app.specs.declared.request.Progress.{Progress}
+use Rattle.iol_app.specs.declared.request.Progress.TheVariants.{Sending, Asking, Receiving, Refused}
+use Rattle.iol_app.specs.declared.session.Exchange.{Exchange}
+use Rattle.iol_app.specs.declared.session.Exchange.TheVariants.{TellOutput, DropOutput, Abort, ReadEvent, ConfirmEvents, Request, Idle}
+use Rattle.iol_app.specs.EventReading.{reader_of}
+
+-- what a control octet says
+pub record Head : Type 0 where
+  pub read : Bool
+  pub channel : Channel
+  pub address : ℕ
+
+abbrev pub head_of : Mc → Head
+head_of mc = record { read = mc.read; channel = mc.channel; address = mc.address }
+
+abbrev pub read_of : Channel → ℕ → Head
+read_of channel address = record { read = true; channel = channel; address = address }
+
+abbrev pub write_of : Channel → ℕ → Head
+write_of channel address = record { read = false; channel = channel; address = address }
+
+-- a read on the ISDU channel
+abbrev pub ask_of : Flow → Head
+ask_of flow = read_of Isdu (flow_address flow)
+
+-- the request's next message: the segment, START until the answer begins, then COUNT
+abbrev pub progress_head : Progress → Head
+progress_head (Sending flow segment) = write_of Isdu (flow_address flow)
+progress_head (Asking busy) = ask_of Start
+progress_head (Receiving joining had) = ask_of (Count ((had + 1) % 16))
+progress_head Refused = ask_of Idle1
+
+abbrev pub progress_data : Progress → List ℕ
+progress_data (Sending flow segment) = segment.items
+progress_data any = []
+
+abbrev pub request_head : Option Current → Head
+request_head None = ask_of Idle1
+request_head (Some current) = progress_head current.progress
+
+abbrev pub request_data : Option Current → List ℕ
+request_data None = []
+request_data (Some current) = progress_data current.progress
+
+-- a new message for this
+abbrev pub head_for : Exchange → Reading → Option Current → Head
+head_for TellOutput _ current = write_of Page 0
+head_for DropOutput _ current = write_of Page 0
+head_for Abort _ current = ask_of AbortFlow
+head_for ReadEvent reading current = read_of Diagnosis (next_address (reader_of reading))
+head_for ConfirmEvents _ current = write_of Diagnosis 0
+head_for Request _ current = request_head current
+head_for Idle _ current = ask_of Idle1
+
+-- and its on-request data, of this size in a write
+abbrev pub data_for : Exchange → ℕ → Option Current → List ℕ
+data_for TellOutput size current = first_of_zeros size (command_octet ProcessDataOutputOperate)
+data_for DropOutput size current = first_of_zeros size (command_octet DeviceOperate)
+data_for ConfirmEvents size current = first_of_zeros size 0
+data_for Request size current = request_data current
+data_for any size current = []

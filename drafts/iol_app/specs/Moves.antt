@@ -1,0 +1,142 @@
+-- How far a session has come, as the level of both ends of the link sees it: laws of the definitions.
+use Rattle.std.specs.Prelude.{◌≡◌, ◌⊎◌, ℕ, zero, suc, Bool, true, false, List, Option, Some, None, IsTrue}
+use Rattle.iol_mseq.specs.Shape.{Shape}
+use Rattle.iol_mseq.specs.Master.{SpellsMaster}
+use Rattle.iol_mseq.specs.declared.master.MasterMsg.{MasterMsg}
+use Rattle.iol_isdu.specs.Answers.{BeginsWithAnswer, is_read}
+use Rattle.iol_isdu.specs.declared.values.Request.{Request}
+use Rattle.iol_isdu.specs.declared.values.Answer.{Answer}
+use Rattle.iol_segment.specs.Cut.{Cutting, segment}
+use Rattle.iol_segment.specs.Join.{Complete, stage}
+use Rattle.iol_segment.specs.TextLaws.{joined}
+use Rattle.iol_device.specs.Codec.{flow_of}
+use Rattle.iol_device.specs.Isdu.{answer_text, fits}
+use Rattle.iol_device.specs.Laws.{confirms}
+use Rattle.iol_device.specs.Level.{Progress, Quiet, Written, Busy, Had, Move, Begin, More, Ask, Next, Leave, Other, after, IsMove}
+use Rattle.iol_app.specs.declared.event_work.Reading.{Reading}
+use Rattle.iol_app.specs.declared.request.Current.{Current}
+use Rattle.iol_app.specs.declared.request.Progress.{Progress as Cursor}
+use Rattle.iol_app.specs.declared.request.Progress.TheVariants.{Sending, Asking, Receiving, Refused}
+use Rattle.iol_app.specs.declared.session.Exchange.{Exchange}
+use Rattle.iol_app.specs.declared.session.Exchange.TheVariants.{Abort, ConfirmEvents, Request as NextMessage, Idle}
+use Rattle.iol_app.specs.Requests.{Outcome, GoesOn, HasText, replied, current_after, Suits, IsCurrent}
+use Rattle.iol_app.specs.State.{SessionState, IsSession}
+use Rattle.iol_app.specs.Messages.{Head, head_of, head_for, data_for}
+
+-- so many segments of the request had a good reply
+abbrev pub written : Request → ℕ → Progress
+written request zero = Quiet
+written request (suc i) = Written request i
+
+-- all that were given but the last
+abbrev pub before_last : Request → ℕ → Progress
+before_last request zero = Quiet
+before_last request (suc given) = written request given
+
+-- so many busy replies came since the last segment
+abbrev pub asked_for : Cutting Request → ℕ → Progress
+asked_for cutter zero = written cutter.source cutter.given
+asked_for cutter (suc busy) = Busy cutter.source
+
+abbrev pub progress_at : Cutting Request → Cursor → Progress
+progress_at cutter (Sending flow segment) = before_last cutter.source cutter.given
+progress_at cutter (Asking busy) = asked_for cutter busy
+progress_at cutter (Receiving joining had) = Had cutter.source had joining.text
+progress_at cutter Refused = Quiet
+
+-- how far the request under way has come
+abbrev pub progress_of : Option Current → Progress
+progress_of None = Quiet
+progress_of (Some current) = progress_at current.cutter current.progress
+
+-- the segment that was given last, so many having been given
+abbrev pub segment_move : Request → ℕ → Move
+segment_move request zero = Leave
+segment_move request (suc zero) = Begin request
+segment_move request (suc (suc i)) = More
+
+abbrev pub move_at : Cutting Request → Cursor → Move
+move_at cutter (Sending flow segment) = segment_move cutter.source cutter.given
+move_at cutter (Asking busy) = Ask
+move_at cutter (Receiving joining had) = Next
+move_at cutter Refused = Leave
+
+abbrev pub request_move : Option Current → Move
+request_move None = Leave
+request_move (Some current) = move_at current.cutter current.progress
+
+-- what a message for this does
+abbrev pub move_for : Exchange → Option Current → Move
+move_for Abort current = Leave
+move_for NextMessage current = request_move current
+move_for Idle current = Leave
+move_for any current = Other
+
+-- the message of this head and data is that move
+abbrev pub IsMoveOf : ℕ → Exchange → Option Current → Head → List ℕ → Type 0
+IsMoveOf size exchange current head od = IsMove size (move_for exchange current) (progress_of current) head.channel head.read (flow_of head.address) od
+
+-- each new message is the move that the request's progress asks for
+abbrev pub MessagesAreMoves : Type 0
+MessagesAreMoves =
+    (s : SessionState) (layout : Shape) (exchange : Exchange) → IsSession s → s.layout ≡ Some layout
+    → IsMoveOf layout.od exchange s.current (head_for exchange s.events.reading s.current) (data_for exchange layout.od s.current)
+
+-- whether a message for this confirms events
+abbrev pub confirms_events : Exchange → Bool
+confirms_events ConfirmEvents = true
+confirms_events any = false
+
+-- the device takes the octets of that message for a confirm, and those of no other
+abbrev pub ConfirmsConfirm : Type 0
+ConfirmsConfirm =
+    (exchange : Exchange) (reading : Reading) (current : Option Current) (layout : Shape) (message : MasterMsg) (octets : List ℕ)
+    → head_of message.mc ≡ head_for exchange reading current → SpellsMaster layout message octets → confirms octets ≡ confirms_events exchange
+
+-- the octets had are those of this request's answer, and begin with the whole of this text
+abbrev pub HadText : Request → List ℕ → Progress → Type 0
+HadText request text (Had other i octets) = (other ≡ request) × (stage octets ≡ Complete text)
+HadText request text any = ⊥
+
+-- what came was no text of an answer, or the request is as far as the reply brings it; or its answer is whole
+abbrev pub OutcomeFollows : Request → Outcome → Progress → Type 0
+OutcomeFollows request (GoesOn current) progress = (current.progress ≡ Refused) ⊎ (progress_of (Some current) ≡ progress)
+OutcomeFollows request (HasText text) progress = HadText request text progress
+
+-- after a good reply to the message that was sent for this, with these on-request data
+abbrev pub ReplyFollows : Exchange → ℕ → List ℕ → Option Current → Type 0
+ReplyFollows NextMessage limit od (Some current) =
+    OutcomeFollows current.cutter.source (replied limit od current) (after (progress_of (Some current)) (request_move (Some current)) od)
+ReplyFollows exchange limit od current = progress_of (current_after exchange limit od current) ≡ after (progress_of current) (move_for exchange current) od
+
+abbrev pub RepliesFollow : Type 0
+RepliesFollow =
+    (s : SessionState) (exchange : Exchange) (od : List ℕ) → IsSession s → Suits exchange s.current
+    → ReplyFollows exchange s.limit od s.current
+
+-- the number of the answer's segment that comes next; those before it were had
+abbrev pub next_segment : Cursor → ℕ
+next_segment (Receiving joining had) = suc had
+next_segment any = 0
+
+abbrev pub IsHad : ℕ → List ℕ → Cursor → Type 0
+IsHad size text (Asking busy) = Unit {0}
+IsHad size text (Receiving joining had) = joining.text ≡ joined size text had
+IsHad size text any = ⊥
+
+-- the request goes on with that segment had, or has this answer
+abbrev pub IsAnswering : ℕ → Bool → Answer → List ℕ → ℕ → Cursor → Type 0
+IsAnswering size read answer text i (Receiving joining had) = (had ≡ i) × (joining.text ≡ joined size text i)
+IsAnswering size read answer text i any = ⊥
+
+abbrev pub IsTakenUp : ℕ → Bool → Answer → List ℕ → ℕ → Outcome → Type 0
+IsTakenUp size read answer text i (GoesOn current) = IsAnswering size read answer text i current.progress
+IsTakenUp size read answer text i (HasText whole) = (whole ≡ text) × BeginsWithAnswer read whole answer
+
+-- no segment of an answer that fits the request is refused: it is taken up, and the answer at its last one is that answer
+abbrev pub AnswersAreTakenUp : Type 0
+AnswersAreTakenUp =
+    (current : Current) (limit : ℕ) (answer : Answer) → IsCurrent current → IsTrue (fits current.cutter.source answer)
+    → IsHad current.cutter.size (answer_text current.cutter.source answer) current.progress
+    → IsTakenUp current.cutter.size (is_read current.cutter.source) answer (answer_text current.cutter.source answer) (next_segment current.progress)
+    (replied limit (segment current.cutter.size (answer_text current.cutter.source answer) (next_segment current.progress)) current)

@@ -1,0 +1,21 @@
+-- Which reports of events may come, over every wire.
+use Rattle.std.specs.Prelude.{◌≡◌, ◌⊎◌, Bool, true, false, ◌||◌, Option, Some}
+use Rattle.iol_steps.specs.declared.said.Said.{Said}
+use Rattle.iol_steps.specs.declared.said.Said.TheVariants.{Reported}
+use Rattle.iol_app.specs.declared.session.Exchange.{Exchange}
+use Rattle.iol_app.specs.declared.session.Exchange.TheVariants.{ReadEvent}
+use Rattle.iol_app.specs.Due.{is_under_way}
+use Rattle.iol_app.specs.State.{SessionState}
+
+abbrev pub is_read_out : Option Exchange → Bool
+is_read_out (Some ReadEvent) = true
+is_read_out other = false
+
+-- a reading of events was begun: its first read is out, or it has octets
+abbrev pub is_reading : SessionState → Bool
+is_reading s = is_read_out s.exchange || is_under_way s.events.reading
+
+-- a report ends a reading that was begun before; and one begins only where there is room
+abbrev pub ReadingAfter : Bool → Bool → Said → Bool → Type 0
+ReadingAfter room before (Reported events) after = (before ≡ true) × (after ≡ false)
+ReadingAfter room before said after = after ≡ true → (before ≡ true) ⊎ (room ≡ true)

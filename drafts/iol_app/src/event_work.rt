@@ -1,0 +1,88 @@
+//! The reading of events: octet by octet, then the confirm (IEC 61131-9, 7.3.8).
+ghost use Rattle.std.specs.Prelude.{◌≡◌, ◌≤◌};
+ghost use Rattle.iol_event.specs.Reading.{next_address};
+ghost use Rattle.iol_app.specs.EventReading.{no_events, reader_of, events_after, list_read, reading_after, list_after};
+
+use crate::parts::first;
+use crate::session::Exchange;
+use iol_event::{EventList, EventReader};
+use iol_mseq::Reply;
+use std::mem::replace;
+
+/// How far the reading of events has come.
+#[derive(Drop)]
+pub(crate) enum Reading {
+    /// None is under way.
+    Resting,
+    /// The StatusCode is read, and octets of the places that it marks.
+    UnderWay(EventReader),
+    /// The list was reported, and is to be confirmed.
+    ConfirmDue,
+    /// The StatusCode was refused: no reading begins before the next start-up.
+    Refused,
+}
+
+/// The event work of a port.
+#[derive(Drop)]
+pub(crate) struct Events {
+    /// The Event flag of the last good reply.
+    pub(crate) flag: bool,
+    pub(crate) reading: Reading,
+}
+
+impl Events {
+    /// As a start-up begins.
+    pub(crate) fn new() -> Events
+        ensures { result ≡ no_events }
+    {
+        Events {
+            flag: false,
+            reading: Reading::Resting,
+        }
+    }
+
+    /// The diagnosis address that is read next.
+    pub(crate) fn address(&self) -> u8
+        ensures value { result ≡ next_address (reader_of self.now.reading) }
+        ensures small { result ≤ 31 }
+    {
+        match &self.reading {
+            Reading::UnderWay(reader) => reader.address(),
+            _ => 0,
+        }
+    }
+
+    /// Takes up a good reply, and answers the list that became whole with it.
+    pub(crate) fn absorb(&mut self, exchange: Exchange, reply: &Reply) -> Option<EventList>
+        ensures events { self.new ≡ events_after exchange reply.now self.old }
+        ensures list { result ≡ list_read exchange reply.now.od.items self.old.reading }
+    {
+        self.flag = reply.event;
+        match exchange {
+            Exchange::ReadEvent => self.take(first(&reply.od)),
+            Exchange::ConfirmEvents => {
+                self.reading = Reading::Resting;
+                None
+            }
+            _ => None,
+        }
+    }
+
+    /// Takes an octet of the event memory.
+    fn take(&mut self, octet: u8) -> Option<EventList>
+        ensures events { self.new ≡ record self.old { reading = reading_after self.old.reading octet } }
+        ensures list { result ≡ list_after self.old.reading octet }
+    {
+        let mut reader = match replace(&mut self.reading, Reading::Resting) {
+            Reading::UnderWay(reader) => reader,
+            _ => EventReader::new(),
+        };
+        let (reading, list) = match reader.take(octet) {
+            Ok(None) => (Reading::UnderWay(reader), None),
+            Ok(Some(list)) => (Reading::ConfirmDue, Some(list)),
+            Err(_) => (Reading::Refused, None),
+        };
+        self.reading = reading;
+        list
+    }
+}

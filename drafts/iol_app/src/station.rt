@@ -1,0 +1,332 @@
+//! A station: the link in its mode, and the session over it.
+ghost use Rattle.std.specs.Prelude.{◌≡◌, None, Some, false, is_some, IsSome, IfSome, IsTrue, OnOk, OnErr, ◌&&◌};
+ghost use Rattle.std.specs.Result.{result_err};
+ghost use Rattle.std.specs.Option.{option_copied};
+ghost use Rattle.iol_mode.specs.Next.{wire_of as wire_in, outcome_of};
+ghost use Rattle.iol_app.specs.EventReading.{is_refused};
+ghost use Rattle.iol_app.specs.State.{opened, aborted_in, begun_in, wanting, output_refusal, left, IsSession, IsHearable};
+ghost use Rattle.iol_app.specs.Requests.{request_in, request_after, EndsRequest};
+ghost use Rattle.iol_app.specs.Due.{is_ready};
+ghost use Rattle.iol_app.specs.Reports.{is_reading, ReadingAfter};
+ghost use Rattle.iol_app.specs.Seen.{TurnSteps, NewSteps, BeginSteps, AbortSteps, WantSteps, RestartSteps};
+ghost use Rattle.iol_app.specs.StationState.{wire_of, mode_of, why_of, is_operating, linked, is_waked, waked_session, settled_session, reply_session, IsReplySaid, LinkFits, NextFits, IsSettledSaid, IsTurn};
+
+use crate::laws::station_laws;
+use crate::output::OutputFault;
+use crate::session::Session;
+use core::mem::replace_with;
+use iol_image::Image;
+use iol_isdu::{Cause, Request};
+use iol_link::Wire;
+use iol_mode::{Down, Link, Next, Operate, Preoperate, Startup, Why};
+use iol_mseq::Reply;
+use iol_steps::{
+    Mode, Said, begin_takes_the_request, new_station_stands, restart_cuts_the_request,
+    wanted_output_stands,
+};
+use std::marker::Model;
+
+/// How a station is.
+#[derive(Clone, Copy, Debug, PartialEq, Eq)]
+pub struct Status {
+    pub mode: Mode,
+    /// Why the link is down, where a turn led there.
+    pub why: Option<Why>,
+    /// Whether a StatusCode was refused since the last start-up.
+    pub event_form: bool,
+}
+
+/// The link in one of its modes.
+#[derive(Drop)]
+pub(crate) enum AnyLink<W: Wire> {
+    Down(Link<W, Down>),
+    Startup(Link<W, Startup>),
+    Preoperate(Link<W, Preoperate>),
+    Operate(Link<W, Operate>),
+}
+
+/// The master's end of one port: a link, and the session over it.
+///
+/// A clause sees the link in its mode, and the session. Over an honest wire it also sees the station as a record of the
+/// alphabet of steps that a port and its device share: `IsSeen` ties the two, and `Stands` ties that record to the device
+/// and to what nothing stores. A new station stands with its device, and each call keeps it so.
+#[derive(Drop)]
+pub struct Station<W: Wire> {
+    link: AnyLink<W>,
+    session: Session,
+}
+
+impl<W: Wire> Model for Station<W> {
+    ghost use Rattle.iol_app.specs.StationState.{StationState, LinkFits};
+
+    ghost Value = { StationState W };
+
+    ghost view = { λ s. record { link = s.link; session = s.session } };
+
+    ghost invariant = { λ s. LinkFits s.link s.session };
+}
+
+impl<W: Wire> Station<W> {
+    /// A station over this wire; a request is cut off at the busy reply of this number.
+    pub fn new(wire: W, busy: u16) -> Station<W>
+        ensures wire { wire_of result.link ≡ wire }
+        ensures mode { mode_of result.link ≡ Mode.Down }
+        ensures why { why_of result.link ≡ None }
+        ensures session { result.session ≡ opened busy }
+        ensures steps { NewSteps W.honest W.far W.silence busy result }
+    {
+        new_station_stands();
+        Station {
+            link: AnyLink::Down(Link::new(wire)),
+            session: Session::new(busy),
+        }
+    }
+
+    /// The wire.
+    pub fn wire(&self) -> &W
+        ensures { result.now ≡ wire_of self.now.link }
+    {
+        match &self.link {
+            AnyLink::Down(link) => link.wire(),
+            AnyLink::Startup(link) => link.wire(),
+            AnyLink::Preoperate(link) => link.wire(),
+            AnyLink::Operate(link) => link.wire(),
+        }
+    }
+
+    /// The wire, given back.
+    pub fn into_wire(self) -> W
+        ensures { result ≡ wire_of self.link }
+    {
+        let Station { link, session: _ } = self;
+        match link {
+            AnyLink::Down(link) => link.into_wire(),
+            AnyLink::Startup(link) => link.down().into_wire(),
+            AnyLink::Preoperate(link) => link.down().into_wire(),
+            AnyLink::Operate(link) => link.down().into_wire(),
+        }
+    }
+
+    /// The mode, why the link is down, and whether a StatusCode was refused since the last start-up.
+    pub fn status(&self) -> Status
+        ensures mode { result.mode ≡ mode_of self.now.link }
+        ensures why { result.why ≡ why_of self.now.link }
+        ensures event_form { result.event_form ≡ is_refused self.now.session.events.reading }
+    {
+        let (mode, why) = match &self.link {
+            AnyLink::Down(link) => (Mode::Down, link.why()),
+            AnyLink::Startup(_) => (Mode::Startup, None),
+            AnyLink::Preoperate(_) => (Mode::Preoperate, None),
+            AnyLink::Operate(_) => (Mode::Operate, None),
+        };
+        Status {
+            mode,
+            why,
+            event_form: self.session.event_form(),
+        }
+    }
+
+    /// The process data in of the last good reply in OPERATE, none where it was invalid.
+    pub fn image(&self) -> Option<&Image>
+        ensures { option_copied result ≡ self.now.session.image }
+    {
+        self.session.image()
+    }
+
+    /// Whether the next turn sends IDLE 1, where there is room for events or not: then a request may be begun.
+    pub fn ready(&self, room: bool) -> bool
+        ensures value { result ≡ (is_operating self.now.link && is_ready self.now.session room) }
+        ensures free { IsTrue result → (mode_of self.now.link ≡ Mode.Operate) × (self.now.session.current ≡ None) }
+    {
+        matches!(self.link, AnyLink::Operate(_)) && self.session.ready(room)
+    }
+
+    /// Begins a request, in OPERATE, while none is under way.
+    pub fn begin(&mut self, request: Request)
+        requires operate { mode_of self.old.link ≡ Mode.Operate }
+        requires free { self.old.session.current ≡ None }
+        ensures station { self.new ≡ record self.old { session = begun_in request self.old.session } }
+        ensures steps { BeginSteps W.honest W.far W.silence request self.old self.new }
+    {
+        begin_takes_the_request();
+        self.session.begin(request);
+    }
+
+    /// Lets an abort of the request under way wait. A second one changes nothing.
+    ///
+    /// Over an honest wire the station is seen as before where the cause is `BusyTooLong`, and the device was busy as often
+    /// as it may be. No clause says what becomes of an abort for another cause there.
+    pub fn abort(&mut self, cause: Cause)
+        requires { IsSome self.old.session.current }
+        ensures station { self.new ≡ record self.old { session = aborted_in cause self.old.session } }
+        ensures steps { AbortSteps W.honest W.far W.silence cause self.old self.new }
+    {
+        self.session.abort(cause);
+    }
+
+    /// Wants this output. Refused, with nothing changed, by the first of these that holds:
+    /// - 34 `NoLayout`: no start-up has told the lengths yet;
+    /// - 29 `WrongImageLength`: the image has not the length that was told last.
+    pub fn set_output(&mut self, image: &Image) -> Result<(), OutputFault>
+        ensures refused { result_err result ≡ output_refusal image.now self.old.session.layout }
+        ensures ok { OnOk result (self.new ≡ record self.old { session = wanting (Some image.now) self.old.session }) }
+        ensures err { OnErr result (self.new ≡ self.old) }
+        ensures steps { OnOk result (WantSteps W.honest W.far W.silence (Some image.now) self.old self.new) }
+    {
+        wanted_output_stands();
+        self.session.set_output(image)
+    }
+
+    /// Wants no output.
+    pub fn clear_output(&mut self)
+        ensures station { self.new ≡ record self.old { session = wanting None self.old.session } }
+        ensures steps { WantSteps W.honest W.far W.silence None self.old self.new }
+    {
+        wanted_output_stands();
+        self.session.clear_output();
+    }
+
+    /// Takes the link down. Answers whether a request was under way, which is cut off.
+    pub fn restart(&mut self) -> bool
+        ensures wire { wire_of self.new.link ≡ wire_of self.old.link }
+        ensures mode { mode_of self.new.link ≡ Mode.Down }
+        ensures why { why_of self.new.link ≡ None }
+        ensures session { self.new.session ≡ left self.old.session }
+        ensures cut { result ≡ is_some self.old.session.current }
+        ensures steps { RestartSteps W.honest W.far W.silence self.old self.new }
+    {
+        restart_cuts_the_request();
+        replace_with(self, (), Station::restarted)
+    }
+
+    /// One turn: at most one wake or one exchange.
+    ///
+    /// It says `Reported`, `Answered` or `Cut` where that happened in it, else `Busy` where a request is under way after it,
+    /// else `Idle`. On every wire an answer and a cut end the request under way, and a report ends a reading of events that
+    /// an earlier turn began; `room` says whether this turn may begin one. Over an honest wire the turn is one call of the
+    /// wire and one list of steps, each allowed where it is taken.
+    pub fn turn(&mut self, room: bool) -> Said
+        ensures request { request_in self.new.session.current ≡ request_after (request_in self.old.session.current) result }
+        ensures turn { IsTurn W.honest W.far W.silence W.wake_gives W.exchange_gives room self.old result self.new }
+        ensures ends { EndsRequest result (request_in self.old.session.current) }
+        ensures reading { ReadingAfter room (is_reading self.old.session) result (is_reading self.new.session) }
+        ensures steps { TurnSteps W.honest W.far W.silence self.old result self.new }
+    {
+        station_laws();
+        replace_with(self, room, Station::turned)
+    }
+
+    fn restarted(self, _: ()) -> (Station<W>, bool)
+        ensures wire { wire_of result.0.link ≡ wire_of self.link }
+        ensures mode { mode_of result.0.link ≡ Mode.Down }
+        ensures why { why_of result.0.link ≡ None }
+        ensures session { result.0.session ≡ left self.session }
+        ensures cut { result.1 ≡ is_some self.session.current }
+    {
+        let Station { link, mut session } = self;
+        let cut = session.leave();
+        let link = match link {
+            AnyLink::Down(link) => Link::new(link.into_wire()),
+            AnyLink::Startup(link) => link.down(),
+            AnyLink::Preoperate(link) => link.down(),
+            AnyLink::Operate(link) => link.down(),
+        };
+        let link = AnyLink::Down(link);
+        (Station { link, session }, cut)
+    }
+
+    fn turned(self, room: bool) -> (Station<W>, Said)
+        ensures request { request_in result.0.session.current ≡ request_after (request_in self.session.current) result.1 }
+        ensures turn { IsTurn W.honest W.far W.silence W.wake_gives W.exchange_gives room self result.1 result.0 }
+        ensures fits { LinkFits self.link self.session }
+        ensures valid { IsSession self.session }
+    {
+        let Station { link, session } = self;
+        session.is_valid();
+        match link {
+            AnyLink::Down(link) => waked(link, session),
+            AnyLink::Startup(link) => settled(link.turn(), session),
+            AnyLink::Preoperate(link) => settled(link.turn(), session),
+            AnyLink::Operate(link) => operated(link, session, room),
+        }
+    }
+}
+
+/// A turn in Down: a wake, and where it is answered a start-up begins.
+fn waked<W: Wire>(link: Link<W, Down>, session: Session) -> (Station<W>, Said)
+    requires { LinkFits (AnyLink.Down link) session }
+    ensures request { request_in result.0.session.current ≡ request_after (request_in session.current) result.1 }
+    ensures turn { IsTurn W.honest W.far W.silence W.wake_gives W.exchange_gives false (record { link = AnyLink.Down link; session = session }) result.1 result.0 }
+{
+    let mut session = session;
+    let next = link.turn();
+    follow_wake(&next, &mut session);
+    settled(next, session)
+}
+
+/// A wake that is answered begins a start-up.
+fn follow_wake<W: Wire>(next: &Next<W>, session: &mut Session)
+    ensures { session.new ≡ waked_session (is_waked (outcome_of next.now)) session.old }
+{
+    if matches!(next, Next::Startup(_)) {
+        session.start();
+    }
+}
+
+/// A turn in OPERATE: the message out again, or a new one for what is due.
+fn operated<W: Wire>(link: Link<W, Operate>, session: Session, room: bool) -> (Station<W>, Said)
+    requires { LinkFits (AnyLink.Operate link) session }
+    ensures request { request_in result.0.session.current ≡ request_after (request_in session.current) result.1 }
+    ensures turn { IsTurn W.honest W.far W.silence W.wake_gives W.exchange_gives room (record { link = AnyLink.Operate link; session = session }) result.1 result.0 }
+{
+    let mut session = session;
+    let message = session.next_message(link.out(), room);
+    settled(link.turn(&message), session)
+}
+
+/// The station after a turn of its link, and what the turn says.
+fn settled<W: Wire>(next: Next<W>, session: Session) -> (Station<W>, Said)
+    requires { NextFits (outcome_of next) session }
+    ensures link { result.0.link ≡ linked (wire_in next) (outcome_of next) }
+    ensures session { result.0.session ≡ settled_session (outcome_of next) session }
+    ensures said { IsSettledSaid (outcome_of next) session result.1 }
+    ensures request { request_in result.0.session.current ≡ request_after (request_in session.current) result.1 }
+{
+    let mut session = session;
+    match next {
+        Next::Down(link) => {
+            let said = session.lose();
+            let link = AnyLink::Down(link);
+            (Station { link, session }, said)
+        }
+        Next::Startup(link) => {
+            if let Some(layouts) = link.told() {
+                session.take_layout(&layouts.run);
+            }
+            let link = AnyLink::Startup(link);
+            (Station { link, session }, Said::Idle)
+        }
+        Next::Preoperate(link) => {
+            let link = AnyLink::Preoperate(link);
+            (Station { link, session }, Said::Idle)
+        }
+        Next::Operate(link, reply) => {
+            let said = heard(&mut session, reply);
+            let link = AnyLink::Operate(link);
+            (Station { link, session }, said)
+        }
+    }
+}
+
+/// Takes up the good reply of a turn in OPERATE, where it brought one.
+fn heard(session: &mut Session, reply: Option<Reply>) -> Said
+    requires { IfSome reply (λ r. IsHearable session.old r) }
+    ensures session { session.new ≡ reply_session reply session.old }
+    ensures said { IsReplySaid reply session.old result }
+    ensures request { request_in session.new.current ≡ request_after (request_in session.old.current) result }
+{
+    match reply {
+        Some(reply) => session.hear(&reply),
+        None => session.quiet(),
+    }
+}
