@@ -1,8 +1,0 @@
--- The numbers of the refusals.
-use Rattle.std.specs.Prelude.{ℕ}
-use Rattle.iol_app.specs.declared.output.OutputFault.{OutputFault}
-use Rattle.iol_app.specs.declared.output.OutputFault.TheVariants.{WrongImageLength, NoLayout}
-
-abbrev pub fault_number : OutputFault → ℕ
-fault_number WrongImageLength = 29
-fault_number NoLayout = 34
