@@ -27,3 +27,4 @@ pub mod SeenOperate
 pub mod Stepping
 pub mod SeenCalls
 pub mod Reporting
+pub mod Ending

@@ -204,3 +204,9 @@ abbrev pub request_after : Option Request → Said → Option Request
 request_after request (Answered answer) = None
 request_after request (Cut cause) = None
 request_after request other = request
+
+-- both are said only of a request that is under way
+abbrev pub EndsRequest : Said → Option Request → Type 0
+EndsRequest (Answered answer) request = IsSome request
+EndsRequest (Cut cause) request = IsSome request
+EndsRequest other request = Unit {0}

@@ -5,7 +5,7 @@ ghost use Rattle.std.specs.Option.{option_copied};
 ghost use Rattle.iol_mode.specs.Next.{wire_of as wire_in, outcome_of};
 ghost use Rattle.iol_app.specs.EventReading.{is_refused};
 ghost use Rattle.iol_app.specs.State.{opened, aborted_in, begun_in, wanting, output_refusal, left, IsSession, IsHearable};
-ghost use Rattle.iol_app.specs.Requests.{request_in, request_after};
+ghost use Rattle.iol_app.specs.Requests.{request_in, request_after, EndsRequest};
 ghost use Rattle.iol_app.specs.Due.{is_ready};
 ghost use Rattle.iol_app.specs.Reports.{is_reading, ReadingAfter};
 ghost use Rattle.iol_app.specs.Seen.{TurnSteps, NewSteps, BeginSteps, AbortSteps, WantSteps, RestartSteps};
@@ -91,6 +91,19 @@ impl<W: Wire> Station<W> {
             AnyLink::Startup(link) => link.wire(),
             AnyLink::Preoperate(link) => link.wire(),
             AnyLink::Operate(link) => link.wire(),
+        }
+    }
+
+    /// The wire, given back.
+    pub fn into_wire(self) -> W
+        ensures { result ≡ wire_of self.link }
+    {
+        let Station { link, session: _ } = self;
+        match link {
+            AnyLink::Down(link) => link.into_wire(),
+            AnyLink::Startup(link) => link.down().into_wire(),
+            AnyLink::Preoperate(link) => link.down().into_wire(),
+            AnyLink::Operate(link) => link.down().into_wire(),
         }
     }
 
@@ -195,6 +208,7 @@ impl<W: Wire> Station<W> {
     pub fn turn(&mut self, room: bool) -> Said
         ensures request { request_in self.new.session.current ≡ request_after (request_in self.old.session.current) result }
         ensures turn { IsTurn W.honest W.far W.silence W.wake_gives W.exchange_gives room self.old result self.new }
+        ensures ends { EndsRequest result (request_in self.old.session.current) }
         ensures reading { ReadingAfter room (is_reading self.old.session) result (is_reading self.new.session) }
         ensures steps { TurnSteps W.honest W.far W.silence self.old result self.new }
     {

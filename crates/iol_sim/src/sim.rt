@@ -25,9 +25,9 @@ const LONGEST: usize = 66;
 /// that is automatic, as it is at first, and then goes as the fate says. An ended script is clean.
 #[derive(Drop)]
 pub struct Sim<P: App, A: Allocator + Copy = Global> {
-    // In front, so that the device lies where it does in the refusal of `new`: else LLVM takes minutes over a move.
     line: Line,
-    device: Device<P, A>,
+    // Apart, since a device is large and a wire is moved with the link that owns it.
+    device: Box<Device<P, A>, A>,
     /// The steps of the script that were not used yet.
     steps: IntoIter<Step, A>,
 }
@@ -49,7 +49,7 @@ impl<P: App, A: Allocator + Copy> Model for Sim<P, A> {
     ghost Value = { Simulated P };
 
     ghost view = { λ sim. record {
-      device = sim.device;
+      device = sim.device.value;
       steps = into_iter_items sim.steps;
       auto = sim.line.auto;
       silent = sim.line.silent;
@@ -68,7 +68,7 @@ impl<P: App, A: Allocator + Copy> Sim<P, A> {
 
     /// A wire to this device, with a copy of the script.
     ///
-    /// Refused with 24 OutOfMemory, the device handed back, where there is no memory for the script.
+    /// Refused with 24 OutOfMemory, the device handed back, where there is no memory for the two.
     pub fn new(
         alloc: A,
         device: Device<P, A>,
@@ -78,8 +78,11 @@ impl<P: App, A: Allocator + Copy> Sim<P, A> {
         ensures refused { IfErr result (λ e. e.0 ≡ SimFault.OutOfMemory) }
         ensures back { IfErr result (λ e. e.1 ≡ device) }
     {
-        match Vec::from_clones(alloc, steps) {
-            Ok(steps) => Ok(Sim {
+        let Ok(steps) = Vec::from_clones(alloc, steps) else {
+            return Err((SimFault::OutOfMemory, device));
+        };
+        match Box::new(alloc, device) {
+            Ok(device) => Ok(Sim {
                 line: Line {
                     auto: true,
                     silent: false,
@@ -88,7 +91,7 @@ impl<P: App, A: Allocator + Copy> Sim<P, A> {
                 device,
                 steps: steps.into_iter(),
             }),
-            Err(_) => Err((SimFault::OutOfMemory, device)),
+            Err(failed) => Err((SimFault::OutOfMemory, failed.value)),
         }
     }
 

@@ -1,6 +1,6 @@
-//! Links and stations over the simulated wire: whole runs, one after another.
+//! Links, stations and ports over the simulated wire: whole runs, one after another.
 //!
-//! This crate has tests alone. What a link, a station and a wire do at each call is proved in their own crates.
+//! This crate has tests alone. What a link, a station, a port and a wire do at each call is proved in their own crates.
 #![tactic(auto)]
 
 #[cfg(test)]
@@ -9,6 +9,8 @@ mod bench;
 mod far;
 #[cfg(test)]
 mod play;
+#[cfg(test)]
+mod ports;
 #[cfg(test)]
 mod rows;
 #[cfg(test)]

@@ -323,7 +323,7 @@ fn damaged(octets: &[u8]) -> Result<Message, Fail> {
 }
 
 /// A device of this page with parameters 16/0 and 256/0, behind a wire of this script.
-fn device(alloc: Global, page: &[u8; 10], steps: &[Step]) -> Result<Sim<Params>, Fail> {
+pub fn device(alloc: Global, page: &[u8; 10], steps: &[Step]) -> Result<Sim<Params>, Fail> {
     let mut params = Params::new();
     params.add(Place { index: 16, sub: 0 }, false, &[0x41, 0x42])?;
     params.add(Place { index: 256, sub: 0 }, true, &[0; 232])?;

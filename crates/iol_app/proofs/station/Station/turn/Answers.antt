@@ -1,4 +1,5 @@
--- What a turn gives over an honest wire, and which reports it may bring over every wire.
+-- What a turn gives over an honest wire, and over every wire what an answer, a cut and a report need.
+use Rattle.iol_app.proofs.Ending.{turn_ends}
 use Rattle.iol_app.proofs.Reporting.{turn_reading}
 use Rattle.iol_app.proofs.Stepping.{turn_steps}
 use Rattle.iol_app.proofs.station.Station.turn.Goals as goal
@@ -15,3 +16,8 @@ returns-clause-reading g c =
     let wire = g.W.Wire in
     let turned = c.replace_with.ensures in
     turn_reading wire.honest wire.far wire.silence wire.wake_gives wire.exchange_gives c.args.room c.args.self.now c.replace_with.result c.replace_with.new.dest turned.1.1.1 turned.1.1.0 turned.1.0
+
+pub returns-clause-ends : goal.returns-clause-ends
+returns-clause-ends g c =
+    let wire = g.W.Wire in
+    turn_ends wire.honest wire.far wire.silence wire.wake_gives wire.exchange_gives c.args.room c.args.self.now c.replace_with.result c.replace_with.new.dest c.replace_with.ensures.1.0

@@ -1,0 +1,11 @@
+use Rattle.iol_port.proofs.CallLemmas.{withdraw_does}
+use Rattle.iol_port.proofs.parts.Parts.withdraw.Goals as goal
+
+pub returns : goal.returns
+returns g c =
+    rw (← c.self.view_is, c.by_book.ensures)
+    (record {
+      follows = withdraw_does g.W.Wire.honest g.W.Wire.far g.W.Wire.silence (record { station = c.self.inside.station; book = c.self.inside.book; kept = c.self.inside.kept.items })
+          c.args.ticket c.withdraw.result c.withdraw.new.self c.withdraw.ensures.answer c.withdraw.ensures.state;
+      book = c.withdraw.ensures.state;
+    })

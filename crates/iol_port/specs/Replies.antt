@@ -1,0 +1,38 @@
+-- What a call answers, as the list of a run's answers has it.
+use Rattle.std.specs.Prelude.{Result, Ok, Err}
+use Rattle.iol_event.specs.declared.event.Event.{Event}
+use Rattle.iol_book.specs.declared.entries.Outcome.{Outcome}
+use Rattle.iol_book.specs.declared.entries.Ticket.{Ticket}
+use Rattle.iol_book.specs.declared.fault.BookFault.{BookFault}
+use Rattle.iol_app.specs.declared.output.OutputFault.{OutputFault}
+use Rattle.iol_port.specs.declared.call.Answered.{Answered}
+use Rattle.iol_port.specs.declared.call.Answered.TheVariants as answered
+use Rattle.iol_port.specs.declared.fault.PortFault.{PortFault}
+use Rattle.iol_port.specs.declared.fault.PortFault.TheVariants as fault
+
+-- a value in its own way, else the refusal
+abbrev pub reply_of : {X : Type 0} → (X → Answered) → Result X PortFault → Answered
+reply_of answer (Ok value) = answer value
+reply_of answer (Err why) = answered.Refused why
+
+abbrev pub ticket_reply : Result Ticket PortFault → Answered
+ticket_reply result = reply_of (λ ticket. answered.Ticket ticket) result
+
+abbrev pub outcome_reply : Result Outcome PortFault → Answered
+outcome_reply result = reply_of (λ outcome. answered.Outcome outcome) result
+
+abbrev pub nothing_reply : Result (Unit {0}) PortFault → Answered
+nothing_reply result = reply_of (λ _. answered.Nothing) result
+
+abbrev pub event_reply : Result Event PortFault → Answered
+event_reply result = reply_of (λ event. answered.Event event) result
+
+-- the book's refusals are the port's
+abbrev pub by_book : {X : Type 0} → Result X BookFault → Result X PortFault
+by_book (Ok value) = Ok value
+by_book (Err why) = Err (fault.Book why)
+
+-- and so are those of an output
+abbrev pub by_output : Result (Unit {0}) OutputFault → Result (Unit {0}) PortFault
+by_output (Ok value) = Ok value
+by_output (Err why) = Err (fault.Output why)

@@ -1,0 +1,27 @@
+//! One port of an IO-Link master: its queue of requests, its events and its process data.
+//!
+//! A port has its device carry out the requests that were submitted, in order and each at most once, over whatever the
+//! wire loses. Each gets one outcome: the device's answer to that very request; or that it was cut off, so that nobody
+//! knows whether it was carried out; or that it was withdrawn.
+//!
+//! What a port does is said by an abstract port, which knows no octets, segments or repeats (`specs/Run`). Over an
+//! honest wire each call of a [`Port`] is one call of the abstract port that it stands for, and a list of calls is a
+//! run of it. Of all such runs [`record_fits_journal`] says that the device's record fits the journal.
+//! IEC 61131-9 leaves it to the master how requests are queued: that part is this project's profile.
+#![tactic(auto)]
+
+mod call;
+mod copies;
+mod fault;
+mod laws;
+mod parts;
+mod port;
+mod settle;
+
+pub use call::{Answered, Call};
+pub use fault::PortFault;
+pub use laws::{late_requests_end, record_fits_journal, runs_join, turns_rule_out};
+pub use port::Port;
+
+#[cfg(test)]
+mod tests;

@@ -1,0 +1,234 @@
+//! What carries a port's requests out: a station, a book, and the events that are kept.
+ghost use Rattle.std.specs.Prelude.{◌≡◌, ◌<◌, ◌≤◌, ◌^◌, None, IsTrue, IfOk, IfErr, length};
+ghost use Rattle.std.specs.Option.{option_copied};
+ghost use Rattle.iol_device.specs.Isdu.{handed};
+ghost use Rattle.iol_book.specs.declared.fault.BookFault.TheVariants.{OutOfMemory};
+ghost use Rattle.iol_book.specs.BookModel.{AreLimits, IsReplayed};
+ghost use Rattle.iol_app.specs.StationState.{wire_of};
+ghost use Rattle.iol_port.specs.declared.fault.PortFault.TheVariants as fault;
+ghost use Rattle.iol_port.specs.declared.call.Call.TheVariants as call;
+ghost use Rattle.iol_port.specs.declared.call.Answered.TheVariants as answered;
+ghost use Rattle.iol_port.specs.Run.{opened};
+ghost use Rattle.iol_port.specs.View.{Does, Runs, StandsFor, IsOpened, status_of};
+ghost use Rattle.iol_port.specs.Replies.{ticket_reply, outcome_reply, nothing_reply, event_reply, reply_of};
+
+use crate::copies::{copy_of_image, copy_of_request};
+use crate::settle::{KEPT, ROOM, begin_next, by_book, by_output, settle, woke_up};
+use crate::{Answered, Call, PortFault};
+use arrayvec::ArrayVec;
+use iol_app::{Station, Status};
+use iol_book::{Book, BookFault, Entry, Limits, Outcome, Ticket};
+use iol_event::Event;
+use iol_image::Image;
+use iol_isdu::{Cause, Request};
+use iol_link::Wire;
+use std::alloc::{Allocator, Global};
+use std::marker::Model;
+
+#[derive(Drop)]
+pub(crate) struct Parts<W: Wire, A: Allocator + Copy = Global> {
+    station: Station<W>,
+    book: Book<A>,
+    kept: ArrayVec<Event, KEPT>,
+}
+
+impl<W: Wire, A: Allocator + Copy> Model for Parts<W, A> {
+    ghost use Rattle.iol_port.specs.View.{Parts, IsTied};
+
+    ghost Value = { Parts W };
+
+    ghost view = { λ p. record { station = p.station; book = p.book; kept = p.kept.items } };
+
+    ghost invariant = { λ p. IsTied (record { station = p.station; book = p.book; kept = p.kept.items }) };
+}
+
+impl<W: Wire, A: Allocator + Copy> Parts<W, A> {
+    pub(crate) fn open(alloc: A, wire: W, limits: &Limits) -> Result<Parts<W, A>, (PortFault, W)>
+        requires limits { AreLimits limits.now }
+        ensures parts { IfOk result (λ p. IsOpened (record { limits = limits.now; far = W.far wire; silence = W.silence wire; honest = W.honest wire }) wire p) }
+        ensures stands { IfOk result (λ p. IsTrue (W.honest wire) → handed (W.far wire).isdu ≡ None
+            → StandsFor W.honest W.far W.silence p (opened limits.now (W.far wire) (W.silence wire))) }
+        ensures refused { IfErr result (λ e. e.0 ≡ fault.Book OutOfMemory) }
+        ensures back { IfErr result (λ e. e.1 ≡ wire) }
+    {
+        match Book::open(alloc, limits) {
+            Ok(book) => Ok(Parts {
+                station: Station::new(wire, limits.busy),
+                book,
+                kept: ArrayVec::new(),
+            }),
+            Err(fault) => Err((PortFault::Book(fault), wire)),
+        }
+    }
+
+    pub(crate) fn submit(&mut self, request: Request) -> Result<Ticket, PortFault>
+        ensures does { Does W.honest W.far W.silence self.old (call.Submit request) (ticket_reply result) self.new }
+        ensures lacks { IfErr result (λ e. e ≡ fault.Book OutOfMemory → self.old.book.room ≡ 0) }
+    {
+        by_book(self.book.submit(request))
+    }
+
+    pub(crate) fn collect(&mut self, ticket: Ticket) -> Result<Outcome, PortFault>
+        ensures { Does W.honest W.far W.silence self.old (call.Collect ticket) (outcome_reply result) self.new }
+    {
+        by_book(self.book.collect(ticket))
+    }
+
+    pub(crate) fn withdraw(&mut self, ticket: Ticket) -> Result<(), PortFault>
+        ensures { Does W.honest W.far W.silence self.old (call.Withdraw ticket) (nothing_reply result) self.new }
+    {
+        by_book(self.book.withdraw(ticket))
+    }
+
+    pub(crate) fn restart(&mut self)
+        ensures { Does W.honest W.far W.silence self.old call.Restart answered.Nothing self.new }
+    {
+        if self.station.restart() {
+            self.book.post(Outcome::Unknown(Cause::Restarted));
+        }
+    }
+
+    pub(crate) fn set_output(&mut self, image: &Image) -> Result<(), PortFault>
+        ensures { Does W.honest W.far W.silence self.old (call.SetOutput image.now) (nothing_reply result) self.new }
+    {
+        by_output(self.station.set_output(image))
+    }
+
+    pub(crate) fn clear_output(&mut self)
+        ensures { Does W.honest W.far W.silence self.old call.ClearOutput answered.Nothing self.new }
+    {
+        self.station.clear_output();
+    }
+
+    pub(crate) fn image(&self) -> Option<&Image>
+        ensures does { Does W.honest W.far W.silence self.now call.Look (answered.Image (option_copied result)) self.now }
+        ensures value { option_copied result ≡ self.now.station.session.image }
+    {
+        self.station.image()
+    }
+
+    pub(crate) fn take_event(&mut self) -> Result<Event, PortFault>
+        ensures { Does W.honest W.far W.silence self.old call.TakeEvent (event_reply result) self.new }
+    {
+        self.kept.pop_at(0).ok_or(PortFault::NoEvent)
+    }
+
+    pub(crate) fn status(&self) -> Status
+        ensures does { Does W.honest W.far W.silence self.now call.Status (answered.Status result) self.now }
+        ensures value { result ≡ status_of self.now.station }
+    {
+        self.station.status()
+    }
+
+    pub(crate) fn archive(&mut self) -> Result<Vec<Entry, A>, PortFault>
+        ensures does { Does W.honest W.far W.silence self.old call.Archive (reply_of (λ entries. answered.Archived (length entries.items)) result) self.new }
+        ensures within { IfOk result (λ entries. length entries.items ≤ 1000000) }
+    {
+        by_book(self.book.archive())
+    }
+
+    pub(crate) fn turn(&mut self)
+        ensures { Does W.honest W.far W.silence self.old call.Turn answered.Nothing self.new }
+    {
+        let room = self.kept.len() <= ROOM;
+        begin_next(&mut self.station, &mut self.book, room);
+        let began = self.station.status().mode;
+        let said = self.station.turn(room);
+        let woke = woke_up(began, self.station.status().mode);
+        settle(&mut self.book, &mut self.kept, woke, said);
+    }
+
+    /// One call, with the answer that a list of calls has for it.
+    fn answer(&mut self, call: &Call) -> Answered
+        ensures { Does W.honest W.far W.silence self.old call.now result self.new }
+    {
+        match call {
+            Call::Submit(request) => match self.submit(copy_of_request(request)) {
+                Ok(ticket) => Answered::Ticket(ticket),
+                Err(fault) => Answered::Refused(fault),
+            },
+            Call::Collect(ticket) => match self.collect(*ticket) {
+                Ok(outcome) => Answered::Outcome(outcome),
+                Err(fault) => Answered::Refused(fault),
+            },
+            Call::Withdraw(ticket) => nothing_or(self.withdraw(*ticket)),
+            Call::Restart => {
+                self.restart();
+                Answered::Nothing
+            }
+            Call::SetOutput(image) => nothing_or(self.set_output(image)),
+            Call::ClearOutput => {
+                self.clear_output();
+                Answered::Nothing
+            }
+            Call::Look => Answered::Image(copy_of_image(self.image())),
+            Call::TakeEvent => match self.take_event() {
+                Ok(event) => Answered::Event(event),
+                Err(fault) => Answered::Refused(fault),
+            },
+            Call::Status => Answered::Status(self.status()),
+            Call::Archive => match self.archive() {
+                Ok(entries) => Answered::Archived(entries.len() as u32),
+                Err(fault) => Answered::Refused(fault),
+            },
+            Call::Turn => {
+                self.turn();
+                Answered::Nothing
+            }
+        }
+    }
+
+    pub(crate) fn run<B: Allocator>(
+        &mut self,
+        alloc: B,
+        calls: &[Call],
+    ) -> Result<Vec<Answered, B>, PortFault>
+        ensures run { IfOk result (λ replies. Runs W.honest W.far W.silence self.old calls.now replies.items self.new) }
+        ensures refused { IfErr result (λ e. e ≡ fault.Book OutOfMemory) }
+        ensures unchanged { IfErr result (λ _. self.new ≡ self.old) }
+    {
+        let Ok(mut replies) = Vec::with_capacity(alloc, calls.len()) else {
+            return Err(PortFault::Book(BookFault::OutOfMemory));
+        };
+        for call in calls {
+            let answer = self.answer(call);
+            if replies.push(answer).is_err() {
+                unreachable!();
+            }
+        }
+        Ok(replies)
+    }
+
+    pub(crate) fn journal(&self) -> &[Entry]
+        ensures entries { result.now ≡ self.now.book.state.journal }
+        ensures replayed { IsReplayed self.now.book.state }
+    {
+        self.book.journal()
+    }
+
+    pub(crate) fn wire(&self) -> &W
+        ensures { result.now ≡ wire_of self.now.station.link }
+    {
+        self.station.wire()
+    }
+
+    pub(crate) fn into_wire(self) -> W
+        ensures { result ≡ wire_of self.station.link }
+    {
+        let Parts {
+            station,
+            book: _,
+            kept: _,
+        } = self;
+        station.into_wire()
+    }
+}
+
+fn nothing_or(given: Result<(), PortFault>) -> Answered
+    ensures { result ≡ nothing_reply given }
+{
+    match given {
+        Ok(()) => Answered::Nothing,
+        Err(fault) => Answered::Refused(fault),
+    }
+}

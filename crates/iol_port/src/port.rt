@@ -1,0 +1,269 @@
+//! One port.
+ghost use Rattle.std.specs.Prelude.{◌≡◌, ◌≤◌, None, Some, IsTrue, IfOk, IfErr, length};
+ghost use Rattle.std.specs.Option.{option_copied, option_map};
+ghost use Rattle.iol_book.specs.declared.fault.BookFault.TheVariants.{OutOfMemory};
+ghost use Rattle.iol_book.specs.BookModel.{AreLimits, IsReplayed};
+ghost use Rattle.iol_port.specs.declared.fault.PortFault.TheVariants as fault;
+ghost use Rattle.iol_port.specs.declared.call.Call.TheVariants as call;
+ghost use Rattle.iol_port.specs.declared.call.Answered.TheVariants as answered;
+ghost use Rattle.iol_port.specs.Run.{opened};
+ghost use Rattle.iol_app.specs.StationState.{wire_of};
+ghost use Rattle.iol_port.specs.View.{Does, Runs, StandsFor, IsOpened, OpensWell, KeepsRecord, shown_in, status_of};
+ghost use Rattle.iol_port.specs.Replies.{ticket_reply, outcome_reply, nothing_reply, event_reply, reply_of};
+
+use crate::parts::Parts;
+use crate::{Answered, Call, PortFault, record_fits_journal};
+use iol_app::Status;
+use iol_book::{Entry, Limits, Outcome, Ticket};
+use iol_event::Event;
+use iol_image::{Handle, Image, ImageWriter};
+use iol_isdu::Request;
+use iol_link::Wire;
+use std::alloc::{Allocator, Global};
+use std::marker::Model;
+use std::snapshot::Snapshot;
+use std::sync::Wait;
+
+/// A port of an IO-Link master: a queue of requests, and the link to one device that carries them out.
+///
+/// Contracts see what the port stands for: an abstract port, of which each call is one call. Over an honest wire they
+/// say which; on every wire no call is unsafe, and the journal alone says where each ticket stands. Beside that they
+/// see with what the port was opened, and what it published.
+#[derive(Drop)]
+pub struct Port<W: Wire, A: Handle = Global> {
+    parts: Parts<W, A>,
+    wire_then: Snapshot<W>,
+    limits: Snapshot<Limits>,
+    writer: Option<ImageWriter<A>>,
+}
+
+impl<W: Wire, A: Handle> Model for Port<W, A> {
+    ghost use Rattle.iol_port.specs.View.{Port, IsRun};
+
+    ghost Value = { Port W };
+
+    ghost view = { λ p. record {
+      parts = p.parts;
+      opening = record { limits = p.limits.value; far = W.far p.wire_then.value; silence = W.silence p.wire_then.value; honest = W.honest p.wire_then.value };
+      writer = p.writer;
+    } };
+
+    ghost invariant = { λ p. IsRun W.honest W.far W.silence (record { limits = p.limits.value; far = W.far p.wire_then.value; silence = W.silence p.wire_then.value; honest = W.honest p.wire_then.value }) p.parts };
+}
+
+#[tactic(auto, using(crate::proofs::RunLemmas::run_kept))]
+impl<W: Wire, A: Handle> Port<W, A> {
+    /// A port over this wire, whose link is down and whose first ticket is `given` + 1.
+    ///
+    /// Refused by 24 where there is no memory for its book; the wire is handed back.
+    pub fn open(alloc: A, wire: W, limits: &Limits) -> Result<Port<W, A>, (PortFault, W)>
+        requires limits { AreLimits limits.now }
+        ensures opening { IfOk result (λ p. p.opening ≡ record { limits = limits.now; far = W.far wire; silence = W.silence wire; honest = W.honest wire }) }
+        ensures parts { IfOk result (λ p. IsOpened p.opening wire p.parts) }
+        ensures stands { IfOk result (λ p. OpensWell p.opening → StandsFor W.honest W.far W.silence p.parts (opened limits.now (W.far wire) (W.silence wire))) }
+        ensures writer { IfOk result (λ p. p.writer ≡ None) }
+        ensures refused { IfErr result (λ e. e.0 ≡ fault.Book OutOfMemory) }
+        ensures back { IfErr result (λ e. e.1 ≡ wire) }
+    {
+        let wire_then = Snapshot::of(&wire);
+        let parts = Parts::open(alloc, wire, limits)?;
+        Ok(Port {
+            parts,
+            wire_then,
+            limits: Snapshot::of(limits),
+            writer: None,
+        })
+    }
+
+    /// Enters a request, which then waits behind the others, and answers its ticket.
+    ///
+    /// Refused, with nothing changed, by the first of 21 where 64 tickets are outstanding, 22 where the journal has no
+    /// room for the request's entries, 23 where the last ticket was 2^64 - 1, and 24 where a growth was refused.
+    pub fn submit(&mut self, request: Request) -> Result<Ticket, PortFault>
+        ensures does { Does W.honest W.far W.silence self.old.parts (call.Submit request) (ticket_reply result) self.new.parts }
+        ensures lacks { IfErr result (λ e. e ≡ fault.Book OutOfMemory → self.old.parts.book.room ≡ 0) }
+        ensures rest { self.new ≡ record self.old { parts = self.new.parts } }
+    {
+        self.parts.submit(request)
+    }
+
+    /// Hands out the outcome of a ticket, which is outstanding no more.
+    ///
+    /// Refused, with nothing changed, by 25 where no such ticket is outstanding, and by 26 where it has no outcome yet.
+    pub fn collect(&mut self, ticket: Ticket) -> Result<Outcome, PortFault>
+        ensures does { Does W.honest W.far W.silence self.old.parts (call.Collect ticket) (outcome_reply result) self.new.parts }
+        ensures rest { self.new ≡ record self.old { parts = self.new.parts } }
+    {
+        self.parts.collect(ticket)
+    }
+
+    /// Takes back a request that waits. Its outcome is then that it was withdrawn.
+    ///
+    /// Refused, with nothing changed, by 25 where no such ticket is outstanding, and by 27 where it waits no longer.
+    pub fn withdraw(&mut self, ticket: Ticket) -> Result<(), PortFault>
+        ensures does { Does W.honest W.far W.silence self.old.parts (call.Withdraw ticket) (nothing_reply result) self.new.parts }
+        ensures rest { self.new ≡ record self.old { parts = self.new.parts } }
+    {
+        self.parts.withdraw(ticket)
+    }
+
+    /// Cuts off the request under way, if any, and leaves the link in down, without an image.
+    ///
+    /// What waits goes on waiting. The device may still carry the request that was cut off out, once, until a wake
+    /// succeeds.
+    pub fn restart(&mut self)
+        ensures does { Does W.honest W.far W.silence self.old.parts call.Restart answered.Nothing self.new.parts }
+        ensures rest { self.new ≡ record self.old { parts = self.new.parts } }
+    {
+        self.parts.restart();
+    }
+
+    /// Wants this output of the device, from the next message made in OPERATE on.
+    ///
+    /// Refused, with nothing changed, by the first of 34 where no start-up has told the lengths of the process data
+    /// yet, and 29 where the image has not the length that was told last.
+    pub fn set_output(&mut self, image: &Image) -> Result<(), PortFault>
+        ensures does { Does W.honest W.far W.silence self.old.parts (call.SetOutput image.now) (nothing_reply result) self.new.parts }
+        ensures rest { self.new ≡ record self.old { parts = self.new.parts } }
+    {
+        self.parts.set_output(image)
+    }
+
+    /// Wants no output of the device.
+    pub fn clear_output(&mut self)
+        ensures does { Does W.honest W.far W.silence self.old.parts call.ClearOutput answered.Nothing self.new.parts }
+        ensures rest { self.new ≡ record self.old { parts = self.new.parts } }
+    {
+        self.parts.clear_output();
+    }
+
+    /// The device's input by the last good reply in OPERATE: one whole image, or none where it was not valid. None
+    /// in every other mode.
+    pub fn image(&self) -> Option<&Image>
+        ensures does { Does W.honest W.far W.silence self.now.parts call.Look (answered.Image (option_copied result)) self.now.parts }
+        ensures value { option_copied result ≡ self.now.parts.station.session.image }
+    {
+        self.parts.image()
+    }
+
+    /// Hands out the event that was kept longest. Refused by 30 where none is kept.
+    pub fn take_event(&mut self) -> Result<Event, PortFault>
+        ensures does { Does W.honest W.far W.silence self.old.parts call.TakeEvent (event_reply result) self.new.parts }
+        ensures rest { self.new ≡ record self.old { parts = self.new.parts } }
+    {
+        self.parts.take_event()
+    }
+
+    /// The mode of the link, and why it is down.
+    pub fn status(&self) -> Status
+        ensures does { Does W.honest W.far W.silence self.now.parts call.Status (answered.Status result) self.now.parts }
+        ensures value { result ≡ status_of self.now.parts.station }
+    {
+        self.parts.status()
+    }
+
+    /// Hands the journal out and begins a new one, which is empty. Tickets go on.
+    ///
+    /// Refused, with nothing changed, by 28 where a ticket is outstanding, or where a request was cut off by a lost link
+    /// or a restart and no wake succeeded since, as the device may still carry that request out.
+    pub fn archive(&mut self) -> Result<Vec<Entry, A>, PortFault>
+        ensures does { Does W.honest W.far W.silence self.old.parts call.Archive (reply_of (λ entries. answered.Archived (length entries.items)) result) self.new.parts }
+        ensures within { IfOk result (λ entries. length entries.items ≤ 1000000) }
+        ensures rest { self.new ≡ record self.old { parts = self.new.parts } }
+    {
+        self.parts.archive()
+    }
+
+    /// One turn: one wake-up request where the link is down, else one exchange with the device.
+    ///
+    /// In OPERATE, where nothing else is to be sent, the request that waits longest is taken, and its first segment
+    /// goes out in this turn. At most 64 events are kept, and a list of events is read only where there is room for it.
+    pub fn turn(&mut self)
+        ensures does { Does W.honest W.far W.silence self.old.parts call.Turn answered.Nothing self.new.parts }
+        ensures rest { self.new ≡ record self.old { parts = self.new.parts } }
+    {
+        self.parts.turn();
+    }
+
+    /// The calls in order, each with what it answered.
+    ///
+    /// Refused by 24 where there is no memory for the list of answers, before the first call and with nothing done.
+    #[tactic(auto, using(crate::proofs::RunLemmas::run_kept_by))]
+    pub fn run<B: Allocator>(
+        &mut self,
+        alloc: B,
+        calls: &[Call],
+    ) -> Result<Vec<Answered, B>, PortFault>
+        ensures run { IfOk result (λ replies. Runs W.honest W.far W.silence self.old.parts calls.now replies.items self.new.parts) }
+        ensures rest { self.new ≡ record self.old { parts = self.new.parts } }
+        ensures refused { IfErr result (λ e. e ≡ fault.Book OutOfMemory) }
+        ensures unchanged { IfErr result (λ _. self.new ≡ self.old) }
+    {
+        self.parts.run(alloc, calls)
+    }
+
+    /// From now on the image is published there after each `turn_shown` and `restart_shown`, and nowhere else.
+    pub fn publish_to(&mut self, writer: ImageWriter<A>)
+        ensures { self.new ≡ record self.old { writer = Some writer } }
+    {
+        self.writer = Some(writer);
+    }
+
+    /// A turn, after which the image is published, once, where a writer was given.
+    pub fn turn_shown<R: Wait>(&mut self, rt: &R)
+        ensures does { Does W.honest W.far W.silence self.old.parts call.Turn answered.Nothing self.new.parts }
+        ensures opening { self.new.opening ≡ self.old.opening }
+        ensures shown { self.new.writer ≡ shown_in self.new.parts.station.session.image self.old.writer }
+    {
+        self.turn();
+        self.show(rt);
+    }
+
+    /// A restart, after which the image, which is none, is published, once, where a writer was given.
+    pub fn restart_shown<R: Wait>(&mut self, rt: &R)
+        ensures does { Does W.honest W.far W.silence self.old.parts call.Restart answered.Nothing self.new.parts }
+        ensures opening { self.new.opening ≡ self.old.opening }
+        ensures shown { self.new.writer ≡ shown_in self.new.parts.station.session.image self.old.writer }
+    {
+        self.restart();
+        self.show(rt);
+    }
+
+    fn show<R: Wait>(&mut self, rt: &R)
+        ensures { self.new ≡ record self.old { writer = shown_in self.old.parts.station.session.image self.old.writer } }
+    {
+        if let Some(writer) = &mut self.writer {
+            writer.publish(rt, self.parts.image());
+        }
+    }
+
+    /// The wire, as it is now.
+    pub fn wire(&self) -> &W
+        ensures { result.now ≡ wire_of self.now.parts.station.link }
+    {
+        self.parts.wire()
+    }
+
+    /// Ends the port, and hands its wire back.
+    pub fn into_wire(self) -> W
+        ensures { result ≡ wire_of self.parts.station.link }
+    {
+        let Port {
+            parts,
+            wire_then: _,
+            limits: _,
+            writer: _,
+        } = self;
+        parts.into_wire()
+    }
+
+    /// A law of each port, without code: at every moment the journal says where each ticket stands; and the device's
+    /// record fits it, if the wire was honest and the device had been handed no request when the port was opened.
+    pub fn keeps_record(&self)
+        ensures replayed { IsReplayed self.now.parts.book.state }
+        ensures record_fits { OpensWell self.now.opening → KeepsRecord W.honest W.far W.silence self.now.parts }
+    {
+        record_fits_journal();
+        let _ = self.parts.journal();
+    }
+}

@@ -1,0 +1,102 @@
+//! The pieces of a turn: the next request is begun, and what the turn says goes to the book and to the kept events.
+ghost use Rattle.std.specs.Prelude.{◌≡◌, ◌+◌, ◌≤◌, ◌&&◌, [], ◌∷◌, ◌++◌, cond, not, length};
+ghost use Rattle.iol_steps.specs.Step.{Reset, is_down as is_down_mode, book_said, reports_said};
+ghost use Rattle.iol_port.specs.Steps.{book_through, kept_through};
+ghost use Rattle.iol_port.specs.Replies.{by_book, by_output};
+ghost use Rattle.iol_port.specs.View.{BeginsNext, Asks, HasRoom};
+
+use crate::PortFault;
+use arrayvec::ArrayVec;
+use iol_app::{OutputFault, Station};
+use iol_book::{Book, BookFault, Outcome};
+use iol_event::{Event, EventList};
+use iol_link::Wire;
+use iol_steps::{Mode, Said};
+use std::alloc::Allocator;
+
+/// How many events a port keeps.
+pub(crate) const KEPT: usize = 64;
+
+/// How many there may be where it begins to read more.
+pub(crate) const ROOM: usize = 58;
+
+/// The book's refusals are the port's.
+pub(crate) fn by_book<T>(answer: Result<T, BookFault>) -> Result<T, PortFault>
+    ensures { result ≡ by_book answer }
+{
+    match answer {
+        Ok(value) => Ok(value),
+        Err(fault) => Err(PortFault::Book(fault)),
+    }
+}
+
+/// And so are those of an output.
+pub(crate) fn by_output(answer: Result<(), OutputFault>) -> Result<(), PortFault>
+    ensures { result ≡ by_output answer }
+{
+    match answer {
+        Ok(()) => Ok(()),
+        Err(fault) => Err(PortFault::Output(fault)),
+    }
+}
+
+fn is_down(mode: Mode) -> bool
+    ensures { result ≡ is_down_mode mode }
+{
+    match mode {
+        Mode::Down => true,
+        Mode::Startup | Mode::Preoperate | Mode::Operate => false,
+    }
+}
+
+/// A wake succeeded where a turn led out of down.
+pub(crate) fn woke_up(began: Mode, ended: Mode) -> bool
+    ensures { result ≡ (is_down_mode began && not (is_down_mode ended)) }
+{
+    is_down(began) && !is_down(ended)
+}
+
+/// The request that waits longest is taken and begun, where the turn would have nothing else to send.
+pub(crate) fn begin_next<W: Wire, A: Allocator + Copy>(
+    station: &mut Station<W>,
+    book: &mut Book<A>,
+    room: bool,
+)
+    ensures { BeginsNext W.honest W.far W.silence station.old book.old.state station.new book.new.state }
+{
+    if station.ready(room)
+        && let Some((_, request)) = book.take()
+    {
+        station.begin(request);
+    }
+}
+
+/// What a turn says goes to the book and to the kept events.
+pub(crate) fn settle<A: Allocator + Copy>(
+    book: &mut Book<A>,
+    kept: &mut ArrayVec<Event, KEPT>,
+    woke: bool,
+    said: Said,
+)
+    requires asked { Asks said book.old.state.standing.taken }
+    requires room { HasRoom said kept.old.items }
+    ensures book { book.new.state ≡ book_through (cond woke (Reset ∷ []) [] ++ book_said said) book.old.state }
+    ensures kept { kept.new.items ≡ kept_through (reports_said said) kept.old.items }
+{
+    if woke {
+        book.reset();
+    }
+    match said {
+        Said::Idle | Said::Busy => {}
+        Said::Answered(answer) => book.post(Outcome::Done(answer)),
+        Said::Cut(cause) => book.post(Outcome::Unknown(cause)),
+        Said::Reported(events) => keep(kept, &events),
+    }
+}
+
+fn keep(kept: &mut ArrayVec<Event, KEPT>, events: &EventList)
+    requires { length kept.old.items + 6 ≤ 64 }
+    ensures { kept.new.items ≡ kept.old.items ++ events.now }
+{
+    let _fits = kept.try_extend_from_slice(events.as_slice());
+}

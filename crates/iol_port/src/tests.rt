@@ -1,0 +1,143 @@
+ghost use Rattle.std.specs.Prelude.{[], false, ⊤};
+ghost use Rattle.iol_device.specs.Far.{opened};
+
+use super::*;
+use iol_app::{Mode, OutputFault};
+use iol_book::{BookFault, Limits, Ticket};
+use iol_isdu::{Place, Request};
+use iol_link::{Rate, Wire};
+use iol_mseq::Message;
+use scarce::{Refusal, Scarce};
+use std::test::Fail;
+
+const LIMITS: Limits = Limits {
+    journal: 1_000,
+    busy: 100,
+    given: 0,
+};
+
+/// A wire at whose far end is nothing.
+#[derive(Debug, PartialEq, Eq, Drop)]
+struct Bare {
+    number: u8,
+}
+
+impl Wire for Bare {
+    ghost far = { λ w. opened [] 0 };
+
+    ghost honest = { λ w. false };
+
+    ghost silence = { λ w. 0 };
+
+    ghost wake_gives = { λ w answer v. ⊤ };
+
+    ghost exchange_gives = { λ w sent answer v. ⊤ };
+
+    fn wake(&mut self) -> Option<Rate> {
+        None
+    }
+
+    fn exchange(&mut self, _sent: &[u8]) -> Option<Message> {
+        None
+    }
+}
+
+fn read() -> Request {
+    Request::read(Place { index: 16, sub: 0 })
+}
+
+fn opened_port(scarce: &Scarce) -> Result<Port<Bare, &Scarce>, Fail> {
+    match Port::open(scarce, Bare { number: 7 }, &LIMITS) {
+        Ok(port) => Ok(port),
+        Err((fault, _)) => Err(Fail::from(fault)),
+    }
+}
+
+#[test]
+fn faults_have_numbers_and_names(rt: HostRuntime) -> Result<(), Fail> {
+    let table = [
+        (PortFault::Book(BookFault::Full), 21u8, "Full"),
+        (PortFault::Book(BookFault::Outstanding), 28, "Outstanding"),
+        (
+            PortFault::Output(OutputFault::WrongImageLength),
+            29,
+            "WrongImageLength",
+        ),
+        (PortFault::NoEvent, 30, "NoEvent"),
+        (PortFault::Output(OutputFault::NoLayout), 34, "NoLayout"),
+    ];
+    for (fault, number, name) in table {
+        assert_eq!(rt; fault.code(), number);
+        assert_eq!(rt; format!(in rt.alloc(); "{fault}")?.as_str(), name);
+    }
+    late_requests_end();
+    record_fits_journal();
+    runs_join();
+    turns_rule_out();
+    Ok(())
+}
+
+#[test]
+fn a_port_opens_or_hands_its_wire_back(rt: HostRuntime) -> Result<(), Fail> {
+    let scarce = Scarce::new(rt.alloc());
+    for number in 0..64 {
+        scarce.order(Refusal::Only(number));
+        match Port::open(&scarce, Bare { number: 7 }, &LIMITS) {
+            Ok(port) => {
+                assert!(rt; !scarce.has_refused());
+                assert!(rt; number > 0);
+                assert_eq!(rt; port.status().mode, Mode::Down);
+                port.keeps_record();
+                assert_eq!(rt; port.into_wire(), Bare { number: 7 });
+                return Ok(());
+            }
+            Err((fault, wire)) => {
+                assert!(rt; scarce.has_refused());
+                assert_eq!(rt; fault, PortFault::Book(BookFault::OutOfMemory));
+                assert_eq!(rt; wire, Bare { number: 7 });
+            }
+        }
+    }
+    Err(Fail::from(PortFault::Book(BookFault::OutOfMemory)))
+}
+
+#[test]
+fn a_refused_request_changes_nothing(rt: HostRuntime) -> Result<(), Fail> {
+    let scarce = Scarce::new(rt.alloc());
+    for number in 0..64 {
+        scarce.order(Refusal::Never);
+        let mut port = opened_port(&scarce)?;
+        scarce.order(Refusal::Only(number));
+        let answer = port.submit(read());
+        let refused = scarce.has_refused();
+        scarce.order(Refusal::Never);
+        if !refused {
+            assert!(rt; number > 0);
+            assert_eq!(rt; answer, Ok(Ticket(1)));
+            return Ok(());
+        }
+        assert_eq!(rt; answer, Err(PortFault::Book(BookFault::OutOfMemory)));
+        assert_eq!(rt; port.submit(read()), Ok(Ticket(1)));
+    }
+    Err(Fail::from(PortFault::Book(BookFault::OutOfMemory)))
+}
+
+#[test]
+fn a_refused_run_makes_no_call(rt: HostRuntime) -> Result<(), Fail> {
+    let scarce = Scarce::new(rt.alloc());
+    let calls = [Call::Submit(read()), Call::Turn, Call::Collect(Ticket(1))];
+    let mut port = opened_port(&scarce)?;
+    scarce.order(Refusal::Only(0));
+    let refused = port.run(&scarce, &calls).err();
+    assert!(rt; scarce.has_refused());
+    assert_eq!(rt; refused, Some(PortFault::Book(BookFault::OutOfMemory)));
+    scarce.order(Refusal::Never);
+    let wanted = [
+        Answered::Ticket(Ticket(1)),
+        Answered::Nothing,
+        Answered::Refused(PortFault::Book(BookFault::NotYet)),
+    ];
+    assert_eq!(rt; port.run(&scarce, &calls)?.as_slice(), wanted.as_slice());
+    assert_eq!(rt; port.submit(read()), Ok(Ticket(2)));
+    Ok(())
+}
