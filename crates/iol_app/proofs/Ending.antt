@@ -2,7 +2,6 @@
 use Rattle.std.proofs.Common.{◌≡◌, ℕ, Bool, true, false, List, refl, sym, ap, ◌∙◌, subst, Option, Some, None}
 use Rattle.std.specs.Prelude.{MatchOption, is_some}
 use Rattle.arrayvec.specs.ArrayVec.{ArrayVec}
-use Rattle.iol_mseq.specs.declared.reply.Reply.{Reply}
 use Rattle.iol_isdu.specs.declared.values.Request.{Request}
 use Rattle.iol_event.specs.declared.event.Event.{Event}
 use Rattle.iol_device.specs.Far.{Far}
@@ -18,7 +17,7 @@ use Rattle.iol_app.specs.declared.station.AnyLink.TheVariants.{Down as InDown, S
 use Rattle.iol_app.specs.EventReading.{list_read}
 use Rattle.iol_app.specs.Requests.{IsSaid, request_in, EndsRequest}
 use Rattle.iol_app.specs.Due.{due_of}
-use Rattle.iol_app.specs.State.{SessionState, sent, lost_said, quiet_said, IsTaken, IsHeardBy}
+use Rattle.iol_app.specs.State.{SessionState, sent, lost_said, quiet_said, IsHeardBy}
 use Rattle.iol_app.specs.StationState.{StationState, waked_session, IsSettledSaid, IsLinkTurn, IsTurn}
 use Rattle.iol_app.proofs.Settling.{sent_current}
 

@@ -176,7 +176,10 @@ fn a_seat_reads_what_the_port_shows(rt: HostRuntime) -> Result<(), Fail> {
     for _ in 0..16 {
         port.turn_shown(&rt);
     }
-    assert_eq!(rt; octets_of(seat.read(&rt).as_ref()), Some(&[0x56u8, 0x78][..]));
+    assert_eq!(rt;
+        octets_of(seat.read(&rt).as_ref()),
+        Some(&[0x56u8, 0x78][..])
+    );
     port.restart_shown(&rt);
     assert_eq!(rt; port.image(), None);
     assert_eq!(rt; seat.read(&rt), None);

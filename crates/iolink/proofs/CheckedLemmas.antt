@@ -1,7 +1,7 @@
 -- Lines that are printed one after the other.
 use Rattle.std.proofs.Common.{◌≡◌, ℕ, Option, Some, None, MatchOption, Result, Ok, Err, OnOk, List, [], ◌∷◌, ◌++◌, cond, is_some, refl, sym, ap, ◌∙◌, subst, append_assoc, append-nil}
 use Rattle.iol_mseq.specs.Shape.{Shape, startup_shape}
-use Rattle.iolink.specs.CheckLines.{Form, master, line_form, first_bad}
+use Rattle.iol_script.specs.CheckLines.{Form, master, line_form, first_bad}
 use Rattle.iolink.specs.Checked.{layout_after, Prints, PrintsMessage, PrintsAll}
 use Rattle.iolink.specs.Printed.{message_text, refusal_text}
 use Rattle.iol_mseq.specs.Master.{master_fault, SpellsMaster}

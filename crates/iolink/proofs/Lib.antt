@@ -1,7 +1,5 @@
 pub mod CheckedLemmas
-pub mod Cutting
-pub mod Decimals
-pub mod LinesLemmas
-pub mod OctetsLemmas
+pub mod PlayLemmas
 pub mod PrintedLemmas
+pub mod RunLemmas
 pub mod Taken

@@ -31,3 +31,9 @@ pub numbers_printed : {T E : Type 0} (r : Result T E) (old between new name name
 numbers_printed (Ok x) old between new name name' m n m' n' first second before wrote =
     wrote ∙ ap (λ (k : ℕ). between ++ number_text name' k) second ∙ ap (λ (l : List ℕ). l ++ number_text name' n') (before ∙ ap (λ (k : ℕ). old ++ number_text name k) first) ∙ append_assoc old (number_text name m') (number_text name' n')
 numbers_printed (Err x) old between new name name' m n m' n' first second before wrote = tt
+
+-- four pieces are printed
+pub pieces_printed : {T E : Type 0} (r : Result T E) (old one two three new a b c d : List ℕ) → one ≡ old ++ a → two ≡ one ++ b → three ≡ two ++ c → OnOk r (new ≡ three ++ d) → OnOk r (new ≡ old ++ (a ++ b ++ c ++ d))
+pieces_printed (Ok x) old one two three new a b c d first second third wrote =
+    wrote ∙ ap (λ (l : List ℕ). l ++ d) (third ∙ ap (λ (l : List ℕ). l ++ c) (second ∙ ap (λ (l : List ℕ). l ++ b) first)) ∙ simp append_assoc
+pieces_printed (Err x) old one two three new a b c d first second third wrote = tt

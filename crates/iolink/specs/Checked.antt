@@ -7,10 +7,10 @@ use Rattle.iol_mseq.specs.Replies.{reply_fault, SpellsReply}
 use Rattle.iol_mseq.specs.declared.fault.MseqFault.{MseqFault}
 use Rattle.iol_mseq.specs.declared.master.MasterMsg.{MasterMsg}
 use Rattle.iol_mseq.specs.declared.reply.Reply.{Reply}
-use Rattle.iolink.specs.CheckLines.{Form, skip, layout, master, read_reply, write_reply, line_form}
+use Rattle.iol_script.specs.CheckLines.{Form, skip, layout, master, read_reply, write_reply, line_form}
 use Rattle.iolink.specs.Printed.{layout_text, refusal_text, message_text, reply_text}
-use Rattle.iolink.specs.declared.check_line.LayoutLine.{LayoutLine}
-use Rattle.iolink.specs.declared.check_line.LayoutLine.TheVariants.{Startup, Preoperate, Operate}
+use Rattle.iol_script.specs.declared.check_line.LayoutLine.{LayoutLine}
+use Rattle.iol_script.specs.declared.check_line.LayoutLine.TheVariants.{Startup, Preoperate, Operate}
 
 -- the layout that a line asks for
 abbrev pub asked_layout : LayoutLine → Result Shape MseqFault

@@ -1,6 +1,5 @@
-pub mod Text
-pub mod Numerals
-pub mod CheckLines
 pub mod Printed
 pub mod Checked
+pub mod RunPrinted
+pub mod RunPlayed
 pub mod Ending

@@ -4,16 +4,15 @@ ghost use Rattle.std.specs.Io.KnownBytes.{Appends, Consumes, Keeps};
 ghost use Rattle.std.specs.String.{string_bytes};
 ghost use Rattle.iol_mseq.specs.Shape.{startup_shape};
 ghost use Rattle.iolink.specs.declared.fault.ProgramFault.TheVariants.{Line, NoThread, OutOfMemory, TooLong, WriteFailed};
-ghost use Rattle.iolink.specs.CheckLines.{first_bad, parsed_form};
+ghost use Rattle.iol_script.specs.CheckLines.{first_bad, parsed_form};
 ghost use Rattle.iolink.specs.Checked.{asked_layout, layout_after, Prints, PrintsMessage, PrintsReply, PrintsAll};
-ghost use Rattle.iolink.specs.Text.{numbered_lines};
+ghost use Rattle.iol_script.specs.Text.{numbered_lines};
 
-use crate::check_line::{CheckLine, LayoutLine, parse_line};
 use crate::fault::ProgramFault;
-use crate::parts::Lines;
 use crate::printing::{print_layout, print_message, print_refusal, print_reply};
 use crate::streams::{LIMIT, read_input, write_output};
 use iol_mseq::{Layout, MseqFault, read_master, read_reply};
+use iol_script::{CheckLine, LayoutLine, Lines};
 use std::alloc::{AllocError, Allocator};
 use std::io::{Read, Write};
 
@@ -53,7 +52,7 @@ fn checked<A: Allocator>(alloc: A, input: &[u8]) -> Result<String<A>, ProgramFau
     let mut output = String::new(alloc);
     let mut layout = Layout::startup();
     for (number, line) in Lines::of(input) {
-        let Some(line) = parse_line(line) else {
+        let Some(line) = CheckLine::parse(line) else {
             return Err(ProgramFault::Line(number));
         };
         answer(&mut output, &mut layout, &line)?;

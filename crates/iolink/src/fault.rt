@@ -2,6 +2,7 @@
 ghost use Rattle.std.specs.Prelude.{◌≡◌};
 ghost use Rattle.iolink.specs.declared.fault.ProgramFault.TheVariants.{OutOfMemory};
 
+use iol_script::ScriptFault;
 use std::alloc::{AllocError, AllocFailed};
 use thiserror::Error;
 
@@ -41,5 +42,18 @@ impl<T: Drop> From<AllocFailed<T>> for ProgramFault {
 
     fn from(_error: AllocFailed<T>) -> ProgramFault {
         ProgramFault::OutOfMemory
+    }
+}
+
+impl From<ScriptFault> for ProgramFault {
+    ghost use Rattle.iolink.specs.Ending.{fault_of};
+
+    ghost from_gives = { λ fault e. e ≡ fault_of fault };
+
+    fn from(fault: ScriptFault) -> ProgramFault {
+        match fault {
+            ScriptFault::Line(number) => ProgramFault::Line(number),
+            ScriptFault::OutOfMemory => ProgramFault::OutOfMemory,
+        }
     }
 }

@@ -5,13 +5,13 @@
 #![tactic(auto)]
 
 mod check;
-mod check_line;
 mod command;
 mod ending;
 mod fault;
-mod numerals;
-mod parts;
+mod playing;
 mod printing;
+mod run;
+mod run_printing;
 mod streams;
 #[cfg(test)]
 mod tests;
@@ -20,6 +20,7 @@ use crate::check::check;
 use crate::command::{Mode, mode_of};
 use crate::ending::Ending;
 use crate::fault::ProgramFault;
+use crate::run::run;
 use std::alloc::Global;
 use std::process::ExitCode;
 use std::rt::Runtime;
@@ -31,6 +32,7 @@ fn perform<R: Runtime<A = Global>>(rt: &R, mode: Mode) -> Result<(), ProgramFaul
     let mut writer = io::writer(rt);
     match mode {
         Mode::Check => check(rt.alloc(), &mut reader, &mut writer),
+        Mode::Run => run(rt.alloc(), &mut reader, &mut writer),
     }
 }
 

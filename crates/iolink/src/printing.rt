@@ -8,14 +8,20 @@ use iol_octets::{Channel, Mc};
 use std::alloc::{AllocError, Allocator};
 
 /// An octet in two hexadecimal digits.
-fn print_hexadecimal<A: Allocator>(output: &mut String<A>, octet: u8) -> Result<(), AllocError>
+pub(crate) fn print_hexadecimal<A: Allocator>(
+    output: &mut String<A>,
+    octet: u8,
+) -> Result<(), AllocError>
     ensures { OnOk result (string_bytes output.new ≡ string_bytes output.old ++ hexadecimal octet) }
 {
     write!(output, "{octet:02X}")
 }
 
 /// The octets, each behind a space.
-fn print_octets<A: Allocator>(output: &mut String<A>, octets: &[u8]) -> Result<(), AllocError>
+pub(crate) fn print_octets<A: Allocator>(
+    output: &mut String<A>,
+    octets: &[u8],
+) -> Result<(), AllocError>
     ensures { OnOk result (string_bytes output.new ≡ string_bytes output.old ++ octets_text octets.now) }
 {
     for octet in octets {

@@ -2,16 +2,57 @@ use crate::check::check;
 use crate::command::{Mode, mode_of};
 use crate::ending::Ending;
 use crate::fault::ProgramFault;
+use crate::run::run;
+use crate::tests::runs::PLAIN;
+use iol_image::Handle;
 use iol_mseq::MseqFault;
 use scarce::{Refusal, Scarce};
 use std::alloc::{AllocError, Global};
 use std::io;
 use std::io::{Cursor, ErrorKind, Read, Write};
+use std::process::Abort;
 use std::test::Fail;
 
-const INPUT: &[u8] = b"# two good lines\nm A2 00\n\nr 17 1B\n";
+mod runs;
 
-const OUTPUT: &str = "read page 02\nod 17 event 0 pd valid\n";
+/// A command, its input, how many reads that takes, its output, and how many writes that takes.
+struct Case {
+    mode: Mode,
+    input: &'static str,
+    reads: u32,
+    output: &'static str,
+    writes: u32,
+}
+
+static CASES: [Case; 2] = [
+    Case {
+        mode: Mode::Check,
+        input: "# two good lines\nm A2 00\n\nr 17 1B\n",
+        reads: 8,
+        output: "read page 02\nod 17 event 0 pd valid\n",
+        writes: 6,
+    },
+    Case {
+        mode: Mode::Run,
+        input: "param 16 0 ro 4142\nread 16 0\nturn 18\ncollect 1\n",
+        reads: 11,
+        output: PLAIN,
+        writes: 11,
+    },
+];
+
+/// Carries out a command.
+fn perform<A: Handle, R: Read, W: Write>(
+    mode: Mode,
+    alloc: A,
+    reader: &mut R,
+    writer: &mut W,
+) -> Result<(), ProgramFault> {
+    match mode {
+        Mode::Check => check(alloc, reader, writer),
+        Mode::Run => run(alloc, reader, writer),
+    }
+}
 
 /// Gives five bytes at each read. The read of this number fails, counted from 0.
 #[derive(Drop)]
@@ -58,9 +99,9 @@ impl Write for Sink {
 }
 
 /// A reader and a writer of which the read or the write of a number fails.
-fn failing(alloc: Global, read: u32, write: u32) -> (Source<'static>, Sink) {
+fn failing(alloc: Global, input: &'static str, read: u32, write: u32) -> (Source<'static>, Sink) {
     let source = Source {
-        left: INPUT,
+        left: input.as_bytes(),
         fails_at: read,
     };
     let sink = Sink {
@@ -188,55 +229,74 @@ fn bounds_the_input(rt: HostRuntime) -> Result<(), Fail> {
 
 #[test]
 fn fails_at_each_read(rt: HostRuntime) -> Result<(), Fail> {
-    // Seven reads of bytes, and one that finds the end.
-    for read in 0..9 {
-        let (mut source, mut sink) = failing(rt.alloc(), read, u32::MAX);
-        let result = check(rt.alloc(), &mut source, &mut sink);
-        if read < 8 {
+    for case in &CASES {
+        for read in 0..case.reads {
+            let (mut source, mut sink) = failing(rt.alloc(), case.input, read, u32::MAX);
+            let result = perform(case.mode, rt.alloc(), &mut source, &mut sink);
             assert_eq!(rt; result, Err(ProgramFault::ReadFailed), "at {read}");
             assert!(rt; sink.held.is_empty());
-        } else {
-            assert_eq!(rt; result, Ok(()));
-            assert!(rt; sink.held.as_slice() == OUTPUT.as_bytes());
         }
+        let (mut source, mut sink) = failing(rt.alloc(), case.input, case.reads, u32::MAX);
+        let result = perform(case.mode, rt.alloc(), &mut source, &mut sink);
+        assert_eq!(rt; result, Ok(()));
+        assert!(rt; sink.held.as_slice() == case.output.as_bytes());
     }
     Ok(())
 }
 
 #[test]
 fn fails_at_each_write(rt: HostRuntime) -> Result<(), Fail> {
-    for write in 0..7 {
-        let (mut source, mut sink) = failing(rt.alloc(), u32::MAX, write);
-        let result = check(rt.alloc(), &mut source, &mut sink);
-        if write < 6 {
+    for case in &CASES {
+        for write in 0..case.writes {
+            let (mut source, mut sink) = failing(rt.alloc(), case.input, u32::MAX, write);
+            let result = perform(case.mode, rt.alloc(), &mut source, &mut sink);
             assert_eq!(rt; result, Err(ProgramFault::WriteFailed), "at {write}");
-        } else {
-            assert_eq!(rt; result, Ok(()));
-            assert!(rt; sink.held.as_slice() == OUTPUT.as_bytes());
         }
+        let (mut source, mut sink) = failing(rt.alloc(), case.input, u32::MAX, case.writes);
+        let result = perform(case.mode, rt.alloc(), &mut source, &mut sink);
+        assert_eq!(rt; result, Ok(()));
+        assert!(rt; sink.held.as_slice() == case.output.as_bytes());
     }
     Ok(())
+}
+
+/// Whether a command was refused memory under this order: then it has to say so, and to write nothing.
+fn is_refused(
+    rt: &impl Abort,
+    alloc: Global,
+    scarce: &Scarce,
+    case: &Case,
+    refusal: Refusal,
+) -> bool {
+    let (mut source, mut sink) = failing(alloc, case.input, u32::MAX, u32::MAX);
+    scarce.order(refusal);
+    let result = perform(case.mode, scarce, &mut source, &mut sink);
+    let refused = scarce.has_refused();
+    if refused {
+        assert_eq!(rt; result, Err(ProgramFault::OutOfMemory));
+        assert!(rt; sink.held.is_empty());
+    } else {
+        assert_eq!(rt; result, Ok(()));
+        assert!(rt; sink.held.as_slice() == case.output.as_bytes());
+    }
+    refused
 }
 
 #[test]
 fn fails_at_each_request_for_memory(rt: HostRuntime) -> Result<(), Fail> {
     let scarce = Scarce::new(rt.alloc());
-    for number in 0..1000 {
-        for refusal in [Refusal::Only(number), Refusal::From(number)] {
-            let (mut source, mut sink) = failing(rt.alloc(), u32::MAX, u32::MAX);
-            scarce.order(refusal);
-            let result = check(&scarce, &mut source, &mut sink);
-            if !scarce.has_refused() {
-                assert_eq!(rt; result, Ok(()));
-                assert!(rt; sink.held.as_slice() == OUTPUT.as_bytes());
-                assert!(rt; number > 1);
-                return Ok(());
+    for case in &CASES {
+        let mut number = 0;
+        for _ in 0..1000 {
+            if !is_refused(&rt, rt.alloc(), &scarce, case, Refusal::Only(number)) {
+                break;
             }
-            assert_eq!(rt; result, Err(ProgramFault::OutOfMemory), "at {number}");
-            assert!(rt; sink.held.is_empty());
+            assert!(rt; is_refused(&rt, rt.alloc(), &scarce, case, Refusal::From(number)));
+            number += 1;
         }
+        assert!(rt; number > 1 && number < 1000);
     }
-    Err(Fail::from(ProgramFault::OutOfMemory))
+    Ok(())
 }
 
 #[test]
@@ -264,7 +324,7 @@ fn says_how_it_ends(rt: HostRuntime) -> Result<(), Fail> {
 fn reads_the_words(rt: HostRuntime) -> Result<(), Fail> {
     for (words, text) in [
         (["iolink", "--help"], "Usage: iolink <COMMAND>"),
-        (["iolink", "run"], "unrecognized subcommand 'run'"),
+        (["iolink", "play"], "unrecognized subcommand 'play'"),
         (["iolink", "-x"], "unexpected argument '-x'"),
     ] {
         let ending = Ending::from(mode_of(rt.alloc(), &words).err().ok_or(text)?);
@@ -277,5 +337,6 @@ fn reads_the_words(rt: HostRuntime) -> Result<(), Fail> {
     assert!(rt; mode_of(rt.alloc(), &["iolink"]).is_err());
     assert!(rt; mode_of(rt.alloc(), &["iolink", "check", "x"]).is_err());
     assert!(rt; mode_of(rt.alloc(), &["iolink", "check"]).is_ok_and(|mode| mode == Mode::Check));
+    assert!(rt; mode_of(rt.alloc(), &["iolink", "run"]).is_ok_and(|mode| mode == Mode::Run));
     Ok(())
 }

@@ -1,5 +1,5 @@
 use Rattle.std.proofs.Common.{ap}
-use Rattle.iolink.specs.CheckLines.{parsed_form}
+use Rattle.iol_script.specs.CheckLines.{parsed_form}
 use Rattle.iolink.proofs.CheckedLemmas.{prints_as_message}
 use Rattle.iolink.proofs.check.answer.Goals as goal
 

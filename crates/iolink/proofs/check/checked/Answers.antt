@@ -1,14 +1,14 @@
 use Rattle.std.proofs.Common.{◌≡◌, Some, sym, ◌∙◌}
 use Rattle.std.specs.String.{string_bytes}
-use Rattle.iolink.specs.CheckLines.{line_form, parsed_form}
-use Rattle.iolink.specs.Text.{numbered_lines, lines_left}
+use Rattle.iol_script.specs.CheckLines.{line_form, parsed_form}
+use Rattle.iol_script.specs.Text.{numbered_lines, lines_left}
 use Rattle.iolink.proofs.CheckedLemmas.{prints_more, prints_whole, first_bad-good}
 use Rattle.iolink.proofs.check.checked.Goals as goal
 
 pub loop-number-preserved : goal.loop-number-preserved
 loop-number-preserved g c =
-    let form = parsed_form c.in-Some-parse_line.line in
-    let fits : line_form c.in-Some.line.now ≡ Some form = sym c.in-Some-parse_line.ensures in
+    let form = parsed_form c.in-Some-parse.line in
+    let fits : line_form c.in-Some.line.now ≡ Some form = sym c.in-Some-parse.ensures in
     let lines = lines_left c.loop-number.number-iterator in
     let rest = lines_left c.next.new.self in
     let answered = c.in_ok-answer.ensures in (

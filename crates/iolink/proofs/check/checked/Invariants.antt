@@ -1,8 +1,8 @@
 use Rattle.std.proofs.Common.{◌≡◌, ◌++◌, ℕ, List}
 use Rattle.std.specs.String.{string_bytes}
 use Rattle.iol_mseq.specs.Shape.{startup_shape}
-use Rattle.iolink.specs.Text.{numbered_lines, lines_left}
-use Rattle.iolink.specs.CheckLines.{first_bad}
+use Rattle.iol_script.specs.Text.{numbered_lines, lines_left}
+use Rattle.iol_script.specs.CheckLines.{first_bad}
 use Rattle.iolink.specs.Checked.{PrintsAll}
 use Rattle.iolink.proofs.check.checked.Given as goal
 

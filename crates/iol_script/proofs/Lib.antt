@@ -1,0 +1,6 @@
+pub mod Cutting
+pub mod Decimals
+pub mod FieldsLemmas
+pub mod LinesLemmas
+pub mod OctetsLemmas
+pub mod ScriptLemmas

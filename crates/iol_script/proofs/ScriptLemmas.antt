@@ -1,0 +1,102 @@
+-- Lines that are read one after the other.
+use Rattle.std.proofs.Common.{◌≡◌, ℕ, ◌+◌, Bool, true, false, cond, nat_le, nat_lt, ◌&&◌, is_none, Option, Some, None, IsSome, option_and_then, Result, Ok, Err, List, [], ◌∷◌, ◌++◌, length, fold, All, refl, sym, ap, ◌∙◌, arith, length-append}
+use Rattle.std.specs.Option.{ok_or, option_map_or}
+use Rattle.std.specs.Result.{result_err}
+use Rattle.std.proofs.lemmas.List.Elements.{All-nil, All-cons}
+use Rattle.iol_sim.specs.Params.{number_of}
+use Rattle.iol_script.specs.RunLines.{run_form}
+use Rattle.iol_script.specs.Script.{Draft, with_setting, in_bounds, line_calls, calls_of, calls_in, script_after, draft_after, steps_of}
+use Rattle.iol_script.specs.declared.setting.Setting.{Setting}
+use Rattle.iol_script.specs.declared.setting.Setting.TheVariants as setting
+use Rattle.iol_script.specs.declared.run_line.RunLine.{RunLine}
+use Rattle.iol_script.specs.declared.run_line.RunLine.TheVariants as line
+
+-- One pass over the lines
+
+-- a bad line stays the first
+stays_bad : (bad : ℕ) (lines : List (ℕ × List ℕ)) → fold draft_after (Err bad) lines ≡ Err bad
+stays_bad bad [] = refl
+stays_bad bad (line ∷ lines) = stays_bad bad lines
+
+-- one more line is read
+pub read-more : (all : Result Draft ℕ) (draft next : Draft) (lines rest : List (ℕ × List ℕ)) (number : ℕ) (line : List ℕ)
+    → all ≡ fold draft_after (Ok draft) lines → lines ≡ (number, line) ∷ rest → draft_after (Ok draft) (number, line) ≡ Ok next → all ≡ fold draft_after (Ok next) rest
+read-more all draft next lines rest number line is these good =
+    is ∙ ap (fold draft_after (Ok draft)) these ∙ ap (λ (r : Result Draft ℕ). fold draft_after r rest) good
+
+-- a line is bad
+pub read-bad : (all : Result Draft ℕ) (draft : Draft) (lines rest : List (ℕ × List ℕ)) (number : ℕ) (line : List ℕ) (bad : ℕ)
+    → all ≡ fold draft_after (Ok draft) lines → lines ≡ (number, line) ∷ rest → draft_after (Ok draft) (number, line) ≡ Err bad → result_err all ≡ Some bad
+read-bad all draft lines rest number line bad is these found =
+    ap result_err (is ∙ ap (fold draft_after (Ok draft)) these ∙ ap (λ (r : Result Draft ℕ). fold draft_after r rest) found ∙ stays_bad bad rest)
+
+-- no line is left
+pub read-whole : (all : Result Draft ℕ) (draft : Draft) (lines : List (ℕ × List ℕ)) → all ≡ fold draft_after (Ok draft) lines → lines ≡ [] → all ≡ Ok draft
+read-whole all draft lines is none = is ∙ ap (fold draft_after (Ok draft)) none
+
+-- A good line
+
+given : {T : Type 0} (b : Bool) (x y : T) → cond b (Some x) None ≡ Some y → x ≡ y
+given true x y e = cc
+given false x y e = cc
+
+allowed : {T : Type 0} (b : Bool) (o : Option T) (y : T) → cond b None o ≡ Some y → o ≡ Some y
+allowed true o y e = cc
+allowed false o y e = e
+
+setting-calls : (draft next : Draft) (s : Setting) → with_setting draft s ≡ Some next → draft.calls ≡ next.calls
+setting-calls draft next (setting.Page octets) e = ap (λ (d : Draft). d.calls) (given (is_none draft.page) (record draft { page = Some octets }) next e)
+setting-calls draft next (setting.Limits busy journal) e =
+    ap (λ (d : Draft). d.calls) (given (is_none draft.limits) (record draft { limits = Some (record { journal = journal; busy = busy; given = 0 }) }) next e)
+setting-calls draft next (setting.Param place writable value) e =
+    ap (λ (d : Draft). d.calls) (given (nat_lt (length draft.params) 32 && is_none (number_of draft.params place))
+    (record draft { params = draft.params ++ record { place = place; writable = writable; value = value } ∷ [] }) next e)
+
+bounds-keep : (draft next : Draft) → in_bounds draft ≡ Some next → draft ≡ next
+bounds-keep draft next e = given (nat_le (length draft.steps) 1000000 && nat_le draft.calls 1000000) draft next e
+
+-- a good line adds its calls
+after-calls : (draft next : Draft) (form : RunLine) → script_after draft form ≡ Some next → next.calls ≡ draft.calls + length (calls_of form)
+after-calls draft next line.Skip e = let same : draft ≡ next = cc in omega (arith, ap (λ (d : Draft). d.calls) same)
+after-calls draft next (line.Setting s) e = omega (arith, setting-calls draft next s (allowed draft.begun (with_setting draft s) next e))
+after-calls draft next (line.Wire w) e = omega (arith, ap (λ (d : Draft). d.calls) (bounds-keep (record draft { steps = draft.steps ++ steps_of w; begun = true }) next e))
+after-calls draft next (line.Call c) e =
+    omega (arith, ap (λ (d : Draft). d.calls) (bounds-keep (record draft { calls = draft.calls + length (line_calls c); begun = true }) next e))
+
+record Good (draft next : Draft) (o : Option RunLine) : Type 0 where
+  form : IsSome o
+  calls : next.calls ≡ draft.calls + length (option_map_or calls_of o [])
+
+good-form : (draft next : Draft) (number : ℕ) (form : RunLine) (o : Option Draft) → script_after draft form ≡ o → ok_or o number ≡ Ok next → Good draft next (Some form)
+good-form draft next number form (Some d) is e =
+    let same : d ≡ next = cc in
+    record { form = refl; calls = after-calls draft next form (is ∙ ap Some same) }
+good-form draft next number form None is e = cc
+
+good : (draft next : Draft) (number : ℕ) (o : Option RunLine) → ok_or (option_and_then (script_after draft) o) number ≡ Ok next → Good draft next o
+good draft next number (Some form) e = good-form draft next number form (script_after draft form) refl e
+good draft next number None e = cc
+
+-- Good lines
+
+abbrev pub HasForm : ℕ × List ℕ → Type 0
+HasForm line = IsSome (run_form line.1)
+
+pub record Goods (draft final : Draft) (lines : List (ℕ × List ℕ)) : Type 0 where
+  pub forms : All HasForm lines
+  pub calls : final.calls ≡ draft.calls + length (calls_in lines)
+
+-- where the lines are good, each has a form, and their calls are counted
+pub goods : (draft final : Draft) (lines : List (ℕ × List ℕ)) → fold draft_after (Ok draft) lines ≡ Ok final → Goods draft final lines
+goods draft final [] e = let same : draft ≡ final = cc in record { forms = All-nil HasForm; calls = omega (arith, ap (λ (d : Draft). d.calls) same) }
+goods draft final (line ∷ lines) e =
+    elim (draft_after (Ok draft) line) as (λ r. draft_after (Ok draft) line ≡ r → fold draft_after r lines ≡ Ok final → Goods draft final (line ∷ lines)) [
+      | Ok next ↦ λ is rest.
+          let first : Good draft next (run_form line.1) = good draft next line.0 (run_form line.1) is in
+          let later : Goods next final lines = goods next final lines rest in
+          record {
+            forms = All-cons HasForm line lines first.form later.forms;
+            calls = omega (arith, first.calls, later.calls, length-append (option_map_or calls_of (run_form line.1) []) (calls_in lines));
+          }
+      | Err bad ↦ λ is rest. let never : Err bad ≡ Ok final = sym (stays_bad bad lines) ∙ rest in cc
+    ] refl e

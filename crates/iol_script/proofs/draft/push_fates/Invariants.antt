@@ -1,0 +1,7 @@
+use Rattle.std.proofs.Common.{◌≡◌, ◌+◌, ◌≤◌, ◌++◌, replicate, vec_len, vec_capacity}
+use Rattle.iol_sim.specs.declared.script.Step.TheVariants.{Fate}
+use Rattle.iol_script.proofs.draft.push_fates.Given as goal
+
+abbrev pub invariant-loop : goal.invariant-loop
+invariant-loop g l =
+    (l.steps.items ≡ l.fn.steps.items ++ replicate l.counter (Fate l.fate)) × (vec_len l.steps + l.count ≤ vec_capacity l.steps + l.counter)

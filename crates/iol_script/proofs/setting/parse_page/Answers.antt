@@ -1,0 +1,11 @@
+use Rattle.std.proofs.Common.{rules}
+use Rattle.iol_script.specs.Text.{words_left}
+use Rattle.iol_script.proofs.FieldsLemmas.{page_read, no_page_read}
+use Rattle.iol_script.proofs.setting.parse_page.Goals as goal
+
+pub returns-in-Ok-clause-form : goal.returns-in-Ok-clause-form
+returns-in-Ok-clause-form c =
+    page_read (words_left c.args.words) c.in_ok-octets.octets.items c.from_octets-page.result _ c.in_ok-octets.ensures (search rules) (search rules) c.in-Ok.ensures
+
+pub returns-in-Err-clause-form : goal.returns-in-Err-clause-form
+returns-in-Err-clause-form c = no_page_read (words_left c.args.words) c.in_ok-octets.octets.items c.from_octets-page.result _ c.in_ok-octets.ensures (search rules) c.in-Err.ensures

@@ -1,0 +1,6 @@
+pub mod Text
+pub mod Numerals
+pub mod CheckLines
+pub mod RunLines
+pub mod Script
+pub mod DraftInside

@@ -1,0 +1,73 @@
+-- Numbers and octets as words.
+use Rattle.std.specs.Prelude.{ℕ, ◌+◌, ◌*◌, ◌-◌, Bool, false, not, ◌==◌, Option, Some, None, List, [], ◌∷◌, length, nat_le, ◌&&◌, if◌then◌else◌, codes}
+use Rattle.std.specs.Str.{bytes_eq}
+use Rattle.std.specs.Str.Parse.{digits_value}
+use Rattle.std.specs.Fmt.{decimal}
+
+-- Octets
+
+-- a hexadecimal digit's value, in both cases
+abbrev pub digit_of : ℕ → Option ℕ
+digit_of c = if nat_le 48 c && nat_le c 57 then Some (c - 48) else (if nat_le 65 c && nat_le c 70 then Some (c - 55) else (if nat_le 97 c && nat_le c 102 then Some (c - 87) else None))
+
+-- the octet of two digits
+abbrev pub octet_of : ℕ → ℕ → Option ℕ
+octet_of high low = digits_octet (digit_of high) (digit_of low)
+  where
+    digits_octet : Option ℕ → Option ℕ → Option ℕ
+    digits_octet (Some h) (Some l) = Some (h * 16 + l)
+    digits_octet _ _ = None
+
+-- one more octet before what the rest gives
+abbrev pub before : Option ℕ → Option (List ℕ) → Option (List ℕ)
+before (Some octet) (Some octets) = Some (octet ∷ octets)
+before _ _ = None
+
+-- the octet of a word of two digits
+abbrev pub word_octet : List ℕ → Option ℕ
+word_octet (high ∷ low ∷ []) = octet_of high low
+word_octet _ = None
+
+-- the octets of words of two digits
+abbrev pub octets_of : List (List ℕ) → Option (List ℕ)
+octets_of [] = Some []
+octets_of (word ∷ words) = before (word_octet word) (octets_of words)
+
+-- the octets of pairs of digits
+abbrev pub pairs_of : List ℕ → Option (List ℕ)
+pairs_of [] = Some []
+pairs_of (digit ∷ []) = None
+pairs_of (high ∷ low ∷ digits) = before (octet_of high low) (pairs_of digits)
+
+-- the octets of one word: pairs of digits, or `-` for none
+abbrev pub word_octets : List ℕ → Option (List ℕ)
+word_octets [] = None
+word_octets (c ∷ word) = if bytes_eq (c ∷ word) (codes "-") then Some [] else pairs_of (c ∷ word)
+
+-- octets, where there are from `least` to `most` of them
+abbrev pub within : ℕ → ℕ → List ℕ → Option (List ℕ)
+within least most octets = if nat_le least (length octets) && nat_le (length octets) most then Some octets else None
+
+-- the number of a word of four digits
+abbrev pub word_code : List ℕ → Option ℕ
+word_code (a ∷ b ∷ c ∷ d ∷ []) = octets_code (octet_of a b) (octet_of c d)
+  where
+    octets_code : Option ℕ → Option ℕ → Option ℕ
+    octets_code (Some high) (Some low) = Some (high * 256 + low)
+    octets_code _ _ = None
+word_code _ = None
+
+-- Decimal numbers
+
+-- a decimal number from `least` to `most`: the one whose text is the word
+abbrev pub number_in : ℕ → ℕ → List ℕ → Option ℕ
+number_in least most word = ranged (digits_value 10 word)
+  where
+    ranged : ℕ → Option ℕ
+    ranged n = if nat_le least n && nat_le n most && bytes_eq word (decimal n) then Some n else None
+
+-- whether a word begins with no sign, and with no zero before another digit
+abbrev pub is_plain_of : List ℕ → Bool
+is_plain_of [] = false
+is_plain_of (c ∷ []) = not (c == 43)
+is_plain_of (c ∷ d ∷ rest) = not (c == 43) && not (c == 48)

@@ -1,0 +1,118 @@
+-- What the lines of `run` make, one after the other.
+use Rattle.std.specs.Prelude.{ℕ, ◌+◌, Bool, true, false, Option, Some, None, is_none, unwrap_or, option_map, option_and_then, Result, Ok, Err, List, [], ◌∷◌, ◌++◌, length, replicate, fold, flat_map, nat_le, nat_lt, ◌&&◌, if◌then◌else◌}
+use Rattle.std.specs.Option.{ok_or, option_map_or}
+use Rattle.std.specs.Result.{result_ok, result_err}
+use Rattle.iol_book.specs.declared.entries.Limits.{Limits}
+use Rattle.iol_sim.specs.Params.{number_of}
+use Rattle.iol_sim.specs.declared.params.Entry.{Entry}
+use Rattle.iol_sim.specs.declared.script.Step.{Step}
+use Rattle.iol_sim.specs.declared.script.Step.TheVariants.{Fate}
+use Rattle.iol_script.specs.RunLines.{run_form}
+use Rattle.iol_port.specs.declared.call.Call.{Call}
+use Rattle.iol_port.specs.declared.call.Call.TheVariants.{Turn}
+use Rattle.iol_script.specs.declared.setting.Setting.{Setting}
+use Rattle.iol_script.specs.declared.setting.Setting.TheVariants as setting
+use Rattle.iol_script.specs.declared.wire_line.WireLine.{WireLine}
+use Rattle.iol_script.specs.declared.wire_line.WireLine.TheVariants.{Fates, One}
+use Rattle.iol_script.specs.declared.call_line.CallLine.{CallLine}
+use Rattle.iol_script.specs.declared.call_line.CallLine.TheVariants.{Once, Turns}
+use Rattle.iol_script.specs.declared.run_line.RunLine.{RunLine}
+use Rattle.iol_script.specs.declared.run_line.RunLine.TheVariants as line
+
+-- a script, as far as its lines are read
+pub record Draft : Type 0 where
+  -- the page and the limits, where a line gave them
+  pub page : Option (List ℕ)
+  pub limits : Option Limits
+  pub params : List Entry
+  pub steps : List Step
+  -- how many calls there are
+  pub calls : ℕ
+  -- whether a line of the wire or a call came: then no setting is taken any more
+  pub begun : Bool
+
+-- no line is read
+abbrev pub empty_draft : Draft
+empty_draft = record { page = None; limits = None; params = []; steps = []; calls = 0; begun = false }
+
+-- the steps of a line of the wire
+abbrev pub steps_of : WireLine → List Step
+steps_of (Fates fate n) = replicate n (Fate fate)
+steps_of (One step) = step ∷ []
+
+-- the calls of a line
+abbrev pub line_calls : CallLine → List Call
+line_calls (Once call) = call ∷ []
+line_calls (Turns n) = replicate n Turn
+
+-- the draft after a setting: the page and the limits are given at most once, a parameter is one of 32 at places of their own
+abbrev pub with_setting : Draft → Setting → Option Draft
+with_setting draft (setting.Page octets) = if is_none draft.page then Some (record draft { page = Some octets }) else None
+with_setting draft (setting.Limits busy journal) =
+    if is_none draft.limits then Some (record draft { limits = Some (record { journal = journal; busy = busy; given = 0 }) }) else None
+with_setting draft (setting.Param place writable value) =
+    if nat_lt (length draft.params) 32 && is_none (number_of draft.params place)
+    then Some (record draft { params = draft.params ++ record { place = place; writable = writable; value = value } ∷ [] })
+    else None
+
+-- a draft with at most 1,000,000 steps and 1,000,000 calls
+abbrev pub in_bounds : Draft → Option Draft
+in_bounds draft = if nat_le (length draft.steps) 1000000 && nat_le draft.calls 1000000 then Some draft else None
+
+-- the draft after a line, where the line is good in its place
+abbrev pub script_after : Draft → RunLine → Option Draft
+script_after draft line.Skip = Some draft
+script_after draft (line.Setting setting) = if draft.begun then None else with_setting draft setting
+script_after draft (line.Wire wire) = in_bounds (record draft { steps = draft.steps ++ steps_of wire; begun = true })
+script_after draft (line.Call call) = in_bounds (record draft { calls = draft.calls + length (line_calls call); begun = true })
+
+-- the draft after a line with its number, or the number of the first bad line: it fits no form, or is refused in its place
+abbrev pub draft_after : Result Draft ℕ → ℕ × List ℕ → Result Draft ℕ
+draft_after (Err bad) line = Err bad
+draft_after (Ok draft) line = ok_or (option_and_then (script_after draft) (run_form line.1)) line.0
+
+-- the draft of lines, or the number of the first bad one
+abbrev pub draft_of : List (ℕ × List ℕ) → Result Draft ℕ
+draft_of lines = fold draft_after (Ok empty_draft) lines
+
+-- the number of the first bad line
+abbrev pub first_bad_run : List (ℕ × List ℕ) → Option ℕ
+first_bad_run lines = result_err (draft_of lines)
+
+-- what a script sets up
+pub record ScriptValue : Type 0 where
+  -- direct parameter page 1 of the device, and its parameters
+  pub page : List ℕ
+  pub params : List Entry
+  -- what the port is opened with
+  pub limits : Limits
+  -- the steps of the wire
+  pub steps : List Step
+
+abbrev pub default_page : List ℕ
+default_page = 0x17 ∷ 0x2D ∷ 0x11 ∷ 0x00 ∷ 0x00 ∷ 0x12 ∷ 0x34 ∷ 0x00 ∷ 0x01 ∷ 0x07 ∷ []
+
+abbrev pub default_limits : Limits
+default_limits = record { journal = 1000; busy = 100; given = 0 }
+
+-- a draft with what no line gave
+abbrev pub script_of : Draft → ScriptValue
+script_of draft = record {
+  page = unwrap_or draft.page default_page;
+  params = draft.params;
+  limits = unwrap_or draft.limits default_limits;
+  steps = draft.steps;
+}
+
+-- the script of good lines
+abbrev pub script_in : List (ℕ × List ℕ) → Option ScriptValue
+script_in lines = option_map script_of (result_ok (draft_of lines))
+
+-- the calls that a line makes, if any
+abbrev pub calls_of : RunLine → List Call
+calls_of (line.Call call) = line_calls call
+calls_of other = []
+
+-- the calls of lines, in their order
+abbrev pub calls_in : List (ℕ × List ℕ) → List Call
+calls_in lines = flat_map (λ line. option_map_or calls_of (run_form line.1) []) lines

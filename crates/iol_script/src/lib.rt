@@ -1,0 +1,34 @@
+//! What the lines of the program's input say.
+//!
+//! A text is cut into numbered lines and a line into words; a word is a name, a number or octets. A [`CheckLine`] asks
+//! for a layout or spells a message. A [`RunLine`] sets up a device and a port, makes steps of the wire between them,
+//! or makes calls of the port, and a [`Script`] is what all the lines of a text set up. All of this is this project's
+//! own format (profile).
+#![tactic(auto)]
+
+mod call_line;
+mod check_line;
+mod draft;
+mod fault;
+mod fields;
+mod numerals;
+mod parts;
+mod run_line;
+mod script;
+mod setting;
+mod wire_line;
+
+pub use call_line::CallLine;
+pub use check_line::{CheckLine, LayoutLine, LineOctets};
+pub use fault::ScriptFault;
+pub use numerals::{
+    decimal_number, hexadecimal_code, hexadecimal_octet, hexadecimal_octets, parted_octets,
+};
+pub use parts::{Lines, Words};
+pub use run_line::RunLine;
+pub use script::Script;
+pub use setting::Setting;
+pub use wire_line::WireLine;
+
+#[cfg(test)]
+mod tests;

@@ -1,0 +1,113 @@
+//! A text in its lines, and a line in its words.
+ghost use Rattle.std.specs.Prelude.{◌≡◌, ◌+◌, ◌^◌, ◌<◌, ◌∷◌, ◌==◌, [], length, IfSome, IfNone};
+ghost use Rattle.std.specs.List.{position, slice_split};
+ghost use Rattle.std.specs.Option.{option_map, option_map_or};
+
+/// The most bytes of a line, its line feed not counted.
+const LONGEST: usize = 1024;
+
+/// Where the first `mark` stands.
+fn place_of(text: &[u8], mark: u8) -> Option<usize>
+    ensures { result ≡ position (λ b. b == mark) text.now }
+{
+    text.iter().position(|byte| *byte == mark)
+}
+
+/// What stands before the first `mark`, and what stands behind it if there is one.
+fn cut(text: &[u8], mark: u8) -> (&[u8], Option<&[u8]>)
+    ensures parts { slice_split (λ b. b == mark) text.now
+        ≡ result.0.now ∷ option_map_or (λ later. slice_split (λ b. b == mark) later.now) result.1 [] }
+    ensures whole { IfNone result.1 (result.0.now ≡ text.now) }
+    ensures shorter { IfSome result.1 (λ later. length result.0.now + length later.now + 1 ≡ length text.now) }
+{
+    match place_of(text, mark) {
+        Some(place) => (&text[..place], Some(&text[place + 1..])),
+        None => (text, None),
+    }
+}
+
+/// The lines of a text with their numbers, from 1 on. Each ends with a line feed, which the last may lack.
+#[derive(Clone, Copy, Debug)]
+pub struct Lines<'a> {
+    left: &'a [u8],
+    given: u64,
+    ghost countable: { given + length left.now < 2 ^ 64 },
+}
+
+impl<'a> Lines<'a> {
+    ghost use Rattle.std.specs.Prelude.{◌≡◌};
+    ghost use Rattle.iol_script.specs.Text.{numbered_lines, lines_left};
+
+    /// The lines of a text, none of them given yet.
+    pub fn of(text: &'a [u8]) -> Lines<'a>
+        ensures { lines_left result ≡ numbered_lines text.now }
+    {
+        Lines {
+            left: text,
+            given: 0,
+        }
+    }
+}
+
+impl<'a> Iterator for Lines<'a> {
+    ghost use Rattle.std.specs.Iterator.{YieldsFirstBy, item_count};
+    ghost use Rattle.iol_script.specs.Text.{lines_left};
+
+    type Item = (u64, &'a [u8]);
+
+    ghost next_gives = { YieldsFirstBy (λ item. (item.0, item.1.now)) lines_left };
+
+    ghost remaining = { item_count lines_left };
+
+    fn next(&mut self) -> Option<(u64, &'a [u8])> {
+        if self.left.is_empty() {
+            return None;
+        }
+        let (line, later) = cut(self.left, b'\n');
+        self.left = later.unwrap_or(&[]);
+        self.given += 1;
+        Some((self.given, line))
+    }
+}
+
+/// The words of a line, which one space parts.
+#[derive(Clone, Copy, Debug)]
+pub struct Words<'a> {
+    left: Option<&'a [u8]>,
+}
+
+impl<'a> Words<'a> {
+    ghost use Rattle.std.specs.Prelude.{◌≡◌};
+    ghost use Rattle.iol_script.specs.Text.{line_words, words_left};
+
+    /// The words of a line of at most 1,024 bytes. A blank line and a comment, which begins with `#`, have none.
+    pub fn of(line: &'a [u8]) -> Option<Words<'a>>
+        ensures { option_map words_left result ≡ line_words line.now }
+    {
+        if line.len() > LONGEST {
+            return None;
+        }
+        let left = match line {
+            [] | [b'#', ..] => None,
+            _ => Some(line),
+        };
+        Some(Words { left })
+    }
+}
+
+impl<'a> Iterator for Words<'a> {
+    ghost use Rattle.std.specs.Iterator.{YieldsFirstRef, item_count};
+    ghost use Rattle.iol_script.specs.Text.{words_left};
+
+    type Item = &'a [u8];
+
+    ghost next_gives = { YieldsFirstRef words_left };
+
+    ghost remaining = { item_count words_left };
+
+    fn next(&mut self) -> Option<&'a [u8]> {
+        let (word, later) = cut(self.left?, b' ');
+        self.left = later;
+        Some(word)
+    }
+}

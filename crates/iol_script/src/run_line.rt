@@ -1,0 +1,57 @@
+//! What a line of `run` says.
+ghost use Rattle.std.specs.Prelude.{◌≡◌, IfSome};
+ghost use Rattle.iol_script.specs.RunLines.{run_words, IsGoodLine};
+ghost use Rattle.iol_script.specs.Text.{words_left};
+
+use crate::call_line::{CallLine, parse_call, parse_turns};
+use crate::fields::is;
+use crate::parts::Words;
+use crate::setting::{Setting, parse_limits, parse_page, parse_param};
+use crate::wire_line::{WireLine, parse_wire};
+
+/// A line of `run`.
+#[derive(Clone, Debug, PartialEq, Eq, Drop)]
+pub enum RunLine {
+    /// A blank line or a comment.
+    Skip,
+    /// It sets something up.
+    Setting(Setting),
+    /// It makes steps of the wire.
+    Wire(WireLine),
+    /// It makes calls of the port.
+    Call(CallLine),
+}
+
+impl RunLine {
+    ghost use Rattle.iol_script.specs.RunLines.{run_form};
+
+    /// What a line says, where it fits a form.
+    pub fn parse(line: &[u8]) -> Option<RunLine>
+        ensures form { result ≡ run_form line.now }
+        ensures range { IfSome result IsGoodLine }
+    {
+        parse_words(Words::of(line)?)
+    }
+}
+
+fn parse_words(mut words: Words) -> Option<RunLine>
+    ensures form { result ≡ run_words (words_left words.entry) }
+    ensures range { IfSome result IsGoodLine }
+{
+    let Some(name) = words.next() else {
+        return Some(RunLine::Skip);
+    };
+    if is(name, b"page") {
+        Some(RunLine::Setting(parse_page(words)?))
+    } else if is(name, b"limits") {
+        Some(RunLine::Setting(parse_limits(words)?))
+    } else if is(name, b"param") {
+        Some(RunLine::Setting(parse_param(words)?))
+    } else if is(name, b"wire") {
+        Some(RunLine::Wire(parse_wire(words)?))
+    } else if is(name, b"turn") {
+        Some(RunLine::Call(parse_turns(words)?))
+    } else {
+        Some(RunLine::Call(CallLine::Once(parse_call(name, words)?)))
+    }
+}

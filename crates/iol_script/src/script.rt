@@ -1,0 +1,61 @@
+//! The script of `run`.
+ghost use Rattle.std.specs.Prelude.{◌≡◌, ◌≤◌, ℕ, Some, None, Err, IfOk, OnOk, IsOk, IsSome, All, length};
+ghost use Rattle.std.specs.Vec.{vec_len};
+ghost use Rattle.iol_book.specs.BookModel.{AreLimits};
+ghost use Rattle.iol_page.specs.Page.{layouts_of};
+ghost use Rattle.iol_script.specs.declared.fault.ScriptFault.TheVariants.{Line};
+ghost use Rattle.iol_script.specs.RunLines.{run_form};
+ghost use Rattle.iol_script.specs.Script.{calls_in, first_bad_run, script_in};
+ghost use Rattle.iol_script.specs.Text.{numbered_lines};
+
+use crate::draft::Draft;
+use crate::fault::ScriptFault;
+use crate::parts::Lines;
+use iol_book::Limits;
+use iol_page::Page;
+use iol_sim::{Params, Step};
+use std::alloc::{Allocator, Global};
+
+/// What the lines of `run` set up: the device, the port and the wire between them.
+///
+/// The calls are not kept, so that they take no memory: each line with a call is parsed once more when it is carried
+/// out.
+#[derive(Drop)]
+pub struct Script<A: Allocator = Global> {
+    /// Direct parameter page 1 of the device.
+    pub page: Page,
+    /// The device's parameters.
+    pub params: Params,
+    /// What the port is opened with.
+    pub limits: Limits,
+    /// What happens on the wire.
+    pub steps: Vec<Step, A>,
+}
+
+impl<A: Allocator> Script<A> {
+    /// Reads the lines of a whole input, from first to last.
+    ///
+    /// The settings stand before the first line of the wire and the first call, the page and the limits at most once.
+    /// There are at most 1,000,000 steps and 1,000,000 calls. Answered is the first fault that is met: the first bad
+    /// line, or a growth that is refused. A bad line is found without memory.
+    pub fn read(alloc: A, input: &[u8]) -> Result<Script<A>, ScriptFault>
+        // What is read.
+        ensures good { OnOk result (first_bad_run (numbered_lines input.now) ≡ None) }
+        ensures script { IfOk result (λ s. script_in (numbered_lines input.now) ≡ Some (record { page = s.page; params = s.params; limits = s.limits; steps = s.steps.items })) }
+        ensures bad_line { (n : ℕ) → result ≡ Err (Line n) → first_bad_run (numbered_lines input.now) ≡ Some n }
+
+        // What holds of it.
+        ensures page { IfOk result (λ s. IsOk (layouts_of s.page)) }
+        ensures limits { IfOk result (λ s. AreLimits s.limits) }
+        ensures given { IfOk result (λ s. s.limits.given ≡ 0) }
+        ensures steps { IfOk result (λ s. vec_len s.steps ≤ 1000000) }
+        ensures calls { OnOk result (length (calls_in (numbered_lines input.now)) ≤ 1000000) }
+        ensures forms { OnOk result (All (λ line. IsSome (run_form line.1)) (numbered_lines input.now)) }
+    {
+        let mut draft = Draft::new(alloc);
+        for (number, line) in Lines::of(input) {
+            draft.take(number, line)?;
+        }
+        Ok(draft.finish())
+    }
+}
