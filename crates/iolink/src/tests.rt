@@ -282,19 +282,24 @@ fn is_refused(
     refused
 }
 
+/// The number of the first request for memory that a run of the case doesn't make; each before it is refused, alone and
+/// with all that follow.
+fn first_unmade(rt: &impl Abort, alloc: Global, scarce: &Scarce, case: &Case) -> Option<u64> {
+    for number in 0..1000 {
+        if !is_refused(rt, alloc, scarce, case, Refusal::Only(number)) {
+            return Some(number);
+        }
+        assert!(rt; is_refused(rt, alloc, scarce, case, Refusal::From(number)));
+    }
+    None
+}
+
 #[test]
 fn fails_at_each_request_for_memory(rt: HostRuntime) -> Result<(), Fail> {
     let scarce = Scarce::new(rt.alloc());
     for case in &CASES {
-        let mut number = 0;
-        for _ in 0..1000 {
-            if !is_refused(&rt, rt.alloc(), &scarce, case, Refusal::Only(number)) {
-                break;
-            }
-            assert!(rt; is_refused(&rt, rt.alloc(), &scarce, case, Refusal::From(number)));
-            number += 1;
-        }
-        assert!(rt; number > 1 && number < 1000);
+        let unmade = first_unmade(&rt, rt.alloc(), &scarce, case);
+        assert!(rt; unmade.is_some_and(|number| number > 1));
     }
     Ok(())
 }
