@@ -13,7 +13,7 @@ use Rattle.iol_isdu.specs.declared.values.Cause.{Cause}
 use Rattle.iol_isdu.specs.Texts.{IsRequest, request_front}
 use Rattle.iol_page.specs.Commands.{command_octet}
 use Rattle.iol_page.specs.declared.master_command.MasterCommand.TheVariants.{ProcessDataOutputOperate, DeviceOperate}
-use Rattle.iol_device.specs.Far.{first_of_zeros}
+use Rattle.iol_mseq.specs.Parts.{first_of_zeros}
 use Rattle.iol_segment.specs.Cut.{Cutting, last_given}
 use Rattle.iol_segment.specs.Join.{stage}
 use Rattle.iol_app.specs.declared.output.Output.{Output}

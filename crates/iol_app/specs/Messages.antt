@@ -9,7 +9,7 @@ use Rattle.iol_octets.specs.Flow.{flow_address}
 use Rattle.iol_page.specs.Commands.{command_octet}
 use Rattle.iol_page.specs.declared.master_command.MasterCommand.TheVariants.{ProcessDataOutputOperate, DeviceOperate}
 use Rattle.iol_event.specs.Reading.{next_address}
-use Rattle.iol_device.specs.Far.{first_of_zeros}
+use Rattle.iol_mseq.specs.Parts.{first_of_zeros}
 use Rattle.iol_app.specs.declared.event_work.Reading.{Reading}
 use Rattle.iol_app.specs.declared.request.Current.{Current}
 use Rattle.iol_app.specs.declared.request.Progress.{Progress}

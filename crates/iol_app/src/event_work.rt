@@ -3,10 +3,9 @@ ghost use Rattle.std.specs.Prelude.{◌≡◌, ◌≤◌};
 ghost use Rattle.iol_event.specs.Reading.{next_address};
 ghost use Rattle.iol_app.specs.EventReading.{no_events, reader_of, events_after, list_read, reading_after, list_after};
 
-use crate::parts::first;
 use crate::session::Exchange;
 use iol_event::{EventList, EventReader};
-use iol_mseq::Reply;
+use iol_mseq::{Reply, first};
 use std::mem::replace;
 
 /// How far the reading of events has come.

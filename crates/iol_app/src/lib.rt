@@ -13,7 +13,6 @@ mod event_work;
 mod laws;
 mod message;
 mod output;
-mod parts;
 mod request;
 mod session;
 mod station;

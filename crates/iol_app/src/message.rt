@@ -2,16 +2,15 @@
 ghost use Rattle.std.specs.Prelude.{◌≡◌, ◌≤◌, [], IfSome};
 ghost use Rattle.iol_octets.specs.Flow.{IsFlow, flow_address};
 ghost use Rattle.iol_octets.specs.declared.control.Channel.TheVariants.{Page, Isdu};
+ghost use Rattle.iol_mseq.specs.Parts.{first_of_zeros as octet_and_zeros};
 ghost use Rattle.iol_page.specs.Commands.{command_octet};
-ghost use Rattle.iol_device.specs.Far.{first_of_zeros as octet_and_zeros};
 ghost use Rattle.iol_app.specs.Requests.{IsCurrent};
 ghost use Rattle.iol_app.specs.Messages.{head_of, head_for, data_for, request_head, request_data, read_of, write_of};
 
 use crate::event_work::Events;
-use crate::parts::{first_of_zeros, part_of};
 use crate::request::{Current, Progress};
 use crate::session::Exchange;
-use iol_mseq::Part;
+use iol_mseq::{Part, first_of_zeros, part_of};
 use iol_octets::{Channel, Flow, Mc};
 use iol_page::MasterCommand;
 

@@ -3,10 +3,9 @@ ghost use Rattle.std.specs.Prelude.{◌≡◌, ◌≤◌, unwrap_or};
 ghost use Rattle.iol_app.specs.Outputs.{no_output, carried_by, carrying, output_after, told_length, IsOutput};
 ghost use Rattle.iol_app.specs.Faults.{fault_number};
 
-use crate::parts::{part_of, zeros};
 use crate::session::Exchange;
 use iol_image::Image;
-use iol_mseq::Part;
+use iol_mseq::{Part, part_of, zeros};
 use thiserror::Error;
 
 /// Why an output was refused.

@@ -6,9 +6,9 @@ ghost use Rattle.iol_segment.specs.Join.{is_whole};
 ghost use Rattle.iol_segment.specs.declared.took.Took.TheVariants.{Whole};
 ghost use Rattle.iol_app.specs.Requests.{begun, sent_on, aborted, waiting, refused, waited, replied, asked, joined, finished, current_after, Suits, IsReplied, IsSaid, IsCurrent};
 
-use crate::parts::first;
 use crate::session::Exchange;
 use iol_isdu::{Answer, Cause, Request};
+use iol_mseq::first;
 use iol_octets::Flow;
 use iol_segment::{Cutter, JoinFault, Joiner, Segment, Source, Took};
 use iol_steps::Said;

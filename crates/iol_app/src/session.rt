@@ -15,7 +15,6 @@ ghost use Rattle.iol_app.specs.State.{od_size, opened, sending, image_in, absorb
 use crate::event_work::{Events, Reading};
 use crate::message::body_for;
 use crate::output::{Output, OutputFault};
-use crate::parts::copy_of;
 use crate::request::{self, Current};
 use iol_event::EventList;
 use iol_image::Image;
@@ -236,7 +235,7 @@ impl Session {
         if image.octets().len() != layout.pd_out() as usize {
             return Err(OutputFault::WrongImageLength);
         }
-        self.output.wanted = Some(copy_of(image));
+        self.output.wanted = Some(image.clone().unwrap());
         Ok(())
     }
 

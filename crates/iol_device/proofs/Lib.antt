@@ -3,7 +3,6 @@ mod Pages
 mod Sending
 mod Segments
 mod Replies
-mod Messages
 mod Once
 mod Standing
 mod Levels
@@ -11,4 +10,3 @@ mod Sized
 mod Eventful
 mod LawProofs
 mod Linking
-mod Sent

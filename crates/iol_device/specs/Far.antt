@@ -4,6 +4,7 @@ use Rattle.iol_octets.specs.declared.control.Channel.{Channel}
 use Rattle.iol_octets.specs.declared.control.Channel.TheVariants.{Process, Page, Diagnosis, Isdu}
 use Rattle.iol_octets.specs.declared.flow_control.Flow.{Flow}
 use Rattle.iol_mseq.specs.Shape.{Shape}
+use Rattle.iol_mseq.specs.Parts.{first_of_zeros}
 use Rattle.iol_mseq.specs.declared.master.MasterMsg.{MasterMsg}
 use Rattle.iol_mseq.specs.declared.reply.Reply.{Reply}
 use Rattle.iol_page.specs.Page as sheet
@@ -155,10 +156,6 @@ worked far octets message = record far {
 -- the octet at a page address
 abbrev pub page_octet : Far → ℕ → ℕ
 page_octet far address = if address == 1 then far.cycle_time else sheet.page_octet far.page address
-
--- on the page and diagnosis channels the first octet is meant, the others are 0
-abbrev pub first_of_zeros : ℕ → ℕ → List ℕ
-first_of_zeros size octet = octet ∷ replicate (size - 1) 0
 
 -- the on-request data of the reply to a read
 abbrev pub data_of : Far → ℕ → Channel → ℕ → List ℕ

@@ -1,11 +1,11 @@
 -- Laws of the far end: what hearing a message again changes, what one good reply says, what stays.
-use Rattle.std.specs.Prelude.{◌≡◌, ◌⊎◌, ℕ, suc, Bool, true, false, List, [], ◌∷◌, length, slice_index, Some, None, IfSome}
+use Rattle.std.specs.Prelude.{◌≡◌, ◌⊎◌, ◌≤◌, ℕ, suc, Bool, true, false, List, [], ◌∷◌, length, slice_index, Some, None, IfSome}
 use Rattle.iol_octets.specs.Control.{control_of}
 use Rattle.iol_octets.specs.declared.control.Channel.{Channel}
 use Rattle.iol_octets.specs.declared.control.Channel.TheVariants.{Isdu}
 use Rattle.iol_octets.specs.declared.flow_control.Flow.{Flow}
 use Rattle.iol_octets.specs.declared.flow_control.Flow.TheVariants.{Start}
-use Rattle.iol_mseq.specs.Shape.{Shape}
+use Rattle.iol_mseq.specs.Shape.{Shape, IsLayout}
 use Rattle.iol_mseq.specs.Master.{SpellsMaster}
 use Rattle.iol_mseq.specs.Replies.{reply_in}
 use Rattle.iol_mseq.specs.declared.master.MasterMsg.{MasterMsg}
@@ -13,6 +13,7 @@ use Rattle.iol_event.specs.declared.event.Event.{Event}
 use Rattle.iol_event.specs.Memory.{Events, IsEventMemory}
 use Rattle.iol_image.specs.Image.{IsImage}
 use Rattle.iol_device.specs.declared.app.Carried.{Carried}
+use Rattle.iol_device.specs.declared.commands.Mode.{Mode}
 use Rattle.iol_device.specs.declared.commands.Mode.TheVariants.{Startup, Operate}
 use Rattle.iol_device.specs.Isdu.{isdu_data}
 use Rattle.iol_device.specs.Codec.{layout_in, message_in, octets_of, flow_of}
@@ -36,6 +37,10 @@ OnceIsEnough =
 -- octets that spell a message in a layout are heard there as that message
 abbrev pub MessagesAreHeard : Type 0
 MessagesAreHeard = (layout : Shape) (message : MasterMsg) (octets : List ℕ) → SpellsMaster layout message octets → message_in layout octets ≡ Some message
+
+-- each mode's layout, whatever the page, is a layout, and has on-request data
+abbrev pub ModesHaveLayouts : Type 0
+ModesHaveLayouts = (page : List ℕ) (mode : Mode) → IsLayout (layout_in page mode) × (1 ≤ (layout_in page mode).od)
 
 -- what a far end answers, in the layout that it speaks, is read back as that reply, where its input has the page's length
 abbrev pub IsSized : Far → Type 0

@@ -2,8 +2,7 @@
 ghost use Rattle.std.specs.Prelude.{◌≡◌, ◌≤◌, length, slice_index, IsTrue};
 ghost use Rattle.iol_device.specs.Far.{command_in, is_confirm, mode_asked};
 
-use crate::data::first;
-use iol_mseq::{MasterMsg, Message};
+use iol_mseq::{MasterMsg, Message, first};
 use iol_octets::{Channel, Mc};
 use iol_page::MasterCommand;
 

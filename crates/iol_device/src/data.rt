@@ -1,6 +1,5 @@
 //! The parts of messages.
 ghost use Rattle.std.specs.Prelude.{◌≡◌, ◌<◌, ◌≤◌, ◌-◌, ◌∷◌, replicate, length, slice_index, [], List, ℕ, OnSome, OnOk, unwrap_or, IfSome};
-ghost use Rattle.iol_device.specs.Far.{first_of_zeros};
 ghost use Rattle.iol_device.specs.Codec.{message_in, flow_of, octets_of};
 ghost use Rattle.iol_mseq.specs.Replies.{FitsReply};
 
@@ -44,16 +43,6 @@ pub(crate) fn size_of(layout: &Layout) -> u8
     layout.od()
 }
 
-/// The first octet, 0 where there is none.
-pub(crate) fn first(part: &Part) -> u8
-    ensures { result ≡ slice_index part.now.items 0 }
-{
-    match part.as_slice() {
-        [octet, ..] => *octet,
-        [] => 0,
-    }
-}
-
 /// The process data of a part, none where it has no octet.
 pub(crate) fn image_of(part: &Part) -> Option<Image>
     ensures value { unwrap_or result [] ≡ part.now.items }
@@ -68,38 +57,9 @@ pub(crate) fn copy_of(image: &Image) -> Image
     Image::new(image.octets()).unwrap()
 }
 
-pub(crate) fn part_of(octets: &[u8]) -> Part
-    requires { length octets.now ≤ 32 }
-    ensures { result.items ≡ octets.now }
-{
-    Part::try_from(octets).unwrap()
-}
-
 pub(crate) fn message_of(octets: &[u8]) -> Message
     requires { length octets.now ≤ 66 }
     ensures { result.items ≡ octets.now }
 {
     Message::try_from(octets).unwrap()
-}
-
-pub(crate) fn zeros(size: u8) -> Part
-    requires { size ≤ 32 }
-    ensures { result.items ≡ replicate size 0 }
-{
-    let mut part = Part::new();
-    for _i in 0..size {
-        part.push(0);
-    }
-    part
-}
-
-/// An octet, and zeros up to the size.
-pub(crate) fn first_of_zeros(size: u8, octet: u8) -> Part
-    requires room { size ≤ 32 }
-    requires some { 0 < size }
-    ensures { result.items ≡ first_of_zeros size octet }
-{
-    let mut part = zeros(size);
-    part[0] = octet;
-    part
 }

@@ -3,17 +3,16 @@ ghost use Rattle.std.specs.Prelude.{◌≡◌, ℕ, ◌+◌, ◌-◌, ◌<◌, �
 
 use crate::app::{App, Carried};
 use crate::commands::{Mode, Waiting, command_in, is_confirm, mode_asked};
-use crate::data::{
-    copy_of, first, first_of_zeros, flow_of, image_of, message_in, message_of, octets_of, part_of,
-    size_of, zeros,
-};
+use crate::data::{copy_of, flow_of, image_of, message_in, message_of, octets_of, size_of};
 use crate::fault::DeviceFault;
 use crate::isdu::IsduSide;
 use iol_event::{Event, EventMemory};
 use iol_image::Image;
-use iol_mseq::{Layout, MasterMsg, Message, Part, Reply};
+use iol_mseq::{
+    Layout, MasterMsg, Message, Part, Reply, first, first_of_zeros, part_of, zeros,
+};
 use iol_octets::{Channel, Mc};
-use iol_page::{Layouts, MasterCommand, Page};
+use iol_page::{Layouts, MasterCommand, Page, pages_ask_for_layouts};
 use std::alloc::{AllocError, Allocator, Global};
 use std::marker::Model;
 
@@ -81,6 +80,7 @@ impl<A: Allocator + Copy> FarEnd<A> {
         requires page { IsOk (layouts_of page) }
         ensures { IfOk result (λ d. d ≡ far.opened page room) }
     {
+        pages_ask_for_layouts();
         let layouts = page.layouts().unwrap();
         Ok(FarEnd {
             awake: false,

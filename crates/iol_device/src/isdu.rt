@@ -9,9 +9,8 @@ ghost use Rattle.iol_device.specs.Isdu.{Empty, Receiving, Answered, IsduState, i
 ghost use Rattle.iol_device.specs.Inside.{IsduValue, IsKept, GoesOn, IsSent, state_of, sent_flow, is_sent, is_next};
 
 use crate::app::{App, Carried};
-use crate::data::{first_of_zeros, zeros};
 use iol_isdu::{Answer, Request};
-use iol_mseq::Part;
+use iol_mseq::{Part, first_of_zeros, zeros};
 use iol_octets::Flow;
 use iol_segment::{Cutter, Joiner, Reaction};
 use std::marker::Model;

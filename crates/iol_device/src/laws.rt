@@ -2,9 +2,11 @@
 ghost use Rattle.std.specs.Prelude.{◌≤◌, ℕ, List};
 ghost use Rattle.iol_event.specs.declared.event.Event.{Event};
 ghost use Rattle.iol_device.specs.SegmentLaws.{SegmentLaws};
-ghost use Rattle.iol_device.specs.Laws.{OnceIsEnough, MessagesAreHeard, RepliesAreRead, InputStaysSized, MuchStays, OutputStaysInOperate, LevelLaws, EventLaws};
+ghost use Rattle.iol_device.specs.Laws.{OnceIsEnough, MessagesAreHeard, ModesHaveLayouts, RepliesAreRead, InputStaysSized, MuchStays, OutputStaysInOperate, LevelLaws, EventLaws};
 ghost use Rattle.iol_device.specs.Linked.{LinkLaws, TextsAreHeard};
 
+use iol_mseq::what_is_written_is_read;
+use iol_page::pages_ask_for_layouts;
 use iol_segment::texts_join;
 
 /// Hearing the same message again, after whatever the device does by itself, changes nothing: for every message but a
@@ -15,17 +17,30 @@ pub fn hearing_again_changes_nothing()
 {}
 
 /// Octets that spell a message in a layout are heard there as that message.
-#[tactic(auto, using(crate::proofs::Messages::messages_are_heard))]
+#[tactic(auto, unfolding(crate::specs::Codec::message_in))]
 pub fn messages_are_heard()
     ensures { MessagesAreHeard }
-{}
+{
+    what_is_written_is_read();
+}
+
+/// The layout of each mode, whatever the page, is a layout, and has on-request data.
+#[tactic(auto, using(crate::proofs::Pages::modes_have_layouts))]
+pub fn modes_have_layouts()
+    ensures { ModesHaveLayouts }
+{
+    pages_ask_for_layouts();
+}
 
 /// What a device answers, in the layout that it speaks, is read back as that reply.
 #[tactic(auto, using(crate::proofs::Replies::replies_are_read, crate::proofs::LawProofs::input_stays_sized))]
 pub fn replies_are_read()
     ensures read { RepliesAreRead }
     ensures sized { InputStaysSized }
-{}
+{
+    pages_ask_for_layouts();
+    what_is_written_is_read();
+}
 
 /// Hearing carries nothing out, and nothing changes the page or the record's room; the output is valid in OPERATE alone.
 #[tactic(auto, using(crate::proofs::LawProofs::much_stays, crate::proofs::LawProofs::output_stays_in_operate))]
@@ -65,7 +80,9 @@ pub fn links_stay_level()
 {}
 
 /// The octets that a master writes for a message are heard as that message.
-#[tactic(auto, using(crate::proofs::Sent::texts_are_heard))]
+#[tactic(auto, unfolding(crate::specs::Codec::message_in))]
 pub fn texts_are_heard()
     ensures { TextsAreHeard }
-{}
+{
+    what_is_written_is_read();
+}

@@ -308,5 +308,6 @@ fn laws_are_called(rt: HostRuntime) {
     page_and_room_stay();
     requests_are_received();
     ends_stay_level();
+    modes_have_layouts();
     events_stay_until_confirmed();
 }

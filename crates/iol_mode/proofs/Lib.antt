@@ -1,5 +1,4 @@
 mod Controls
-mod Pages
 mod Outs
 mod Startups
 mod Operates

@@ -27,7 +27,8 @@ use Rattle.iol_link.specs.Honest.{HonestExchange}
 use Rattle.iol_link.specs.Meeting.{LinkMet, LinkMissed}
 use Rattle.iol_mode.specs.declared.states.Operate.{Operate}
 use Rattle.iol_mode.specs.Messages.{command_message, stays, stays_by}
-use Rattle.iol_mode.specs.States.{sending_of, operate_by, operate_turned, lost, IsProper, OutFits, OperateFits}
+use Rattle.iol_page.specs.Page.{AreLayouts}
+use Rattle.iol_mode.specs.States.{sending_of, operate_by, operate_turned, lost, OutFits, OperateFits}
 use Rattle.iol_mode.specs.Stands.{entering_link, operate_link, IsOperating, IsTold, IsAccepted, tries_in, text_in, OperateStands, OutcomeStands}
 use Rattle.iol_mode.specs.Next.{MetFits, LostFits}
 use Rattle.iol_mode.specs.Laws.{Laws}
@@ -117,7 +118,7 @@ operate_first : (layout : Shape) → slice_index (master_text layout (command_me
 unfolding control_of
 operate_first layout = refl
 
-module _ (laws : Laws) (layouts : Layouts) (m : MasterMsg) (far : Far) (told : IsTold layouts far) (proper : IsProper layouts)
+module _ (laws : Laws) (layouts : Layouts) (m : MasterMsg) (far : Far) (told : IsTold layouts far) (proper : AreLayouts layouts)
     (parts : HasMasterParts layouts.run m) (stay : stays m ≡ true) where
   -- DeviceOperate, as it was sent in PREOPERATE
   abbrev command : MasterMsg

@@ -8,7 +8,8 @@ use Rattle.iol_page.specs.Commands.{command_octet}
 use Rattle.iol_page.specs.declared.master_command.MasterCommand.{MasterCommand}
 use Rattle.iol_device.specs.declared.commands.Mode.{Mode}
 use Rattle.iol_device.specs.declared.commands.Mode.TheVariants.{Operate}
-use Rattle.iol_device.specs.Far.{first_of_zeros, command_in, mode_asked}
+use Rattle.iol_mseq.specs.Parts.{first_of_zeros}
+use Rattle.iol_device.specs.Far.{command_in, mode_asked}
 use Rattle.iol_link.specs.Attempts.{Sending}
 
 -- the control octet is A0 and the address for a read, 20 and the address for a write

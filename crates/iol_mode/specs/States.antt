@@ -1,10 +1,10 @@
 -- What an attempt makes of a mode, and what holds of a mode on every wire.
 use Rattle.std.specs.Prelude.{◌≡◌, ℕ, ◌+◌, ◌<◌, Bool, true, false, List, [], ◌∷◌, ◌++◌, length, slice_index, Option, Some, None, Result, Ok, Err, IsTrue, if◌then◌else◌, ◌==◌, ⊤}
-use Rattle.iol_mseq.specs.Shape.{Shape, IsLayout, startup_shape}
+use Rattle.iol_mseq.specs.Shape.{Shape, startup_shape}
 use Rattle.iol_mseq.specs.Master.{HasMasterParts}
 use Rattle.iol_mseq.specs.declared.master.MasterMsg.{MasterMsg}
 use Rattle.iol_mseq.specs.declared.reply.Reply.{Reply}
-use Rattle.iol_page.specs.Page.{layouts_of}
+use Rattle.iol_page.specs.Page.{layouts_of, AreLayouts}
 use Rattle.iol_page.specs.declared.page.Layouts.{Layouts}
 use Rattle.iol_page.specs.declared.fault.PageFault.{PageFault}
 use Rattle.iol_page.specs.declared.master_command.MasterCommand.TheVariants.{MasterIdent, DeviceOperate, DevicePreoperate}
@@ -99,18 +99,11 @@ waked false = InDown (record { why = Some NoWake })
 
 -- What holds of a mode on every wire
 
--- layouts of modes, of which that of PREOPERATE has no process data
-pub record IsProper (layouts : Layouts) : Type 0 where
-  pub pre : IsLayout layouts.pre
-  pub run : IsLayout layouts.run
-  pub pre_in : layouts.pre.pd_in ≡ 0
-  pub pre_out : layouts.pre.pd_out ≡ 0
-
--- there is room for the octet that is to come; the layouts told are proper
+-- there is room for the octet that is to come; what was told are layouts
 abbrev pub StepFits : Step → Type 0
 StepFits (Read octets) = length octets.items < 10
-StepFits (Ident told) = IsProper told.layouts
-StepFits (Leave told) = IsProper told.layouts
+StepFits (Ident told) = AreLayouts told.layouts
+StepFits (Leave told) = AreLayouts told.layouts
 
 pub record StartupFits (s : Startup) : Type 0 where
   pub message_is : s.sent.message ≡ step_message s.step
@@ -125,7 +118,7 @@ PreoperateSends false pre message = message ≡ cycle_message pre (slice_index m
 pub record PreoperateFits (s : Preoperate) : Type 0 where
   pub sends : PreoperateSends s.cycle_written s.layouts.pre s.sent.message
   pub parts : HasMasterParts s.layouts.pre s.sent.message
-  pub layouts : IsProper s.layouts
+  pub layouts : AreLayouts s.layouts
 
 -- the message that is out has the sizes of the layout, and doesn't leave OPERATE
 abbrev pub OutFits : Shape → Option Sending → Type 0
@@ -134,7 +127,7 @@ OutFits run (Some sent) = HasMasterParts run sent.message × IsTrue (stays sent.
 
 pub record OperateFits (s : Operate) : Type 0 where
   pub out : OutFits s.layouts.run s.out
-  pub layouts : IsProper s.layouts
+  pub layouts : AreLayouts s.layouts
 
 abbrev pub OutcomeFits : Outcome → Type 0
 OutcomeFits (InDown s) = ⊤

@@ -3,11 +3,10 @@ ghost use Rattle.std.specs.Prelude.{◌≡◌, ◌-◌, ◌∷◌, ◌<◌, ◌�
 ghost use Rattle.iol_octets.specs.Control.{control_of};
 ghost use Rattle.iol_mseq.specs.Shape.{IsLayout, startup_shape};
 ghost use Rattle.iol_mseq.specs.Master.{HasMasterParts};
-ghost use Rattle.iol_device.specs.Far.{first_of_zeros};
 ghost use Rattle.iol_mode.specs.Messages.{page_control, page_read, page_write, command_message, cycle_message, unsent, stays};
 
 use iol_link::Handler;
-use iol_mseq::{Layout, MasterMsg, Part};
+use iol_mseq::{Layout, MasterMsg, Part, first_of_zeros, part_of};
 use iol_octets::{Channel, Mc};
 use iol_page::MasterCommand;
 
@@ -25,20 +24,6 @@ fn page_control(read: bool, address: u8) -> Mc
         channel: Channel::Page,
         address,
     }
-}
-
-/// An octet, and zeros up to the size.
-fn first_of_zeros(size: u8, octet: u8) -> Part
-    requires some { 1 ≤ size }
-    requires most { size ≤ 32 }
-    ensures { result.items ≡ first_of_zeros size octet }
-{
-    let mut part = Part::new();
-    part.push(octet);
-    for _i in 1..size {
-        part.push(0);
-    }
-    part
 }
 
 /// Reads the page at an address, in STARTUP.
@@ -87,13 +72,6 @@ pub(crate) fn cycle_message(layout: &Layout, octet: u8) -> Handler
     page_write(layout, CYCLE_TIME, octet)
 }
 
-fn part_of(octets: &[u8]) -> Part
-    requires { length octets.now ≤ 32 }
-    ensures { result.items ≡ octets.now }
-{
-    Part::try_from(octets).unwrap()
-}
-
 /// A copy of a message.
 pub(crate) fn copy_of(message: &MasterMsg) -> MasterMsg
     ensures { result ≡ message.now }
@@ -102,15 +80,5 @@ pub(crate) fn copy_of(message: &MasterMsg) -> MasterMsg
         mc: message.mc,
         out: part_of(&message.out),
         od: part_of(&message.od),
-    }
-}
-
-/// The first octet, 0 where there is none.
-pub(crate) fn first(part: &Part) -> u8
-    ensures { result ≡ slice_index part.now.items 0 }
-{
-    match part.as_slice() {
-        [octet, ..] => *octet,
-        [] => 0,
     }
 }

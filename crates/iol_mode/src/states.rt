@@ -1,15 +1,15 @@
 //! What a link keeps in each mode, and what an attempt makes of it: plain data, without the wire.
 ghost use Rattle.std.specs.Prelude.{◌≡◌, ◌<◌, ◌≤◌, true, false, Some, None, length, slice_index, IfOk};
-ghost use Rattle.iol_page.specs.Page.{layouts_of};
+ghost use Rattle.iol_page.specs.Page.{layouts_of, AreLayouts};
 ghost use Rattle.iol_mode.specs.Messages.{unsent};
-ghost use Rattle.iol_mode.specs.States.{begun, page_after, step_after, startup_by, preoperate_by, operate_by, sending_of, waked, IsProper, StepFits, StartupFits, PreoperateFits, OutFits, OperateFits, OutcomeFits};
+ghost use Rattle.iol_mode.specs.States.{begun, page_after, step_after, startup_by, preoperate_by, operate_by, sending_of, waked, StepFits, StartupFits, PreoperateFits, OutFits, OperateFits, OutcomeFits};
 
-use crate::messages::{command_message, copy_of, cycle_message, first, page_read};
+use crate::messages::{command_message, copy_of, cycle_message, page_read};
 use crate::why::Why;
 use arrayvec::ArrayVec;
 use iol_link::{Attempt, Handler};
-use iol_mseq::{Layout, MasterMsg, Reply};
-use iol_page::{Layouts, MasterCommand, Page, PageFault};
+use iol_mseq::{Layout, MasterMsg, Reply, first};
+use iol_page::{Layouts, MasterCommand, Page, PageFault, pages_ask_for_layouts};
 
 /// What is kept in a mode: what holds of it on every wire, and how it stands to the device of an honest one.
 pub trait Mode {
@@ -147,11 +147,11 @@ fn begun(step: Step) -> Outcome
 }
 
 /// The layouts that a page asks for.
-#[tactic(auto, using(crate::proofs::Pages::page_proper))]
 fn layouts_of(octets: &[u8; 10]) -> Result<Layouts, PageFault>
     ensures is { result ≡ layouts_of octets.now }
-    ensures proper { IfOk result (λ l. IsProper l) }
+    ensures layouts { IfOk result AreLayouts }
 {
+    pages_ask_for_layouts();
     Page::from_octets(octets).layouts()
 }
 

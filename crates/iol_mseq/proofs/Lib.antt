@@ -1,2 +1,4 @@
 mod Masks
 mod Messages
+mod MasterBack
+mod ReplyBack

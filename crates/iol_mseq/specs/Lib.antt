@@ -2,5 +2,7 @@ pub mod Shape
 pub mod Master
 pub mod Replies
 pub mod Texts
+pub mod Parts
+pub mod ReadBack
 pub mod Flips
 pub mod Fault

@@ -14,10 +14,10 @@ mod parts;
 mod reply;
 
 pub use fault::MseqFault;
-pub use laws::one_flip_is_refused;
+pub use laws::{one_flip_is_refused, what_is_written_is_read};
 pub use layouts::Layout;
 pub use master::{MasterMsg, encode_master, read_master};
-pub use parts::{Message, Part};
+pub use parts::{Message, Part, first, first_of_zeros, part_of, zeros};
 pub use reply::{Reply, encode_reply, read_reply};
 
 #[cfg(test)]

@@ -1,7 +1,8 @@
 //! The buffers of messages and of their parts.
-ghost use Rattle.std.specs.Prelude.{◌≡◌, ◌+◌, ◌<◌, ◌≤◌, ◌%◌, length, slice_index, slice_set, [], ◌∷◌, ◌++◌, IsTrue};
+ghost use Rattle.std.specs.Prelude.{◌≡◌, ◌+◌, ◌<◌, ◌≤◌, ◌%◌, length, replicate, slice_index, slice_set, [], ◌∷◌, ◌++◌, IsTrue};
 ghost use Rattle.arrayvec.specs.ArrayVec.{array_vec_len};
 ghost use Rattle.iol_octets.specs.Checksum.{checksum_of, has_checksum, with_checksum};
+ghost use Rattle.iol_mseq.specs.Parts.{first_of_zeros};
 ghost use Rattle.iol_mseq.specs.Texts.{closed_by};
 
 use arrayvec::ArrayVec;
@@ -13,12 +14,46 @@ pub type Message = ArrayVec<u8, 66>;
 /// The octets of one part of a message: on-request data, or process data in or out.
 pub type Part = ArrayVec<u8, 32>;
 
-/// A part with these octets.
-pub(crate) fn part_of(octets: &[u8]) -> Part
+/// A part with these octets, at most 32.
+pub fn part_of(octets: &[u8]) -> Part
     requires { length octets.now ≤ 32 }
     ensures { result.items ≡ octets.now }
 {
     ArrayVec::try_from(octets).unwrap()
+}
+
+/// So many zeros, at most 32.
+pub fn zeros(size: u8) -> Part
+    requires { size ≤ 32 }
+    ensures { result.items ≡ replicate size 0 }
+{
+    let mut part = Part::new();
+    for _i in 0..size {
+        part.push(0);
+    }
+    part
+}
+
+/// The on-request data of the page and diagnosis channels, 1 to 32 octets: the first is meant, the others are 0
+/// (profile).
+pub fn first_of_zeros(size: u8, octet: u8) -> Part
+    requires most { size ≤ 32 }
+    requires some { 1 ≤ size }
+    ensures { result.items ≡ first_of_zeros size octet }
+{
+    let mut part = zeros(size);
+    part[0] = octet;
+    part
+}
+
+/// The octet that is meant on the page and diagnosis channels: the first, 0 where there is none.
+pub fn first(octets: &[u8]) -> u8
+    ensures { result ≡ slice_index octets.now 0 }
+{
+    match octets {
+        [octet, ..] => *octet,
+        [] => 0,
+    }
 }
 
 /// Puts a part at the end.

@@ -158,3 +158,18 @@ fn layouts(rt: HostRuntime) -> Result<(), Fail> {
     assert_eq!(rt; message.od.as_slice(), [0x98].as_slice());
     Ok(())
 }
+
+#[test]
+fn parts_of_messages(rt: HostRuntime) {
+    assert_eq!(rt;
+        part_of(&[0x12, 0x34]).as_slice(),
+        [0x12u8, 0x34].as_slice()
+    );
+    assert_eq!(rt; zeros(3).as_slice(), [0u8; 3].as_slice());
+    assert_eq!(rt;
+        first_of_zeros(4, 0x99).as_slice(),
+        [0x99u8, 0, 0, 0].as_slice()
+    );
+    assert_eq!(rt; first(&[0x5A, 0x01]), 0x5A);
+    assert_eq!(rt; first(&[]), 0);
+}

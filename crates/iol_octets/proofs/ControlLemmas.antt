@@ -3,7 +3,7 @@ use Rattle.std.proofs.Common.{◌≡◌, ℕ, ◌+◌, ◌*◌, ◌<◌, ◌≤�
 use Rattle.std.proofs.lemmas.Bool.Decides.{nat_tests}
 use Rattle.std.proofs.Math.Bridge.{le_prop}
 use mathlib.Core.HLevel.{is_prop→PathP}
-use Rattle.iol_octets.specs.Control.{control_octet, channel_code, channel_of, control_of}
+use Rattle.iol_octets.specs.Control.{control_octet, channel_code, channel_of, control_of, ControlsAreReadBack}
 use Rattle.iol_octets.specs.declared.control.Channel.{Channel}
 use Rattle.iol_octets.specs.declared.control.Channel.TheVariants.{Process, Page, Diagnosis, Isdu}
 use Rattle.iol_octets.specs.declared.control.Mc.{Mc}
@@ -50,3 +50,11 @@ unfolding control_of
 control_octet-of octet h =
     let code : channel_code (channel_of (octet / 32 % 4)) ≡ octet / 32 % 4 = code_of (octet / 32 % 4) (omega arith) in
     ap (λ n. (if nat_le 128 octet then 128 else 0) + 32 * n + octet % 32) code ∙ grind (arith, nat_tests)
+
+pub control_small : (read : Bool) (code address : ℕ) → code < 4 → address ≤ 31 → (if read then 128 else 0) + 32 * code + address < 256
+control_small true code address c a = omega arith
+control_small false code address c a = omega arith
+
+pub controls_are_read_back : ControlsAreReadBack
+controls_are_read_back mc =
+    same_from_octet (control_of (control_octet mc)) mc (control_octet-of (control_octet mc) (control_small mc.read (channel_code mc.channel) mc.address (code_small mc.channel) mc.in_range))

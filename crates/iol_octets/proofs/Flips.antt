@@ -4,7 +4,7 @@ use Rattle.std.proofs.lemmas.Bool.{agree_below, agree_below_at, not-true, ltb-tr
 use Rattle.std.proofs.lemmas.Nat.{and_mask}
 use Rattle.std.proofs.lemmas.List.{set_comm, set-get_or, set_past, set-set, length-set, get_or-set_other, get_or-set_same}
 use Rattle.std.specs.Int.Bits.{xor_assoc, xor_comm, xor_self, xor_lt}
-use Rattle.iol_octets.specs.Checksum.{folded, compressed, checksum_of, cleared, has_checksum, with_flip, AreOctets}
+use Rattle.iol_octets.specs.Checksum.{folded, compressed, checksum_of, cleared, has_checksum, with_flip, AreOctets, ChecksumsFit}
 
 -- a test that each octet passes with each bit
 pub each_flip : (test : ℕ → ℕ → Bool) → agree_below (λ n. test (n / 8) (n % 8)) (λ _. true) 2048 ≡ true → (octet bit : ℕ) → octet < 256 → bit < 8 → test octet bit ≡ true
@@ -136,6 +136,14 @@ has_checksum-put place octets h z s =
     let back : cleared place (set octets place v) ≡ octets =
     ap (λ x. set (set octets place v) place (64 * (x / 64))) new ∙ set-set octets place v (64 * (v / 64)) ∙ ap (set octets place) q ∙ set-get_or octets place 0 in
     eq-eqb _ _ (ap (λ x. x % 64) new ∙ r ∙ sym (ap checksum_of back))
+
+-- six bits, in octets of any size
+pub sum_small : (octets : List ℕ) → checksum_of octets < 64
+unfolding checksum_of compressed
+sum_small octets = omega arith
+
+pub checksums_fit : ChecksumsFit
+checksums_fit octets = (sum_small octets, λ place h clear. has_checksum-put place octets h clear (sum_small octets))
 
 -- the sum with the six bits of one octet taken out by a second XOR
 pub folded-cleared : (octets : List ℕ) (place : ℕ) → AreOctets octets → place < length octets → folded (cleared place octets) ≡ bit_xor (folded octets) (bit_and (get_or octets place 0) 63)

@@ -36,6 +36,10 @@ with_checksum place octets = slice_set octets place (slice_index octets place + 
 abbrev pub ChecksumFits : List ℕ → Type 0
 ChecksumFits octets = (place : ℕ) → place < length octets → slice_index octets place % 64 ≡ 0 → IsTrue (has_checksum place (with_checksum place octets))
 
+-- a checksum has six bits, and octets have theirs once it is put where six zeros stand
+abbrev pub ChecksumsFit : Type 0
+ChecksumsFit = (octets : List ℕ) → (checksum_of octets < 64) × ChecksumFits octets
+
 -- the octets with one bit flipped
 abbrev pub with_flip : List ℕ → ℕ → ℕ → List ℕ
 with_flip octets place bit = slice_set octets place (bit_xor (slice_index octets place) (2 ^ bit))

@@ -1,5 +1,5 @@
 -- The M-sequence control octet (IEC 61131-9, A.1.2).
-use Rattle.std.specs.Prelude.{ℕ, ◌+◌, ◌*◌, ◌/◌, ◌%◌, zero, suc, nat_le, if◌then◌else◌}
+use Rattle.std.specs.Prelude.{◌≡◌, ℕ, ◌+◌, ◌*◌, ◌/◌, ◌%◌, zero, suc, nat_le, if◌then◌else◌}
 use Rattle.iol_octets.specs.declared.control.Channel.{Channel}
 use Rattle.iol_octets.specs.declared.control.Channel.TheVariants.{Process, Page, Diagnosis, Isdu}
 use Rattle.iol_octets.specs.declared.control.Mc.{Mc}
@@ -31,3 +31,7 @@ control_of octet = record {
   address = octet % 32;
   in_range = le-pred_of_lt (mod-lt octet (zero-lt-suc 31));
 }
+
+-- what is written of a control octet is read back as it
+abbrev pub ControlsAreReadBack : Type 0
+ControlsAreReadBack = (mc : Mc) → control_of (control_octet mc) ≡ mc

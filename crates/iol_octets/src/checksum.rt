@@ -1,5 +1,5 @@
 ghost use Rattle.std.specs.Prelude.{◌≡◌, ◌<◌, length};
-ghost use Rattle.iol_octets.specs.Checksum.{checksum_of, compressed, folded, has_checksum, ChecksumFits, FlipIsSeen};
+ghost use Rattle.iol_octets.specs.Checksum.{checksum_of, compressed, folded, has_checksum, ChecksumFits};
 
 /// What the fold over the octets starts with.
 const SEED: u8 = 0x52;
@@ -27,12 +27,6 @@ pub fn has_checksum6(octets: &[u8], place: usize) -> bool
     // A second XOR takes the six bits out of the fold again.
     sum == compress(fold(octets) ^ sum)
 }
-
-/// A law of the checksum, without code: octets that have their checksum and of which one bit is
-/// flipped don't have it. Two flipped bits may go unseen.
-pub fn one_flip_is_seen()
-    ensures { FlipIsSeen }
-{}
 
 /// The XOR of the seed and all octets.
 fn fold(octets: &[u8]) -> u8

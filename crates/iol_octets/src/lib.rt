@@ -10,12 +10,14 @@ mod checksum;
 mod control;
 mod fault;
 mod flow_control;
+mod laws;
 
 pub use check_octets::{Cks, Ckt};
-pub use checksum::{checksum6, has_checksum6, one_flip_is_seen};
+pub use checksum::{checksum6, has_checksum6};
 pub use control::{Channel, Mc};
 pub use fault::OctetFault;
 pub use flow_control::Flow;
+pub use laws::{checksums_fit, control_octets_are_read_back, one_flip_is_seen};
 
 #[cfg(test)]
 mod tests;

@@ -1,6 +1,6 @@
 -- What the octets of direct parameter page 1 mean (IEC 61131-9, B.1).
-use Rattle.std.specs.Prelude.{ℕ, ◌+◌, ◌-◌, ◌/◌, ◌%◌, Bool, ◌==◌, ◌&&◌, not, nat_le, if◌then◌else◌, List, slice_index, Option, Some, None, Result, Ok, Err}
-use Rattle.iol_mseq.specs.Shape.{Shape, preoperate_shape, operate_shape}
+use Rattle.std.specs.Prelude.{◌≡◌, ℕ, ◌+◌, ◌-◌, ◌/◌, ◌%◌, Bool, ◌==◌, ◌&&◌, not, nat_le, if◌then◌else◌, List, slice_index, Option, Some, None, Result, Ok, Err, IfOk}
+use Rattle.iol_mseq.specs.Shape.{Shape, IsLayout, preoperate_shape, operate_shape}
 use Rattle.iol_mseq.specs.declared.fault.MseqFault.{MseqFault}
 use Rattle.iol_page.specs.declared.fault.PageFault.{PageFault}
 use Rattle.iol_page.specs.declared.fault.PageFault.TheVariants.{Revision, NoIsdu, BadPdLength, UnsupportedCode}
@@ -61,3 +61,14 @@ layouts_of page =
     if not (page_octet page 4 == 0x11) then Err (Revision (page_octet page 4)) else
     if not (has_isdu (page_octet page 3)) then Err NoIsdu else
     layouts_with (page_octet page 3) (length_of (page_octet page 5)) (length_of (page_octet page 6))
+
+-- both are layouts, that of PREOPERATE without process data
+pub record AreLayouts (layouts : Layouts) : Type 0 where
+  pub pre : IsLayout layouts.pre
+  pub run : IsLayout layouts.run
+  pub pre_in : layouts.pre.pd_in ≡ 0
+  pub pre_out : layouts.pre.pd_out ≡ 0
+
+-- what a page asks for
+abbrev pub PagesAskForLayouts : Type 0
+PagesAskForLayouts = (page : List ℕ) → IfOk (layouts_of page) AreLayouts

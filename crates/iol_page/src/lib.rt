@@ -4,12 +4,14 @@
 
 mod capability;
 mod fault;
+mod laws;
 mod lengths;
 mod master_command;
 mod page;
 
 pub use capability::Capability;
 pub use fault::PageFault;
+pub use laws::pages_ask_for_layouts;
 pub use lengths::PdLength;
 pub use master_command::MasterCommand;
 pub use page::{Layouts, Page};

@@ -6,7 +6,7 @@ use Rattle.iol_device.specs.declared.app.Carried.{Carried}
 use Rattle.iol_device.specs.Far.{Far}
 use Rattle.iol_device.specs.Local.{LocalStep, local, locals}
 use Rattle.iol_device.specs.Level.{Progress, Link, IsLevel}
-use Rattle.iol_device.specs.Laws.{IsSized, RepliesAreRead, InputStaysSized, MuchStays, LevelLaws, EventLaws}
+use Rattle.iol_device.specs.Laws.{IsSized, RepliesAreRead, InputStaysSized, MuchStays, LevelLaws, EventLaws, ModesHaveLayouts}
 
 pub record Laws : Type 0 where
   pub level : (size : ℕ) → 1 ≤ size → LevelLaws size
@@ -14,9 +14,10 @@ pub record Laws : Type 0 where
   pub reads : RepliesAreRead
   pub sized : InputStaysSized
   pub events : (first : Event) (rest : List Event) → EventLaws first rest
+  pub layouts : ModesHaveLayouts
 
-abbrev pub all_laws : ((size : ℕ) → 1 ≤ size → LevelLaws size) → MuchStays → RepliesAreRead → InputStaysSized → ((first : Event) (rest : List Event) → EventLaws first rest) → Laws
-all_laws level much reads sized events = record { level = level; much = much; reads = reads; sized = sized; events = events }
+abbrev pub all_laws : ((size : ℕ) → 1 ≤ size → LevelLaws size) → MuchStays → RepliesAreRead → InputStaysSized → ((first : Event) (rest : List Event) → EventLaws first rest) → ModesHaveLayouts → Laws
+all_laws level much reads sized events layouts = record { level = level; much = much; reads = reads; sized = sized; events = events; layouts = layouts }
 
 module _ (laws : Laws) where
   pub page_locals : (steps : List LocalStep) (far : Far) → (locals far steps).page ≡ far.page

@@ -16,7 +16,7 @@ use Rattle.iol_device.specs.Codec.{layout_in, flow_of}
 use Rattle.iol_device.specs.Far.{Far, hear, reply_to}
 use Rattle.iol_device.specs.Local.{LocalStep, locals}
 use Rattle.iol_device.specs.Level.{Progress, Quiet, Written, Busy as IsBusy, Had as IsHad, Stands as FarStands, Move, Ask, Leave, after, IsMove, base_after, turned, IsBefore}
-use Rattle.iol_device.specs.Laws.{IsRegular, RepliesAreRead, InputStaysSized, MuchStays, LevelLaws, EventLaws}
+use Rattle.iol_device.specs.Laws.{IsRegular, RepliesAreRead, InputStaysSized, MuchStays, LevelLaws, EventLaws, ModesHaveLayouts}
 use Rattle.iol_steps.specs.declared.mode.Mode.{Mode}
 use Rattle.iol_steps.specs.declared.mode.Mode.TheVariants.{Down, Operate}
 use Rattle.iol_steps.specs.Step.{Step, Done, Unknown, Report, ShowImage, Busy, Image, Exchanged, output_length, Moment, is_for_book, is_report, book_said, reports_said}
@@ -366,9 +366,9 @@ module _ (laws : Laws) (readers : ReaderLaws) (s : Station) (u : Unseen) (stands
   turn_of Went h = absurd h
 
 module _ (level : (size : ℕ) → 1 ≤ size → LevelLaws size) (much : MuchStays) (reads : RepliesAreRead) (sized : InputStaysSized) (events : (first : Event) (rest : List Event) → EventLaws first rest)
-    (memory : MemoryStaysValid) (waits : WaitsForAll) (gives : GivesFrozen) where
+    (layouts : ModesHaveLayouts) (memory : MemoryStaysValid) (waits : WaitsForAll) (gives : GivesFrozen) where
   abbrev laws : Laws
-  laws = all_laws level much reads sized events
+  laws = all_laws level much reads sized events layouts
 
   abbrev readers : ReaderLaws
   readers = record { memory = memory; waits = waits; gives = gives }

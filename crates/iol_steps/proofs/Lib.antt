@@ -7,7 +7,6 @@ mod Clash
 mod Longer
 mod Told
 mod KindsSession
-mod Layouts
 mod OpenLevel
 mod Given
 mod Sending

@@ -7,7 +7,7 @@ use Rattle.iol_image.specs.Image.{IsImage}
 use Rattle.iol_link.specs.Honest.{Passage, far_after}
 use Rattle.iol_device.specs.Far.{Far}
 use Rattle.iol_device.specs.Local.{LocalStep, locals}
-use Rattle.iol_device.specs.Laws.{RepliesAreRead, InputStaysSized, MuchStays, LevelLaws, EventLaws}
+use Rattle.iol_device.specs.Laws.{RepliesAreRead, InputStaysSized, MuchStays, LevelLaws, EventLaws, ModesHaveLayouts}
 use Rattle.iol_steps.specs.declared.mode.Mode.TheVariants.{Down, Operate}
 use Rattle.iol_steps.specs.Step.{Step, Image, Exchanged, output_length, Moment, is_for_book, is_report, book_said, reports_said}
 use Rattle.iol_steps.specs.Bridge.{Hidden, exchange_steps}
@@ -176,9 +176,10 @@ module _ (laws : Laws) (s : Station) (u : Unseen) (stands : Stands s u) (n : s.s
 third_time : (tries silence : ℕ) → tries ≡ 2 → tries ≤ silence → 3 ≤ min 3 (silence + 1)
 third_time tries silence e few = grind (arith, nat_tests, common_steps)
 
-module _ (level : (size : ℕ) → 1 ≤ size → LevelLaws size) (much : MuchStays) (reads : RepliesAreRead) (sized : InputStaysSized) (events : (first : Event) (rest : List Event) → EventLaws first rest) where
+module _ (level : (size : ℕ) → 1 ≤ size → LevelLaws size) (much : MuchStays) (reads : RepliesAreRead) (sized : InputStaysSized) (events : (first : Event) (rest : List Event) → EventLaws first rest)
+    (layouts : ModesHaveLayouts) where
   abbrev laws : Laws
-  laws = all_laws level much reads sized events
+  laws = all_laws level much reads sized events layouts
 
   pub missed_gives : MissedGives
   missed_gives s u w far silence x few =

@@ -16,7 +16,6 @@ use Rattle.iol_steps.specs.Station.{Out, Shown, Station, Unseen, images_of, imag
 use Rattle.iol_steps.specs.Turn.{moment_of}
 use Rattle.iol_steps.specs.Exchange.{is_made, shown_made, made, told_by}
 use Rattle.iol_steps.proofs.Given.{Laws, page_locals, page_after, level_locals, level_after}
-use Rattle.iol_steps.proofs.Layouts.{has_od}
 use Rattle.iol_steps.proofs.OwnSession.{SessionRuns, session_runs-append, exchange_session, own_open}
 use Rattle.iol_steps.proofs.FrozenPart.{FrozenRuns, frozen_runs-append, exchange_frozen}
 use Rattle.iol_steps.proofs.ImagesPart.{ImagesRuns, images_runs-append, exchange_images}
@@ -80,10 +79,10 @@ module _ (laws : Laws) (s : Station) (u : Unseen) (stands : Stands s u) (n : s.s
   page_then = page_after laws passage (locals s.far steps) w.octets ∙ page_here
 
   pub level_here : IsLevel s.terms.page (layout_at s).od up.base s.link s.progress w.octets w.tries (locals s.far steps)
-  level_here = level_locals laws s.terms.page (layout_at s).od (has_od s.terms.page (far_mode s.seen.mode)) up.base s.link s.progress w.octets w.tries steps s.far sending.level
+  level_here = level_locals laws s.terms.page (layout_at s).od (laws.layouts s.terms.page (far_mode s.seen.mode)).1 up.base s.link s.progress w.octets w.tries steps s.far sending.level
 
   pub level_then : IsLevel s.terms.page (layout_at s).od up.base s.link s.progress w.octets (suc w.tries) passed
-  level_then = level_after laws s.terms.page (layout_at s).od (has_od s.terms.page (far_mode s.seen.mode)) up.base s.link s.progress w.octets w.tries passage (locals s.far steps) level_here
+  level_then = level_after laws s.terms.page (layout_at s).od (laws.layouts s.terms.page (far_mode s.seen.mode)).1 up.base s.link s.progress w.octets w.tries passage (locals s.far steps) level_here
 
   tied_here : IsTied up.base s.seen.request hidden_then (locals s.far steps).carried
   tied_here = tied_locals up.base s.seen.request steps s.far u.hidden stands.opens (up.late, up.answer)

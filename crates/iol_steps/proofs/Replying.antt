@@ -16,7 +16,6 @@ use Rattle.iol_device.specs.Level.{Link, taken as taken_link, IsSent, IsLevel}
 use Rattle.iol_device.specs.Laws.{IsSized, ReplySays}
 use Rattle.iol_steps.specs.Station.{Out, Station, Unseen, far_mode, layout_at}
 use Rattle.iol_steps.proofs.Given.{Laws, level_locals, page_locals, sized_locals}
-use Rattle.iol_steps.proofs.Layouts.{has_od, layout_is}
 use Rattle.iol_steps.proofs.Accepted.{by_accepted}
 use Rattle.iol_steps.proofs.Sending.{Sending}
 use Rattle.iol_device.specs.declared.commands.Mode as device
@@ -45,7 +44,7 @@ module _ (laws : Laws) (s : Station) (u : Unseen) (base : List Carried) (w : Out
   -- a reply to the message says how the far end stands
   pub says_of : (most : ℕ) (far : Far) → IsLevel s.terms.page (layout_at s).od base s.link s.progress w.octets most far → (reply : List ℕ) → (hear far w.octets).reply ≡ Some reply
       → ReplySays s.terms.page (layout_at s).od base s.link s.progress w.octets w.message w.what (hear far w.octets)
-  says_of most far level reply e = (laws.level (layout_at s).od (has_od s.terms.page (far_mode s.seen.mode))).replies s.terms.page base s.link s.progress w.octets w.message w.what sent_at most far level reply e
+  says_of most far level reply e = (laws.level (layout_at s).od (laws.layouts s.terms.page (far_mode s.seen.mode)).1).replies s.terms.page base s.link s.progress w.octets w.message w.what sent_at most far level reply e
 
   -- whatever it accepts there is the message, in the layout of the mode
   pub accepts_as : (most : ℕ) (far : Far) → far.page ≡ s.terms.page → IsLevel s.terms.page (layout_at s).od base s.link s.progress w.octets most far → (there : Far) (m : MasterMsg) → accepted far w.octets ≡ Some (there, m)
@@ -76,7 +75,7 @@ module _ (laws : Laws) (s : Station) (u : Unseen) (base : List Carried) (w : Out
 
   module _ (far : Far) (silence : ℕ) (answer : Option (List ℕ)) (h : HonestExchange s.far s.silence w.octets answer far silence) where
     pub level_now : IsLevel s.terms.page (layout_at s).od base s.link s.progress w.octets w.tries (locals s.far h.steps)
-    level_now = level_locals laws s.terms.page (layout_at s).od (has_od s.terms.page (far_mode s.seen.mode)) base s.link s.progress w.octets w.tries h.steps s.far sending.level
+    level_now = level_locals laws s.terms.page (layout_at s).od (laws.layouts s.terms.page (far_mode s.seen.mode)).1 base s.link s.progress w.octets w.tries h.steps s.far sending.level
 
     pub page_now : (locals s.far h.steps).page ≡ s.terms.page
     page_now = page_locals laws h.steps s.far ∙ page
@@ -99,7 +98,7 @@ module _ (laws : Laws) (s : Station) (u : Unseen) (base : List Carried) (w : Out
 
     unread : (a : Option (List ℕ)) → IsUnread w.octets a → good_reply (layout_at s) w.message a ≡ None
     unread None k = refl
-    unread (Some octets) k = k (layout_at s) w.message (layout_is s.terms.page (far_mode s.seen.mode)) (spells_master (layout_at s) w.octets w.message spells)
+    unread (Some octets) k = k (layout_at s) w.message (laws.layouts s.terms.page (far_mode s.seen.mode)).0 (spells_master (layout_at s) w.octets w.message spells)
 
     -- without a good reply there is silence
     pub silent : good_reply (layout_at s) w.message answer ≡ None → silence ≡ min 3 (s.silence + 1)

@@ -15,7 +15,6 @@ use Rattle.iol_steps.specs.Images.{image_or}
 use Rattle.iol_steps.specs.Station.{Out, Reading, Resting, Flagged, Under, Due, is_due, Shown, Station, Unseen, far_mode, layout_at, confirms, output_command, Suits, LevelAt, EventsFit, confirm_out, tries_of, output_out, OutFits, IsUp}
 use Rattle.iol_steps.specs.Exchange.{is_new, is_made, shown_made, made, output_due, IsNew, Sends}
 use Rattle.iol_steps.proofs.Given.{Laws}
-use Rattle.iol_steps.proofs.Layouts.{has_od}
 use Rattle.iol_steps.proofs.FirstOctet.{confirms_of}
 
 pub not_new : (mode : Mode) (w : Out) → is_new mode (Some w) ≡ false
@@ -35,7 +34,7 @@ made_some false shown h = h
 starts_level : (laws : Laws) (s : Station) (base : List Carried) (w : Out) → IsNew s w → LevelAt s base None → LevelAt s base (Some w)
 starts_level laws s base w new before =
     subst (λ (n : ℕ). IsLevel s.terms.page (layout_at s).od base s.link s.progress w.octets n s.far) (sym new.first)
-    (((laws.level (layout_at s).od (has_od s.terms.page (far_mode s.seen.mode))).stays s.terms.page base s.link s.progress w.octets).begins s.far before)
+    (((laws.level (layout_at s).od (laws.layouts s.terms.page (far_mode s.seen.mode)).1).stays s.terms.page base s.link s.progress w.octets).begins s.far before)
 
 events_due : (r : Reading) (c : Bool) (m : Events) → (c ≡ true → is_due r ≡ true) → EventsFit r false m → EventsFit r c m
 events_due Resting c m due h = tt

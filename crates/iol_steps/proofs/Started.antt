@@ -12,7 +12,7 @@ use Rattle.iol_device.specs.Codec.{layout_in}
 use Rattle.iol_device.specs.Far.{Far, hear, command_in, reply_to}
 use Rattle.iol_device.specs.Local.{LocalStep, locals}
 use Rattle.iol_device.specs.Level.{Progress, Quiet, base_after, turned, IsBefore}
-use Rattle.iol_device.specs.Laws.{IsRegular, RepliesAreRead, InputStaysSized, MuchStays, LevelLaws, EventLaws}
+use Rattle.iol_device.specs.Laws.{IsRegular, RepliesAreRead, InputStaysSized, MuchStays, LevelLaws, EventLaws, ModesHaveLayouts}
 use Rattle.iol_steps.specs.declared.mode.Mode.{Mode}
 use Rattle.iol_steps.specs.declared.mode.Mode.TheVariants.{Down, Startup, Preoperate, Operate}
 use Rattle.iol_mode.specs.declared.why.Why.{Why}
@@ -30,7 +30,6 @@ use Rattle.iol_page.specs.declared.page.Layouts.{Layouts}
 use Rattle.iol_page.specs.declared.fault.PageFault.{PageFault}
 use Rattle.iol_page.specs.declared.fault.PageFault.TheVariants as page
 use Rattle.iol_steps.proofs.Given.{Laws, all_laws}
-use Rattle.iol_steps.proofs.Layouts.{has_od}
 use Rattle.iol_steps.proofs.EventReading.{ReaderLaws}
 use Rattle.iol_steps.proofs.Moves.{answer_after, only_quiet}
 use Rattle.iol_steps.proofs.Sending.{Sending, sending}
@@ -113,7 +112,7 @@ module _ (laws : Laws) (readers : ReaderLaws) (s : Station) (u : Unseen) (stands
   -- with the sizes of another layout
   level' : (mode : Mode) → IsBefore s.terms.page (layout_in s.terms.page (far_mode mode)).od (base_after w.what up.base there.carried) (turned s.link w.octets w.message) (progress_had s w reply) there
   level' mode = subst (λ (p : Progress). IsBefore s.terms.page (layout_in s.terms.page (far_mode mode)).od (base_after w.what up.base there.carried) (turned s.link w.octets w.message) p there) (sym quiet')
-      ((laws.level (layout_at s).od (has_od s.terms.page (far_mode s.seen.mode))).quiet (layout_in s.terms.page (far_mode mode)).od s.terms.page (base_after w.what up.base there.carried) (turned s.link w.octets w.message) there
+      ((laws.level (layout_at s).od (laws.layouts s.terms.page (far_mode s.seen.mode)).1).quiet (layout_in s.terms.page (far_mode mode)).od s.terms.page (base_after w.what up.base there.carried) (turned s.link w.octets w.message) there
       (subst (λ (p : Progress). IsBefore s.terms.page (layout_at s).od (base_after w.what up.base there.carried) (turned s.link w.octets w.message) p there) quiet' before'))
 
   opens' : IsOpen there.isdu s.seen.request hidden'
@@ -332,9 +331,9 @@ module _ (laws : Laws) (readers : ReaderLaws) (s : Station) (u : Unseen) (stands
   turn_of Gone h unread = absurd h
 
 module _ (level : (size : ℕ) → 1 ≤ size → LevelLaws size) (much : MuchStays) (reads : RepliesAreRead) (sized : InputStaysSized) (events : (first : Event) (rest : List Event) → EventLaws first rest)
-    (memory : MemoryStaysValid) (waits : WaitsForAll) (gives : GivesFrozen) where
+    (layouts : ModesHaveLayouts) (memory : MemoryStaysValid) (waits : WaitsForAll) (gives : GivesFrozen) where
   abbrev laws : Laws
-  laws = all_laws level much reads sized events
+  laws = all_laws level much reads sized events layouts
 
   abbrev readers : ReaderLaws
   readers = record { memory = memory; waits = waits; gives = gives }

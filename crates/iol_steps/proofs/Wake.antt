@@ -8,7 +8,7 @@ use Rattle.iol_device.specs.Codec.{layout_in}
 use Rattle.iol_device.specs.Far.{Far}
 use Rattle.iol_device.specs.Local.{LocalStep, locals, woken}
 use Rattle.iol_device.specs.Level.{Quiet, IsBefore}
-use Rattle.iol_device.specs.Laws.{RepliesAreRead, InputStaysSized, MuchStays, LevelLaws, EventLaws}
+use Rattle.iol_device.specs.Laws.{RepliesAreRead, InputStaysSized, MuchStays, LevelLaws, EventLaws, ModesHaveLayouts}
 use Rattle.iol_steps.specs.declared.mode.Mode.TheVariants.{Down, Startup, Operate}
 use Rattle.iol_mode.specs.declared.why.Why.TheVariants.{NoWake}
 use Rattle.iol_steps.specs.declared.said.Said.TheVariants.{Idle}
@@ -21,7 +21,6 @@ use Rattle.iol_steps.specs.Turn.{moment_of, TurnGives}
 use Rattle.iol_steps.specs.Exchange.{startup_link, woke, unwoken, after_wake}
 use Rattle.iol_steps.specs.Promises.{WakeGives}
 use Rattle.iol_steps.proofs.Given.{Laws, all_laws, page_locals}
-use Rattle.iol_steps.proofs.Layouts.{has_od}
 use Rattle.iol_steps.proofs.OwnSession.{SessionRuns, session_runs-append, wake_session, own_open, woken_if}
 use Rattle.iol_steps.proofs.FrozenPart.{FrozenRuns, frozen_runs-append, wake_frozen}
 use Rattle.iol_steps.proofs.ImagesPart.{ImagesRuns, images_runs-append, wake_images}
@@ -112,7 +111,7 @@ module _ (laws : Laws) (s : Station) (u : Unseen) (stands : Stands s u) (down : 
         told = refl;
         base = (locals s.far steps).carried;
         level = subst (λ (x : List ℕ). IsBefore x (layout_in s.terms.page FarStartup).od (locals s.far steps).carried startup_link Quiet (woken (locals s.far steps))) page_now
-            ((laws.level (layout_in s.terms.page FarStartup).od (has_od s.terms.page FarStartup)).wakes (locals s.far steps));
+            ((laws.level (layout_in s.terms.page FarStartup).od (laws.layouts s.terms.page FarStartup).1).wakes (locals s.far steps));
         out = tt;
         answer = rw free refl;
         progress = tt;
@@ -190,9 +189,9 @@ module _ (laws : Laws) (s : Station) (u : Unseen) (stands : Stands s u) (down : 
   }
 
 -- from the wire's own words
-pub wake_gives : ((size : ℕ) → 1 ≤ size → LevelLaws size) → MuchStays → RepliesAreRead → InputStaysSized → ((first : Event) (rest : List Event) → EventLaws first rest) → WakeGives
-wake_gives level much reads sized events s u answered far stands down h =
-    let laws : Laws = all_laws level much reads sized events in
+pub wake_gives : ((size : ℕ) → 1 ≤ size → LevelLaws size) → MuchStays → RepliesAreRead → InputStaysSized → ((first : Event) (rest : List Event) → EventLaws first rest) → ModesHaveLayouts → WakeGives
+wake_gives level much reads sized events layouts s u answered far stands down h =
+    let laws : Laws = all_laws level much reads sized events layouts in
     subst (λ (r : Option Request). TurnGives s u (quiet_said r) (after_wake answered s far)) (sym (free laws s u stands down h.steps)) (by_answer laws answered h.far_is h.answered_is)
   where
     by_answer : Laws → (answered : Bool) → far ≡ woken_if h.wakes (locals s.far h.steps) → (answered ≡ true → h.wakes ≡ true) → TurnGives s u Idle (after_wake answered s far)

@@ -3,7 +3,8 @@
 ghost use Rattle.iol_steps.specs.Promises.{WakeGives, MissedGives, LostGives, HadGives, StartedGives, ReplyTells, TextNamesAnswer, OpenGives, WantGives, BeginGives, RestartGives};
 
 use iol_device::{
-    ends_stay_level, events_stay_until_confirmed, page_and_room_stay, replies_are_read,
+    ends_stay_level, events_stay_until_confirmed, modes_have_layouts, page_and_room_stay,
+    replies_are_read,
 };
 use iol_event::{memory_stays_valid, reading_gives_the_frozen_list};
 use iol_isdu::{one_text_each, one_text_in_front};
@@ -20,6 +21,7 @@ pub fn wake_gives_steps()
     page_and_room_stay();
     replies_are_read();
     events_stay_until_confirmed();
+    modes_have_layouts();
 }
 
 /// The first or the second attempt without a good reply, in every mode but down: the message stays out
@@ -32,6 +34,7 @@ pub fn missed_attempt_gives_steps()
     page_and_room_stay();
     replies_are_read();
     events_stay_until_confirmed();
+    modes_have_layouts();
 }
 
 /// The third attempt without a good reply: the link is lost, and a request under way is cut off. If the device has not
@@ -43,6 +46,7 @@ pub fn lost_link_gives_steps()
     page_and_room_stay();
     replies_are_read();
     events_stay_until_confirmed();
+    modes_have_layouts();
 }
 
 /// A good reply in OPERATE, of each kind: a busy reply, the last segment of the answer, the reply to an ABORT, the last octet
@@ -54,6 +58,7 @@ pub fn good_reply_gives_steps()
     page_and_room_stay();
     replies_are_read();
     events_stay_until_confirmed();
+    modes_have_layouts();
     memory_stays_valid();
     reading_gives_the_frozen_list();
 }
@@ -67,6 +72,7 @@ pub fn start_up_gives_steps()
     page_and_room_stay();
     replies_are_read();
     events_stay_until_confirmed();
+    modes_have_layouts();
     memory_stays_valid();
     reading_gives_the_frozen_list();
 }
@@ -80,6 +86,7 @@ pub fn good_reply_tells()
     page_and_room_stay();
     replies_are_read();
     events_stay_until_confirmed();
+    modes_have_layouts();
     memory_stays_valid();
     reading_gives_the_frozen_list();
 }

@@ -1,4 +1,4 @@
--- The layouts that a page asks for are layouts of modes.
+-- What a page asks for are layouts.
 use Rattle.std.proofs.Common.{◌≡◌, ℕ, ◌+◌, Bool, true, false, List, refl, arith}
 use Rattle.std.specs.Prelude.{if◌then◌else◌, ◌==◌, nat_lt, nat_le, ◌&&◌, ◌||◌, not, IsTrue, Option, Some, None, Result, Ok, Err, IfOk}
 use Rattle.std.proofs.lemmas.Bool.Decides.{nat_tests}
@@ -6,19 +6,18 @@ use Rattle.std.proofs.lemmas.Grind.{common_steps}
 use Rattle.iol_mseq.specs.Shape.{Shape, shape, is_size, IsLayout, preoperate_shape, operate_od, operate_shape}
 use Rattle.iol_mseq.specs.declared.fault.MseqFault.TheVariants.{UnsupportedCode, BadLength}
 use Rattle.iol_mseq.specs.declared.fault.MseqFault.{MseqFault}
-use Rattle.iol_page.specs.Page.{layouts_of, layouts_with, both_layouts, page_octet, has_isdu, length_of, preoperate_code, operate_code}
+use Rattle.iol_page.specs.Page.{layouts_of, layouts_with, both_layouts, page_octet, has_isdu, length_of, preoperate_code, operate_code, AreLayouts, PagesAskForLayouts}
 use Rattle.iol_page.specs.declared.fault.PageFault.TheVariants.{Revision, NoIsdu}
-use Rattle.iol_mode.specs.States.{IsProper}
 
 record IsPlain (s : Shape) : Type 0 where
   pub valid : IsLayout s
   pub pd_in : s.pd_in ≡ 0
   pub pd_out : s.pd_out ≡ 0
 
-both_proper : (pre run : Result Shape MseqFault) → IfOk pre IsPlain → IfOk run IsLayout → IfOk (both_layouts pre run) IsProper
-both_proper (Ok pre) (Ok run) p r = record { pre = p.valid; run = r; pre_in = p.pd_in; pre_out = p.pd_out }
-both_proper (Ok pre) (Err e) p r = tt
-both_proper (Err e) run p r = tt
+both_are : (pre run : Result Shape MseqFault) → IfOk pre IsPlain → IfOk run IsLayout → IfOk (both_layouts pre run) AreLayouts
+both_are (Ok pre) (Ok run) p r = record { pre = p.valid; run = r; pre_in = p.pd_in; pre_out = p.pd_out }
+both_are (Ok pre) (Err e) p r = tt
+both_are (Err e) run p r = tt
 
 plain : (od : ℕ) → IsTrue (is_size od) → IsPlain (shape od 0 0)
 plain od h = record { valid = record { kind = refl; od = h; pd_in = omega arith; pd_out = omega arith }; pd_in = refl; pd_out = refl }
@@ -65,17 +64,17 @@ run_layout code i o = by_size (operate_od code (nat_lt 0 (i + o))) refl (size_go
     by_size None e h = rw e tt
     by_size (Some od) e h = rw e (in_range (nat_le i 32 && nat_le o 32) refl od h)
 
-with_proper : (capability : ℕ) (input output : Option ℕ) → IfOk (layouts_with capability input output) IsProper
-with_proper capability (Some input) (Some output) =
-    both_proper (preoperate_shape (preoperate_code capability)) (operate_shape (operate_code capability) input output) (pre_plain (preoperate_code capability)) (run_layout (operate_code capability) input output)
-with_proper capability (Some input) None = tt
-with_proper capability None output = tt
+with_are : (capability : ℕ) (input output : Option ℕ) → IfOk (layouts_with capability input output) AreLayouts
+with_are capability (Some input) (Some output) =
+    both_are (preoperate_shape (preoperate_code capability)) (operate_shape (operate_code capability) input output) (pre_plain (preoperate_code capability)) (run_layout (operate_code capability) input output)
+with_are capability (Some input) None = tt
+with_are capability None output = tt
 
-pub page_proper : (page : List ℕ) → IfOk (layouts_of page) IsProper
-page_proper page = by_tests (page_octet page 4 == 0x11) (has_isdu (page_octet page 3))
+pub pages_ask_for_layouts : PagesAskForLayouts
+pages_ask_for_layouts page = by_tests (page_octet page 4 == 0x11) (has_isdu (page_octet page 3))
   where
     by_tests : (revision isdu : Bool) → IfOk (if not revision then Err (Revision (page_octet page 4)) else if not isdu then Err NoIsdu else
-        layouts_with (page_octet page 3) (length_of (page_octet page 5)) (length_of (page_octet page 6))) IsProper
-    by_tests true true = with_proper (page_octet page 3) (length_of (page_octet page 5)) (length_of (page_octet page 6))
+        layouts_with (page_octet page 3) (length_of (page_octet page 5)) (length_of (page_octet page 6))) AreLayouts
+    by_tests true true = with_are (page_octet page 3) (length_of (page_octet page 5)) (length_of (page_octet page 6))
     by_tests true false = tt
     by_tests false isdu = tt

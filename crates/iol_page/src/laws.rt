@@ -1,0 +1,7 @@
+ghost use Rattle.iol_page.specs.Page.{PagesAskForLayouts};
+
+/// A law of the definitions, without code: what a page asks for are layouts, that of PREOPERATE without process data.
+#[tactic(auto, using(crate::proofs::Asked::pages_ask_for_layouts))]
+pub fn pages_ask_for_layouts()
+    ensures { PagesAskForLayouts }
+{}
