@@ -1,5 +1,5 @@
 -- The far end of the line: what it holds, and what it does on hearing octets.
-use Rattle.std.specs.Prelude.{ℕ, ◌-◌, Bool, true, false, not, ◌&&◌, ◌==◌, nat_lt, if◌then◌else◌, List, [], ◌∷◌, length, replicate, slice_index, bytes_eq, Option, Some, None, is_some, option_map, unwrap_or}
+use Rattle.std.specs.Prelude.{ℕ, Bool, true, false, not, ◌&&◌, ◌==◌, nat_lt, if◌then◌else◌, List, [], length, replicate, slice_index, bytes_eq, Option, Some, None, is_some, option_map, unwrap_or}
 use Rattle.iol_octets.specs.declared.control.Channel.{Channel}
 use Rattle.iol_octets.specs.declared.control.Channel.TheVariants.{Process, Page, Diagnosis, Isdu}
 use Rattle.iol_octets.specs.declared.flow_control.Flow.{Flow}

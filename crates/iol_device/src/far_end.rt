@@ -8,9 +8,7 @@ use crate::fault::DeviceFault;
 use crate::isdu::IsduSide;
 use iol_event::{Event, EventMemory};
 use iol_image::Image;
-use iol_mseq::{
-    Layout, MasterMsg, Message, Part, Reply, first, first_of_zeros, part_of, zeros,
-};
+use iol_mseq::{Layout, MasterMsg, Message, Part, Reply, first, first_of_zeros, part_of, zeros};
 use iol_octets::{Channel, Mc};
 use iol_page::{Layouts, MasterCommand, Page, pages_ask_for_layouts};
 use std::alloc::{AllocError, Allocator, Global};

@@ -1,12 +1,7 @@
 -- What the definitions of messages say of each other.
-use Rattle.std.proofs.Common.{◌≡◌, ℕ, ◌+◌, ◌*◌, ◌/◌, ◌%◌, ◌<◌, Bool, true, false, List, [], ◌∷◌, ◌++◌, length, get_or, set, take, drop, refl, sym, ap, ap₂, zero, suc, length-append, ◌∙◌, arith}
+use Rattle.std.proofs.Common.{◌≡◌, ℕ, ◌+◌, ◌<◌, Bool, true, false, List, [], ◌∷◌, ◌++◌, length, get_or, set, take, drop, refl, sym, ap, ap₂, zero, suc, length-append, ◌∙◌, arith}
 use Rattle.std.proofs.Math.Seq.{take-append_seam, drop-append_seam}
-use Rattle.iol_octets.specs.Control.{control_octet}
-use Rattle.iol_octets.specs.Checksum.{checksum_of, cleared, has_checksum}
-use Rattle.std.proofs.lemmas.Bool.{eqb-true}
 use Rattle.iol_mseq.specs.Shape.{Shape}
-use Rattle.iol_mseq.specs.Master.{SpellsMaster}
-use Rattle.iol_mseq.specs.declared.master.MasterMsg.{MasterMsg}
 use Rattle.iol_mseq.specs.declared.reply.Reply.{Reply}
 use Rattle.iol_mseq.specs.Replies.{SpellsReply}
 use Rattle.iol_octets.specs.CheckOctets.{status_bits}

@@ -1,13 +1,12 @@
 -- What is written of a reply is read back as it.
-use Rattle.std.proofs.Common.{◌≡◌, ℕ, ◌+◌, ◌-◌, ◌*◌, ◌/◌, ◌%◌, ◌<◌, Bool, true, false, not, List, [], ◌∷◌, ◌++◌, length, take, drop, get_or, refl, sym, ap, subst, ◌∙◌, append_assoc, length-append, arith}
+use Rattle.std.proofs.Common.{◌≡◌, ℕ, ◌+◌, ◌-◌, ◌%◌, ◌<◌, Bool, true, false, not, List, [], ◌∷◌, ◌++◌, length, take, drop, get_or, refl, sym, ap, subst, ◌∙◌, append_assoc, length-append, arith}
 use Rattle.std.specs.Prelude.{Some, None, is_some, if◌then◌else◌, nat_le, IsTrue}
 use Rattle.std.proofs.Math.Seq.{take-append_seam, drop-append_seam, get_or-append_seam}
 use Rattle.std.proofs.lemmas.Bool.{eq-eqb}
 use Rattle.std.proofs.lemmas.Bool.Decides.{nat_tests}
 use Rattle.iol_octets.specs.Checksum.{checksum_of, has_checksum, with_checksum, ChecksumsFit}
 use Rattle.iol_octets.specs.CheckOctets.{status_bits}
-use Rattle.iol_mseq.specs.Shape.{Shape}
-use Rattle.iol_mseq.specs.Replies.{HasReplyParts, answered_od, has_reply_length, is_checked, reply_of, reply_in}
+use Rattle.iol_mseq.specs.Replies.{answered_od, has_reply_length, is_checked, reply_of}
 use Rattle.iol_mseq.specs.ReadBack.{ReplyIsReadBack}
 use Rattle.iol_mseq.specs.Texts.{closed_by, reply_text}
 use Rattle.iol_mseq.specs.declared.fault.MseqFault.TheVariants.{WrongLength, BadChecksum}

@@ -1,5 +1,5 @@
 -- Replies (IEC 61131-9, A.1 and A.2).
-use Rattle.std.specs.Prelude.{◌≡◌, ℕ, ◌+◌, ◌-◌, ◌*◌, ◌/◌, ◌%◌, ◌<◌, Bool, ◌==◌, not, nat_le, if◌then◌else◌, List, [], ◌∷◌, ◌++◌, length, take, drop, slice_index, Option, Some, None, is_some, IsTrue}
+use Rattle.std.specs.Prelude.{◌≡◌, ℕ, ◌+◌, ◌-◌, ◌%◌, ◌<◌, Bool, ◌==◌, not, nat_le, if◌then◌else◌, List, [], ◌∷◌, ◌++◌, length, take, drop, slice_index, Option, Some, None, is_some, IsTrue}
 use Rattle.iol_octets.specs.Checksum.{has_checksum}
 use Rattle.iol_octets.specs.CheckOctets.{status_bits}
 use Rattle.iol_mseq.specs.Shape.{Shape}

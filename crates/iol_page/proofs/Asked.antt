@@ -1,12 +1,12 @@
 -- What a page asks for are layouts.
-use Rattle.std.proofs.Common.{◌≡◌, ℕ, ◌+◌, Bool, true, false, List, refl, arith}
+use Rattle.std.proofs.Common.{◌≡◌, ℕ, ◌+◌, Bool, true, false, refl, arith}
 use Rattle.std.specs.Prelude.{if◌then◌else◌, ◌==◌, nat_lt, nat_le, ◌&&◌, ◌||◌, not, IsTrue, Option, Some, None, Result, Ok, Err, IfOk}
 use Rattle.std.proofs.lemmas.Bool.Decides.{nat_tests}
 use Rattle.std.proofs.lemmas.Grind.{common_steps}
 use Rattle.iol_mseq.specs.Shape.{Shape, shape, is_size, IsLayout, preoperate_shape, operate_od, operate_shape}
 use Rattle.iol_mseq.specs.declared.fault.MseqFault.TheVariants.{UnsupportedCode, BadLength}
 use Rattle.iol_mseq.specs.declared.fault.MseqFault.{MseqFault}
-use Rattle.iol_page.specs.Page.{layouts_of, layouts_with, both_layouts, page_octet, has_isdu, length_of, preoperate_code, operate_code, AreLayouts, PagesAskForLayouts}
+use Rattle.iol_page.specs.Page.{layouts_with, both_layouts, page_octet, has_isdu, length_of, preoperate_code, operate_code, AreLayouts, PagesAskForLayouts}
 use Rattle.iol_page.specs.declared.fault.PageFault.TheVariants.{Revision, NoIsdu}
 
 record IsPlain (s : Shape) : Type 0 where

@@ -1,5 +1,5 @@
 -- each call but a turn is that call of the abstract port
-use Rattle.std.proofs.Common.{◌≡◌, ◌∷◌, [], List, ℕ, Bool, true, false, cond, ◌==◌, if◌then◌else◌, Option, Some, None, Result, Ok, Err, IfOk, IfErr, OnOk, OnErr, is_some, is_ok, remove, slice_get, OnSome, IfNone, refl, ap, sym, ◌∙◌, inl, inr, subst, length}
+use Rattle.std.proofs.Common.{◌≡◌, ◌∷◌, [], List, ℕ, Bool, true, false, cond, Option, Some, None, Result, Ok, Err, IfOk, IfErr, OnOk, OnErr, is_some, is_ok, remove, slice_get, OnSome, IfNone, refl, ap, sym, ◌∙◌, inl, inr, subst, length}
 use Rattle.std.specs.Option.{ok_or, option_map}
 use Rattle.std.specs.Result.{result_err}
 use Rattle.iol_isdu.specs.declared.values.Request.{Request}
@@ -18,9 +18,8 @@ use Rattle.iol_steps.specs.Session.{Session, session_through}
 use Rattle.iol_steps.specs.Kinds.{restart_steps}
 use Rattle.iol_device.specs.Far.{Far}
 use Rattle.iol_mseq.specs.Shape.{Shape}
-use Rattle.iol_steps.specs.Station.{Station, Unseen, Stands, session_in, images_in, job_of}
+use Rattle.iol_steps.specs.Station.{Station, session_in, images_in, job_of}
 use Rattle.iol_steps.specs.Exchange.{wanting as wanted_by, restarted as stopped, unseen_restarted}
-use Rattle.iol_steps.specs.Promises.{Restarts}
 use Rattle.iol_app.specs.declared.output.OutputFault.{OutputFault}
 use Rattle.iol_app.specs.declared.station.Status.{Status}
 use Rattle.iol_app.specs.declared.request.Current.{Current}
@@ -28,7 +27,7 @@ use Rattle.iol_app.specs.Requests.{request_in}
 use Rattle.iol_app.specs.State as session
 use Rattle.iol_app.specs.StationState.{StationState, mode_of, why_of}
 use Rattle.iol_app.specs.EventReading.{is_refused}
-use Rattle.iol_app.specs.Seen.{IsSeen, WantSteps, RestartSteps}
+use Rattle.iol_app.specs.Seen.{WantSteps, RestartSteps}
 use Rattle.iol_port.specs.declared.call.Call.{Call}
 use Rattle.iol_port.specs.declared.call.Call.TheVariants as call
 use Rattle.iol_port.specs.declared.call.Answered.{Answered}

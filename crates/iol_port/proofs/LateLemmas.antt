@@ -1,10 +1,10 @@
 -- a request that was cut off is carried out once at most, and not after a wake that had success
-use Rattle.std.proofs.Common.{◌≡◌, ◌∷◌, [], List, Option, Some, None, IsSome, refl, subst}
+use Rattle.std.proofs.Common.{◌≡◌, ◌∷◌, [], Option, Some, None, IsSome, refl, subst}
 use Rattle.iol_isdu.specs.declared.values.Answer.{Answer}
 use Rattle.iol_isdu.specs.declared.values.Request.{Request}
-use Rattle.iol_steps.specs.Step.{Step, Take, Carry, Done, Unknown, LateCarry, Reset, Busy, Move, Moment}
-use Rattle.iol_steps.specs.Session.{Job, Session, MaySessionAll, session_after, session_through, carried_out, carried_late}
-use Rattle.iol_port.specs.Promises.{NoneCut, NoneLate, NoneLateStays, LateEnds}
+use Rattle.iol_steps.specs.Step.{Take, Carry, Done, Unknown, LateCarry, Reset, Busy, Move}
+use Rattle.iol_steps.specs.Session.{Job, Session, session_after, carried_out, carried_late}
+use Rattle.iol_port.specs.Promises.{NoneLateStays, LateEnds}
 
 carry_leaves : (answer : Answer) (job : Option Job) (s : Session) → s.late ≡ None → (carried_out answer job s).late ≡ None
 carry_leaves answer None s none = none

@@ -1,16 +1,16 @@
 -- a run goes on by one call
-use Rattle.std.proofs.Common.{◌<◌, ◌+◌, ◌∷◌, ◌++◌, [], List, ℕ, Option, Some, IfSome, Bool, false, None, IsTrue, ◌≡◌, sym, ap, length, take, get_or, refl, subst, ◌∙◌}
+use Rattle.std.proofs.Common.{◌<◌, ◌+◌, ◌∷◌, ◌++◌, [], List, ℕ, Option, Some, IfSome, Bool, false, IsTrue, ◌≡◌, sym, ap, length, take, get_or, refl, subst, ◌∙◌}
 use Rattle.std.proofs.lemmas.List.{take_more}
 use Rattle.iol_port.specs.declared.call.Call.{Call}
 use Rattle.iol_port.specs.declared.call.Answered.{Answered}
 use Rattle.iol_port.specs.Run.{PortState, CallOf, Run, opened}
-use Rattle.iol_port.specs.View.{Parts, Opening, Choice, OpensWell, StandsFor, state_of, Shows, Follows, Does, Runs, IsRun, KeepsRecord, IsOpened, IsTied}
+use Rattle.iol_port.specs.View.{Parts, Opening, Choice, OpensWell, StandsFor, state_of, Follows, Does, Runs, IsRun, KeepsRecord, IsOpened, IsTied}
 use Rattle.iol_isdu.specs.declared.values.Request.{Request}
 use Rattle.iol_device.specs.Far.{Far}
 use Rattle.iol_device.specs.Isdu.{IsduState, Handed, handed}
 use Rattle.iol_steps.specs.Bridge.{Hidden, IsOpen, open_request}
 use Rattle.iol_steps.specs.Exchange.{unseen_opened, opened as opened_station}
-use Rattle.iol_app.specs.StationState.{StationState, wire_of}
+use Rattle.iol_app.specs.StationState.{wire_of}
 use Rattle.iol_app.specs.Seen.{NewSteps}
 use Rattle.iol_port.specs.Sound.{IsSound}
 use Rattle.iol_port.specs.Promises.{OpensSound, RunsSound, SoundFits, RunsJoin}

@@ -1,5 +1,5 @@
 -- on every wire a turn keeps the book and the station at the same request, and room for the events being read
-use Rattle.std.proofs.Common.{◌≡◌, ◌≤◌, ◌+◌, ◌∷◌, ◌++◌, [], List, Bool, ℕ, true, false, cond, length, Option, Some, None, IsSome, refl, ap, sym, ◌∙◌, subst, inl, inr, ◌⊎◌}
+use Rattle.std.proofs.Common.{◌≡◌, ◌≤◌, ◌+◌, ◌∷◌, ◌++◌, [], List, Bool, ℕ, true, false, cond, length, Option, Some, None, IsSome, refl, ap, sym, ◌∙◌, inl, inr, ◌⊎◌}
 use Rattle.std.specs.Option.{option_map}
 use Rattle.iol_isdu.specs.declared.values.Request.{Request}
 use Rattle.iol_event.specs.declared.event.Event.{Event}
@@ -11,13 +11,13 @@ use Rattle.iol_book.specs.declared.entries.Entry.TheVariants.{Answered}
 use Rattle.iol_book.specs.BookModel.{BookState, BookValue, posted, entered_if}
 use Rattle.iol_steps.specs.declared.said.Said.{Said}
 use Rattle.iol_steps.specs.declared.said.Said.TheVariants.{Idle, Busy, Answered as SaidAnswered, Cut, Reported}
-use Rattle.iol_steps.specs.Step.{Step, Reset, book_said, reports_said}
+use Rattle.iol_steps.specs.Step.{Reset, book_said, reports_said}
 use Rattle.iol_app.specs.Requests.{request_in, request_after, EndsRequest}
 use Rattle.iol_app.specs.Reports.{is_reading, ReadingAfter}
 use Rattle.iol_app.specs.StationState.{StationState}
 use Rattle.iol_port.specs.Steps.{book_through, kept_through}
 use Rattle.iol_port.specs.Sound.{request_taken}
-use Rattle.iol_port.specs.View.{Parts, IsTied, Asks, HasRoom, BeginsNext}
+use Rattle.iol_port.specs.View.{Parts, IsTied, Asks, BeginsNext}
 
 -- an outcome leaves no request taken
 none_taken : (b : BookState) (o : Outcome) → (posted b o).standing.taken ≡ None

@@ -10,7 +10,7 @@ use Rattle.iol_port.specs.declared.call.Call.TheVariants.{Turn}
 use Rattle.iol_port.specs.declared.call.Answered.{Answered}
 use Rattle.iol_port.specs.Promises.{RunsJoin}
 use Rattle.iol_port.specs.Run.{PortState, Run}
-use Rattle.iol_port.specs.View.{Parts, StandsFor, Runs}
+use Rattle.iol_port.specs.View.{Parts, Runs}
 use Rattle.iol_script.specs.RunLines.{run_form}
 use Rattle.iol_script.specs.Script.{calls_in, calls_of, line_calls}
 use Rattle.iol_script.specs.declared.call_line.CallLine.{CallLine}

@@ -1,5 +1,5 @@
 -- A script that is played out.
-use Rattle.std.proofs.Common.{◌≡◌, ℕ, Bool, true, Some, None, IsSomeAnd, Option, List, [], ◌++◌, refl, sym, ap, subst, ◌∙◌}
+use Rattle.std.proofs.Common.{◌≡◌, ℕ, Bool, true, Some, IsSomeAnd, Option, List, [], ◌++◌, sym, ap, subst, ◌∙◌}
 use Rattle.iol_book.specs.declared.entries.Limits.{Limits}
 use Rattle.iol_device.specs.declared.app.Carried.{Carried}
 use Rattle.iol_device.specs.Far.{Far}

@@ -1,4 +1,4 @@
-use Rattle.std.proofs.Common.{[], List, ℕ, ◌++◌, sym, ap, ◌∙◌, append-nil, append_assoc, refl, rules, arith}
+use Rattle.std.proofs.Common.{[], List, ℕ, ◌++◌, sym, ap, ◌∙◌, append-nil, append_assoc, refl, arith}
 use Rattle.std.specs.String.{string_bytes}
 use Rattle.iolink.specs.declared.playing.TheConstants.{PIECE}
 use Rattle.iolink.proofs.PlayLemmas.{plays_none, turns_more}

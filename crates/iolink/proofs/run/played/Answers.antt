@@ -1,6 +1,5 @@
-use Rattle.std.proofs.Common.{true, false, ◌∙◌, ap, refl, rules}
+use Rattle.std.proofs.Common.{true, refl, rules}
 use Rattle.std.specs.String.{string_bytes}
-use Rattle.iol_device.specs.Device.{Running}
 use Rattle.iol_script.specs.Text.{numbered_lines}
 use Rattle.iolink.proofs.RunLemmas.{opens_well, opened_first, script_printed}
 use Rattle.iolink.proofs.run.played.Goals as goal
