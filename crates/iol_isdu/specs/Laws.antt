@@ -1,10 +1,10 @@
 -- Laws of the texts: each is one, and stands alone in front.
-use Rattle.std.specs.Prelude.{◌≡◌, ◌↔◌, Bool, List, ℕ, ◌++◌, length, Some, Ok}
+use Rattle.std.specs.Prelude.{◌≡◌, ◌↔◌, Bool, List, ℕ, ◌++◌, length, None, Some, Ok}
 use Rattle.iol_isdu.specs.declared.values.Request.{Request}
 use Rattle.iol_isdu.specs.declared.values.Answer.{Answer}
 use Rattle.iol_isdu.specs.Frame.{total_at}
 use Rattle.iol_isdu.specs.Requests.{IsRequestText, IsShortText}
-use Rattle.iol_isdu.specs.Answers.{IsAnswerText}
+use Rattle.iol_isdu.specs.Answers.{IsAnswerText, answer_fault}
 use Rattle.iol_isdu.specs.Texts.{IsRequest, FitsAnswer, request_text, answer_text}
 use Rattle.iol_isdu.specs.Parse.{request_of}
 
@@ -38,3 +38,7 @@ AnswerHoldsLength = (read : Bool) (a : Answer) → FitsAnswer read a → total_a
 -- a text, whatever octets follow it, is found to be its request's
 abbrev pub EachTextIsFound : Type 0
 EachTextIsFound = (r : Request) (text rest : List ℕ) → IsRequestText r text → request_of (text ++ rest) ≡ Some r
+
+-- the text of an answer, read as one to a request of its kind, is refused by nothing
+abbrev pub NoAnswerIsRefused : Type 0
+NoAnswerIsRefused = (read : Bool) (a : Answer) → FitsAnswer read a → answer_fault read (answer_text read a) ≡ None

@@ -1,4 +1,4 @@
-ghost use Rattle.iol_isdu.specs.Laws.{OneRequestInFront, OneAnswerInFront, OneShortText, OneAnswerText, RequestHoldsLength, AnswerHoldsLength, EachTextIsFound};
+ghost use Rattle.iol_isdu.specs.Laws.{OneRequestInFront, OneAnswerInFront, OneShortText, OneAnswerText, RequestHoldsLength, AnswerHoldsLength, EachTextIsFound, NoAnswerIsRefused};
 
 /// A text, whatever octets follow it, is the only text that they begin with.
 ///
@@ -10,7 +10,8 @@ pub fn one_text_in_front()
 
 /// The text that is sent for a request, and the text of an answer, as functions.
 ///
-/// Each is the one text there is, holds its own length, and is found again in front of any octets.
+/// Each is the one text there is, holds its own length, and is found again in front of any octets; an answer's is
+/// refused by nothing.
 /// A law of the definitions; it does nothing when it runs.
 pub fn one_text_each()
     ensures request { OneShortText }
@@ -18,4 +19,5 @@ pub fn one_text_each()
     ensures request_length { RequestHoldsLength }
     ensures answer_length { AnswerHoldsLength }
     ensures found { EachTextIsFound }
+    ensures accepted { NoAnswerIsRefused }
 {}

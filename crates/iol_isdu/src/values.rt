@@ -1,4 +1,4 @@
-ghost use Rattle.std.specs.Prelude.{◌≡◌, ◌<◌, ◌↔◌, IsErrOf, IfOk, length};
+ghost use Rattle.std.specs.Prelude.{◌≡◌, ◌<◌, ◌↔◌, IsErr, IfErr, IfOk, length};
 
 use crate::fault::IsduFault;
 use arrayvec::ArrayVec;
@@ -69,7 +69,8 @@ impl Request {
     ///
     /// Refused with 9 `DataTooLong` where there are more than 232.
     pub fn write(place: Place, octets: &[u8]) -> Result<Request, IsduFault>
-        ensures long { IsErrOf result IsduFault.DataTooLong ↔ (232 < length octets.now) }
+        ensures long { IsErr result ↔ (232 < length octets.now) }
+        ensures refused { IfErr result (λ why. why ≡ IsduFault.DataTooLong) }
         ensures value { IfOk result (λ request. request ≡ Request.Write place (record { items = octets.now })) }
     {
         let octets = Octets::try_from(octets).map_err(|_| IsduFault::DataTooLong)?;

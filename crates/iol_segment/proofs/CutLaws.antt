@@ -1,10 +1,19 @@
 -- The cut of a text, pair by pair.
-use Rattle.std.proofs.Common.{◌≡◌, ℕ, zero, suc, ◌+◌, ◌-◌, ◌*◌, ◌<◌, ◌≤◌, ⊎_elim, if◌then◌else◌, List, length, refl, sym, ap, ◌∙◌, arith, Some, None}
+use Rattle.std.proofs.Common.{◌≡◌, ℕ, zero, suc, ◌+◌, ◌-◌, ◌*◌, ◌<◌, ◌≤◌, ⊎_elim, if◌then◌else◌, List, ◌++◌, drop, replicate, length, refl, sym, ap, ◌∙◌, arith, Some, None}
 use Rattle.std.specs.Prelude.{slice_get}
 use Rattle.std.proofs.lemmas.Bool.{cases_lt, lt-ltb, le-ltb}
 use Rattle.std.proofs.Math.Nat.{div-mul-le_self, lt-div-mul-add, mul-le-mul_right}
+use Rattle.std.proofs.lemmas.List.{length-append, length-replicate, length-take-le}
 use Rattle.std.proofs.lemmas.Option.{slice_get_past}
-use Rattle.iol_segment.specs.Cut.{segments, pair, pairs_from, cut, pair_at, CutIsPairs}
+use Rattle.iol_segment.specs.Cut.{segment, segments, pair, pairs_from, cut, pair_at, CutIsPairs, SegmentsHaveSize}
+
+-- a segment has its size
+pub segments_have_size : SegmentsHaveSize
+unfolding segment
+segments_have_size size text i =
+    let whole = length-append (drop (i * size) text) (replicate size 0) in
+    let zeros : length (replicate {A = ℕ} size 0) ≡ size = length-replicate size 0 in
+    length-take-le size (drop (i * size) text ++ replicate size 0) (omega (arith, whole, zeros))
 
 -- the text ends in its last segment
 pub segments-high : (size : ℕ) (text : List ℕ) → 1 ≤ size → length text ≤ segments size text * size

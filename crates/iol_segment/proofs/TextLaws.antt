@@ -11,11 +11,12 @@ use Rattle.iol_isdu.specs.declared.values.Answer.TheVariants.{Read, Written, Ref
 use Rattle.iol_isdu.specs.Answers.{answer_service, answer_body}
 use Rattle.iol_isdu.specs.Frame.{total_at}
 use Rattle.iol_isdu.specs.Texts.{FitsAnswer, request_text, answer_front, answer_text}
-use Rattle.iol_isdu.specs.Laws.{OneShortText, RequestHoldsLength, AnswerHoldsLength, EachTextIsFound}
+use Rattle.iol_isdu.specs.Laws.{OneShortText, RequestHoldsLength, AnswerHoldsLength, EachTextIsFound, NoAnswerIsRefused}
 use Rattle.iol_isdu.specs.Requests.{shortest, place_of}
 use Rattle.iol_segment.specs.Cut.{segment}
 use Rattle.iol_segment.specs.Join.{Open, Complete, stage_by, stage}
 use Rattle.iol_segment.specs.TextLaws.{HoldsLength, joined, IsBefore, IsLast, TextLaws}
+use Rattle.iol_segment.proofs.CutLaws.{segments-low, segments-past}
 use Rattle.iol_segment.proofs.Pieces.{segment-is}
 use Rattle.iol_segment.proofs.Parting.{total_at-more, total-bounds}
 
@@ -126,9 +127,12 @@ segment-first size text low some =
 not_small : (n small : ℕ) → 64 ≤ n → small < 64 → (n == small) ≡ false
 not_small n small h l = grind (arith, nat_tests)
 
-pub text_laws : OneShortText → RequestHoldsLength → AnswerHoldsLength → EachTextIsFound → (size : ℕ) → 1 ≤ size → TextLaws size
-text_laws short requests answers found size low =
+pub text_laws : OneShortText → RequestHoldsLength → AnswerHoldsLength → EachTextIsFound → NoAnswerIsRefused → (size : ℕ) → 1 ≤ size → TextLaws size
+text_laws short requests answers found accepted size low =
     record {
+      within = λ text i less. segments-low size text i low less;
+      past = λ text i more. segments-past size text i low more;
+      accepted = accepted;
       grows = grows size;
       ends = ends size;
       requests = requests;

@@ -38,6 +38,10 @@ pair_at size text i = if nat_lt (i * size) (length text) then Some (pair size te
 abbrev pub CutIsPairs : ℕ → Type 0
 CutIsPairs size = (text : List ℕ) (i : ℕ) → slice_get (cut size text) i ≡ pair_at size text i
 
+-- each segment has the size
+abbrev pub SegmentsHaveSize : Type 0
+SegmentsHaveSize = (size : ℕ) (text : List ℕ) (i : ℕ) → length (segment size text i) ≡ size
+
 -- What a contract sees of a cutter: the source, the size of a segment, how many were given
 pub record Cutting (S : Type 0) : Type 0 where
   pub source : S

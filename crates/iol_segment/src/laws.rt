@@ -1,5 +1,5 @@
 ghost use Rattle.std.specs.Prelude.{◌≤◌, ℕ};
-ghost use Rattle.iol_segment.specs.Cut.{CutIsPairs};
+ghost use Rattle.iol_segment.specs.Cut.{CutIsPairs, SegmentsHaveSize};
 ghost use Rattle.iol_segment.specs.JoinLaws.{JoinLaws};
 ghost use Rattle.iol_segment.specs.SourceLaws.{IsRequestSource, IsReactionSource};
 ghost use Rattle.iol_segment.specs.TextLaws.{TextLaws};
@@ -18,16 +18,17 @@ pub fn sources_are_texts()
 }
 
 /// A law of the definitions, without code: what a [`Cutter`](crate::Cutter) gives, one pair after the
-/// other and then none, is the cut of its text.
+/// other and then none, is the cut of its text. Each segment has the size that is asked for.
 pub fn cut_is_whole()
-    ensures { (size : ℕ) → 1 ≤ size → CutIsPairs size }
+    ensures whole { (size : ℕ) → 1 ≤ size → CutIsPairs size }
+    ensures sized { SegmentsHaveSize }
 {}
 
 /// A law of the definitions, without code: what the segments of a text say once they are joined.
 ///
-/// A text that holds its own length isn't whole before its last segment, and is whole with it. Each
-/// request's and answer's text holds its own length. No answer's begins with 00 or with 01, which
-/// the device sends where it has no answer, or none yet.
+/// The segments of a text are those that begin within it. A text that holds its own length isn't whole before its last segment, and is whole with it. Each request's and
+/// answer's text holds its own length. No answer's is refused, or begins with 00 or with 01, which the
+/// device sends where it has no answer, or none yet.
 pub fn texts_join()
     ensures { (size : ℕ) → 1 ≤ size → TextLaws size }
 {

@@ -84,6 +84,8 @@ fn answer_by_eight(rt: HostRuntime) -> Result<(), Fail> {
     }
     assert!(rt; cutter.next().is_none());
     assert_eq!(rt; *cutter.source(), reaction);
+    sources_are_texts();
+    cut_is_whole();
     Ok(())
 }
 
@@ -100,6 +102,8 @@ fn answer_joins(rt: HostRuntime) -> Result<(), Fail> {
             }
         }
     }
+    texts_join();
+    segments_join();
     Ok(())
 }
 
@@ -263,13 +267,4 @@ fn all_refusals(rt: HostRuntime) {
     for text in texts {
         assert!(rt; both_ways(text));
     }
-}
-
-#[test]
-fn laws(rt: HostRuntime) {
-    sources_are_texts();
-    cut_is_whole();
-    texts_join();
-    segments_join();
-    let _done = rt;
 }

@@ -3,6 +3,7 @@ use Rattle.iol_isdu.specs.Requests.{IsShortText}
 use Rattle.iol_isdu.specs.Answers.{IsAnswerText}
 use Rattle.iol_isdu.proofs.Texts.{request_text-spells, answer_text-spells, short_text-is, answer_text-is, request_text-length, answer_text-length}
 use Rattle.iol_isdu.proofs.Parse.{request_of-text}
+use Rattle.iol_isdu.proofs.Accepting.{answer_accepted}
 use Rattle.iol_isdu.proofs.laws.one_text_each.Goals as goal
 
 pub returns-clause-request : goal.returns-clause-request
@@ -19,3 +20,6 @@ returns-clause-answer_length c = answer_text-length
 
 pub returns-clause-found : goal.returns-clause-found
 returns-clause-found c = request_of-text
+
+pub returns-clause-accepted : goal.returns-clause-accepted
+returns-clause-accepted c = λ read a h. answer_accepted read a _ h (answer_text-spells read a h) (answer_text-length read a h)
