@@ -26,7 +26,7 @@ both true false h = absurd (let k : false ≡ true = grind (arith, nat_tests, co
 both false b h = absurd (let k : false ≡ true = grind (arith, nat_tests, common_steps) in cc)
 
 -- an answer that fits is one that the type holds
-pub answer_fits : (r : Request) (a : Answer) → IsTrue (fits r a) → FitsAnswer (is_read r) a
+answer_fits : (r : Request) (a : Answer) → IsTrue (fits r a) → FitsAnswer (is_read r) a
 answer_fits r a h =
     let k = both (is_kind (is_read r) a) (nat_le (length (answer_body a)) 232) h in
     record {
@@ -41,5 +41,6 @@ pub segment_laws : (size : ℕ) → TextLaws size → SegmentLaws size
 segment_laws size laws = record {
   grows = λ r i last h more. ap (λ z. received_at z (joined size (request_text r) i) last) (laws.request_grows r i h more);
   ends = λ r i last h all. ap (λ z. received_at z (joined size (request_text r) i) last) (laws.request_ends r i h all) ∙ ap (λ q. completed q last) (found size laws r h);
+  fitting = answer_fits;
   answers = λ r a h. laws.busy (is_read r) a (answer_fits r a h);
 }

@@ -1,11 +1,12 @@
 -- What happens at the far end by itself, and at a wake.
-use Rattle.std.specs.Prelude.{◌≡◌, ℕ, Bool, true, false, not, ◌&&◌, ◌==◌, nat_lt, if◌then◌else◌, List, [], ◌∷◌, ◌++◌, length, Option, Some, None, IsTrue, MatchBool, is_some}
+use Rattle.std.specs.Prelude.{◌≡◌, ℕ, Bool, true, false, not, ◌&&◌, ◌==◌, nat_lt, if◌then◌else◌, List, [], ◌∷◌, ◌++◌, length, Option, Some, None, IsTrue, MatchBool}
 use Rattle.iol_isdu.specs.declared.values.Request.{Request}
 use Rattle.iol_isdu.specs.declared.values.Answer.{Answer}
 use Rattle.iol_event.specs.declared.event.Event.{Event}
 use Rattle.iol_event.specs.Memory.{no_events, raised, released}
+use Rattle.iol_device.specs.declared.app.Carried.{Carried}
 use Rattle.iol_device.specs.declared.commands.Mode.TheVariants.{Startup, Operate}
-use Rattle.iol_device.specs.Isdu.{IsduState, Empty, Handed, Answered, fits, handed}
+use Rattle.iol_device.specs.Isdu.{IsduState, Empty, Handed, Answered, fits}
 use Rattle.iol_device.specs.Codec.{layout_in}
 use Rattle.iol_device.specs.Far.{Far}
 
@@ -54,12 +55,27 @@ locals far (step ∷ steps) = locals (local far step) steps
 abbrev pub woken : Far → Far
 woken far = record far { awake = true; mode = Startup; waits = None; isdu = Empty; events = released far.events; valid = false }
 
--- whether a request is handed over and the record has room
-abbrev pub can_carry : Far → Bool
-can_carry far = is_some (handed far.isdu) && has_room far
+-- What carrying one request out gives: the application before it, the request, the answer, the application after it
+abbrev pub Gives : Type 0 → Type 1
+Gives P = P → Request → Answer → P → Type 0
 
--- carrying out this request, if any: with some answer that fits, where the record has room, else nothing
-abbrev pub IsCarriedOut : Option Request → Far → Far → Type 0
-IsCarriedOut None old new = new ≡ old
-IsCarriedOut (Some request) old new =
+-- Carrying out this request, if any, at a far end with that application, by what its calls give. Where the record has
+-- room, the application carries it out, once, and it is that very answer, which fits, that the far end has; else nothing
+-- changes, and the application isn't asked
+abbrev pub IsCarriedOut : {P : Type 0} → Gives P → Option Request → Far → P → Far → P → Type 0
+IsCarriedOut gives None old before new after = (new ≡ old) × (after ≡ before)
+IsCarriedOut gives (Some request) old before new after = MatchBool (has_room old)
+    ((answer : Answer) × gives before request answer after × IsTrue (fits request answer) × (new ≡ local old (Carry answer)))
+    ((new ≡ old) × (after ≡ before))
+
+-- The same of the far end alone, whatever application stands behind it: with some answer that fits
+abbrev pub IsWorkedOff : Option Request → Far → Far → Type 0
+IsWorkedOff None old new = new ≡ old
+IsWorkedOff (Some request) old new =
     MatchBool (has_room old) ((answer : Answer) × IsTrue (fits request answer) × (new ≡ local old (Carry answer))) (new ≡ old)
+
+-- the first application becomes that one by carrying out the requests of the record, in their order, each once and
+-- with the answer that stands beside it, and by nothing else
+abbrev pub Follows : {P : Type 0} → Gives P → P → List Carried → P → Type 0
+Follows gives first [] now = now ≡ first
+Follows {P} gives first (pair ∷ pairs) now = (next : P) × gives first pair.request pair.answer next × Follows gives next pairs now

@@ -67,7 +67,7 @@ impl<A: Allocator + Copy> FarEnd<A> {
     ghost use Rattle.iol_device.specs.Far as far;
     ghost use Rattle.iol_device.specs.Far.{layout_of, moved};
     ghost use Rattle.iol_device.specs.Isdu.{handed};
-    ghost use Rattle.iol_device.specs.Local.{local, woken, can_carry, is_input, LocalStep, IsCarriedOut};
+    ghost use Rattle.iol_device.specs.Local.{local, woken, is_input, LocalStep, IsCarriedOut};
     ghost use Rattle.iol_device.specs.Inside.{new_mode};
     ghost use Rattle.iol_device.specs.Device.{octets_in};
     ghost use Rattle.iol_device.specs.Laws.{IsRegular};
@@ -299,10 +299,9 @@ impl<A: Allocator + Copy> FarEnd<A> {
 
     /// A handed request is carried out, where the record has room.
     pub fn work<P: App>(&mut self, app: &mut P)
-        ensures carried { IsCarriedOut (handed self.old.isdu) self.old self.new }
-        ensures idle { can_carry self.old ≡ false → app.new ≡ app.old }
+        ensures { IsCarriedOut P.carry_out_gives (handed self.old.isdu) self.old app.old self.new app.new }
     {
-        if self.carried.len() >= self.room as usize {
+        if !self.isdu.is_handed() || self.carried.len() >= self.room as usize {
             return;
         }
         if let Some(carried) = self.isdu.carry_out(app) {

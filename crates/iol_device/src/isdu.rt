@@ -1,12 +1,12 @@
 //! The request under way, and the answer to it (IEC 61131-9, 7.3.6).
-ghost use Rattle.std.specs.Prelude.{◌≡◌, ◌<◌, ◌≤◌, ◌+◌, ◌%◌, true, false, None, Some, List, ℕ, IsTrue, MatchOption, IfSome, IfNone, option_map, length};
+ghost use Rattle.std.specs.Prelude.{◌≡◌, ◌<◌, ◌≤◌, ◌+◌, ◌%◌, true, false, None, Some, List, ℕ, IsTrue, MatchOption, IfSome, IfNone, option_map, is_some, length};
 ghost use Rattle.iol_segment.specs.Join.{is_whole};
 ghost use Rattle.iol_segment.specs.Cut.{flow_at};
 ghost use Rattle.iol_octets.specs.Flow.{IsFlow};
 ghost use Rattle.iol_octets.specs.declared.flow_control.Flow.{Flow};
 ghost use Rattle.iol_isdu.specs.Parse.{request_of};
-ghost use Rattle.iol_device.specs.Isdu.{Empty, Receiving, Answered, IsduState, isdu_written, isdu_read, isdu_data, answer_text, handed, fits};
-ghost use Rattle.iol_device.specs.Inside.{IsduValue, IsKept, GoesOn, IsSent, state_of, sent_flow, is_sent, is_next};
+ghost use Rattle.iol_device.specs.Isdu.{Empty, Receiving, Answered, IsduState, isdu_written, isdu_read, isdu_data, completed, answer_text, handed, fits};
+ghost use Rattle.iol_device.specs.Inside.{IsduValue, IsKept, IsReceiving, GoesOn, IsSent, state_of, joining_in, count_in, handed_over, sent_flow, is_sent, is_next};
 
 use crate::app::{App, Carried};
 use iol_isdu::{Answer, Request};
@@ -71,20 +71,14 @@ impl IsduSide {
     pub fn write(&mut self, flow: Flow, octets: &[u8])
         ensures { self.new ≡ record self.old { state = isdu_written self.old.state flow octets.now } }
     {
-        let stage = mem::replace(&mut self.stage, Stage::Empty);
-        self.stage = written(self.size, stage, flow, octets);
+        write_to(&mut self.stage, self.size, flow, octets);
     }
 
     /// A read under this flow.
     pub fn read(&mut self, flow: Flow)
         ensures { self.new ≡ record self.old { state = isdu_read self.old.size self.old.state flow } }
     {
-        let stage = mem::replace(&mut self.stage, Stage::Empty);
-        self.stage = match flow {
-            Flow::Start => read_start(self.size, stage),
-            Flow::Count(count) => read_count(self.size, stage, count),
-            _ => Stage::Empty,
-        };
+        read_from(&mut self.stage, self.size, flow);
     }
 
     /// The on-request data of the reply to a read.
@@ -103,13 +97,24 @@ impl IsduSide {
         }
     }
 
+    /// Whether the application has a request, or will have it.
+    pub fn is_handed(&self) -> bool
+        ensures { result ≡ is_some (handed self.now.state) }
+    {
+        matches!(self.stage, Stage::Handed(_))
+    }
+
     /// A request that is handed over is carried out.
     pub fn carry_out<P: App>(&mut self, app: &mut P) -> Option<Carried>
         ensures request { handed self.old.state ≡ option_map (λ carried. carried.request) result }
         ensures answer { IfSome result (λ carried. IsTrue (fits carried.request carried.answer)) }
+        ensures gives { IfSome result (λ carried. P.carry_out_gives app.old carried.request carried.answer app.new) }
         ensures idle { IfNone result (app.new ≡ app.old) }
         ensures state { MatchOption result (self.new ≡ self.old) (λ carried. self.new ≡ record self.old { state = Answered carried.request carried.answer None }) }
     {
+        if !self.is_handed() {
+            return None;
+        }
         match mem::replace(&mut self.stage, Stage::Empty) {
             Stage::Handed(request) => {
                 let answer = answer_of(app, &request);
@@ -133,7 +138,8 @@ impl IsduSide {
 
 /// The application's answer, which fits the request.
 fn answer_of<P: App>(app: &mut P, request: &Request) -> Answer
-    ensures { IsTrue (fits request.now result) }
+    ensures fits { IsTrue (fits request.now result) }
+    ensures gives { P.carry_out_gives app.old request.now result app.new }
 {
     let answer = app.carry_out(request);
     // To the proof this says that the octets fit into one ISDU.
@@ -143,43 +149,72 @@ fn answer_of<P: App>(app: &mut P, request: &Request) -> Answer
     answer
 }
 
-/// After a write under this flow.
-fn written(size: u8, stage: Stage, flow: Flow, octets: &[u8]) -> Stage
-    requires { IsKept size stage }
-    ensures state { state_of result ≡ isdu_written (state_of stage) flow octets.now }
-    ensures kept { IsKept size result }
+/// A write under this flow.
+fn write_to(stage: &mut Stage, size: u8, flow: Flow, octets: &[u8])
+    requires { IsKept size stage.old }
+    ensures state { state_of stage.new ≡ isdu_written (state_of stage.old) flow octets.now }
+    ensures kept { IsKept size stage.new }
 {
-    match (flow, stage) {
-        (Flow::Start, _) => taken(size, Joiner::requests(), flow, octets),
-        (Flow::Count(_), Stage::Receiving(joiner)) => taken(size, joiner, flow, octets),
-        (Flow::Count(count), Stage::Whole(request, Some(last))) if count == last => {
-            Stage::Whole(request, Some(last))
+    match flow {
+        Flow::Start => {
+            *stage = Stage::Receiving(Joiner::requests());
+            take_into(stage, size, flow, octets);
         }
-        _ => Stage::Empty,
+        Flow::Count(count) => write_count(stage, size, count, octets),
+        _ => *stage = Stage::Empty,
     }
 }
 
-/// With one more segment.
-fn taken(size: u8, joiner: Joiner, flow: Flow, octets: &[u8]) -> Stage
-    requires requests { joiner.requests ≡ true }
-    requires goes_on { GoesOn flow joiner }
-    ensures state { state_of result ≡ isdu_written (Receiving joiner.text joiner.count) flow octets.now }
-    ensures kept { IsKept size result }
+/// A write under COUNT.
+fn write_count(stage: &mut Stage, size: u8, count: u8, octets: &[u8])
+    requires { IsKept size stage.old }
+    ensures state { state_of stage.new ≡ isdu_written (state_of stage.old) (Flow.Count count) octets.now }
+    ensures kept { IsKept size stage.new }
 {
-    let mut joiner = joiner;
+    match stage {
+        Stage::Receiving(_) => take_into(stage, size, Flow::Count(count), octets),
+        Stage::Whole(_, last) => {
+            if *last != Some(count) {
+                *stage = Stage::Empty;
+            }
+        }
+        _ => *stage = Stage::Empty,
+    }
+}
+
+/// One more segment of the request.
+fn take_into(stage: &mut Stage, size: u8, flow: Flow, octets: &[u8])
+    requires receiving { IsReceiving stage.old }
+    requires goes_on { GoesOn flow (joining_in stage.old) }
+    ensures state { state_of stage.new ≡ isdu_written (Receiving (joining_in stage.old).text (joining_in stage.old).count) flow octets.now }
+    ensures kept { IsKept size stage.new }
+{
+    let Stage::Receiving(joiner) = stage else {
+        unreachable!()
+    };
+    if joiner.take(flow, octets).is_err() {
+        *stage = Stage::Empty;
+    } else if joiner.is_whole() {
+        complete(stage, size, flow);
+    }
+}
+
+/// The text is whole: a request, the last of whose segments came under this flow.
+fn complete(stage: &mut Stage, size: u8, flow: Flow)
+    requires receiving { IsReceiving stage.old }
+    requires whole { is_whole (joining_in stage.old).text ≡ true }
+    ensures state { state_of stage.new ≡ completed (request_of (joining_in stage.old).text) (count_in flow) }
+    ensures kept { IsKept size stage.new }
+{
+    let Stage::Receiving(joiner) = mem::replace(stage, Stage::Empty) else {
+        unreachable!()
+    };
     let last = match flow {
         Flow::Count(count) => Some(count),
         _ => None,
     };
-    if joiner.take(flow, octets).is_err() {
-        return Stage::Empty;
-    }
-    if !joiner.is_whole() {
-        return Stage::Receiving(joiner);
-    }
-    match request_in(joiner) {
-        Some(request) => Stage::Whole(request, last),
-        None => Stage::Empty,
+    if let Some(request) = request_in(joiner) {
+        *stage = Stage::Whole(request, last);
     }
 }
 
@@ -192,27 +227,44 @@ fn request_in(joiner: Joiner) -> Option<Request>
     joiner.into_request().ok()
 }
 
-/// After a read under START.
-fn read_start(size: u8, stage: Stage) -> Stage
-    requires { IsKept size stage }
-    ensures state { state_of result ≡ isdu_read size (state_of stage) Flow.Start }
-    ensures kept { IsKept size result }
+/// A read under this flow.
+fn read_from(stage: &mut Stage, size: u8, flow: Flow)
+    requires { IsKept size stage.old }
+    ensures state { state_of stage.new ≡ isdu_read size (state_of stage.old) flow }
+    ensures kept { IsKept size stage.new }
 {
-    match stage {
-        Stage::Whole(request, _) | Stage::Handed(request) => Stage::Handed(request),
-        Stage::Answered(cutter) => Stage::Answered(at_first(cutter)),
-        _ => Stage::Empty,
+    match flow {
+        Flow::Start => read_start(stage, size),
+        Flow::Count(count) => read_count(stage, size, count),
+        _ => *stage = Stage::Empty,
     }
 }
 
-/// With the first segment as the last given.
-fn at_first(cutter: Cutter<Reaction>) -> Cutter<Reaction>
-    ensures { result ≡ record cutter { given = 1 } }
+/// A read under START.
+fn read_start(stage: &mut Stage, size: u8)
+    requires { IsKept size stage.old }
+    ensures state { state_of stage.new ≡ isdu_read size (state_of stage.old) Flow.Start }
+    ensures kept { IsKept size stage.new }
 {
-    let mut cutter = cutter;
-    cutter.restart();
-    cutter.next();
-    cutter
+    match stage {
+        Stage::Whole(_, _) => hand_over(stage),
+        Stage::Handed(_) => {}
+        Stage::Answered(cutter) => {
+            cutter.restart();
+            cutter.next();
+        }
+        _ => *stage = Stage::Empty,
+    }
+}
+
+/// A whole request is handed over.
+fn hand_over(stage: &mut Stage)
+    ensures { stage.new ≡ handed_over stage.old }
+{
+    match mem::replace(stage, Stage::Empty) {
+        Stage::Whole(request, _) => *stage = Stage::Handed(request),
+        other => *stage = other,
+    }
 }
 
 /// The flow of the last segment given.
@@ -222,26 +274,24 @@ fn sent_flow(cutter: &Cutter<Reaction>) -> Option<Flow>
     ensures value { result ≡ sent_flow cutter.now.given }
     ensures valid { IfSome result IsFlow }
 {
-    let (flow, _) = cutter.again()?;
-    Some(flow)
+    cutter.flow()
 }
 
-/// After a read under COUNT.
-fn read_count(size: u8, stage: Stage, count: u8) -> Stage
-    requires { IsKept size stage }
-    ensures state { state_of result ≡ isdu_read size (state_of stage) (Flow.Count count) }
-    ensures kept { IsKept size result }
+/// A read under COUNT.
+fn read_count(stage: &mut Stage, size: u8, count: u8)
+    requires { IsKept size stage.old }
+    ensures state { state_of stage.new ≡ isdu_read size (state_of stage.old) (Flow.Count count) }
+    ensures kept { IsKept size stage.new }
 {
     let Stage::Answered(cutter) = stage else {
-        return Stage::Empty;
+        *stage = Stage::Empty;
+        return;
     };
-    let mut cutter = cutter;
-    let sent = sent_flow(&cutter);
+    let sent = sent_flow(cutter);
     if is_sent(sent, count) || (is_next(sent, count) && cutter.next().is_some()) {
-        Stage::Answered(cutter)
-    } else {
-        Stage::Empty
+        return;
     }
+    *stage = Stage::Empty;
 }
 
 /// Whether the last segment given went under this COUNT.

@@ -49,8 +49,8 @@ pub fn page_and_room_stay()
     ensures output { OutputStaysInOperate }
 {}
 
-/// The segments of a request are received one by one, and the last makes it whole; no answer begins as busy does.
-#[tactic(auto, using(crate::proofs::Segments::segment_laws))]
+/// The segments of a request are received one by one, and the last makes it whole; an answer that fits its request has
+/// a text of its kind, which doesn't begin as busy does.
 pub fn requests_are_received()
     ensures { (size : ℕ) → 1 ≤ size → SegmentLaws size }
 {
@@ -59,7 +59,6 @@ pub fn requests_are_received()
 
 /// What a master may conclude of the device while a message is out, and from one good reply: where a request stands, which mode
 /// both ends are in, and what the record may have gained.
-#[tactic(auto, using(crate::proofs::LawProofs::level_laws))]
 pub fn ends_stay_level()
     ensures { (size : ℕ) → 1 ≤ size → LevelLaws size }
 {

@@ -1,4 +1,4 @@
-ghost use Rattle.std.specs.Prelude.{IsOk};
+ghost use Rattle.std.specs.Prelude.{◌≡◌, ◌+◌, ◌%◌, ◌^◌, IsOk};
 ghost use Rattle.iol_page.specs.Page.{layouts_of};
 
 use super::*;
@@ -18,6 +18,9 @@ const WITH_PROCESS_DATA: [u8; 10] = [0x17, 0x01, 0x11, 0x10, 0x08, 0x12, 0x34, 0
 
 const READ_16: [u8; 10] = [0x70, 0x5D, 0x93, 0x10, 0x83, 0, 0, 0, 0, 0];
 
+/// Writes `55` to 16/0.
+const WRITE_16: [u8; 10] = [0x70, 0x5D, 0x14, 0x10, 0x55, 0x51, 0, 0, 0, 0];
+
 const BUSY: [u8; 9] = [0x01, 0, 0, 0, 0, 0, 0, 0, 0x3C];
 
 const NOTHING: [u8; 9] = [0, 0, 0, 0, 0, 0, 0, 0, 0x2D];
@@ -33,6 +36,8 @@ const TO_OPERATE: [u8; 10] = [0x20, 0x5E, 0x99, 0, 0, 0, 0, 0, 0, 0];
 struct TwoOctets;
 
 impl App for TwoOctets {
+    ghost carry_out_gives = { λ before request answer after. after ≡ before };
+
     fn carry_out(&mut self, request: &Request) -> Answer {
         match request {
             Request::Read(_) => {
@@ -46,9 +51,38 @@ impl App for TwoOctets {
     }
 }
 
+/// Keeps one octet, which each write of one octet replaces, and counts how often it was asked.
+#[derive(Clone, Copy, Debug, PartialEq, Eq)]
+struct OneOctet {
+    octet: u8,
+    asked: u32,
+}
+
+impl App for OneOctet {
+    ghost carry_out_gives = { λ before request answer after. after.asked ≡ (before.asked + 1) % 2 ^ 32 };
+
+    fn carry_out(&mut self, request: &Request) -> Answer {
+        self.asked = self.asked.wrapping_add(1);
+        match request {
+            Request::Read(_) => {
+                let mut octets = Octets::new();
+                octets.push(self.octet);
+                Answer::Read(octets)
+            }
+            Request::Write(_, octets) => {
+                if octets.len() != 1 {
+                    return Answer::Refused(0x80, 0x33);
+                }
+                self.octet = octets[0];
+                Answer::Written
+            }
+        }
+    }
+}
+
 /// Whether the device answers these octets with those.
-fn answers<A: Allocator + Copy>(
-    device: &mut Device<TwoOctets, A>,
+fn answers<P: App, A: Allocator + Copy>(
+    device: &mut Device<P, A>,
     sent: &[u8],
     reply: &[u8],
 ) -> bool {
@@ -87,7 +121,7 @@ fn is_read<A: Allocator + Copy>(device: &mut Device<TwoOctets, A>) -> bool {
 }
 
 /// Whether the commands into PREOPERATE and OPERATE are answered.
-fn is_led_to_operate<A: Allocator + Copy>(device: &mut Device<TwoOctets, A>) -> bool {
+fn is_led_to_operate<P: App, A: Allocator + Copy>(device: &mut Device<P, A>) -> bool {
     answers(device, &[0x20, 0x36, 0x9A], &[0x2D])
         && answers(device, &MASTER_CYCLE_TIME, &[0x2D])
         && answers(device, &TO_OPERATE, &[0x2D])
@@ -138,6 +172,65 @@ fn request_is_carried_out_once(rt: HostRuntime) -> Result<(), Fail> {
     );
     assert_eq!(rt; *device.app(), TwoOctets);
     assert!(rt; device.output().is_none());
+    hearing_again_changes_nothing();
+    messages_are_heard();
+    replies_are_read();
+    requests_are_received();
+    page_and_room_stay();
+    Ok(())
+}
+
+#[test]
+fn write_reaches_the_application_once_and_is_read_back(rt: HostRuntime) -> Result<(), Fail> {
+    let app = OneOctet { octet: 0, asked: 0 };
+    let page = Page::from_octets(&WITHOUT_PROCESS_DATA);
+    let mut device = match Device::open(rt.alloc(), app, page, 2) {
+        Ok(device) => device,
+        Err((fault, _)) => return Err(Fail::from(fault)),
+    };
+    device.wake();
+    assert!(rt; is_led_to_operate(&mut device));
+    for _ in 0..2 {
+        assert!(rt; answers(&mut device, &WRITE_16, &[0x2D]));
+    }
+    device.work();
+    assert_eq!(rt; *device.app(), OneOctet { octet: 0, asked: 0 });
+    for _ in 0..2 {
+        assert!(rt; answers(&mut device, &[0xF0, 0x75], &BUSY));
+    }
+    for _ in 0..2 {
+        device.work();
+        assert_eq!(rt;
+            *device.app(),
+            OneOctet {
+                octet: 0x55,
+                asked: 1
+            }
+        );
+    }
+    let written = [0x52, 0x52, 0, 0, 0, 0, 0, 0, 0x2D];
+    for _ in 0..2 {
+        assert!(rt; answers(&mut device, &[0xF0, 0x75], &written));
+    }
+    device.power_cycle();
+    device.wake();
+    assert!(rt; is_led_to_operate(&mut device));
+    assert!(rt; answers(&mut device, &READ_16, &[0x2D]));
+    assert!(rt; answers(&mut device, &[0xF0, 0x75], &BUSY));
+    device.work();
+    let kept = [0xD3, 0x55, 0x86, 0, 0, 0, 0, 0, 0x2D];
+    assert!(rt; answers(&mut device, &[0xF0, 0x75], &kept));
+    device.work();
+    assert_eq!(rt;
+        *device.app(),
+        OneOctet {
+            octet: 0x55,
+            asked: 2
+        }
+    );
+    assert_eq!(rt; device.carried().len(), 2);
+    assert_eq!(rt; device.carried()[0].answer, Answer::Written);
+    device.app_follows_record();
     Ok(())
 }
 
@@ -187,6 +280,7 @@ fn events_are_confirmed_once(rt: HostRuntime) -> Result<(), Fail> {
     assert!(rt; answers(&mut device, &[0xF1, 0x64], &[0, 0, 0, 0, 0, 0, 0, 0, 0x85]));
     device.power_cycle();
     assert!(rt; is_silent(&mut device, &[0xF1, 0x64]));
+    events_stay_until_confirmed();
     Ok(())
 }
 
@@ -217,6 +311,8 @@ fn repeated_command_is_heard_in_the_old_layout(rt: HostRuntime) -> Result<(), Fa
     assert!(rt; is_silent(&mut device, &[0xA2, 0x00]));
     assert!(rt; answers(&mut device, &MASTER_CYCLE_TIME, &[0x2D]));
     assert!(rt; is_silent(&mut device, &[0x20, 0x36, 0x9A]));
+    ends_stay_level();
+    modes_have_layouts();
     Ok(())
 }
 
@@ -298,16 +394,4 @@ fn answer_is_read_in_segments(rt: HostRuntime) -> Result<(), Fail> {
     assert!(rt; brings(&mut device, &[0xE4, 0x83, 0x00], 0x00, 0x75));
     assert!(rt; brings(&mut device, &start, 0x00, 0x75));
     Ok(())
-}
-
-#[test]
-fn laws_are_called(rt: HostRuntime) {
-    hearing_again_changes_nothing();
-    messages_are_heard();
-    replies_are_read();
-    page_and_room_stay();
-    requests_are_received();
-    ends_stay_level();
-    modes_have_layouts();
-    events_stay_until_confirmed();
 }
