@@ -4,8 +4,9 @@ use Rattle.iol_mseq.specs.Shape.{Shape, IsLayout}
 use Rattle.iol_mseq.specs.Master.{master_in}
 use Rattle.iol_mseq.specs.Replies.{reply_in}
 use Rattle.iol_mseq.specs.declared.master.MasterMsg.{MasterMsg}
+use Rattle.iol_device.specs.Isdu.{handed}
 use Rattle.iol_device.specs.Far.{Far, hear}
-use Rattle.iol_device.specs.Local.{LocalStep, locals, woken}
+use Rattle.iol_device.specs.Local.{LocalStep, locals, woken, IsWorkedOff}
 use Rattle.iol_device.specs.Laws.{IsRegular}
 
 -- nothing, or octets that are well-formed in no layout in which the sent octets spell a message
@@ -60,3 +61,11 @@ pub record HonestWake (far : Far) (answered : Bool) (far_new : Far) : Type 0 whe
   pub wakes : Bool
   pub far_is : far_new ≡ (if wakes then woken (locals far steps) else locals far steps)
   pub answered_is : answered ≡ true → wakes ≡ true
+
+-- one exchange on a clean wire: a handed request is carried out where the record has room, and the far end does nothing else by itself; the
+-- octets are heard, and what it answers comes back unaltered
+pub record CleanExchange (far : Far) (sent : List ℕ) (answer : Option (List ℕ)) (far_new : Far) : Type 0 where
+  pub ready : Far
+  pub work : IsWorkedOff (handed far.isdu) far ready
+  pub far_is : far_new ≡ (hear ready sent).far
+  pub answer_is : answer ≡ (hear ready sent).reply

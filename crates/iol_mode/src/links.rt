@@ -7,23 +7,24 @@ ghost use Rattle.iol_mseq.specs.Master.{HasMasterParts};
 ghost use Rattle.iol_mseq.specs.Texts.{master_text};
 ghost use Rattle.iol_device.specs.Device.{octets_in};
 ghost use Rattle.iol_link.specs.declared.wire.Rate.{Rate};
-ghost use Rattle.iol_link.specs.Attempts.{good_reply};
+ghost use Rattle.iol_link.specs.Attempts.{good_reply, attempt_of};
 ghost use Rattle.iol_link.specs.Honest.{HonestExchange, HonestWake};
 ghost use Rattle.iol_mode.specs.Messages.{stays};
-ghost use Rattle.iol_mode.specs.States.{OperateFits, OutcomeFits, waked, startup_turned, preoperate_turned, operate_turned, sending_of};
+ghost use Rattle.iol_mode.specs.States.{OperateFits, OutcomeFits, waked, startup_turned, preoperate_turned, operate_turned, sending_of, counted, left_by, exchanged};
 ghost use Rattle.iol_device.specs.Level.{Link as FarLink};
 ghost use Rattle.iol_mode.specs.Stands.{OperateStands, OutcomeStands, IsTold, IsOperating, IsAccepted};
 ghost use Rattle.iol_mode.specs.Next.{wire_of, outcome_of, told_by, message_out, MetFits, LostFits, FaultFits, EnteredFits};
 ghost use Rattle.iol_mode.specs.Laws.{Laws};
 
+use crate::messages::copy_of;
 use crate::states::{
-    Down, Mode, Operate, Outcome, Preoperate, Startup, Step, Up, operate_done, preoperate_done,
-    sending, startup_done, woken,
+    Down, Mode, Operate, Outcome, Preoperate, Startup, Step, Up, preoperate_done, startup_done,
+    woken,
 };
 use crate::why::Why;
 use iol_device::{ends_stay_level, links_stay_level, texts_are_heard};
-use iol_link::{Wire, exchanges_keep_ends_level};
-use iol_mseq::{Layout, MasterMsg, Reply};
+use iol_link::{Attempt, Handler, Wire, exchanges_keep_ends_level};
+use iol_mseq::{Layout, MasterMsg, Message, Reply, encode_master};
 use iol_page::Layouts;
 use std::marker::Model;
 
@@ -83,6 +84,43 @@ fn linked<W: Wire>(wire: W, outcome: Outcome) -> Next<W>
         Outcome::Startup(state) => Next::Startup(Link { wire, state }),
         Outcome::Preoperate(state) => Next::Preoperate(Link { wire, state }),
         Outcome::Operate(state, reply) => Next::Operate(Link { wire, state }, reply),
+    }
+}
+
+/// Sends once the message that is out, where there is one, else this one; it is out afterwards only where it is to be
+/// sent again.
+fn send<W: Wire>(
+    out: &mut Option<Handler>,
+    message: &MasterMsg,
+    wire: &mut W,
+    layout: &Layout,
+) -> Attempt
+    requires { HasMasterParts layout.now (sending_of out.old message.now).message }
+    ensures called { (answer : Option (ArrayVec ℕ))
+        × W.exchange_gives wire.old (master_text layout.now (sending_of out.old message.now).message) answer wire.new
+        × (IsTrue (W.honest wire.old) → HonestExchange (W.far wire.old) (W.silence wire.old)
+        (master_text layout.now (sending_of out.old message.now).message) (octets_in answer) (W.far wire.new) (W.silence wire.new))
+        × (result ≡ attempt_of (sending_of out.old message.now).tries (good_reply layout.now (sending_of out.old message.now).message (octets_in answer)))
+        × (out.new ≡ left_by result (counted (sending_of out.old message.now) (good_reply layout.now (sending_of out.old message.now).message (octets_in answer)))) }
+    ensures few { (sending_of out.old message.now).tries < 3 }
+    ensures honesty { W.honest wire.new ≡ W.honest wire.old }
+{
+    match out {
+        Some(sent) => {
+            let attempt = sent.attempt(wire, layout);
+            if !matches!(attempt, Attempt::Again) {
+                *out = None;
+            }
+            attempt
+        }
+        None => {
+            let mut sent = Handler::new(copy_of(message));
+            let attempt = sent.attempt(wire, layout);
+            if matches!(attempt, Attempt::Again) {
+                *out = Some(sent);
+            }
+            attempt
+        }
     }
 }
 
@@ -185,6 +223,13 @@ impl<W: Wire> Link<W, Startup> {
         linked(wire, startup_done(Startup { sent, step }, attempt))
     }
 
+    /// The octets that the next turn sends.
+    pub fn octets(&self) -> Message
+        ensures { result.items ≡ master_text startup_shape self.now.state.sent.message }
+    {
+        encode_master(&Layout::startup(), self.state.sent.message())
+    }
+
     /// The layouts that the page asks for, once this start-up has checked it.
     pub fn told(&self) -> Option<&Layouts>
         ensures told { option_copied result ≡ told_by self.now.state.step }
@@ -240,6 +285,13 @@ impl<W: Wire> Link<W, Preoperate> {
         linked(wire, preoperate_done(state, attempt))
     }
 
+    /// The octets that the next turn sends.
+    pub fn octets(&self) -> Message
+        ensures { result.items ≡ master_text self.now.state.layouts.pre self.now.state.sent.message }
+    {
+        encode_master(&self.state.layouts.pre, self.state.sent.message())
+    }
+
     /// The layouts that the page asks for.
     pub fn told(&self) -> Option<&Layouts>
         ensures told { option_copied result ≡ Some self.now.state.layouts }
@@ -250,6 +302,60 @@ impl<W: Wire> Link<W, Preoperate> {
 }
 
 impl<W: Wire> Link<W, Operate> {
+    /// Sends once the message that is out, where there is one, else this one. The link stays where it is.
+    ///
+    /// The message has the sizes of the layout, and is no command that leaves OPERATE. After `Lost`, at the third attempt in
+    /// a row that had no good reply, no message is out, and both ends still stand in OPERATE: the caller takes the link
+    /// down, by `lost`.
+    pub fn exchange(&mut self, message: &MasterMsg) -> Attempt
+        requires fits { HasMasterParts self.old.state.layouts.run message.now }
+        requires stays { IsTrue (stays message.now) }
+        ensures honest { W.honest self.new.wire ≡ W.honest self.old.wire }
+
+        // the wire is called once, with the octets of the message; its answer alone says what becomes of the mode
+        ensures exchange { (answer : Option (ArrayVec ℕ))
+            × W.exchange_gives self.old.wire (master_text self.old.state.layouts.run (sending_of self.old.state.out message.now).message) answer self.new.wire
+            × (IsTrue (W.honest self.old.wire) → HonestExchange (W.far self.old.wire) (W.silence self.old.wire)
+            (master_text self.old.state.layouts.run (sending_of self.old.state.out message.now).message) (octets_in answer) (W.far self.new.wire) (W.silence self.new.wire))
+            × (exchanged result self.new.state ≡ operate_turned self.old.state message.now
+            (good_reply self.old.state.layouts.run (sending_of self.old.state.out message.now).message (octets_in answer))) }
+        ensures left { result ≡ Attempt.Lost → self.new.state ≡ record { out = None; layouts = self.old.state.layouts } }
+
+        ensures fits { OutcomeFits (exchanged result self.new.state) }
+
+        // how the link stood before, and on an honest wire how it stands now
+        ensures stood { OperateFits self.old.state
+            × (IsTrue (W.honest self.old.wire) → OperateStands self.old.state (W.silence self.old.wire) (W.far self.old.wire)) }
+        ensures few { (sending_of self.old.state.out message.now).tries < 3 }
+        ensures accepted { IsTrue (W.honest self.old.wire) → (link : FarLink) → IsOperating self.old.state.layouts link
+            → IsAccepted self.old.state.layouts (W.far self.old.wire).page link (sending_of self.old.state.out message.now).message }
+        ensures stands { IsTrue (W.honest self.old.wire)
+            → OutcomeStands (exchanged result self.new.state) (W.silence self.new.wire) (W.far self.new.wire) }
+        ensures met { IsTrue (W.honest self.old.wire) → MetFits (exchanged result self.new.state) (W.far self.new.wire) }
+        ensures lost { IsTrue (W.honest self.old.wire) → LostFits (exchanged result self.new.state) (W.silence self.new.wire) }
+    {
+        laws();
+        send(
+            &mut self.state.out,
+            message,
+            &mut self.wire,
+            &self.state.layouts.run,
+        )
+    }
+
+    /// Takes the link down, as one that is lost.
+    pub fn lost(self) -> Link<W, Down>
+        ensures wire { result.wire ≡ self.wire }
+        ensures why { result.state.why ≡ Some Why.Lost }
+    {
+        Link {
+            wire: self.wire,
+            state: Down {
+                why: Some(Why::Lost),
+            },
+        }
+    }
+
     /// Sends once the message that is out, where there is one, else this one.
     ///
     /// The message has the sizes of the layout, and is no command that leaves OPERATE. Down with `Lost` at the third
@@ -280,12 +386,12 @@ impl<W: Wire> Link<W, Operate> {
         ensures met { IsTrue (W.honest self.wire) → MetFits (outcome_of result) (W.far (wire_of result)) }
         ensures lost { IsTrue (W.honest self.wire) → LostFits (outcome_of result) (W.silence (wire_of result)) }
     {
-        laws();
-        let Link { mut wire, state } = self;
-        let Operate { out, layouts } = state;
-        let mut sent = sending(out, message);
-        let attempt = sent.attempt(&mut wire, &layouts.run);
-        linked(wire, operate_done(sent, layouts, attempt))
+        let mut link = self;
+        match link.exchange(message) {
+            Attempt::Got(reply) => Next::Operate(link, Some(reply)),
+            Attempt::Again => Next::Operate(link, None),
+            Attempt::Lost => Next::Down(link.lost()),
+        }
     }
 
     /// The message that had no good reply yet.

@@ -1,10 +1,10 @@
 -- The simulated wire.
-use Rattle.std.specs.Prelude.{◌≡◌, ℕ, ◌-◌, Bool, true, false, nat_le, if◌then◌else◌, List, length, MatchBool, Option, Some, None, option_map}
+use Rattle.std.specs.Prelude.{◌≡◌, ℕ, ◌-◌, Bool, true, false, not, ◌&&◌, nat_le, if◌then◌else◌, List, [], ◌∷◌, length, MatchBool, Option, Some, None, option_map}
 use Rattle.arrayvec.specs.ArrayVec.{ArrayVec}
 use Rattle.iol_octets.specs.Checksum.{with_flip}
 use Rattle.iol_device.specs.Device.{Running, octets_in}
 use Rattle.iol_device.specs.Far.{Far, Heard, hear}
-use Rattle.iol_device.specs.Local.{woken}
+use Rattle.iol_device.specs.Local.{Gives, woken}
 use Rattle.iol_link.specs.Honest.{silence_after}
 use Rattle.iol_link.specs.declared.wire.Rate.{Rate}
 use Rattle.iol_link.specs.declared.wire.Rate.TheVariants.{Com2}
@@ -23,6 +23,15 @@ pub record Simulated (P : Type 0) : Type 0 where
   pub silent : Bool
   -- how many exchanges in a row, up to now, brought no unaltered reply, counted up to 3
   pub silence : ℕ
+
+-- A clean wire: its script has ended, the application works before each call, and it isn't silent
+
+abbrev pub is_ended : List Step → Bool
+is_ended [] = true
+is_ended (step ∷ steps) = false
+
+abbrev pub is_clean : {P : Type 0} → Simulated P → Bool
+is_clean sim = is_ended sim.steps && sim.auto && not sim.silent
 
 -- The device and the script before a call
 
@@ -44,10 +53,10 @@ prepared sim device = record {
 }
 
 -- the device as the call finds it: the steps are done, unless the wire is silent, and then the work where it is automatic
-pub record IsReady {P : Type 0} (sim : Simulated P) (device : Running P) : Type 0 where
+pub record IsReady {P : Type 0} (gives : Gives P) (sim : Simulated P) (device : Running P) : Type 0 where
   pub stepped : Running P
-  pub steps : MatchBool sim.silent (stepped ≡ sim.device) (AreDone sim.steps sim.device stepped)
-  pub work : MatchBool (if sim.silent then sim.auto else auto_of sim.auto sim.steps) (IsWorked stepped device) (device ≡ stepped)
+  pub steps : MatchBool sim.silent (stepped ≡ sim.device) (AreDone gives sim.steps sim.device stepped)
+  pub work : MatchBool (if sim.silent then sim.auto else auto_of sim.auto sim.steps) (IsWorked gives stepped device) (device ≡ stepped)
 
 -- A wake
 
@@ -61,11 +70,12 @@ abbrev pub rate_by : Fate → Option Rate
 rate_by Clean = Some Com2
 rate_by fate = None
 
-pub record IsWake {P : Type 0} (old : Simulated P) (answer : Option Rate) (new : Simulated P) : Type 0 where
+pub record IsWake {P : Type 0} (gives : Gives P) (old : Simulated P) (answer : Option Rate) (new : Simulated P) : Type 0 where
   pub ready : Running P
-  pub ready_is : IsReady old ready
+  pub ready_is : IsReady gives old ready
   pub new_is : new ≡ prepared old (woken_by (fate_now old) ready)
   pub answer_is : answer ≡ rate_by (fate_now old)
+  pub first : new.device.first ≡ old.device.first
 
 -- An exchange
 
@@ -86,8 +96,9 @@ abbrev pub silence_by : Fate → ℕ → Option (List ℕ) → ℕ
 silence_by Clean silence reply = silence_after silence reply
 silence_by fate silence reply = silence_after silence None
 
-pub record IsExchange {P : Type 0} (old : Simulated P) (sent : List ℕ) (answer : Option (ArrayVec ℕ)) (new : Simulated P) : Type 0 where
+pub record IsExchange {P : Type 0} (gives : Gives P) (old : Simulated P) (sent : List ℕ) (answer : Option (ArrayVec ℕ)) (new : Simulated P) : Type 0 where
   pub ready : Running P
-  pub ready_is : IsReady old ready
+  pub ready_is : IsReady gives old ready
   pub new_is : new ≡ record (prepared old (record ready { far = (exchanged (fate_now old) ready.far sent).far })) { silence = silence_by (fate_now old) old.silence (octets_in answer) }
   pub answer_is : octets_in answer ≡ (exchanged (fate_now old) ready.far sent).reply
+  pub first : new.device.first ≡ old.device.first

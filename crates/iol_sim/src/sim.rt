@@ -7,6 +7,7 @@ ghost use Rattle.iol_link.specs.Honest.{HonestExchange, HonestWake};
 ghost use Rattle.iol_sim.specs.Sim.{damaged};
 
 use crate::fault::SimFault;
+use crate::params::Params;
 use crate::script::{Fate, Step};
 use iol_device::{App, Device, replies_are_read};
 use iol_link::{Rate, Wire, damaged_replies_are_unread};
@@ -61,6 +62,7 @@ impl<P: App, A: Allocator + Copy> Model for Sim<P, A> {
 
 impl<P: App, A: Allocator + Copy> Sim<P, A> {
     ghost use Rattle.iol_device.specs.Far.{hear};
+    ghost use Rattle.iol_device.specs.Local.{Follows};
     ghost use Rattle.iol_sim.specs.declared.fault.SimFault.{SimFault};
     ghost use Rattle.iol_sim.specs.declared.script.Fate.{Fate};
     ghost use Rattle.iol_sim.specs.Script.{fate_of, rest_of, auto_of, IsDone, AreDone};
@@ -102,6 +104,15 @@ impl<P: App, A: Allocator + Copy> Sim<P, A> {
         &self.device
     }
 
+    /// A law of each such wire, without code of its own: the application of the device at the far end is what the one
+    /// with which that device was opened becomes by carrying out the requests of its record, in their order, each once
+    /// and with the answer that stands beside it, and by nothing else.
+    pub fn app_follows_record(&self)
+        ensures { Follows P.carry_out_gives self.now.device.first self.now.device.far.carried self.now.device.app }
+    {
+        self.device.app_follows_record();
+    }
+
     /// From now on the wire is no longer silent, and goes on with the script.
     pub fn mend(&mut self)
         ensures { self.new ≡ record self.old { silent = false } }
@@ -111,7 +122,7 @@ impl<P: App, A: Allocator + Copy> Sim<P, A> {
 
     /// Does one step that is no fate.
     fn act(&mut self, step: &Step)
-        ensures device { IsDone step.now self.old.device self.new.device }
+        ensures device { IsDone P.carry_out_gives step.now self.old.device self.new.device }
         ensures rest { self.new ≡ record self.old { device = self.new.device; auto = auto_of self.old.auto (step.now ∷ []) } }
     {
         match step {
@@ -133,7 +144,7 @@ impl<P: App, A: Allocator + Copy> Sim<P, A> {
     /// Does the steps up to and with the next fate, which is answered.
     fn next_fate(&mut self) -> Fate
         ensures fate { result ≡ fate_of self.old.steps }
-        ensures device { AreDone self.old.steps self.old.device self.new.device }
+        ensures device { AreDone P.carry_out_gives self.old.steps self.old.device self.new.device }
         ensures rest { self.new ≡ record self.old { device = self.new.device; steps = rest_of self.old.steps; auto = auto_of self.old.auto self.old.steps } }
     {
         while let Some(step) = self.steps.next() {
@@ -148,7 +159,7 @@ impl<P: App, A: Allocator + Copy> Sim<P, A> {
     /// Uses the steps before a call, whose fate is answered; none where it is silent.
     fn begin(&mut self) -> Fate
         ensures fate { result ≡ fate_now self.old }
-        ensures device { MatchBool self.old.silent (self.new.device ≡ self.old.device) (AreDone self.old.steps self.old.device self.new.device) }
+        ensures device { MatchBool self.old.silent (self.new.device ≡ self.old.device) (AreDone P.carry_out_gives self.old.steps self.old.device self.new.device) }
         ensures rest { self.new ≡ prepared self.old self.new.device }
     {
         if self.line.silent {
@@ -162,7 +173,7 @@ impl<P: App, A: Allocator + Copy> Sim<P, A> {
     /// Does all that comes before a call, whose fate is answered.
     fn prepare(&mut self) -> Fate
         ensures fate { result ≡ fate_now self.old }
-        ensures device { IsReady self.old self.new.device }
+        ensures device { IsReady P.carry_out_gives self.old self.new.device }
         ensures rest { self.new ≡ prepared self.old self.new.device }
     {
         let fate = self.begin();
@@ -224,6 +235,19 @@ impl<P: App, A: Allocator + Copy> Sim<P, A> {
     }
 }
 
+impl<A: Allocator + Copy> Sim<Params, A> {
+    ghost use Rattle.iol_sim.specs.Params.{AnsweredBy};
+
+    /// A law of each such wire, without code of its own: each request of the record of the device at the far end, in
+    /// their order, was answered by its parameters as they were then, and they are now what those requests made of them.
+    #[tactic(auto, using(crate::proofs::Entries::stored))]
+    pub fn record_is_answered_by_params(&self)
+        ensures { AnsweredBy self.now.device.first self.now.device.far.carried self.now.device.app }
+    {
+        self.app_follows_record();
+    }
+}
+
 /// The octets of a message with bit 0 of the last one flipped.
 fn damaged(octets: &[u8]) -> Message
     requires { length octets.now ≤ LONGEST }
@@ -238,7 +262,8 @@ fn damaged(octets: &[u8]) -> Message
 }
 
 impl<P: App, A: Allocator + Copy> Wire for Sim<P, A> {
-    ghost use Rattle.iol_sim.specs.Sim.{IsWake, IsExchange};
+    ghost use Rattle.iol_sim.specs.Sim.{IsWake, IsExchange, is_clean};
+    ghost use Rattle.iol_sim.specs.CleanCalls.{exchanges_cleanly, wakes_cleanly};
 
     ghost far = { λ sim. sim.device.far };
 
@@ -246,9 +271,15 @@ impl<P: App, A: Allocator + Copy> Wire for Sim<P, A> {
 
     ghost silence = { λ sim. sim.silence };
 
-    ghost wake_gives = { IsWake };
+    ghost clean = { is_clean };
 
-    ghost exchange_gives = { IsExchange };
+    ghost wake_gives = { IsWake P.carry_out_gives };
+
+    ghost exchange_gives = { IsExchange P.carry_out_gives };
+
+    ghost clean_exchanges = { exchanges_cleanly P.carry_out_gives };
+
+    ghost clean_wakes = { wakes_cleanly P.carry_out_gives };
 
     fn wake(&mut self) -> Option<Rate> {
         let fate = self.prepare();

@@ -151,6 +151,36 @@ fn reply() -> Result<Message, Fail> {
     Message::try_from(REPLY.as_slice()).map_err(|_| Fail::from(SimFault::BadParam))
 }
 
+/// Whether the wire brings each of these replies to each of these messages, one after another.
+fn brings(sim: &mut Sim<Params>, sent: &[u8], replies: &[&[u8]]) -> bool {
+    replies.iter().all(|reply| match sim.exchange(sent) {
+        Some(octets) => octets.as_slice() == *reply,
+        None => false,
+    })
+}
+
+#[test]
+fn what_is_written_is_read_back(rt: HostRuntime) -> Result<(), Fail> {
+    let mut sim = wired(rt.alloc(), &[])?;
+    let taken: &[u8] = &[0x2D];
+    let busy: &[u8] = &[0x01, 0, 0, 0, 0, 0, 0, 0, 0x3C];
+    let written: &[u8] = &[0x52, 0x52, 0, 0, 0, 0, 0, 0, 0x2D];
+    let value: &[u8] = &[0xD4, 0x0A, 0x0B, 0xD5, 0, 0, 0, 0, 0x2D];
+    assert_eq!(rt; sim.wake(), Some(Rate::Com2));
+    assert!(rt; brings(&mut sim, &[0x20, 0x36, 0x9A], &[taken]));
+    assert!(rt; brings(&mut sim, &[0x20, 0x5E, 0x99, 0, 0, 0, 0, 0, 0, 0], &[taken]));
+    let write = [0x70, 0x5D, 0x26, 0x11, 0x01, 0x0A, 0x0B, 0x37, 0, 0];
+    assert!(rt; brings(&mut sim, &write, &[taken, taken]));
+    assert!(rt; brings(&mut sim, &[0xF0, 0x75], &[busy, written, written]));
+    let read = [0x70, 0x5D, 0xA4, 0x11, 0x01, 0xB4, 0, 0, 0, 0];
+    assert!(rt; brings(&mut sim, &read, &[taken]));
+    assert!(rt; brings(&mut sim, &[0xF0, 0x75], &[busy, value]));
+    assert_eq!(rt; sim.device().carried().len(), 2);
+    sim.app_follows_record();
+    sim.record_is_answered_by_params();
+    Ok(())
+}
+
 #[test]
 fn silence_lasts_until_it_is_mended(rt: HostRuntime) -> Result<(), Fail> {
     let event = Event {
@@ -183,20 +213,22 @@ fn each_request_for_memory_is_refused(rt: HostRuntime) -> Result<(), Fail> {
     let scarce = Scarce::new(rt.alloc());
     let steps = [Step::Fate(Fate::Clean), Step::Input(Image::new(&[1])?)];
     for number in 0..64 {
-        scarce.order(Refusal::Never);
-        let device = opened(&scarce)?;
-        scarce.order(Refusal::Only(number));
-        match Sim::new(&scarce, device, &steps) {
-            Ok(mut sim) => {
-                assert!(rt; !scarce.has_refused());
-                assert!(rt; number > 0);
-                assert_eq!(rt; sim.wake(), Some(Rate::Com2));
-                return Ok(());
-            }
-            Err((fault, device)) => {
-                assert!(rt; scarce.has_refused());
-                assert_eq!(rt; fault, SimFault::OutOfMemory);
-                assert_eq!(rt; device.app(), &params()?);
+        for refusal in [Refusal::From(number), Refusal::Only(number)] {
+            scarce.order(Refusal::Never);
+            let device = opened(&scarce)?;
+            scarce.order(refusal);
+            match Sim::new(&scarce, device, &steps) {
+                Ok(mut sim) => {
+                    assert!(rt; !scarce.has_refused());
+                    assert!(rt; number > 0);
+                    assert_eq!(rt; sim.wake(), Some(Rate::Com2));
+                    return Ok(());
+                }
+                Err((fault, device)) => {
+                    assert!(rt; scarce.has_refused());
+                    assert_eq!(rt; fault, SimFault::OutOfMemory);
+                    assert_eq!(rt; device.app(), &params()?);
+                }
             }
         }
     }
@@ -208,20 +240,22 @@ fn raw_wire_answers_in_order(rt: HostRuntime) -> Result<(), Fail> {
     let scarce = Scarce::new(rt.alloc());
     let messages = [reply()?, Message::new()];
     for number in 0..64 {
-        scarce.order(Refusal::Only(number));
-        match Raw::new(&scarce, &messages) {
-            Ok(mut raw) => {
-                assert!(rt; !scarce.has_refused());
-                assert!(rt; number > 0);
-                assert_eq!(rt; raw.exchange(&[]), Some(reply()?));
-                assert_eq!(rt; raw.wake(), Some(Rate::Com2));
-                assert_eq!(rt; raw.exchange(&PAGE_READ), Some(Message::new()));
-                assert_eq!(rt; raw.exchange(&PAGE_READ), None);
-                return Ok(());
-            }
-            Err(fault) => {
-                assert!(rt; scarce.has_refused());
-                assert_eq!(rt; fault, SimFault::OutOfMemory);
+        for refusal in [Refusal::From(number), Refusal::Only(number)] {
+            scarce.order(refusal);
+            match Raw::new(&scarce, &messages) {
+                Ok(mut raw) => {
+                    assert!(rt; !scarce.has_refused());
+                    assert!(rt; number > 0);
+                    assert_eq!(rt; raw.exchange(&[]), Some(reply()?));
+                    assert_eq!(rt; raw.wake(), Some(Rate::Com2));
+                    assert_eq!(rt; raw.exchange(&PAGE_READ), Some(Message::new()));
+                    assert_eq!(rt; raw.exchange(&PAGE_READ), None);
+                    return Ok(());
+                }
+                Err(fault) => {
+                    assert!(rt; scarce.has_refused());
+                    assert_eq!(rt; fault, SimFault::OutOfMemory);
+                }
             }
         }
     }
