@@ -5,7 +5,6 @@ pub mod Sessions
 pub mod Sending
 pub mod Confirms
 pub mod Following
-pub mod Accepting
 pub mod TakingUp
 pub mod Stations
 pub mod Turns
@@ -28,3 +27,4 @@ pub mod Stepping
 pub mod SeenCalls
 pub mod Reporting
 pub mod Ending
+pub mod Askings

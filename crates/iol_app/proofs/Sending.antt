@@ -12,14 +12,14 @@ use Rattle.iol_octets.specs.Flow.{flow_address}
 use Rattle.iol_mseq.specs.Shape.{Shape}
 use Rattle.iol_isdu.specs.declared.values.Request.{Request}
 use Rattle.iol_isdu.specs.declared.values.Answer.{Answer}
-use Rattle.iol_isdu.specs.declared.values.Answer.TheVariants.{Read, Written as WrittenAnswer, Refused as RefusedAnswer}
-use Rattle.iol_isdu.specs.Answers.{is_read, AnswersKind, answer_body}
-use Rattle.iol_isdu.specs.Texts.{IsRequest, FitsAnswer, request_text}
+use Rattle.iol_isdu.specs.Answers.{is_read}
+use Rattle.iol_isdu.specs.Texts.{IsRequest, request_text}
 use Rattle.iol_segment.specs.Cut.{Cutting, flow_at, last_given}
 use Rattle.iol_segment.specs.Join.{Joining, stage}
 use Rattle.iol_segment.specs.TextLaws.{TextLaws}
 use Rattle.iol_device.specs.Codec.{flow_of}
-use Rattle.iol_device.specs.Isdu.{answer_text, fits, is_kind}
+use Rattle.iol_device.specs.Isdu.{answer_text, fits}
+use Rattle.iol_device.specs.SegmentLaws.{AnswersFit}
 use Rattle.iol_device.specs.Level.{Quiet, Written, Had, Begin, More, Ask, Next, IsMove}
 use Rattle.iol_app.specs.declared.event_work.Reading.{Reading}
 use Rattle.iol_app.specs.declared.request.Current.{Current}
@@ -35,25 +35,6 @@ use Rattle.iol_app.proofs.Staging.{more_follow}
 use Rattle.iol_app.proofs.Cutting.{is_pair}
 
 -- An answer that fits is one that the type holds
-
-kind_fits : (read : Bool) (a : Answer) → is_kind read a ≡ true → AnswersKind read a
-kind_fits read (Read octets) e = e
-kind_fits true WrittenAnswer e = absurd (let k : false ≡ true = e in cc)
-kind_fits false WrittenAnswer e = refl
-kind_fits read (RefusedAnswer error additional) e = tt
-
-both : (a b : Bool) → IsTrue (a && b) → (a ≡ true) × (b ≡ true)
-both true true h = (refl, refl)
-both true false h = absurd (let k : false ≡ true = grind (arith, nat_tests, common_steps) in cc)
-both false b h = absurd (let k : false ≡ true = grind (arith, nat_tests, common_steps) in cc)
-
-pub answer_fits : (r : Request) (a : Answer) → IsTrue (fits r a) → FitsAnswer (is_read r) a
-answer_fits r a h =
-    let k = both (is_kind (is_read r) a) (nat_le (length (answer_body a)) 232) h in
-    record {
-      kind = kind_fits (is_read r) a k.0;
-      fits = (let e : nat_le (length (answer_body a)) 232 ≡ true = k.1 in let m : length (answer_body a) ≤ 232 = grind (arith, nat_tests, common_steps) in m);
-    }
 
 -- The flow of a COUNT
 
@@ -85,44 +66,44 @@ asking_moves cutter zero zero e h = absurd h
 asking_moves cutter zero (suc i) e h = subst (λ (n : ℕ). IsMove cutter.size Ask (written cutter.source n) Isdu true Start []) (sym e) h
 asking_moves cutter (suc busy) given e h = tt
 
-receiving_moves : (size : ℕ) → TextLaws size → (request : Request) (joining : Joining) (had : ℕ) → IsJoining size had joining
+receiving_moves : AnswersFit → (size : ℕ) → TextLaws size → (request : Request) (joining : Joining) (had : ℕ) → IsJoining size had joining
     → IsMove size Next (Had request had joining.text) Isdu true (Count (suc had % 16)) []
-receiving_moves size laws request joining had h = (
+receiving_moves fit size laws request joining had h = (
   refl,
-  λ answer fitting same. more_follow size laws (answer_text request answer) (laws.answers (is_read request) answer (answer_fits request answer fitting)) had (ap stage (sym same) ∙ h.open_text),
+  λ answer fitting same. more_follow size laws (answer_text request answer) (laws.answers (is_read request) answer (fit request answer fitting)) had (ap stage (sym same) ∙ h.open_text),
 )
 
-progress_moves : (laws : (size : ℕ) → 1 ≤ size → TextLaws size) (current : Current) (p : Cursor) → current.progress ≡ p → IsCurrent current
+progress_moves : AnswersFit → (laws : (size : ℕ) → 1 ≤ size → TextLaws size) (current : Current) (p : Cursor) → current.progress ≡ p → IsCurrent current
     → IsMove current.cutter.size (move_at current.cutter p) (progress_at current.cutter p) (progress_head p).channel (progress_head p).read (flow_of (progress_head p).address) (progress_data p)
 unfolding flow_of
-progress_moves laws current (Sending flow piece) e h =
+progress_moves fit laws current (Sending flow piece) e h =
     segment_moves current.cutter.size current.cutter.source flow piece current.cutter.given h.request (subst (ProgressFits current.cutter current.abort) e h.progress)
-progress_moves laws current (Asking busy) e h =
+progress_moves fit laws current (Asking busy) e h =
     asking_moves current.cutter busy current.cutter.given refl (subst (ProgressFits current.cutter current.abort) e h.progress)
-progress_moves laws current (Receiving joining had) e h =
-    let moves = receiving_moves current.cutter.size (laws current.cutter.size h.some) current.cutter.source joining had (subst (ProgressFits current.cutter current.abort) e h.progress) in
+progress_moves fit laws current (Receiving joining had) e h =
+    let moves = receiving_moves fit current.cutter.size (laws current.cutter.size h.some) current.cutter.source joining had (subst (ProgressFits current.cutter current.abort) e h.progress) in
     rw (add-one had, flow_of_count (suc had)) moves
-progress_moves laws current Refused e h = tt
+progress_moves fit laws current Refused e h = tt
 
-request_moves : (laws : (size : ℕ) → 1 ≤ size → TextLaws size) (size : ℕ) (current : Option Current) → IfSome current IsCurrent → IfSome current (λ c. c.cutter.size ≡ size)
+request_moves : AnswersFit → (laws : (size : ℕ) → 1 ≤ size → TextLaws size) (size : ℕ) (current : Option Current) → IfSome current IsCurrent → IfSome current (λ c. c.cutter.size ≡ size)
     → IsMove size (request_move current) (progress_of current) (request_head current).channel (request_head current).read (flow_of (request_head current).address) (request_data current)
 unfolding flow_of
-request_moves laws size None h same = tt
-request_moves laws size (Some current) h same =
+request_moves fit laws size None h same = tt
+request_moves fit laws size (Some current) h same =
     subst (λ (n : ℕ). IsMove n (move_at current.cutter current.progress) (progress_at current.cutter current.progress) (progress_head current.progress).channel (progress_head current.progress).read (flow_of (progress_head current.progress).address) (progress_data current.progress)) same
-    (progress_moves laws current current.progress refl h)
+    (progress_moves fit laws current current.progress refl h)
 
-messages_move : (laws : (size : ℕ) → 1 ≤ size → TextLaws size) (exchange : Exchange) (size : ℕ) (reading : Reading) (current : Option Current) → IfSome current IsCurrent → IfSome current (λ c. c.cutter.size ≡ size)
+messages_move : AnswersFit → (laws : (size : ℕ) → 1 ≤ size → TextLaws size) (exchange : Exchange) (size : ℕ) (reading : Reading) (current : Option Current) → IfSome current IsCurrent → IfSome current (λ c. c.cutter.size ≡ size)
     → IsMoveOf size exchange current (head_for exchange reading current) (data_for exchange size current)
 unfolding flow_of
-messages_move laws TellOutput size _ current h same = tt
-messages_move laws DropOutput size _ current h same = tt
-messages_move laws Abort size _ current h same = tt
-messages_move laws ReadEvent size _ current h same = tt
-messages_move laws ConfirmEvents size _ current h same = tt
-messages_move laws NextMessage size _ current h same = request_moves laws size current h same
-messages_move laws Idle size _ current h same = tt
+messages_move fit laws TellOutput size _ current h same = tt
+messages_move fit laws DropOutput size _ current h same = tt
+messages_move fit laws Abort size _ current h same = tt
+messages_move fit laws ReadEvent size _ current h same = tt
+messages_move fit laws ConfirmEvents size _ current h same = tt
+messages_move fit laws NextMessage size _ current h same = request_moves fit laws size current h same
+messages_move fit laws Idle size _ current h same = tt
 
-pub messages_are_moves : ((size : ℕ) → 1 ≤ size → TextLaws size) → MessagesAreMoves
-messages_are_moves laws s layout exchange h told =
-    messages_move laws exchange layout.od s.events.reading s.current h.current (subst (λ (l : Option Shape). IfSome s.current (λ c. c.cutter.size ≡ od_size l)) told h.size)
+pub messages_are_moves : AnswersFit → ((size : ℕ) → 1 ≤ size → TextLaws size) → MessagesAreMoves
+messages_are_moves fit laws s layout exchange h told =
+    messages_move fit laws exchange layout.od s.events.reading s.current h.current (subst (λ (l : Option Shape). IfSome s.current (λ c. c.cutter.size ≡ od_size l)) told h.size)

@@ -16,6 +16,7 @@ use Rattle.iol_segment.specs.Join.{Stage, Open, Complete, stage, staged}
 use Rattle.iol_segment.specs.JoinLaws.{count_at}
 use Rattle.iol_segment.specs.TextLaws.{TextLaws, HoldsLength, joined as joined_octets}
 use Rattle.iol_device.specs.Isdu.{answer_text, fits}
+use Rattle.iol_device.specs.SegmentLaws.{AnswersFit}
 use Rattle.iol_app.specs.declared.request.Current.{Current}
 use Rattle.iol_app.specs.declared.request.Progress.{Progress as Cursor}
 use Rattle.iol_app.specs.declared.request.Progress.TheVariants.{Sending, Asking, Receiving, Refused}
@@ -23,27 +24,27 @@ use Rattle.iol_app.specs.Requests.{finished, joined, replied_at, ProgressFits, I
 use Rattle.iol_app.specs.Moves.{next_segment, IsHad, IsTakenUp, AnswersAreTakenUp}
 use Rattle.iol_app.proofs.Staging.{more_follow, total_low}
 use Rattle.iol_app.proofs.Joining.{taken_next}
-use Rattle.iol_app.proofs.Sending.{answer_fits}
-use Rattle.iol_app.proofs.Accepting.{answer_accepted}
 
 -- an answer that fits the request of a cut
 record Fitting (cutter : Cutting Request) (answer : Answer) : Type 0 where
   pub laws : TextLaws cutter.size
+  pub valid : FitsAnswer (is_read cutter.source) answer
   pub begins : BeginsWithAnswer (is_read cutter.source) (answer_text cutter.source answer) answer
   pub accepted : answer_fault (is_read cutter.source) (answer_text cutter.source answer) ≡ None
   pub holds : HoldsLength (answer_text cutter.source answer)
 
-fitting : ((size : ℕ) → 1 ≤ size → TextLaws size) → OneAnswerText → (cutter : Cutting Request) (answer : Answer) → 1 ≤ cutter.size → IsTrue (fits cutter.source answer) → Fitting cutter answer
-fitting laws one cutter answer some h =
+fitting : AnswersFit → ((size : ℕ) → 1 ≤ size → TextLaws size) → OneAnswerText → (cutter : Cutting Request) (answer : Answer) → 1 ≤ cutter.size → IsTrue (fits cutter.source answer) → Fitting cutter answer
+fitting fit_answers laws one cutter answer some h =
     let read = is_read cutter.source in
     let text = answer_text cutter.source answer in
-    let fit : FitsAnswer read answer = answer_fits cutter.source answer h in
+    let fit : FitsAnswer read answer = fit_answers cutter.source answer h in
     let holds : HoldsLength text = (laws cutter.size some).answers read answer fit in
     let spells : IsAnswerText read answer text = (one read answer fit text).1 refl in
     record {
       laws = laws cutter.size some;
+      valid = fit;
       begins = record { text = text; rest = []; spells = spells; whole = sym (append-nil text) };
-      accepted = answer_accepted read answer text fit spells holds;
+      accepted = (laws cutter.size some).accepted read answer fit;
       holds = holds;
     }
 
@@ -79,9 +80,8 @@ taken_up current (Asking busy) limit answer c e fit h had =
     let read = is_read current.cutter.source in
     let text = answer_text current.cutter.source answer in
     let first = segment current.cutter.size text 0 in
-    let valid : FitsAnswer read answer = answer_fits current.cutter.source answer fit in
-    let not_busy : (slice_index first 0 == 1) ≡ false = h.laws.busy read answer valid in
-    let not_none : (slice_index first 0 == 0) ≡ false = h.laws.silent read answer valid in
+    let not_busy : (slice_index first 0 == 1) ≡ false = h.laws.busy read answer h.valid in
+    let not_none : (slice_index first 0 == 0) ≡ false = h.laws.silent read answer h.valid in
     let some = total_low text h.holds in
     let low : 0 * current.cutter.size < length text = omega (arith, some) in
     rw (not_busy, not_none) (joined_up current.cutter current.abort answer 0 h low first refl)
@@ -93,6 +93,6 @@ taken_up current (Receiving joining had_last) limit answer c e fit h had =
     rw (taken_next current.cutter.size had_last joining next fits_joining, add-one had_last)
     (joined_up current.cutter current.abort answer (suc had_last) h low (joining.text ++ next) (ap (λ xs. xs ++ next) had))
 
-pub answers_are_taken_up : ((size : ℕ) → 1 ≤ size → TextLaws size) → OneAnswerText → AnswersAreTakenUp
-answers_are_taken_up laws one current limit answer c fit had =
-    taken_up current current.progress limit answer c refl fit (fitting laws one current.cutter answer c.some fit) had
+pub answers_are_taken_up : AnswersFit → ((size : ℕ) → 1 ≤ size → TextLaws size) → OneAnswerText → AnswersAreTakenUp
+answers_are_taken_up fit_answers laws one current limit answer c fit had =
+    taken_up current current.progress limit answer c refl fit (fitting fit_answers laws one current.cutter answer c.some fit) had

@@ -2,7 +2,7 @@
 ghost use Rattle.iol_app.specs.Moves.{MessagesAreMoves, ConfirmsConfirm, RepliesFollow, AnswersAreTakenUp};
 ghost use Rattle.iol_app.specs.StationLaws.{StationLaws};
 
-use iol_device::{messages_are_heard, texts_are_heard};
+use iol_device::{messages_are_heard, requests_are_received, texts_are_heard};
 use iol_isdu::one_text_each;
 use iol_link::exchanges_keep_ends_level;
 use iol_segment::texts_join;
@@ -16,6 +16,7 @@ use iol_steps::{
 pub(crate) fn messages_are_moves()
     ensures { MessagesAreMoves }
 {
+    requests_are_received();
     texts_join();
 }
 
@@ -36,6 +37,7 @@ pub(crate) fn replies_follow()
 pub(crate) fn answers_are_taken_up()
     ensures { AnswersAreTakenUp }
 {
+    requests_are_received();
     texts_join();
     one_text_each();
 }

@@ -1,5 +1,5 @@
 //! A station: the link in its mode, and the session over it.
-ghost use Rattle.std.specs.Prelude.{◌≡◌, None, Some, false, is_some, IsSome, IfSome, IsTrue, OnOk, OnErr, ◌&&◌};
+ghost use Rattle.std.specs.Prelude.{◌≡◌, None, Some, true, false, is_some, IsSome, IfSome, IsTrue, OnOk, OnErr, ◌&&◌};
 ghost use Rattle.std.specs.Result.{result_err};
 ghost use Rattle.std.specs.Option.{option_copied};
 ghost use Rattle.iol_mode.specs.Next.{wire_of as wire_in, outcome_of};
@@ -9,17 +9,19 @@ ghost use Rattle.iol_app.specs.Requests.{request_in, request_after, EndsRequest}
 ghost use Rattle.iol_app.specs.Due.{is_ready};
 ghost use Rattle.iol_app.specs.Reports.{is_reading, ReadingAfter};
 ghost use Rattle.iol_app.specs.Seen.{TurnSteps, NewSteps, BeginSteps, AbortSteps, WantSteps, RestartSteps};
-ghost use Rattle.iol_app.specs.StationState.{wire_of, mode_of, why_of, is_operating, linked, is_waked, waked_session, settled_session, reply_session, IsReplySaid, LinkFits, NextFits, IsSettledSaid, IsTurn};
+ghost use Rattle.iol_app.specs.Asking.{asked_of, prepared, IsCall};
+ghost use Rattle.iol_app.specs.StationState.{wire_of, mode_of, why_of, is_operating, linked, is_waked, waked_session, settled_session, reply_session, IsReplySaid, fallen, attempt_session, IsAttemptSaid, IsReplyHearable, LinkFits, NextFits, IsSettledSaid, IsTurn};
 
+use crate::asked::Asked;
 use crate::laws::station_laws;
 use crate::output::OutputFault;
 use crate::session::Session;
 use core::mem::replace_with;
 use iol_image::Image;
 use iol_isdu::{Cause, Request};
-use iol_link::Wire;
+use iol_link::{Attempt, Wire};
 use iol_mode::{Down, Link, Next, Operate, Preoperate, Startup, Why};
-use iol_mseq::Reply;
+use iol_mseq::{Reply, encode_master};
 use iol_steps::{
     Mode, Said, begin_takes_the_request, new_station_stands, restart_cuts_the_request,
     wanted_output_stands,
@@ -141,6 +143,21 @@ impl<W: Wire> Station<W> {
         matches!(self.link, AnyLink::Operate(_)) && self.session.ready(room)
     }
 
+    /// What the one call of the wire in the next turn will be, if this request is begun before it where it may be.
+    pub fn asks(&self, room: bool, next: Option<&Request>) -> Asked
+        ensures { result ≡ asked_of (prepared (option_copied next.entry) self.now room) room }
+    {
+        match &self.link {
+            AnyLink::Down(_) => Asked::Wake,
+            AnyLink::Startup(link) => Asked::Exchange(link.octets()),
+            AnyLink::Preoperate(link) => Asked::Exchange(link.octets()),
+            AnyLink::Operate(link) => Asked::Exchange(match link.out() {
+                Some(message) => encode_master(&link.layout(), message),
+                None => self.session.octets_due(&link.layout(), room, next),
+            }),
+        }
+    }
+
     /// Begins a request, in OPERATE, while none is under way.
     pub fn begin(&mut self, request: Request)
         requires operate { mode_of self.old.link ≡ Mode.Operate }
@@ -211,9 +228,10 @@ impl<W: Wire> Station<W> {
         ensures ends { EndsRequest result (request_in self.old.session.current) }
         ensures reading { ReadingAfter room (is_reading self.old.session) result (is_reading self.new.session) }
         ensures steps { TurnSteps W.honest W.far W.silence self.old result self.new }
+        ensures asked { IsCall W.wake_gives W.exchange_gives (asked_of self.old room) (wire_of self.old.link) (wire_of self.new.link) }
     {
         station_laws();
-        replace_with(self, room, Station::turned)
+        self.turned(room)
     }
 
     fn restarted(self, _: ()) -> (Station<W>, bool)
@@ -235,32 +253,59 @@ impl<W: Wire> Station<W> {
         (Station { link, session }, cut)
     }
 
-    fn turned(self, room: bool) -> (Station<W>, Said)
+    fn turned(&mut self, room: bool) -> Said
+        ensures request { request_in self.new.session.current ≡ request_after (request_in self.old.session.current) result }
+        ensures turn { IsTurn W.honest W.far W.silence W.wake_gives W.exchange_gives room self.old result self.new }
+        ensures fits { LinkFits self.old.link self.old.session }
+        ensures valid { IsSession self.old.session }
+    {
+        self.session.is_valid();
+        if matches!(self.link, AnyLink::Operate(_)) {
+            operated(&mut self.link, &mut self.session, room)
+        } else {
+            replace_with(self, room, Station::risen)
+        }
+    }
+
+    /// A turn outside OPERATE.
+    fn risen(self, room: bool) -> (Station<W>, Said)
+        requires { is_operating self.link ≡ false }
         ensures request { request_in result.0.session.current ≡ request_after (request_in self.session.current) result.1 }
         ensures turn { IsTurn W.honest W.far W.silence W.wake_gives W.exchange_gives room self result.1 result.0 }
-        ensures fits { LinkFits self.link self.session }
-        ensures valid { IsSession self.session }
     {
-        let Station { link, session } = self;
-        session.is_valid();
-        match link {
-            AnyLink::Down(link) => waked(link, session),
-            AnyLink::Startup(link) => settled(link.turn(), session),
-            AnyLink::Preoperate(link) => settled(link.turn(), session),
-            AnyLink::Operate(link) => operated(link, session, room),
-        }
+        let Station { link, mut session } = self;
+        let (link, said) = rise(link, &mut session, room);
+        (Station { link, session }, said)
+    }
+}
+
+/// A turn outside OPERATE.
+fn rise<W: Wire>(link: AnyLink<W>, session: &mut Session, room: bool) -> (AnyLink<W>, Said)
+    requires mode { is_operating link ≡ false }
+    requires fits { LinkFits link session.old }
+    ensures request { request_in session.new.current ≡ request_after (request_in session.old.current) result.1 }
+    ensures turn { IsTurn W.honest W.far W.silence W.wake_gives W.exchange_gives room
+        (record { link = link; session = session.old }) result.1 (record { link = result.0; session = session.new }) }
+    ensures fits { LinkFits result.0 session.new }
+{
+    match link {
+        AnyLink::Down(link) => waked(link, session),
+        AnyLink::Startup(link) => settled(link.turn(), session),
+        AnyLink::Preoperate(link) => settled(link.turn(), session),
+        AnyLink::Operate(_) => unreachable!(),
     }
 }
 
 /// A turn in Down: a wake, and where it is answered a start-up begins.
-fn waked<W: Wire>(link: Link<W, Down>, session: Session) -> (Station<W>, Said)
-    requires { LinkFits (AnyLink.Down link) session }
-    ensures request { request_in result.0.session.current ≡ request_after (request_in session.current) result.1 }
-    ensures turn { IsTurn W.honest W.far W.silence W.wake_gives W.exchange_gives false (record { link = AnyLink.Down link; session = session }) result.1 result.0 }
+fn waked<W: Wire>(link: Link<W, Down>, session: &mut Session) -> (AnyLink<W>, Said)
+    requires { LinkFits (AnyLink.Down link) session.old }
+    ensures request { request_in session.new.current ≡ request_after (request_in session.old.current) result.1 }
+    ensures turn { IsTurn W.honest W.far W.silence W.wake_gives W.exchange_gives false
+        (record { link = AnyLink.Down link; session = session.old }) result.1 (record { link = result.0; session = session.new }) }
+    ensures fits { LinkFits result.0 session.new }
 {
-    let mut session = session;
     let next = link.turn();
-    follow_wake(&next, &mut session);
+    follow_wake(&next, session);
     settled(next, session)
 }
 
@@ -273,47 +318,82 @@ fn follow_wake<W: Wire>(next: &Next<W>, session: &mut Session)
     }
 }
 
-/// A turn in OPERATE: the message out again, or a new one for what is due.
-fn operated<W: Wire>(link: Link<W, Operate>, session: Session, room: bool) -> (Station<W>, Said)
-    requires { LinkFits (AnyLink.Operate link) session }
-    ensures request { request_in result.0.session.current ≡ request_after (request_in session.current) result.1 }
-    ensures turn { IsTurn W.honest W.far W.silence W.wake_gives W.exchange_gives room (record { link = AnyLink.Operate link; session = session }) result.1 result.0 }
+/// A turn in OPERATE, in place: the message out again, or a new one for what is due.
+fn operated<W: Wire>(link: &mut AnyLink<W>, session: &mut Session, room: bool) -> Said
+    requires mode { is_operating link.old ≡ true }
+    requires fits { LinkFits link.old session.old }
+    ensures request { request_in session.new.current ≡ request_after (request_in session.old.current) result }
+    ensures turn { IsTurn W.honest W.far W.silence W.wake_gives W.exchange_gives room
+        (record { link = link.old; session = session.old }) result (record { link = link.new; session = session.new }) }
+    ensures fits { LinkFits link.new session.new }
 {
-    let mut session = session;
-    let message = session.next_message(link.out(), room);
-    settled(link.turn(&message), session)
+    let AnyLink::Operate(up) = link else {
+        unreachable!()
+    };
+    let message = session.next_message(up.out(), room);
+    let attempt = up.exchange(&message);
+    fall(link, &attempt);
+    taken_up(session, &attempt)
 }
 
-/// The station after a turn of its link, and what the turn says.
-fn settled<W: Wire>(next: Next<W>, session: Session) -> (Station<W>, Said)
-    requires { NextFits (outcome_of next) session }
-    ensures link { result.0.link ≡ linked (wire_in next) (outcome_of next) }
-    ensures session { result.0.session ≡ settled_session (outcome_of next) session }
-    ensures said { IsSettledSaid (outcome_of next) session result.1 }
-    ensures request { request_in result.0.session.current ≡ request_after (request_in session.current) result.1 }
+/// The link goes down, where the attempt lost it.
+fn fall<W: Wire>(link: &mut AnyLink<W>, attempt: &Attempt)
+    requires { is_operating link.old ≡ true }
+    ensures { link.new ≡ fallen attempt.now link.old }
 {
-    let mut session = session;
+    if matches!(attempt, Attempt::Lost) {
+        replace_with(link, (), lost_link);
+    }
+}
+
+fn lost_link<W: Wire>(link: AnyLink<W>, _: ()) -> (AnyLink<W>, ())
+    requires { is_operating link ≡ true }
+    ensures { result.0 ≡ fallen Attempt.Lost link }
+{
+    match link {
+        AnyLink::Operate(link) => (AnyLink::Down(link.lost()), ()),
+        AnyLink::Down(_) | AnyLink::Startup(_) | AnyLink::Preoperate(_) => unreachable!(),
+    }
+}
+
+/// Takes up how the attempt of a turn in OPERATE ended.
+fn taken_up(session: &mut Session, attempt: &Attempt) -> Said
+    requires { IsReplyHearable attempt.now session.old }
+    ensures session { session.new ≡ attempt_session attempt.now session.old }
+    ensures said { IsAttemptSaid attempt.now session.old result }
+    ensures request { request_in session.new.current ≡ request_after (request_in session.old.current) result }
+{
+    match attempt {
+        Attempt::Got(reply) => session.hear(reply),
+        Attempt::Again => session.quiet(),
+        Attempt::Lost => session.lose(),
+    }
+}
+
+/// The link after its turn, taken up by the session, and what the turn says.
+fn settled<W: Wire>(next: Next<W>, session: &mut Session) -> (AnyLink<W>, Said)
+    requires { NextFits (outcome_of next) session.old }
+    ensures link { result.0 ≡ linked (wire_in next) (outcome_of next) }
+    ensures session { session.new ≡ settled_session (outcome_of next) session.old }
+    ensures said { IsSettledSaid (outcome_of next) session.old result.1 }
+    ensures request { request_in session.new.current ≡ request_after (request_in session.old.current) result.1 }
+    ensures fits { LinkFits result.0 session.new }
+{
     match next {
         Next::Down(link) => {
             let said = session.lose();
-            let link = AnyLink::Down(link);
-            (Station { link, session }, said)
+            (AnyLink::Down(link), said)
         }
         Next::Startup(link) => {
             if let Some(layouts) = link.told() {
                 session.take_layout(&layouts.run);
             }
-            let link = AnyLink::Startup(link);
-            (Station { link, session }, Said::Idle)
+            (AnyLink::Startup(link), Said::Idle)
         }
-        Next::Preoperate(link) => {
-            let link = AnyLink::Preoperate(link);
-            (Station { link, session }, Said::Idle)
-        }
+        Next::Preoperate(link) => (AnyLink::Preoperate(link), Said::Idle),
         Next::Operate(link, reply) => {
-            let said = heard(&mut session, reply);
-            let link = AnyLink::Operate(link);
-            (Station { link, session }, said)
+            let said = heard(session, reply);
+            (AnyLink::Operate(link), said)
         }
     }
 }

@@ -1,5 +1,6 @@
+use Rattle.std.proofs.Common.{lit≤}
 use Rattle.iol_app.proofs.Sending.{messages_are_moves}
 use Rattle.iol_app.proofs.laws.messages_are_moves.Goals as goal
 
 pub returns : goal.returns
-returns c = messages_are_moves c.texts_join.ensures
+returns c = messages_are_moves (c.requests_are_received.ensures 1 (lit≤ tt)).fitting c.texts_join.ensures

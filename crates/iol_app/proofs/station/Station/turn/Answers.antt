@@ -1,4 +1,5 @@
 -- What a turn gives over an honest wire, and over every wire what an answer, a cut and a report need.
+use Rattle.iol_app.proofs.Askings.{turn_call}
 use Rattle.iol_app.proofs.Ending.{turn_ends}
 use Rattle.iol_app.proofs.Reporting.{turn_reading}
 use Rattle.iol_app.proofs.Stepping.{turn_steps}
@@ -7,17 +8,22 @@ use Rattle.iol_app.proofs.station.Station.turn.Goals as goal
 pub returns-clause-steps : goal.returns-clause-steps
 returns-clause-steps g c =
     let wire = g.W.Wire in
-    let turned = c.replace_with.ensures in
-    turn_steps wire.honest wire.far wire.silence wire.wake_gives wire.exchange_gives c.station_laws.ensures c.args.room c.args.self.now c.replace_with.result c.replace_with.new.dest
-    turned.1.1.1 turned.1.1.0 turned.1.0
+    let turned = c.turned.ensures in
+    turn_steps wire.honest wire.far wire.silence wire.wake_gives wire.exchange_gives c.station_laws.ensures c.args.room c.args.self.now c.turned.result c.turned.new.self
+    turned.valid turned.fits turned.turn
 
 pub returns-clause-reading : goal.returns-clause-reading
 returns-clause-reading g c =
     let wire = g.W.Wire in
-    let turned = c.replace_with.ensures in
-    turn_reading wire.honest wire.far wire.silence wire.wake_gives wire.exchange_gives c.args.room c.args.self.now c.replace_with.result c.replace_with.new.dest turned.1.1.1 turned.1.1.0 turned.1.0
+    let turned = c.turned.ensures in
+    turn_reading wire.honest wire.far wire.silence wire.wake_gives wire.exchange_gives c.args.room c.args.self.now c.turned.result c.turned.new.self turned.valid turned.fits turned.turn
 
 pub returns-clause-ends : goal.returns-clause-ends
 returns-clause-ends g c =
     let wire = g.W.Wire in
-    turn_ends wire.honest wire.far wire.silence wire.wake_gives wire.exchange_gives c.args.room c.args.self.now c.replace_with.result c.replace_with.new.dest c.replace_with.ensures.1.0
+    turn_ends wire.honest wire.far wire.silence wire.wake_gives wire.exchange_gives c.args.room c.args.self.now c.turned.result c.turned.new.self c.turned.ensures.turn
+
+pub returns-clause-asked : goal.returns-clause-asked
+returns-clause-asked g c =
+    let wire = g.W.Wire in
+    turn_call wire.honest wire.far wire.silence wire.wake_gives wire.exchange_gives c.args.self.now c.args.room c.turned.result c.turned.new.self c.turned.ensures.fits c.turned.ensures.turn

@@ -1,0 +1,68 @@
+-- Which call of the wire a turn makes, as a function of the station before it.
+use Rattle.std.specs.Prelude.{◌≡◌, ℕ, ◌+◌, ◌*◌, Bool, ◌&&◌, if◌then◌else◌, List, ◌∷◌, ◌++◌, Option, Some, None}
+use Rattle.arrayvec.specs.ArrayVec.{ArrayVec}
+use Rattle.iol_octets.specs.Checksum.{with_checksum}
+use Rattle.iol_octets.specs.Control.{channel_code}
+use Rattle.iol_mseq.specs.Shape.{Shape, startup_shape}
+use Rattle.iol_mseq.specs.Texts.{master_text}
+use Rattle.iol_mseq.specs.declared.master.MasterMsg.{MasterMsg}
+use Rattle.iol_isdu.specs.declared.values.Request.{Request}
+use Rattle.iol_link.specs.declared.wire.Rate.{Rate}
+use Rattle.iol_mode.specs.Next.{message_out}
+use Rattle.iol_app.specs.declared.asked.Asked.{Asked}
+use Rattle.iol_app.specs.declared.asked.Asked.TheVariants.{Wake, Exchange}
+use Rattle.iol_app.specs.declared.session.Exchange as purpose
+use Rattle.iol_app.specs.declared.station.AnyLink.{AnyLink}
+use Rattle.iol_app.specs.declared.station.AnyLink.TheVariants.{Down as InDown, Startup as InStartup, Preoperate as InPreoperate, Operate as InOperate}
+use Rattle.iol_app.specs.Outputs.{carried_by}
+use Rattle.iol_app.specs.Messages.{Head, head_for, data_for}
+use Rattle.iol_app.specs.State.{SessionState, od_size, begun_in}
+use Rattle.iol_app.specs.Due.{due_of, is_ready}
+use Rattle.iol_app.specs.StationState.{StationState, is_operating}
+
+-- the octets of a message of these parts
+abbrev pub text_by : Shape → Head → List ℕ → List ℕ → List ℕ
+text_by layout head out od =
+    with_checksum 1 (((if head.read then 128 else 0) + 32 * channel_code head.channel + head.address) ∷ (64 * layout.kind) ∷ out ++ od)
+
+-- those of a new message for this
+abbrev pub text_for : Shape → purpose.Exchange → SessionState → List ℕ
+text_for layout exchange s =
+    text_by layout (head_for exchange s.events.reading s.current) (carried_by s.output) (data_for exchange (od_size s.layout) s.current)
+
+-- and of one for what is due
+abbrev pub text_due : Shape → SessionState → Bool → List ℕ
+text_due layout s room = text_for layout (due_of s room) s
+
+-- the message out, again, else a new one for what is due
+abbrev pub text_of : Shape → Option MasterMsg → SessionState → Bool → List ℕ
+text_of layout None s room = text_due layout s room
+text_of layout (Some message) s room = master_text layout message
+
+-- where no message is out and nothing is due, the request that waits longest is begun
+abbrev pub begin_where : Bool → Option Request → SessionState → SessionState
+begin_where ready None s = s
+begin_where ready (Some request) s = if ready then begun_in request s else s
+
+abbrev pub beginning : Option Request → SessionState → Bool → SessionState
+beginning next s room = begin_where (is_ready s room) next s
+
+module _ {W : Type 0} where
+  abbrev pub prepared : Option Request → StationState W → Bool → StationState W
+  prepared next s room = record s { session = begin_where (is_operating s.link && is_ready s.session room) next s.session }
+
+  abbrev pub asked_in : AnyLink W → SessionState → Bool → Asked
+  asked_in (InDown link) s room = Wake
+  asked_in (InStartup link) s room = Exchange (record { items = master_text startup_shape link.state.sent.message })
+  asked_in (InPreoperate link) s room = Exchange (record { items = master_text link.state.layouts.pre link.state.sent.message })
+  asked_in (InOperate link) s room = Exchange (record { items = text_of link.state.layouts.run (message_out link.state.out) s room })
+
+  -- the call that the next turn makes, where there is room for events or not
+  abbrev pub asked_of : StationState W → Bool → Asked
+  asked_of s room = asked_in s.link s.session room
+
+  -- one call of the wire is the one that was asked
+  module _ (wakes : W → Option Rate → W → Type 0) (gives : W → List ℕ → Option (ArrayVec ℕ) → W → Type 0) where
+    abbrev pub IsCall : Asked → W → W → Type 0
+    IsCall Wake old new = (answer : Option Rate) × wakes old answer new
+    IsCall (Exchange octets) old new = (answer : Option (ArrayVec ℕ)) × gives old octets.items answer new
