@@ -8,3 +8,13 @@ pub mod RunLemmas
 pub mod TurnsRuleOut
 pub mod TieLemmas
 pub mod LateLemmas
+pub mod AskLemmas
+pub mod CleanHearing
+pub mod CleanSession
+pub mod CleanStages
+pub mod CleanSteps
+pub mod CleanTurns
+pub mod CleanRuns
+pub mod CleanLevel
+pub mod Crosses
+pub mod Owning

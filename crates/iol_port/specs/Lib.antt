@@ -3,5 +3,10 @@ pub mod Steps
 pub mod Run
 pub mod Sound
 pub mod View
+pub mod Asks
+pub mod EveryWire
 pub mod Promises
 pub mod Replies
+pub mod Turns
+pub mod Clean
+pub mod Owned

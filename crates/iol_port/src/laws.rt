@@ -1,6 +1,11 @@
 ghost use Rattle.iol_port.specs.Promises.{OpensSound, RunsSound, SoundFits, GoodLinkStays, NothingIsNoTurn, RunsJoin, NoneLateStays, LateEnds};
+ghost use Rattle.iol_port.specs.Clean.{CleanLaws};
+ghost use Rattle.iol_port.specs.Owned.{EachDoneHasItsPair};
 
 use iol_book::{records_fit, takings_of_calls};
+use iol_device::{modes_have_layouts, page_and_room_stay, replies_are_read, requests_are_received};
+use iol_isdu::one_text_each;
+use iol_segment::{cut_is_whole, segments_join, texts_join};
 
 /// A law of the definitions, over whole runs of the abstract port: the device's record fits the journal.
 ///
@@ -18,7 +23,8 @@ pub fn record_fits_journal()
 
 /// A law of the definitions: what no turn of the abstract port is.
 ///
-/// With a good reply in OPERATE the link stays in OPERATE, and doing nothing is no turn.
+/// With a good reply in OPERATE the link stays in OPERATE; and in OPERATE, where the last reply is missing, leaving all as
+/// it was is no turn. What a turn does on every wire is said by the clause `gives` of [`Port::turn`](crate::Port::turn).
 pub fn turns_rule_out()
     ensures stays { GoodLinkStays }
     ensures nothing { NothingIsNoTurn }
@@ -39,3 +45,28 @@ pub fn late_requests_end()
     ensures stays { NoneLateStays }
     ensures ends { LateEnds }
 {}
+
+/// A law of the definitions, over whole runs of a port that is opened: each outcome Done that was collected is that of
+/// a request which was submitted under its ticket, and the device's record has a pair of its own for it: this request,
+/// with this answer.
+///
+/// The pairs stand behind what the record had at the opening, in the order in which the requests were taken and done,
+/// across losses, restarts and archives.
+#[tactic(auto, using(crate::proofs::Owning::each_done_has_its_pair))]
+pub fn each_done_has_its_pair()
+    ensures { EachDoneHasItsPair }
+{}
+
+/// What the number of turns on a clean wire rests on.
+pub(crate) fn clean_laws()
+    ensures { CleanLaws }
+{
+    requests_are_received();
+    cut_is_whole();
+    texts_join();
+    segments_join();
+    one_text_each();
+    replies_are_read();
+    modes_have_layouts();
+    page_and_room_stay();
+}

@@ -20,7 +20,9 @@ mod settle;
 
 pub use call::{Answered, Call};
 pub use fault::PortFault;
-pub use laws::{late_requests_end, record_fits_journal, runs_join, turns_rule_out};
+pub use laws::{
+    each_done_has_its_pair, late_requests_end, record_fits_journal, runs_join, turns_rule_out,
+};
 pub use port::Port;
 
 #[cfg(test)]

@@ -1,6 +1,7 @@
 //! What carries a port's requests out: a station, a book, and the events that are kept.
 ghost use Rattle.std.specs.Prelude.{◌≡◌, ◌<◌, ◌≤◌, ◌^◌, None, IsTrue, IfOk, IfErr, length};
 ghost use Rattle.std.specs.Option.{option_copied};
+ghost use Rattle.std.specs.Result.{result_map_both};
 ghost use Rattle.iol_device.specs.Isdu.{handed};
 ghost use Rattle.iol_book.specs.declared.fault.BookFault.TheVariants.{OutOfMemory};
 ghost use Rattle.iol_book.specs.BookModel.{AreLimits, IsReplayed};
@@ -9,14 +10,19 @@ ghost use Rattle.iol_port.specs.declared.fault.PortFault.TheVariants as fault;
 ghost use Rattle.iol_port.specs.declared.call.Call.TheVariants as call;
 ghost use Rattle.iol_port.specs.declared.call.Answered.TheVariants as answered;
 ghost use Rattle.iol_port.specs.Run.{opened};
+ghost use Rattle.iol_app.specs.Asking.{IsCall};
 ghost use Rattle.iol_port.specs.View.{Does, Runs, StandsFor, IsOpened, status_of};
+ghost use Rattle.iol_port.specs.Asks.{asks_of, has_room};
+ghost use Rattle.iol_port.specs.EveryWire.{SubmitGives, CollectGives, WithdrawGives, ArchiveGives, TakeEventGives, SetOutputGives, ClearOutputGives, RestartGives, TurnGives};
+ghost use Rattle.iol_port.specs.Clean.{CleanTurn, CleanRuns};
 ghost use Rattle.iol_port.specs.Replies.{ticket_reply, outcome_reply, nothing_reply, event_reply, reply_of};
 
 use crate::copies::{copy_of_image, copy_of_request};
+use crate::laws::clean_laws;
 use crate::settle::{KEPT, ROOM, begin_next, by_book, by_output, settle, woke_up};
 use crate::{Answered, Call, PortFault};
 use arrayvec::ArrayVec;
-use iol_app::{Station, Status};
+use iol_app::{Asked, Station, Status};
 use iol_book::{Book, BookFault, Entry, Limits, Outcome, Ticket};
 use iol_event::Event;
 use iol_image::Image;
@@ -64,24 +70,28 @@ impl<W: Wire, A: Allocator + Copy> Parts<W, A> {
     pub(crate) fn submit(&mut self, request: Request) -> Result<Ticket, PortFault>
         ensures does { Does W.honest W.far W.silence self.old (call.Submit request) (ticket_reply result) self.new }
         ensures lacks { IfErr result (λ e. e ≡ fault.Book OutOfMemory → self.old.book.room ≡ 0) }
+        ensures gives { SubmitGives self.old request result self.new }
     {
         by_book(self.book.submit(request))
     }
 
     pub(crate) fn collect(&mut self, ticket: Ticket) -> Result<Outcome, PortFault>
-        ensures { Does W.honest W.far W.silence self.old (call.Collect ticket) (outcome_reply result) self.new }
+        ensures does { Does W.honest W.far W.silence self.old (call.Collect ticket) (outcome_reply result) self.new }
+        ensures gives { CollectGives self.old ticket result self.new }
     {
         by_book(self.book.collect(ticket))
     }
 
     pub(crate) fn withdraw(&mut self, ticket: Ticket) -> Result<(), PortFault>
-        ensures { Does W.honest W.far W.silence self.old (call.Withdraw ticket) (nothing_reply result) self.new }
+        ensures does { Does W.honest W.far W.silence self.old (call.Withdraw ticket) (nothing_reply result) self.new }
+        ensures gives { WithdrawGives self.old ticket result self.new }
     {
         by_book(self.book.withdraw(ticket))
     }
 
     pub(crate) fn restart(&mut self)
-        ensures { Does W.honest W.far W.silence self.old call.Restart answered.Nothing self.new }
+        ensures does { Does W.honest W.far W.silence self.old call.Restart answered.Nothing self.new }
+        ensures gives { RestartGives self.old self.new }
     {
         if self.station.restart() {
             self.book.post(Outcome::Unknown(Cause::Restarted));
@@ -89,13 +99,15 @@ impl<W: Wire, A: Allocator + Copy> Parts<W, A> {
     }
 
     pub(crate) fn set_output(&mut self, image: &Image) -> Result<(), PortFault>
-        ensures { Does W.honest W.far W.silence self.old (call.SetOutput image.now) (nothing_reply result) self.new }
+        ensures does { Does W.honest W.far W.silence self.old (call.SetOutput image.now) (nothing_reply result) self.new }
+        ensures gives { SetOutputGives self.old image.now result self.new }
     {
         by_output(self.station.set_output(image))
     }
 
     pub(crate) fn clear_output(&mut self)
-        ensures { Does W.honest W.far W.silence self.old call.ClearOutput answered.Nothing self.new }
+        ensures does { Does W.honest W.far W.silence self.old call.ClearOutput answered.Nothing self.new }
+        ensures gives { ClearOutputGives self.old self.new }
     {
         self.station.clear_output();
     }
@@ -108,7 +120,8 @@ impl<W: Wire, A: Allocator + Copy> Parts<W, A> {
     }
 
     pub(crate) fn take_event(&mut self) -> Result<Event, PortFault>
-        ensures { Does W.honest W.far W.silence self.old call.TakeEvent (event_reply result) self.new }
+        ensures does { Does W.honest W.far W.silence self.old call.TakeEvent (event_reply result) self.new }
+        ensures gives { TakeEventGives self.old result self.new }
     {
         self.kept.pop_at(0).ok_or(PortFault::NoEvent)
     }
@@ -123,14 +136,32 @@ impl<W: Wire, A: Allocator + Copy> Parts<W, A> {
     pub(crate) fn archive(&mut self) -> Result<Vec<Entry, A>, PortFault>
         ensures does { Does W.honest W.far W.silence self.old call.Archive (reply_of (λ entries. answered.Archived (length entries.items)) result) self.new }
         ensures within { IfOk result (λ entries. length entries.items ≤ 1000000) }
+        ensures gives { ArchiveGives self.old (result_map_both (λ entries. entries.items) (λ why. why) result) self.new }
     {
         by_book(self.book.archive())
     }
 
-    pub(crate) fn turn(&mut self)
-        ensures { Does W.honest W.far W.silence self.old call.Turn answered.Nothing self.new }
+    pub(crate) fn asks(&self) -> Asked
+        ensures { result ≡ asks_of self.now }
     {
-        let room = self.kept.len() <= ROOM;
+        self.station.asks(self.has_room(), self.book.next())
+    }
+
+    /// Whether a turn may begin to read events.
+    fn has_room(&self) -> bool
+        ensures { result ≡ has_room self.now.kept }
+    {
+        self.kept.len() <= ROOM
+    }
+
+    pub(crate) fn turn(&mut self)
+        ensures does { Does W.honest W.far W.silence self.old call.Turn answered.Nothing self.new }
+        ensures asked { IsCall W.wake_gives W.exchange_gives (asks_of self.old) (wire_of self.old.station.link) (wire_of self.new.station.link) }
+        ensures clean { CleanTurn W.honest W.far W.clean self.old self.new }
+        ensures gives { TurnGives W.honest W.far W.silence W.wake_gives W.exchange_gives self.old self.new }
+    {
+        clean_laws();
+        let room = self.has_room();
         begin_next(&mut self.station, &mut self.book, room);
         let began = self.station.status().mode;
         let said = self.station.turn(room);
@@ -139,10 +170,11 @@ impl<W: Wire, A: Allocator + Copy> Parts<W, A> {
     }
 
     /// One call, with the answer that a list of calls has for it.
-    fn answer(&mut self, call: &Call) -> Answered
-        ensures { Does W.honest W.far W.silence self.old call.now result self.new }
+    fn answer(&mut self, asked: &Call) -> Answered
+        ensures does { Does W.honest W.far W.silence self.old asked.now result self.new }
+        ensures clean { asked.now ≡ call.Turn → CleanTurn W.honest W.far W.clean self.old self.new }
     {
-        match call {
+        match asked {
             Call::Submit(request) => match self.submit(copy_of_request(request)) {
                 Ok(ticket) => Answered::Ticket(ticket),
                 Err(fault) => Answered::Refused(fault),
@@ -184,9 +216,11 @@ impl<W: Wire, A: Allocator + Copy> Parts<W, A> {
         calls: &[Call],
     ) -> Result<Vec<Answered, B>, PortFault>
         ensures run { IfOk result (λ replies. Runs W.honest W.far W.silence self.old calls.now replies.items self.new) }
+        ensures clean { IfOk result (λ _. CleanRuns W.honest W.far W.clean self.old calls.now self.new) }
         ensures refused { IfErr result (λ e. e ≡ fault.Book OutOfMemory) }
         ensures unchanged { IfErr result (λ _. self.new ≡ self.old) }
     {
+        clean_laws();
         let Ok(mut replies) = Vec::with_capacity(alloc, calls.len()) else {
             return Err(PortFault::Book(BookFault::OutOfMemory));
         };

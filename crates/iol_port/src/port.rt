@@ -1,6 +1,7 @@
 //! One port.
 ghost use Rattle.std.specs.Prelude.{◌≡◌, ◌≤◌, None, Some, IsTrue, IfOk, IfErr, length};
 ghost use Rattle.std.specs.Option.{option_copied, option_map};
+ghost use Rattle.std.specs.Result.{result_map_both};
 ghost use Rattle.iol_book.specs.declared.fault.BookFault.TheVariants.{OutOfMemory};
 ghost use Rattle.iol_book.specs.BookModel.{AreLimits, IsReplayed};
 ghost use Rattle.iol_port.specs.declared.fault.PortFault.TheVariants as fault;
@@ -8,13 +9,18 @@ ghost use Rattle.iol_port.specs.declared.call.Call.TheVariants as call;
 ghost use Rattle.iol_port.specs.declared.call.Answered.TheVariants as answered;
 ghost use Rattle.iol_port.specs.Run.{opened};
 ghost use Rattle.iol_app.specs.StationState.{wire_of};
-ghost use Rattle.iol_port.specs.View.{Does, Runs, StandsFor, IsOpened, OpensWell, KeepsRecord, shown_in, status_of};
+ghost use Rattle.iol_app.specs.Asking.{IsCall};
+ghost use Rattle.iol_port.specs.Asks.{asks_of};
+ghost use Rattle.iol_port.specs.EveryWire.{SubmitGives, CollectGives, WithdrawGives, ArchiveGives, TakeEventGives, SetOutputGives, ClearOutputGives, RestartGives, TurnGives};
+ghost use Rattle.iol_port.specs.View.{Does, Runs, StandsFor, IsOpened, IsRun, OpensWell, KeepsRecord, shown_in, status_of};
+ghost use Rattle.iol_port.specs.Clean.{CleanTurn, CleanRuns, IsLevelBetween};
 ghost use Rattle.iol_port.specs.Replies.{ticket_reply, outcome_reply, nothing_reply, event_reply, reply_of};
 
 use crate::parts::Parts;
 use crate::{Answered, Call, PortFault, record_fits_journal};
-use iol_app::Status;
+use iol_app::{Asked, Status};
 use iol_book::{Entry, Limits, Outcome, Ticket};
+use iol_device::{ends_stay_level, modes_have_layouts};
 use iol_event::Event;
 use iol_image::{Handle, Image, ImageWriter};
 use iol_isdu::Request;
@@ -27,8 +33,9 @@ use std::sync::Wait;
 /// A port of an IO-Link master: a queue of requests, and the link to one device that carries them out.
 ///
 /// Contracts see what the port stands for: an abstract port, of which each call is one call. Over an honest wire they
-/// say which; on every wire no call is unsafe, and the journal alone says where each ticket stands. Beside that they
-/// see with what the port was opened, and what it published.
+/// say which; on every wire no call is unsafe, the journal alone says where each ticket stands, and each call answers and
+/// leaves what its clause `gives` says of the port's own parts. Beside that they see with what the port was opened, and
+/// what it published.
 #[derive(Drop)]
 pub struct Port<W: Wire, A: Handle = Global> {
     parts: Parts<W, A>,
@@ -82,6 +89,7 @@ impl<W: Wire, A: Handle> Port<W, A> {
     pub fn submit(&mut self, request: Request) -> Result<Ticket, PortFault>
         ensures does { Does W.honest W.far W.silence self.old.parts (call.Submit request) (ticket_reply result) self.new.parts }
         ensures lacks { IfErr result (λ e. e ≡ fault.Book OutOfMemory → self.old.parts.book.room ≡ 0) }
+        ensures gives { SubmitGives self.old.parts request result self.new.parts }
         ensures rest { self.new ≡ record self.old { parts = self.new.parts } }
     {
         self.parts.submit(request)
@@ -92,6 +100,7 @@ impl<W: Wire, A: Handle> Port<W, A> {
     /// Refused, with nothing changed, by 25 where no such ticket is outstanding, and by 26 where it has no outcome yet.
     pub fn collect(&mut self, ticket: Ticket) -> Result<Outcome, PortFault>
         ensures does { Does W.honest W.far W.silence self.old.parts (call.Collect ticket) (outcome_reply result) self.new.parts }
+        ensures gives { CollectGives self.old.parts ticket result self.new.parts }
         ensures rest { self.new ≡ record self.old { parts = self.new.parts } }
     {
         self.parts.collect(ticket)
@@ -102,6 +111,7 @@ impl<W: Wire, A: Handle> Port<W, A> {
     /// Refused, with nothing changed, by 25 where no such ticket is outstanding, and by 27 where it waits no longer.
     pub fn withdraw(&mut self, ticket: Ticket) -> Result<(), PortFault>
         ensures does { Does W.honest W.far W.silence self.old.parts (call.Withdraw ticket) (nothing_reply result) self.new.parts }
+        ensures gives { WithdrawGives self.old.parts ticket result self.new.parts }
         ensures rest { self.new ≡ record self.old { parts = self.new.parts } }
     {
         self.parts.withdraw(ticket)
@@ -113,6 +123,7 @@ impl<W: Wire, A: Handle> Port<W, A> {
     /// succeeds.
     pub fn restart(&mut self)
         ensures does { Does W.honest W.far W.silence self.old.parts call.Restart answered.Nothing self.new.parts }
+        ensures gives { RestartGives self.old.parts self.new.parts }
         ensures rest { self.new ≡ record self.old { parts = self.new.parts } }
     {
         self.parts.restart();
@@ -124,6 +135,7 @@ impl<W: Wire, A: Handle> Port<W, A> {
     /// yet, and 29 where the image has not the length that was told last.
     pub fn set_output(&mut self, image: &Image) -> Result<(), PortFault>
         ensures does { Does W.honest W.far W.silence self.old.parts (call.SetOutput image.now) (nothing_reply result) self.new.parts }
+        ensures gives { SetOutputGives self.old.parts image.now result self.new.parts }
         ensures rest { self.new ≡ record self.old { parts = self.new.parts } }
     {
         self.parts.set_output(image)
@@ -132,6 +144,7 @@ impl<W: Wire, A: Handle> Port<W, A> {
     /// Wants no output of the device.
     pub fn clear_output(&mut self)
         ensures does { Does W.honest W.far W.silence self.old.parts call.ClearOutput answered.Nothing self.new.parts }
+        ensures gives { ClearOutputGives self.old.parts self.new.parts }
         ensures rest { self.new ≡ record self.old { parts = self.new.parts } }
     {
         self.parts.clear_output();
@@ -149,6 +162,7 @@ impl<W: Wire, A: Handle> Port<W, A> {
     /// Hands out the event that was kept longest. Refused by 30 where none is kept.
     pub fn take_event(&mut self) -> Result<Event, PortFault>
         ensures does { Does W.honest W.far W.silence self.old.parts call.TakeEvent (event_reply result) self.new.parts }
+        ensures gives { TakeEventGives self.old.parts result self.new.parts }
         ensures rest { self.new ≡ record self.old { parts = self.new.parts } }
     {
         self.parts.take_event()
@@ -169,9 +183,19 @@ impl<W: Wire, A: Handle> Port<W, A> {
     pub fn archive(&mut self) -> Result<Vec<Entry, A>, PortFault>
         ensures does { Does W.honest W.far W.silence self.old.parts call.Archive (reply_of (λ entries. answered.Archived (length entries.items)) result) self.new.parts }
         ensures within { IfOk result (λ entries. length entries.items ≤ 1000000) }
+        ensures gives { ArchiveGives self.old.parts (result_map_both (λ entries. entries.items) (λ why. why) result) self.new.parts }
         ensures rest { self.new ≡ record self.old { parts = self.new.parts } }
     {
         self.parts.archive()
+    }
+
+    /// What the one call of the wire in the next turn will be.
+    ///
+    /// Each call but this and the others that only look may change it: ask right before the turn.
+    pub fn asks(&self) -> Asked
+        ensures { result ≡ asks_of self.now.parts }
+    {
+        self.parts.asks()
     }
 
     /// One turn: one wake-up request where the link is down, else one exchange with the device.
@@ -180,7 +204,10 @@ impl<W: Wire, A: Handle> Port<W, A> {
     /// goes out in this turn. At most 64 events are kept, and a list of events is read only where there is room for it.
     pub fn turn(&mut self)
         ensures does { Does W.honest W.far W.silence self.old.parts call.Turn answered.Nothing self.new.parts }
+        ensures clean { CleanTurn W.honest W.far W.clean self.old.parts self.new.parts }
+        ensures gives { TurnGives W.honest W.far W.silence W.wake_gives W.exchange_gives self.old.parts self.new.parts }
         ensures rest { self.new ≡ record self.old { parts = self.new.parts } }
+        ensures asked { IsCall W.wake_gives W.exchange_gives (asks_of self.old.parts) (wire_of self.old.parts.station.link) (wire_of self.new.parts.station.link) }
     {
         self.parts.turn();
     }
@@ -195,6 +222,7 @@ impl<W: Wire, A: Handle> Port<W, A> {
         calls: &[Call],
     ) -> Result<Vec<Answered, B>, PortFault>
         ensures run { IfOk result (λ replies. Runs W.honest W.far W.silence self.old.parts calls.now replies.items self.new.parts) }
+        ensures clean { IfOk result (λ _. CleanRuns W.honest W.far W.clean self.old.parts calls.now self.new.parts) }
         ensures rest { self.new ≡ record self.old { parts = self.new.parts } }
         ensures refused { IfErr result (λ e. e ≡ fault.Book OutOfMemory) }
         ensures unchanged { IfErr result (λ _. self.new ≡ self.old) }
@@ -212,6 +240,9 @@ impl<W: Wire, A: Handle> Port<W, A> {
     /// A turn, after which the image is published, once, where a writer was given.
     pub fn turn_shown<R: Wait>(&mut self, rt: &R)
         ensures does { Does W.honest W.far W.silence self.old.parts call.Turn answered.Nothing self.new.parts }
+        ensures clean { CleanTurn W.honest W.far W.clean self.old.parts self.new.parts }
+        ensures asked { IsCall W.wake_gives W.exchange_gives (asks_of self.old.parts) (wire_of self.old.parts.station.link) (wire_of self.new.parts.station.link) }
+        ensures gives { TurnGives W.honest W.far W.silence W.wake_gives W.exchange_gives self.old.parts self.new.parts }
         ensures opening { self.new.opening ≡ self.old.opening }
         ensures shown { self.new.writer ≡ shown_in self.new.parts.station.session.image self.old.writer }
     {
@@ -222,6 +253,7 @@ impl<W: Wire, A: Handle> Port<W, A> {
     /// A restart, after which the image, which is none, is published, once, where a writer was given.
     pub fn restart_shown<R: Wait>(&mut self, rt: &R)
         ensures does { Does W.honest W.far W.silence self.old.parts call.Restart answered.Nothing self.new.parts }
+        ensures gives { RestartGives self.old.parts self.new.parts }
         ensures opening { self.new.opening ≡ self.old.opening }
         ensures shown { self.new.writer ≡ shown_in self.new.parts.station.session.image self.old.writer }
     {
@@ -261,9 +293,13 @@ impl<W: Wire, A: Handle> Port<W, A> {
     /// record fits it, if the wire was honest and the device had been handed no request when the port was opened.
     pub fn keeps_record(&self)
         ensures replayed { IsReplayed self.now.parts.book.state }
+        ensures run { IsRun W.honest W.far W.silence self.now.opening self.now.parts }
         ensures record_fits { OpensWell self.now.opening → KeepsRecord W.honest W.far W.silence self.now.parts }
+        ensures level { OpensWell self.now.opening → IsLevelBetween W.far self.now.parts }
     {
         record_fits_journal();
+        ends_stay_level();
+        modes_have_layouts();
         let _ = self.parts.journal();
     }
 }

@@ -1,9 +1,15 @@
 //! The pieces of a turn: the next request is begun, and what the turn says goes to the book and to the kept events.
 ghost use Rattle.std.specs.Prelude.{◌≡◌, ◌+◌, ◌≤◌, ◌&&◌, [], ◌∷◌, ◌++◌, cond, not, length};
+ghost use Rattle.std.specs.Option.{option_map};
+ghost use Rattle.iol_book.specs.BookModel.{next_taken};
+ghost use Rattle.iol_app.specs.Asking.{prepared};
+ghost use Rattle.iol_app.specs.Due.{is_ready};
+ghost use Rattle.iol_app.specs.StationState.{is_operating};
+ghost use Rattle.iol_port.specs.EveryWire.{taken_where};
 ghost use Rattle.iol_steps.specs.Step.{Reset, is_down as is_down_mode, book_said, reports_said};
 ghost use Rattle.iol_port.specs.Steps.{book_through, kept_through};
 ghost use Rattle.iol_port.specs.Replies.{by_book, by_output};
-ghost use Rattle.iol_port.specs.View.{BeginsNext, Asks, HasRoom};
+ghost use Rattle.iol_port.specs.View.{BeginsNext, TakesNext, Asks, HasRoom};
 
 use crate::PortFault;
 use arrayvec::ArrayVec;
@@ -62,7 +68,10 @@ pub(crate) fn begin_next<W: Wire, A: Allocator + Copy>(
     book: &mut Book<A>,
     room: bool,
 )
-    ensures { BeginsNext W.honest W.far W.silence station.old book.old.state station.new book.new.state }
+    ensures next { BeginsNext W.honest W.far W.silence station.old book.old.state station.new book.new.state }
+    ensures exact { station.new ≡ prepared (option_map (λ t. t.1) (next_taken book.old.state.standing)) station.old room }
+    ensures taken { book.new.state ≡ taken_where (is_operating station.old.link && is_ready station.old.session room) (next_taken book.old.state.standing) book.old.state }
+    ensures takes { TakesNext W.honest W.far W.silence room station.old book.old.state station.new book.new.state }
 {
     if station.ready(room)
         && let Some((_, request)) = book.take()

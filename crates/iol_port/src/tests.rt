@@ -1,11 +1,13 @@
+ghost use Rattle.std.proofs.Common.{rules};
 ghost use Rattle.std.specs.Prelude.{[], false, ⊤};
 ghost use Rattle.iol_device.specs.Far.{opened};
 
 use super::*;
-use iol_app::{Mode, OutputFault};
+use iol_app::{Asked, Mode, OutputFault};
 use iol_book::{BookFault, Limits, Ticket};
 use iol_isdu::{Place, Request};
 use iol_link::{Rate, Wire};
+use iol_mode::Why;
 use iol_mseq::Message;
 use scarce::{Refusal, Scarce};
 use std::test::Fail;
@@ -16,7 +18,10 @@ const LIMITS: Limits = Limits {
     given: 0,
 };
 
-/// A wire at whose far end is nothing.
+/// The number of a wire whose wake is answered.
+const AWAKE: u8 = 9;
+
+/// A wire that answers no message, and a wake where its number says so.
 #[derive(Debug, PartialEq, Eq, Drop)]
 struct Bare {
     number: u8,
@@ -29,12 +34,18 @@ impl Wire for Bare {
 
     ghost silence = { λ w. 0 };
 
+    ghost clean = { λ w. false };
+
     ghost wake_gives = { λ w answer v. ⊤ };
 
     ghost exchange_gives = { λ w sent answer v. ⊤ };
 
+    ghost clean_exchanges = { λ old sent answer new never. Prim.search rules };
+
+    ghost clean_wakes = { λ old answer new never. Prim.search rules };
+
     fn wake(&mut self) -> Option<Rate> {
-        None
+        (self.number == AWAKE).then_some(Rate::Com2)
     }
 
     fn exchange(&mut self, _sent: &[u8]) -> Option<Message> {
@@ -70,6 +81,7 @@ fn faults_have_numbers_and_names(rt: HostRuntime) -> Result<(), Fail> {
         assert_eq!(rt; fault.code(), number);
         assert_eq!(rt; format!(in rt.alloc(); "{fault}")?.as_str(), name);
     }
+    each_done_has_its_pair();
     late_requests_end();
     record_fits_journal();
     runs_join();
@@ -81,20 +93,22 @@ fn faults_have_numbers_and_names(rt: HostRuntime) -> Result<(), Fail> {
 fn a_port_opens_or_hands_its_wire_back(rt: HostRuntime) -> Result<(), Fail> {
     let scarce = Scarce::new(rt.alloc());
     for number in 0..64 {
-        scarce.order(Refusal::Only(number));
-        match Port::open(&scarce, Bare { number: 7 }, &LIMITS) {
-            Ok(port) => {
-                assert!(rt; !scarce.has_refused());
-                assert!(rt; number > 0);
-                assert_eq!(rt; port.status().mode, Mode::Down);
-                port.keeps_record();
-                assert_eq!(rt; port.into_wire(), Bare { number: 7 });
-                return Ok(());
-            }
-            Err((fault, wire)) => {
-                assert!(rt; scarce.has_refused());
-                assert_eq!(rt; fault, PortFault::Book(BookFault::OutOfMemory));
-                assert_eq!(rt; wire, Bare { number: 7 });
+        for refusal in [Refusal::From(number), Refusal::Only(number)] {
+            scarce.order(refusal);
+            match Port::open(&scarce, Bare { number: 7 }, &LIMITS) {
+                Ok(port) => {
+                    assert!(rt; !scarce.has_refused());
+                    assert!(rt; number > 0);
+                    assert_eq!(rt; port.status().mode, Mode::Down);
+                    port.keeps_record();
+                    assert_eq!(rt; port.into_wire(), Bare { number: 7 });
+                    return Ok(());
+                }
+                Err((fault, wire)) => {
+                    assert!(rt; scarce.has_refused());
+                    assert_eq!(rt; fault, PortFault::Book(BookFault::OutOfMemory));
+                    assert_eq!(rt; wire, Bare { number: 7 });
+                }
             }
         }
     }
@@ -105,19 +119,21 @@ fn a_port_opens_or_hands_its_wire_back(rt: HostRuntime) -> Result<(), Fail> {
 fn a_refused_request_changes_nothing(rt: HostRuntime) -> Result<(), Fail> {
     let scarce = Scarce::new(rt.alloc());
     for number in 0..64 {
-        scarce.order(Refusal::Never);
-        let mut port = opened_port(&scarce)?;
-        scarce.order(Refusal::Only(number));
-        let answer = port.submit(read());
-        let refused = scarce.has_refused();
-        scarce.order(Refusal::Never);
-        if !refused {
-            assert!(rt; number > 0);
-            assert_eq!(rt; answer, Ok(Ticket(1)));
-            return Ok(());
+        for refusal in [Refusal::From(number), Refusal::Only(number)] {
+            scarce.order(Refusal::Never);
+            let mut port = opened_port(&scarce)?;
+            scarce.order(refusal);
+            let answer = port.submit(read());
+            let refused = scarce.has_refused();
+            scarce.order(Refusal::Never);
+            if !refused {
+                assert!(rt; number > 0);
+                assert_eq!(rt; answer, Ok(Ticket(1)));
+                return Ok(());
+            }
+            assert_eq!(rt; answer, Err(PortFault::Book(BookFault::OutOfMemory)));
+            assert_eq!(rt; port.submit(read()), Ok(Ticket(1)));
         }
-        assert_eq!(rt; answer, Err(PortFault::Book(BookFault::OutOfMemory)));
-        assert_eq!(rt; port.submit(read()), Ok(Ticket(1)));
     }
     Err(Fail::from(PortFault::Book(BookFault::OutOfMemory)))
 }
@@ -127,11 +143,13 @@ fn a_refused_run_makes_no_call(rt: HostRuntime) -> Result<(), Fail> {
     let scarce = Scarce::new(rt.alloc());
     let calls = [Call::Submit(read()), Call::Turn, Call::Collect(Ticket(1))];
     let mut port = opened_port(&scarce)?;
-    scarce.order(Refusal::Only(0));
-    let refused = port.run(&scarce, &calls).err();
-    assert!(rt; scarce.has_refused());
-    assert_eq!(rt; refused, Some(PortFault::Book(BookFault::OutOfMemory)));
-    scarce.order(Refusal::Never);
+    for refusal in [Refusal::From(0), Refusal::Only(0)] {
+        scarce.order(refusal);
+        let refused = port.run(&scarce, &calls).err();
+        assert!(rt; scarce.has_refused());
+        assert_eq!(rt; refused, Some(PortFault::Book(BookFault::OutOfMemory)));
+        scarce.order(Refusal::Never);
+    }
     let wanted = [
         Answered::Ticket(Ticket(1)),
         Answered::Nothing,
@@ -139,5 +157,25 @@ fn a_refused_run_makes_no_call(rt: HostRuntime) -> Result<(), Fail> {
     ];
     assert_eq!(rt; port.run(&scarce, &calls)?.as_slice(), wanted.as_slice());
     assert_eq!(rt; port.submit(read()), Ok(Ticket(2)));
+    Ok(())
+}
+
+#[test]
+fn a_port_asks_for_what_its_next_turn_sends(rt: HostRuntime) -> Result<(), Fail> {
+    let Ok(mut port) = Port::open(rt.alloc(), Bare { number: AWAKE }, &LIMITS) else {
+        return Err(Fail::from(PortFault::Book(BookFault::OutOfMemory)));
+    };
+    assert_eq!(rt; port.asks(), Asked::Wake);
+    port.turn();
+    let first = [0xA2u8, 0x00];
+    for _ in 0..3 {
+        let Asked::Exchange(message) = port.asks() else {
+            return Err(Fail::from("no message"));
+        };
+        assert_eq!(rt; message.as_slice(), first.as_slice());
+        port.turn();
+    }
+    assert_eq!(rt; port.status().why, Some(Why::Lost));
+    assert_eq!(rt; port.asks(), Asked::Wake);
     Ok(())
 }

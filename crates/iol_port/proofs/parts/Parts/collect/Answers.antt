@@ -1,8 +1,8 @@
 use Rattle.iol_port.proofs.CallLemmas.{collect_does}
 use Rattle.iol_port.proofs.parts.Parts.collect.Goals as goal
 
-pub returns : goal.returns
-returns g c =
+pub returns-clause-does : goal.returns-clause-does
+returns-clause-does g c =
     rw (← c.self.view_is, c.by_book.ensures)
     (record {
       follows = collect_does g.W.Wire.honest g.W.Wire.far g.W.Wire.silence (record { station = c.self.inside.station; book = c.self.inside.book; kept = c.self.inside.kept.items })

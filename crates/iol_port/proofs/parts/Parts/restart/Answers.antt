@@ -2,8 +2,8 @@ use Rattle.std.proofs.Common.{sym, ◌∙◌}
 use Rattle.iol_port.proofs.CallLemmas.{restart_does, restart_book, restart_cuts, restart_quiet, some_request}
 use Rattle.iol_port.proofs.parts.Parts.restart.Goals as goal
 
-pub returns-then-restart : goal.returns-then-restart
-returns-then-restart g c =
+pub returns-then-restart-clause-does : goal.returns-then-restart-clause-does
+returns-then-restart-clause-does g c =
     rw (← c.self.view_is)
     (record {
       follows = restart_does g.W.Wire.honest g.W.Wire.far g.W.Wire.silence (record { station = c.self.inside.station; book = c.self.inside.book; kept = c.self.inside.kept.items }) c.restart.new.self c.post.new.self
@@ -11,8 +11,8 @@ returns-then-restart g c =
       book = restart_book _ _ _ _ c.self.invariant.same (restart_cuts _ _ _ (some_request _ ∙ sym c.restart.ensures.cut ∙ c.if-restart.true) c.post.ensures.state);
     })
 
-pub returns-else-restart : goal.returns-else-restart
-returns-else-restart g c =
+pub returns-else-restart-clause-does : goal.returns-else-restart-clause-does
+returns-else-restart-clause-does g c =
     rw (← c.self.view_is)
     (record {
       follows = restart_does g.W.Wire.honest g.W.Wire.far g.W.Wire.silence (record { station = c.self.inside.station; book = c.self.inside.book; kept = c.self.inside.kept.items }) c.restart.new.self c.self.inside.book

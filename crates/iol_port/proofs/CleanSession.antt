@@ -1,0 +1,257 @@
+-- A session that has nothing to do but its request, and one turn of it over a clean wire.
+use Rattle.std.proofs.Common.{◌≡◌, inr, ℕ, Bool, true, false, not, ◌&&◌, List, [], ◌∷◌, ◌++◌, refl, sym, ap, subst, ◌∙◌, Option, Some, None}
+use Rattle.std.specs.Prelude.{IsTrue, is_some, is_none, if◌then◌else◌, MatchBool}
+use Rattle.arrayvec.specs.ArrayVec.{ArrayVec}
+use Rattle.iol_octets.specs.declared.control.Channel.TheVariants.{Isdu}
+use Rattle.iol_mseq.specs.Master.{HasMasterParts}
+use Rattle.iol_mseq.specs.Texts.{master_text}
+use Rattle.iol_mseq.specs.declared.master.MasterMsg.{MasterMsg}
+use Rattle.iol_mseq.specs.declared.reply.Reply.{Reply}
+use Rattle.iol_page.specs.declared.page.Layouts.{Layouts}
+use Rattle.iol_isdu.specs.declared.values.Request.{Request}
+use Rattle.iol_isdu.specs.declared.values.Answer.{Answer}
+use Rattle.iol_device.specs.Device.{octets_in}
+use Rattle.iol_device.specs.Isdu.{IsduState, Empty, Receiving, Whole, Handed, Answered, handed, fits}
+use Rattle.iol_device.specs.Far.{Far, hear}
+use Rattle.iol_device.specs.Local.{Carry, local, carried_by, has_room, IsWorkedOff}
+use Rattle.iol_device.specs.Level.{Link, link_of}
+use Rattle.iol_device.specs.Laws.{IsSized, RepliesAreRead, InputStaysSized}
+use Rattle.iol_link.specs.declared.wire.Rate.{Rate}
+use Rattle.iol_mode.specs.declared.states.Outcome.TheVariants.{Operate as OutOperate}
+use Rattle.iol_mode.specs.Stands.{operate_link, IsOperating, IsAccepted}
+use Rattle.iol_mode.specs.States.{operate_turned}
+use Rattle.iol_steps.specs.Step.{Image}
+use Rattle.iol_steps.specs.declared.said.Said.{Said}
+use Rattle.iol_app.specs.declared.request.Current.{Current}
+use Rattle.iol_app.specs.declared.request.Progress.{Progress}
+use Rattle.iol_app.specs.declared.request.Progress.TheVariants.{Sending, Asking, Receiving, Refused}
+use Rattle.iol_app.specs.declared.session.Exchange.{Exchange}
+use Rattle.iol_app.specs.declared.session.Exchange.TheVariants.{TellOutput, DropOutput, Abort, ReadEvent, ConfirmEvents, Request as NextMessage, Idle}
+use Rattle.iol_app.specs.declared.station.AnyLink.{AnyLink}
+use Rattle.iol_app.specs.Requests.{aborts, current_after, IsSaid}
+use Rattle.iol_app.specs.Due.{is_under_way, is_confirm_due, is_resting, due_of, is_idle, is_ready}
+use Rattle.iol_app.specs.Messages.{Head, head_of, progress_head, progress_data, request_head, request_data}
+use Rattle.iol_app.specs.State.{SessionState, sending, sent, sent_by, absorbed, IsMessageFor, IsOutFor}
+use Rattle.iol_app.specs.StationState.{StationState, wire_of, IsSettled, IsTurn, IsLinkTurn, IsOperateTurn}
+use Rattle.iol_link.specs.Honest.{CleanExchange}
+use Rattle.iol_port.specs.Clean.{ExchangesCleanly, IsQuiet, IsCalm, Stood}
+use Rattle.iol_port.proofs.CleanHearing.{HeardWell, heard_well}
+
+-- What is due
+
+pub none_to_tell : (wanted : Option Image) (told : Bool) → is_some wanted ≡ told → (is_some wanted && not told) ≡ false
+none_to_tell None told e = refl
+none_to_tell (Some image) true e = refl
+none_to_tell (Some image) false e = absurd (let k : true ≡ false = e in cc)
+
+pub none_to_drop : (wanted : Option Image) (told : Bool) → is_some wanted ≡ told → (is_none wanted && told) ≡ false
+none_to_drop None true e = absurd (let k : false ≡ true = e in cc)
+none_to_drop None false e = refl
+none_to_drop (Some image) told e = refl
+
+pub none_to_read : (resting flag room : Bool) → (resting && flag) ≡ false → (resting && flag && room) ≡ false
+none_to_read true true room e = absurd (let k : true ≡ false = e in cc)
+none_to_read true false room e = refl
+none_to_read false flag room e = refl
+
+request_due : (s : SessionState) (room : Bool) (c : Current) → IsCalm s → s.current ≡ Some c → c.abort ≡ None → due_of s room ≡ NextMessage
+request_due s room c calm is abort =
+    let free : aborts s.current ≡ false = ap aborts is ∙ ap is_some abort in
+    let some : is_some s.current ≡ true = ap is_some is in
+    rw (
+      none_to_tell s.output.wanted s.output.told calm.output,
+      none_to_drop s.output.wanted s.output.told calm.output,
+      free,
+      calm.reading,
+      calm.confirm,
+      none_to_read (is_resting s.events.reading) s.events.flag room calm.flag,
+      some,
+    ) refl
+
+-- where IDLE 1 is due
+test_failed : (b : Bool) (here other : Exchange) → is_idle here ≡ false → is_idle (if b then here else other) ≡ true → (b ≡ false) × (is_idle other ≡ true)
+test_failed true here other busy e = absurd (let k : false ≡ true = sym busy ∙ e in cc)
+test_failed false here other busy e = (refl, e)
+
+both_true : (a b : Bool) → (a && b) ≡ true → (a ≡ true) × (b ≡ true)
+both_true true b e = (refl, e)
+both_true false b e = absurd (let k : false ≡ true = e in cc)
+
+told_as_wanted : (wanted : Option Image) (told : Bool) → (is_some wanted && not told) ≡ false → (is_none wanted && told) ≡ false → is_some wanted ≡ told
+told_as_wanted None true e f = absurd (let k : true ≡ false = f in cc)
+told_as_wanted None false e f = refl
+told_as_wanted (Some image) true e f = refl
+told_as_wanted (Some image) false e f = absurd (let k : true ≡ false = e in cc)
+
+none_out : (exchange : Option Exchange) → is_none exchange ≡ true → exchange ≡ None
+none_out None e = refl
+none_out (Some exchange) e = absurd (let k : false ≡ true = e in cc)
+
+none_current : (current : Option Current) → is_some current ≡ false → current ≡ None
+none_current None e = refl
+none_current (Some current) e = absurd (let k : true ≡ false = e in cc)
+
+not_flagged : (resting flag : Bool) → (resting && flag && true) ≡ false → (resting && flag) ≡ false
+not_flagged true true e = absurd (let k : true ≡ false = e in cc)
+not_flagged true false e = refl
+not_flagged false flag e = refl
+
+-- a session that would send IDLE 1, whether there is room for events or not, is calm, without a request
+pub ready_calm : (s : SessionState) → is_ready s true ≡ true → IsCalm s × (s.current ≡ None)
+ready_calm s e =
+    let both = both_true (is_none s.exchange) (is_idle (due_of s true)) e in
+    let tell = test_failed (is_some s.output.wanted && not s.output.told) TellOutput _ refl both.1 in
+    let drop = test_failed (is_none s.output.wanted && s.output.told) DropOutput _ refl tell.1 in
+    let abort = test_failed (aborts s.current) Abort _ refl drop.1 in
+    let under = test_failed (is_under_way s.events.reading) ReadEvent _ refl abort.1 in
+    let confirm = test_failed (is_confirm_due s.events.reading) ConfirmEvents _ refl under.1 in
+    let flag = test_failed (is_resting s.events.reading && s.events.flag && true) ReadEvent _ refl confirm.1 in
+    let free = test_failed (is_some s.current) NextMessage Idle refl flag.1 in (
+      record {
+        exchange = none_out s.exchange both.0;
+        output = told_as_wanted s.output.wanted s.output.told tell.0 drop.0;
+        reading = under.0;
+        confirm = confirm.0;
+        flag = not_flagged (is_resting s.events.reading) s.events.flag flag.0;
+      },
+      none_current s.current free.0,
+    )
+
+-- and with a request begun it is calm too
+pub begun_calm : (s : SessionState) (current : Option Current) → IsCalm s → IsCalm (record s { current = current })
+begun_calm s current h = record { exchange = h.exchange; output = h.output; reading = h.reading; confirm = h.confirm; flag = h.flag }
+
+and_false : (a : Bool) → (a && false) ≡ false
+and_false true = refl
+and_false false = refl
+
+-- after the good reply to the request's message, without the Event flag
+absorbed_calm : (s : SessionState) (reply : Reply) → IsCalm s → reply.event ≡ false → IsCalm (absorbed NextMessage reply (sending NextMessage s))
+absorbed_calm s reply h e = record {
+  exchange = refl;
+  output = h.output;
+  reading = h.reading;
+  confirm = h.confirm;
+  flag = ap (λ (b : Bool). is_resting s.events.reading && b) e ∙ and_false (is_resting s.events.reading);
+}
+
+-- The request's messages are of the ISDU channel
+
+progress_channel : (p : Progress) → (progress_head p).channel ≡ Isdu
+progress_channel (Sending flow segment) = refl
+progress_channel (Asking busy) = refl
+progress_channel (Receiving joining had) = refl
+progress_channel Refused = refl
+
+-- What carrying out leaves as it was
+
+pub record SameBut (far ready : Far) : Type 0 where
+  pub awake : ready.awake ≡ far.awake
+  pub events : ready.events ≡ far.events
+  pub page : ready.page ≡ far.page
+  pub link_is : link_of ready ≡ link_of far
+  pub room : ready.room ≡ far.room
+  pub sized : IsSized far → IsSized ready
+
+same_if : (far : Far) (request : Request) (answer : Answer) (b : Bool)
+    → SameBut far (if b then record far { isdu = Answered request answer None; carried = far.carried ++ record { request = request; answer = answer } ∷ [] } else far)
+same_if far request answer true = record { awake = refl; events = refl; page = refl; link_is = refl; room = refl; sized = λ h. h }
+same_if far request answer false = record { awake = refl; events = refl; page = refl; link_is = refl; room = refl; sized = λ h. h }
+
+same_carried : (far : Far) (answer : Answer) (state : IsduState) → SameBut far (carried_by state far answer)
+same_carried far answer (Handed request) = same_if far request answer (has_room far && fits request answer)
+same_carried far answer Empty = record { awake = refl; events = refl; page = refl; link_is = refl; room = refl; sized = λ h. h }
+same_carried far answer (Receiving text last) = record { awake = refl; events = refl; page = refl; link_is = refl; room = refl; sized = λ h. h }
+same_carried far answer (Whole request last) = record { awake = refl; events = refl; page = refl; link_is = refl; room = refl; sized = λ h. h }
+same_carried far answer (Answered request given last) = record { awake = refl; events = refl; page = refl; link_is = refl; room = refl; sized = λ h. h }
+
+pub work_same : (far ready : Far) (request : Option Request) → IsWorkedOff request far ready → SameBut far ready
+work_same far ready None e = rw e (record { awake = refl; events = refl; page = refl; link_is = refl; room = refl; sized = λ h. h })
+work_same far ready (Some request) h = by_room (has_room far) h
+  where
+    by_room : (b : Bool) → MatchBool b ((answer : Answer) × IsTrue (fits request answer) × (ready ≡ local far (Carry answer))) (ready ≡ far) → SameBut far ready
+    by_room true h = rw h.2 (same_carried far h.0 far.isdu)
+    by_room false h = rw h (record { awake = refl; events = refl; page = refl; link_is = refl; room = refl; sized = λ h. h })
+
+-- One turn
+
+module _ {W : Type 0} (honest : W → Bool) (far : W → Far) (silence : W → ℕ) (wakes : W → Option Rate → W → Type 0) (gives : W → List ℕ → Option (ArrayVec ℕ) → W → Type 0) (clean : W → Bool) where
+  -- What a turn gives that sends a message of the request
+  pub record Turned (layouts : Layouts) (old : StationState W) (wire : W) (c : Current) (said : Said) (new : StationState W) : Type 0 where
+    pub next : W
+    pub stood : Stood honest far clean layouts operate_link new next
+    pub message : MasterMsg
+    pub head : head_of message.mc ≡ progress_head c.progress
+    pub octets : message.od.items ≡ progress_data c.progress
+    pub parts : HasMasterParts layouts.run message
+    pub ready : Far
+    pub work : IsWorkedOff (handed (far wire).isdu) (far wire) ready
+    pub answer : Option (List ℕ)
+    pub reply : Reply
+    pub heard_as : HeardWell layouts message ready (far next) answer reply
+    pub current : new.session.current ≡ current_after NextMessage old.session.limit reply.od.items (Some c)
+    pub limit : new.session.limit ≡ old.session.limit
+    pub said_is : IsSaid NextMessage old.session.limit reply.od.items (Some c) said
+
+  module _ (cleanly : ExchangesCleanly clean far gives) (read_back : RepliesAreRead) (stays_sized : InputStaysSized) where
+    pub turned : (layouts : Layouts) (link : Link) (old : StationState W) (wire : W) (room : Bool) (c : Current) (said : Said) (new : StationState W)
+        → Stood honest far clean layouts link old wire → old.session.current ≡ Some c → c.abort ≡ None → IsTurn honest far silence wakes gives room old said new
+        → Turned layouts old wire c said new
+    turned layouts link old wire room c said new stood is abort turn =
+        by_turn (subst (λ (l : AnyLink W). IsLinkTurn honest far silence wakes gives l old.session room said new) stood.link_is turn)
+      where
+        s : SessionState
+        s = old.session
+
+        sent_is : sent (due_of s room) s ≡ sending NextMessage s
+        sent_is = ap (λ (e : Option Exchange). sent_by e (due_of s room) s) stood.calm.exchange ∙ ap (λ (e : Exchange). sending e s) (request_due s room c stood.calm is abort)
+
+        by_turn : IsOperateTurn honest far silence wakes gives wire (record { out = None; layouts = layouts }) s room said new → Turned layouts old wire c said new
+        by_turn t =
+            let message : MasterMsg = t.message in
+            let o : List ℕ = master_text layouts.run message in
+            let for : IsMessageFor NextMessage (sending NextMessage s) message = subst (λ (z : SessionState). IsOutFor (Some message) z) sent_is t.is_for in
+            let head : head_of message.mc ≡ progress_head c.progress = for.head ∙ ap request_head is in
+            let channel : message.mc.channel ≡ Isdu = ap (λ (h : Head). h.channel) head ∙ progress_channel c.progress in
+            let done = cleanly wire o t.exchange.answer (wire_of new.link) stood.is_clean t.exchange.called in
+            let x : CleanExchange (far wire) o (octets_in t.exchange.answer) (far (wire_of new.link)) = done.0 in
+            let same : SameBut (far wire) x.ready = work_same (far wire) x.ready (handed (far wire).isdu) x.work in
+            let accepted : IsAccepted layouts x.ready.page link message =
+            subst (λ (p : List ℕ). IsAccepted layouts p link message) (sym same.page) (t.accepted stood.is_honest link stood.operating) in
+            let sized : IsSized (hear x.ready o).far = stays_sized.hears x.ready o (same.sized (t.exchange.passes stood.is_honest).regular.sized) in
+            let quiet : IsQuiet x.ready.events = subst IsQuiet (sym same.events) stood.quiet in
+            let found = heard_well read_back layouts message link x.ready accepted channel (same.awake ∙ stood.awake) (same.link_is ∙ stood.at) quiet sized in
+            let reply : Reply = found.0 in
+            let well : HeardWell layouts message x.ready (far (wire_of new.link)) (octets_in t.exchange.answer) reply =
+            rw (x.far_is, x.answer_is) found.1 in
+            let settled : IsSettled (OutOperate (record { out = None; layouts = layouts }) (Some reply)) (sending NextMessage s) said new =
+            subst (λ (z : SessionState). IsSettled (OutOperate (record { out = None; layouts = layouts }) (Some reply)) z said new) sent_is
+            (subst (λ (q : Option Reply). IsSettled (operate_turned (record { out = None; layouts = layouts }) message q) (sent (due_of s room) s) said new) well.good t.exchange.settled) in
+            record {
+              next = wire_of new.link;
+              stood = record {
+                link_is = settled.link;
+                is_honest = subst IsTrue (sym t.exchange.both.honesty) stood.is_honest;
+                is_clean = done.1;
+                calm = subst IsCalm (sym settled.session) (absorbed_calm s reply stood.calm well.event);
+                operating = inr_link;
+                awake = well.awake;
+                at = well.link_is;
+                quiet = well.quiet;
+              };
+              message = message;
+              head = head;
+              octets = for.octets ∙ ap request_data is;
+              parts = t.parts refl;
+              ready = x.ready;
+              work = x.work;
+              answer = octets_in t.exchange.answer;
+              reply = reply;
+              heard_as = well;
+              current = ap (λ (z : SessionState). z.current) settled.session ∙ ap (λ (q : Option Current). current_after NextMessage s.limit reply.od.items q) is;
+              limit = ap (λ (z : SessionState). z.limit) settled.session;
+              said_is = subst (λ (q : Option Current). IsSaid NextMessage s.limit reply.od.items q said) is settled.said_is;
+            }
+          where
+            inr_link : IsOperating layouts operate_link
+            inr_link = inr refl

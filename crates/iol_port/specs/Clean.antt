@@ -1,0 +1,152 @@
+-- What a port does on a clean wire, turn by turn.
+use Rattle.std.specs.Prelude.{◌≡◌, ◌⊎◌, ℕ, suc, ◌+◌, ◌<◌, ◌≤◌, Bool, true, false, ◌&&◌, List, [], ◌++◌, length, replicate, Option, Some, None, is_some, IsTrue}
+use Rattle.arrayvec.specs.ArrayVec.{ArrayVec}
+use Rattle.iol_isdu.specs.declared.values.Request.{Request}
+use Rattle.iol_isdu.specs.declared.values.Answer.{Answer}
+use Rattle.iol_isdu.specs.Texts.{IsRequest, request_text}
+use Rattle.iol_isdu.specs.Laws.{OneAnswerText}
+use Rattle.iol_segment.specs.Cut.{segments, SegmentsHaveSize}
+use Rattle.iol_segment.specs.JoinLaws.{JoinLaws}
+use Rattle.iol_segment.specs.TextLaws.{TextLaws}
+use Rattle.iol_event.specs.Memory.{Events}
+use Rattle.iol_page.specs.declared.page.Layouts.{Layouts}
+use Rattle.iol_device.specs.declared.app.Carried.{Carried}
+use Rattle.iol_device.specs.Device.{octets_in}
+use Rattle.iol_device.specs.Far.{Far}
+use Rattle.iol_device.specs.Level.{Link, Quiet, link_of, IsBefore, grown_by}
+use Rattle.iol_device.specs.Laws.{RepliesAreRead, InputStaysSized, ModesHaveLayouts, MuchStays}
+use Rattle.iol_device.specs.SegmentLaws.{SegmentLaws}
+use Rattle.iol_mode.specs.Stands.{operate_link, IsOperating}
+use Rattle.iol_link.specs.Honest.{CleanExchange}
+use Rattle.iol_book.specs.declared.entries.Ticket.{Ticket}
+use Rattle.iol_book.specs.declared.entries.Outcome.TheVariants.{Done}
+use Rattle.iol_book.specs.BookModel.{BookState, next_taken, took, posted}
+use Rattle.iol_app.specs.declared.station.AnyLink.TheVariants.{Operate as InOperate}
+use Rattle.iol_app.specs.Due.{is_under_way, is_confirm_due, is_resting, is_ready}
+use Rattle.iol_app.specs.State.{SessionState}
+use Rattle.iol_app.specs.StationState.{StationState, wire_of}
+use Rattle.iol_port.specs.declared.call.Call.{Call}
+use Rattle.iol_port.specs.declared.call.Call.TheVariants as call
+use Rattle.iol_port.specs.Turns.{Stage, Ended, turns_needed, turns_at, StageFits}
+use Rattle.iol_port.specs.View.{Parts}
+
+-- each exchange of a clean wire is one, and leaves it clean
+abbrev pub ExchangesCleanly : {W : Type 0} → (W → Bool) → (W → Far) → (W → List ℕ → Option (ArrayVec ℕ) → W → Type 0) → Type 0
+ExchangesCleanly {W} clean far gives =
+    (old : W) (sent : List ℕ) (answer : Option (ArrayVec ℕ)) (new : W) → IsTrue (clean old) → gives old sent answer new
+    → CleanExchange (far old) sent (octets_in answer) (far new) × IsTrue (clean new)
+
+-- what the number of turns rests on: laws of the definitions
+pub record CleanLaws : Type 0 where
+  pub segments : (size : ℕ) → 1 ≤ size → SegmentLaws size
+  pub texts : (size : ℕ) → 1 ≤ size → TextLaws size
+  pub joins : (size : ℕ) → 1 ≤ size → JoinLaws size
+  pub pieces : SegmentsHaveSize
+  pub one : OneAnswerText
+  pub read_back : RepliesAreRead
+  pub sized : InputStaysSized
+  pub modes : ModesHaveLayouts
+  pub much : MuchStays
+
+-- no event is at the device
+pub record IsQuiet (memory : Events) : Type 0 where
+  pub frozen : memory.frozen ≡ []
+  pub waiting : memory.waiting ≡ []
+
+-- in a session no message is out, the output is told as wanted, no event is to be read or confirmed
+pub record IsCalm (s : SessionState) : Type 0 where
+  pub exchange : s.exchange ≡ None
+  pub output : is_some s.output.wanted ≡ s.output.told
+  pub reading : is_under_way s.events.reading ≡ false
+  pub confirm : is_confirm_due s.events.reading ≡ false
+  pub flag : (is_resting s.events.reading && s.events.flag) ≡ false
+
+-- the book while the request of that ticket is at this stage, the book having been that before it was taken
+abbrev pub book_at : BookState → Ticket → Request → Stage → BookState
+book_at book ticket request (Ended answer) = posted (took book (ticket, request)) (Done answer)
+book_at book ticket request stage = took book (ticket, request)
+
+-- what the device of a port carried out
+abbrev pub record_of : {W : Type 0} → (W → Far) → Parts W → List Carried
+record_of far p = (far (wire_of p.station.link)).carried
+
+-- between requests, with no message out in OPERATE, both ends are level and the device is awake
+abbrev pub IsLevelBetween : {W : Type 0} → (W → Far) → Parts W → Type 0
+IsLevelBetween {W} far p =
+    (wire : W) (layouts : Layouts) → p.station.link ≡ InOperate (record { wire = wire; state = record { out = None; layouts = layouts } }) → p.station.session.current ≡ None
+    → (link : Link) × IsOperating layouts link × IsBefore (far wire).page layouts.run.od (far wire).carried link Quiet (far wire)
+
+module _ {W : Type 0} (honest : W → Bool) (far : W → Far) (clean : W → Bool) where
+  -- in OPERATE over a clean wire, with no message out; the device is awake, in that link, and has no events
+  pub record Stood (layouts : Layouts) (link : Link) (station : StationState W) (wire : W) : Type 0 where
+    pub link_is : station.link ≡ InOperate (record { wire = wire; state = record { out = None; layouts = layouts } })
+    pub is_honest : IsTrue (honest wire)
+    pub is_clean : IsTrue (clean wire)
+    pub calm : IsCalm station.session
+    pub operating : IsOperating layouts link
+    pub awake : (far wire).awake ≡ true
+    pub at : link_of (far wire) ≡ link
+    pub quiet : IsQuiet (far wire).events
+
+  -- a station over its wire, at this stage of a request that the device's record, then `base`, had room for
+  pub record At (layouts : Layouts) (request : Request) (base : List Carried) (stage : Stage) (station : StationState W) (wire : W) : Type 0 where
+    pub stood : Stood layouts operate_link station wire
+    pub fits : StageFits layouts.run.od request base stage station.session.current (far wire).isdu (far wire).carried
+    pub room : length base < (far wire).room
+    pub limit : 2 ≤ station.session.limit
+
+  -- a port at this stage of the request of that ticket
+  pub record IsAt (layouts : Layouts) (ticket : Ticket) (request : Request) (base : List Carried) (book : BookState) (stage : Stage) (p : Parts W) : Type 0 where
+    pub wire : W
+    pub at : At layouts request base stage p.station wire
+    pub book_is : p.book.state ≡ book_at book ticket request stage
+    pub valid : IsRequest request
+    pub low : 1 ≤ layouts.run.od
+
+  -- From here a request takes an exact number of turns: the port is in OPERATE over a clean wire, and its next turn would send IDLE 1, with
+  -- room for events; both ends are level, the device awake; it has no events, and its record has room; the request waits longest
+  pub record MayStart (layouts : Layouts) (ticket : Ticket) (request : Request) (p : Parts W) : Type 0 where
+    pub wire : W
+    pub link_is : p.station.link ≡ InOperate (record { wire = wire; state = record { out = None; layouts = layouts } })
+    pub is_honest : IsTrue (honest wire)
+    pub is_clean : IsTrue (clean wire)
+    pub ready : is_ready p.station.session true ≡ true
+    pub link : Link
+    pub operating : IsOperating layouts link
+    pub level : IsBefore (far wire).page layouts.run.od (far wire).carried link Quiet (far wire)
+    pub quiet : IsQuiet (far wire).events
+    pub room : length (far wire).carried < (far wire).room
+    pub next : next_taken p.book.state.standing ≡ Some (ticket, request)
+
+  -- how the request stands after so many turns: it is taken, and nothing entered the record; its answer did, and it is not done; it is done
+  -- with that answer, after as many turns as are needed; more turns were made
+  abbrev pub IsOnTime : Layouts → Ticket → Request → Parts W → ℕ → Parts W → Type 0
+  IsOnTime layouts ticket request old n new =
+      ((n ≤ segments layouts.run.od (request_text request) + 1) × (record_of far new ≡ record_of far old) × (new.book.state ≡ took old.book.state (ticket, request)))
+      ⊎ ((answer : Answer) × (record_of far new ≡ grown_by (record_of far old) request answer) × (n < turns_needed layouts.run.od request answer)
+      × (new.book.state ≡ took old.book.state (ticket, request)))
+      ⊎ ((answer : Answer) × (record_of far new ≡ grown_by (record_of far old) request answer) × (n ≡ turns_needed layouts.run.od request answer)
+      × (new.book.state ≡ posted (took old.book.state (ticket, request)) (Done answer)))
+      ⊎ ((answer : Answer) × (more : List Carried) × (record_of far new ≡ grown_by (record_of far old) request answer ++ more) × (turns_needed layouts.run.od request answer < n))
+
+  -- at some stage, so many turns on
+  pub record IsAfter (layouts : Layouts) (ticket : Ticket) (request : Request) (base : List Carried) (book : BookState) (turns : ℕ) (p : Parts W) : Type 0 where
+    pub stage : Stage
+    pub is_at : IsAt layouts ticket request base book stage p
+    pub turns_are : turns_at layouts.run.od request stage ≡ turns
+
+  -- one turn: the request that waits longest begins, or goes one stage on; on an honest wire the record only grows
+  pub record CleanTurn (p next : Parts W) : Type 0 where
+    pub starts : (layouts : Layouts) (ticket : Ticket) (request : Request) → MayStart layouts ticket request p
+        → IsAfter layouts ticket request (record_of far p) p.book.state 1 next
+    pub goes_on : (layouts : Layouts) (ticket : Ticket) (request : Request) (base : List Carried) (book : BookState) (stage : Stage)
+        → IsAt layouts ticket request base book stage p → ((answer : Answer) → stage ≡ Ended answer → ⊥)
+        → IsAfter layouts ticket request base book (suc (turns_at layouts.run.od request stage)) next
+    pub honesty : honest (wire_of next.station.link) ≡ honest (wire_of p.station.link)
+    pub grows : IsTrue (honest (wire_of p.station.link)) → (more : List Carried) × (record_of far next ≡ record_of far p ++ more)
+
+  -- so many turns and no other call: a request stands as it is to then
+  abbrev pub CleanRuns : Parts W → List Call → Parts W → Type 0
+  CleanRuns p calls next =
+      (n : ℕ) → calls ≡ replicate (suc n) call.Turn → (layouts : Layouts) (ticket : Ticket) (request : Request) → MayStart layouts ticket request p
+      → IsOnTime layouts ticket request p (suc n) next

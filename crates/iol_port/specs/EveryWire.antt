@@ -1,0 +1,116 @@
+-- What each call of a port answers and leaves on every wire, honest or not, from the port's own parts.
+use Rattle.std.specs.Prelude.{◌≡◌, ℕ, Bool, ◌&&◌, if◌then◌else◌, List, [], ◌∷◌, ◌++◌, drop, Option, Some, None, Result, Ok, Err, is_ok, IfOk, IfErr, OnOk, OnErr, slice_get}
+use Rattle.std.specs.Option.{ok_or, option_map}
+use Rattle.std.specs.Result.{result_err}
+use Rattle.arrayvec.specs.ArrayVec.{ArrayVec}
+use Rattle.iol_isdu.specs.declared.values.Request.{Request}
+use Rattle.iol_event.specs.declared.event.Event.{Event}
+use Rattle.iol_device.specs.Far.{Far}
+use Rattle.iol_link.specs.declared.wire.Rate.{Rate}
+use Rattle.iol_book.specs.declared.entries.Entry.{Entry}
+use Rattle.iol_book.specs.declared.entries.Outcome.{Outcome}
+use Rattle.iol_book.specs.declared.entries.Ticket.{Ticket}
+use Rattle.iol_book.specs.declared.fault.BookFault.{BookFault}
+use Rattle.iol_book.specs.declared.fault.BookFault.TheVariants.{Outstanding}
+use Rattle.iol_book.specs.BookModel.{BookState, BookValue, RefusesFor, submit_refusal, submitted, next_ticket, next_taken, took, collect_answer, collected, withdraw_refusal, withdrawn, may_archive, archived}
+use Rattle.iol_steps.specs.declared.mode.Mode.TheVariants.{Down}
+use Rattle.iol_steps.specs.declared.said.Said.{Said}
+use Rattle.iol_steps.specs.Step.{Image, woke_up, book_said, reports_said}
+use Rattle.iol_steps.specs.Kinds.{restart_steps}
+use Rattle.iol_app.specs.declared.output.OutputFault.{OutputFault}
+use Rattle.iol_app.specs.State as session
+use Rattle.iol_app.specs.Due.{is_ready}
+use Rattle.iol_app.specs.Asking.{prepared}
+use Rattle.iol_app.specs.StationState.{StationState, wire_of, mode_of, why_of, is_operating, IsTurn}
+use Rattle.iol_port.specs.declared.fault.PortFault.{PortFault}
+use Rattle.iol_port.specs.declared.fault.PortFault.TheVariants as fault
+use Rattle.iol_port.specs.Asks.{has_room}
+use Rattle.iol_port.specs.Replies.{by_book, by_output}
+use Rattle.iol_port.specs.Sound.{request_taken}
+use Rattle.iol_port.specs.Steps.{book_through, kept_through}
+use Rattle.iol_port.specs.View.{Parts}
+
+-- the first refusal that holds, or want of memory where a growth was needed
+abbrev pub RefusesSubmit : BookValue → PortFault → Type 0
+RefusesSubmit b (fault.Book why) = RefusesFor (submit_refusal b.state) why b.room
+RefusesSubmit b other = ⊥
+
+-- the book once the next request is taken, where the station is ready for one and one waits
+abbrev pub taken_where : Bool → Option (Ticket × Request) → BookState → BookState
+taken_where ready None b = b
+taken_where ready (Some next) b = if ready then took b next else b
+
+module _ {W : Type 0} where
+  -- Only the book changes: the station with its wire, and the events that are kept, are what they were
+  abbrev pub IsBookCall : Parts W → Parts W → Type 0
+  IsBookCall old new = new ≡ record old { book = new.book }
+
+  pub record SubmitGives (old : Parts W) (request : Request) (result : Result Ticket PortFault) (new : Parts W) : Type 0 where
+    pub allowed : OnOk result (submit_refusal old.book.state ≡ None)
+    pub ticket : IfOk result (λ t. t ≡ next_ticket old.book.state)
+    pub entered : OnOk result (new.book.state ≡ submitted old.book.state request)
+    pub refused : IfErr result (λ why. RefusesSubmit old.book why)
+    pub unchanged : OnErr result (new.book.state ≡ old.book.state)
+    pub rest : IsBookCall old new
+
+  -- the outcome that was posted for the ticket, or why there is none
+  pub record CollectGives (old : Parts W) (ticket : Ticket) (result : Result Outcome PortFault) (new : Parts W) : Type 0 where
+    pub answer : result ≡ by_book (collect_answer old.book.state.standing ticket)
+    pub book : new.book.state ≡ collected old.book.state ticket
+    pub rest : IsBookCall old new
+
+  pub record WithdrawGives (old : Parts W) (ticket : Ticket) (result : Result (Unit {0}) PortFault) (new : Parts W) : Type 0 where
+    pub answer : result_err result ≡ option_map (λ why. fault.Book why) (withdraw_refusal old.book.state.standing ticket)
+    pub book : new.book.state ≡ withdrawn old.book.state ticket
+    pub rest : IsBookCall old new
+
+  -- these entries are the journal as it was, and the new one is empty
+  pub record ArchiveGives (old : Parts W) (result : Result (List Entry) PortFault) (new : Parts W) : Type 0 where
+    pub allowed : is_ok result ≡ may_archive old.book.state
+    pub journal : IfOk result (λ entries. entries ≡ old.book.state.journal)
+    pub refused : IfErr result (λ why. why ≡ fault.Book Outstanding)
+    pub book : new.book.state ≡ archived old.book.state
+    pub rest : IsBookCall old new
+
+  -- the event kept longest
+  pub record TakeEventGives (old : Parts W) (result : Result Event PortFault) (new : Parts W) : Type 0 where
+    pub answer : result ≡ ok_or (slice_get old.kept 0) fault.NoEvent
+    pub rest : new ≡ record old { kept = drop 1 old.kept }
+
+  -- refused by the layout that was told last; else it is wanted
+  pub record SetOutputGives (old : Parts W) (image : Image) (result : Result (Unit {0}) PortFault) (new : Parts W) : Type 0 where
+    pub answer : result_err result ≡ option_map (λ why. fault.Output why) (session.output_refusal image old.station.session.layout)
+    pub wanted : OnOk result (new ≡ record old { station = record old.station { session = session.wanting (Some image) old.station.session } })
+    pub unchanged : OnErr result (new ≡ old)
+
+  abbrev pub ClearOutputGives : Parts W → Parts W → Type 0
+  ClearOutputGives old new = new ≡ record old { station = record old.station { session = session.wanting None old.station.session } }
+
+  -- the wire stays, the link is down and has no fault; the request under way is cut off, and there is no image
+  pub record RestartGives (old new : Parts W) : Type 0 where
+    pub wire : wire_of new.station.link ≡ wire_of old.station.link
+    pub mode : mode_of new.station.link ≡ Down
+    pub why : why_of new.station.link ≡ None
+    pub session_is : new.station.session ≡ session.left old.station.session
+    pub book : new.book.state ≡ book_through (restart_steps (request_taken old.book.state.standing.taken)) old.book.state
+    pub kept : new.kept ≡ old.kept
+
+  -- whether the next turn would send IDLE 1, so that it takes the request that waits longest
+  abbrev pub takes_next : Parts W → Bool
+  takes_next p = is_operating p.station.link && is_ready p.station.session (has_room p.kept)
+
+  -- the station and the book with which a turn begins: that request is taken and begun
+  abbrev pub station_begun : Parts W → StationState W
+  station_begun p = prepared (option_map (λ t. t.1) (next_taken p.book.state.standing)) p.station (has_room p.kept)
+
+  abbrev pub book_begun : Parts W → BookState
+  book_begun p = taken_where (takes_next p) (next_taken p.book.state.standing) p.book.state
+
+  module _ (honest : W → Bool) (far : W → Far) (silence : W → ℕ) (wakes : W → Option Rate → W → Type 0) (gives : W → List ℕ → Option (ArrayVec ℕ) → W → Type 0) where
+    -- A turn: the station makes its own one, with room for events where at most 58 are kept, and what that says goes to the book and to the
+    -- kept events; a wake that had success ends what a request that was cut off may still do
+    pub record TurnGives (old new : Parts W) : Type 0 where
+      pub said : Said
+      pub turn : IsTurn honest far silence wakes gives (has_room old.kept) (station_begun old) said new.station
+      pub book : new.book.state ≡ book_through (woke_up (mode_of old.station.link) (mode_of new.station.link) ++ book_said said) (book_begun old)
+      pub kept : new.kept ≡ kept_through (reports_said said) old.kept
