@@ -1,0 +1,36 @@
+-- What the calls of a master answer. A master is seen as the number of its ports.
+use Rattle.std.specs.Prelude.{◌≡◌, ℕ, ◌+◌, ◌≤◌, Result, Ok, Err}
+use Rattle.iol_book.specs.declared.entries.Ticket.{Ticket}
+use Rattle.iol_master.specs.declared.fault.MasterFault.{MasterFault}
+use Rattle.iol_master.specs.declared.fault.MasterFault.TheVariants.{Port, OutOfMemory, NoSuchPort, NoThread, DesksFull}
+use Rattle.iol_master.specs.declared.accounts.Settled.{Settled}
+use Rattle.iol_master.specs.declared.accounts.Settled.TheVariants.{Part, Last}
+use Rattle.iol_master.specs.Counts.{DeskState}
+
+-- ports are numbered from 1
+abbrev pub IsPort : ℕ → ℕ → Type 0
+IsPort ports port = (1 ≤ port) × (port ≤ ports)
+
+-- a desk is opened with no submit
+abbrev pub Desks : ℕ → ℕ → Result DeskState MasterFault → Type 0
+Desks ports port (Ok desk) = IsPort ports port × (desk ≡ record { port = port; accepted = 0 })
+Desks ports port (Err NoSuchPort) = ¬ IsPort ports port
+Desks ports port (Err DesksFull) = IsPort ports port
+Desks ports port (Err (Port why)) = ⊥
+Desks ports port (Err OutOfMemory) = ⊥
+Desks ports port (Err NoThread) = ⊥
+
+-- A desk counts one more exactly where a ticket is answered. Tickets are numbered from 1.
+abbrev pub Submitted : ℕ → DeskState → Result Ticket MasterFault → DeskState → Type 0
+Submitted ports d (Ok ticket) d' =
+    IsPort ports d.port × (1 ≤ ticket.0) × (d' ≡ record d { accepted = d.accepted + 1 })
+Submitted ports d (Err NoSuchPort) d' = (¬ IsPort ports d.port) × (d' ≡ d)
+Submitted ports d (Err (Port why)) d' = IsPort ports d.port × (d' ≡ d)
+Submitted ports d (Err OutOfMemory) d' = ⊥
+Submitted ports d (Err NoThread) d' = ⊥
+Submitted ports d (Err DesksFull) d' = ⊥
+
+-- the last desk is told the total, in which its own submits are
+abbrev pub SettledAs : ℕ → Settled → Type 0
+SettledAs accepted (Part n) = n ≡ accepted
+SettledAs accepted (Last n total) = (n ≡ accepted) × (n ≤ total)

@@ -1,0 +1,48 @@
+-- The tickets of a port, and a submit at a desk.
+use Rattle.std.specs.Prelude.{◌≡◌, ℕ, ◌+◌, ◌^◌, ◌<◌, ◌⊎◌, Bool, Result, Ok, Err, IfErr}
+use Rattle.iol_isdu.specs.declared.values.Request.{Request}
+use Rattle.iol_device.specs.Far.{Far}
+use Rattle.iol_book.specs.declared.entries.Ticket.{Ticket}
+use Rattle.iol_book.specs.declared.fault.BookFault.TheVariants.{TicketsSpent, OutOfMemory as NoMemory}
+use Rattle.iol_port.specs.declared.call.Call.TheVariants as call
+use Rattle.iol_port.specs.declared.fault.PortFault.{PortFault}
+use Rattle.iol_port.specs.declared.fault.PortFault.TheVariants.{Book}
+use Rattle.iol_port.specs.Replies.{ticket_reply}
+use Rattle.iol_port.specs.View.{Port, Does}
+use Rattle.iol_port.specs.EveryWire.{SubmitGives}
+use Rattle.iol_master.specs.declared.fault.MasterFault.{MasterFault}
+use Rattle.iol_master.specs.declared.fault.MasterFault.TheVariants.{Port as OfPort, OutOfMemory, NoSuchPort, NoThread, DesksFull}
+use Rattle.iol_master.specs.Counts.{DeskState, AccountState}
+
+-- so many tickets were given since the port was opened
+abbrev pub HasGiven : {W : Type 0} → Port W → ℕ → Type 0
+HasGiven p count = p.parts.book.state.last ≡ p.opening.limits.given + count
+
+module _ {W : Type 0} (honest : W → Bool) (far : W → Far) (silence : W → ℕ) where
+  -- the port's own submit, with its answer: memory is lacking only where the book had no room left
+  abbrev pub Submits : Port W → Request → Result Ticket PortFault → Port W → Type 0
+  Submits p request answer p' =
+      Does honest far silence p.parts (call.Submit request) (ticket_reply answer) p'.parts
+      × (p' ≡ record p { parts = p'.parts })
+      × IfErr answer (λ why. why ≡ Book NoMemory → p.parts.book.room ≡ 0)
+      × SubmitGives p.parts request answer p'.parts
+
+  -- because the tally is as large as it can be, and then the port isn't asked; or as the port refuses it
+  abbrev pub IsRefused : Port W → AccountState → Request → PortFault → Port W → Type 0
+  IsRefused p a request why p' =
+      ((a.total + 1 ≡ 2 ^ 64) × (why ≡ Book TicketsSpent) × (p' ≡ p))
+      ⊎ ((a.total + 1 < 2 ^ 64) × Submits p request (Err why) p')
+
+  -- A submit at a desk: the port, the tally and the desk, before and after.
+  -- Where a ticket is answered, each counts one more; else none does.
+  abbrev pub Enters : Port W → AccountState → DeskState → Request → Result Ticket MasterFault
+      → Port W → AccountState → DeskState → Type 0
+  Enters p a d request (Ok ticket) p' a' d' =
+      (a.total + 1 < 2 ^ 64) × Submits p request (Ok ticket) p'
+      × (a' ≡ record a { total = a.total + 1 })
+      × (d' ≡ record d { accepted = d.accepted + 1 })
+  Enters p a d request (Err (OfPort why)) p' a' d' = (a' ≡ a) × (d' ≡ d) × IsRefused p a request why p'
+  Enters p a d request (Err OutOfMemory) p' a' d' = ⊥
+  Enters p a d request (Err NoSuchPort) p' a' d' = ⊥
+  Enters p a d request (Err NoThread) p' a' d' = ⊥
+  Enters p a d request (Err DesksFull) p' a' d' = ⊥

@@ -1,0 +1,264 @@
+//! What lies under a port's lock: the port, and its share of the tickets.
+ghost use Rattle.std.specs.Prelude.{◌≡◌, ◌≤◌, IfOk, length};
+ghost use Rattle.std.specs.Option.{option_copied};
+ghost use Rattle.std.specs.Result.{result_map_both};
+ghost use Rattle.iol_app.specs.Asking.{IsCall};
+ghost use Rattle.iol_app.specs.StationState.{wire_of};
+ghost use Rattle.iol_book.specs.BookModel.{IsReplayed};
+ghost use Rattle.iol_port.specs.declared.call.Call.TheVariants as call;
+ghost use Rattle.iol_port.specs.declared.call.Answered.TheVariants as answered;
+ghost use Rattle.iol_port.specs.View.{Does, IsRun, OpensWell, KeepsRecord, shown_in, status_of};
+ghost use Rattle.iol_port.specs.Asks.{asks_of};
+ghost use Rattle.iol_port.specs.EveryWire.{CollectGives, WithdrawGives, ArchiveGives, TakeEventGives, SetOutputGives};
+ghost use Rattle.iol_port.specs.EveryWire.{ClearOutputGives, RestartGives, TurnGives};
+ghost use Rattle.iol_port.specs.Clean.{CleanTurn, IsLevelBetween};
+ghost use Rattle.iol_port.specs.Replies.{outcome_reply, nothing_reply, event_reply, reply_of};
+ghost use Rattle.iol_master.specs.Tickets.{HasGiven, Enters};
+
+use crate::accounts::{Accounts, Desk};
+use crate::fault::MasterFault;
+use iol_app::Status;
+use iol_book::{BookFault, Entry, Outcome, Ticket};
+use iol_event::Event;
+use iol_image::{Handle, Image};
+use iol_isdu::Request;
+use iol_link::Wire;
+use iol_port::{Port, PortFault};
+use std::alloc::Global;
+use std::marker::Model;
+use std::sync::Wait;
+use std::sync::ledger::{Ledger, Share};
+
+/// A port of a master, as it lies under its lock, with its share of the tickets that the master's
+/// ports gave.
+///
+/// Contracts see it as its port: each call has the clauses of the port's call of that name, word
+/// for word, and so is one call of the abstract port that it stands for (crate iol_port). No call
+/// here allocates, and none takes a lock: who calls holds the port's.
+#[derive(Drop)]
+pub struct Held<W: Wire, K: Ledger, A: Handle = Global> {
+    port: Port<W, A>,
+    /// How many tickets the port gave since it was opened.
+    tickets: u64,
+    /// One part of the ledger of the tickets; its amount is that number.
+    share: Share<K>,
+}
+
+impl<W: Wire, K: Ledger, A: Handle> Model for Held<W, K, A> {
+    ghost use Rattle.std.specs.Prelude.{◌≡◌};
+    ghost use Rattle.iol_port.specs.View.{Port};
+    ghost use Rattle.iol_master.specs.Tickets.{HasGiven};
+
+    ghost Value = { Port W };
+
+    ghost view = { λ h. h.port };
+
+    ghost invariant = { λ h. (h.share.parts ≡ 1) × (h.share.amount ≡ h.tickets)
+        × HasGiven h.port h.tickets };
+}
+
+impl<W: Wire, K: Ledger, A: Handle> Held<W, K, A> {
+    /// A port that gave no ticket yet, with a part that has counted none.
+    pub(crate) fn new(port: Port<W, A>, share: Share<K>) -> Held<W, K, A>
+        requires share { (share.parts ≡ 1) × (share.amount ≡ 0) }
+        requires fresh { HasGiven port 0 }
+        ensures { result ≡ port }
+    {
+        Held {
+            port,
+            tickets: 0,
+            share,
+        }
+    }
+
+    /// A submit at a desk, with the port's lock and the tally's held.
+    ///
+    /// This has the exact clause: which request is entered, which ticket is answered, and who
+    /// counts it. Outside, a lock hides the port and the tally, and [`crate::Master::submit`] can
+    /// say what the desk did alone.
+    pub(crate) fn submit<L: Ledger>(
+        &mut self,
+        accounts: &mut Accounts<L, K>,
+        desk: &mut Desk<L>,
+        request: Request,
+    ) -> Result<Ticket, MasterFault>
+        ensures { Enters W.honest W.far W.silence self.old accounts.old desk.old request result
+            self.new accounts.new desk.new }
+    {
+        if accounts.is_spent() {
+            return Err(MasterFault::Port(PortFault::Book(BookFault::TicketsSpent)));
+        }
+        let Held {
+            port,
+            tickets,
+            share,
+        } = self;
+        match port.submit(request) {
+            Ok(ticket) => {
+                accounts.count(desk, share);
+                *tickets += 1;
+                Ok(ticket)
+            }
+            Err(fault) => Err(MasterFault::Port(fault)),
+        }
+    }
+
+    /// Hands out the outcome of a ticket, which is outstanding no more.
+    ///
+    /// Refused, with nothing changed, by 25 where no such ticket is outstanding, and by 26 where it
+    /// has no outcome yet.
+    pub fn collect(&mut self, ticket: Ticket) -> Result<Outcome, PortFault>
+        ensures does { Does W.honest W.far W.silence self.old.parts
+            (call.Collect ticket) (outcome_reply result) self.new.parts }
+        ensures gives { CollectGives self.old.parts ticket result self.new.parts }
+        ensures rest { self.new ≡ record self.old { parts = self.new.parts } }
+    {
+        self.port.collect(ticket)
+    }
+
+    /// Takes back a request that waits. Its outcome is then that it was withdrawn.
+    ///
+    /// Refused, with nothing changed, by 25 where no such ticket is outstanding, and by 27 where it
+    /// waits no longer.
+    pub fn withdraw(&mut self, ticket: Ticket) -> Result<(), PortFault>
+        ensures does { Does W.honest W.far W.silence self.old.parts
+            (call.Withdraw ticket) (nothing_reply result) self.new.parts }
+        ensures gives { WithdrawGives self.old.parts ticket result self.new.parts }
+        ensures rest { self.new ≡ record self.old { parts = self.new.parts } }
+    {
+        self.port.withdraw(ticket)
+    }
+
+    /// Cuts off the request under way, if any, and leaves the link in down, without an image; then
+    /// publishes that there is none, once, where the port was given a writer.
+    ///
+    /// What waits goes on waiting. The device may still carry the request that was cut off out,
+    /// once, until a wake succeeds.
+    pub fn restart<R: Wait>(&mut self, rt: &R)
+        ensures does { Does W.honest W.far W.silence self.old.parts call.Restart answered.Nothing self.new.parts }
+        ensures gives { RestartGives self.old.parts self.new.parts }
+        ensures opening { self.new.opening ≡ self.old.opening }
+        ensures shown { self.new.writer ≡ shown_in self.new.parts.station.session.image self.old.writer }
+    {
+        self.port.restart_shown(rt);
+    }
+
+    /// Wants this output of the device, from the next message made in OPERATE on.
+    ///
+    /// Refused, with nothing changed, by the first of 34 where no start-up has told the lengths of
+    /// the process data yet, and 29 where the image has not the length that was told last.
+    pub fn set_output(&mut self, image: &Image) -> Result<(), PortFault>
+        ensures does { Does W.honest W.far W.silence self.old.parts
+            (call.SetOutput image.now) (nothing_reply result) self.new.parts }
+        ensures gives { SetOutputGives self.old.parts image.now result self.new.parts }
+        ensures rest { self.new ≡ record self.old { parts = self.new.parts } }
+    {
+        self.port.set_output(image)
+    }
+
+    /// Wants no output of the device.
+    pub fn clear_output(&mut self)
+        ensures does { Does W.honest W.far W.silence self.old.parts call.ClearOutput answered.Nothing self.new.parts }
+        ensures gives { ClearOutputGives self.old.parts self.new.parts }
+        ensures rest { self.new ≡ record self.old { parts = self.new.parts } }
+    {
+        self.port.clear_output();
+    }
+
+    /// The device's input by the last good reply in OPERATE: one whole image, or none where it was
+    /// not valid. None in every other mode.
+    ///
+    /// This is the read under the port's lock. A seat at the cell in which the port publishes
+    /// (crate iol_image) reads the image without it.
+    pub fn image(&self) -> Option<&Image>
+        ensures does { Does W.honest W.far W.silence self.now.parts
+            call.Look (answered.Image (option_copied result)) self.now.parts }
+        ensures value { option_copied result ≡ self.now.parts.station.session.image }
+    {
+        self.port.image()
+    }
+
+    /// Hands out the event that was kept longest. Refused by 30 where none is kept.
+    pub fn take_event(&mut self) -> Result<Event, PortFault>
+        ensures does { Does W.honest W.far W.silence self.old.parts
+            call.TakeEvent (event_reply result) self.new.parts }
+        ensures gives { TakeEventGives self.old.parts result self.new.parts }
+        ensures rest { self.new ≡ record self.old { parts = self.new.parts } }
+    {
+        self.port.take_event()
+    }
+
+    /// The mode of the link, and why it is down.
+    pub fn status(&self) -> Status
+        ensures does { Does W.honest W.far W.silence self.now.parts
+            call.Status (answered.Status result) self.now.parts }
+        ensures value { result ≡ status_of self.now.parts.station }
+    {
+        self.port.status()
+    }
+
+    /// Hands the journal out and begins a new one, which is empty. Tickets go on.
+    ///
+    /// Refused, with nothing changed, by 28 where a ticket is outstanding, or where a request was
+    /// cut off by a lost link or a restart and no wake succeeded since, as the device may still
+    /// carry that request out.
+    pub fn archive(&mut self) -> Result<Vec<Entry, A>, PortFault>
+        ensures does { Does W.honest W.far W.silence self.old.parts
+            call.Archive (reply_of (λ entries. answered.Archived (length entries.items)) result) self.new.parts }
+        ensures within { IfOk result (λ entries. length entries.items ≤ 1000000) }
+        ensures gives { ArchiveGives self.old.parts
+            (result_map_both (λ entries. entries.items) (λ why. why) result) self.new.parts }
+        ensures rest { self.new ≡ record self.old { parts = self.new.parts } }
+    {
+        self.port.archive()
+    }
+
+    /// One turn: one wake-up request where the link is down, else one exchange with the device.
+    /// Then the image is published, once, where the port was given a writer.
+    ///
+    /// In OPERATE, where nothing else is to be sent, the request that waits longest is taken, and
+    /// its first segment goes out in this turn. At most 64 events are kept, and a list of events is
+    /// read only where there is room for it.
+    pub fn turn<R: Wait>(&mut self, rt: &R)
+        ensures does { Does W.honest W.far W.silence self.old.parts call.Turn answered.Nothing self.new.parts }
+        ensures clean { CleanTurn W.honest W.far W.clean self.old.parts self.new.parts }
+        ensures asked { IsCall W.wake_gives W.exchange_gives (asks_of self.old.parts)
+            (wire_of self.old.parts.station.link) (wire_of self.new.parts.station.link) }
+        ensures gives { TurnGives W.honest W.far W.silence W.wake_gives W.exchange_gives
+            self.old.parts self.new.parts }
+        ensures opening { self.new.opening ≡ self.old.opening }
+        ensures shown { self.new.writer ≡ shown_in self.new.parts.station.session.image self.old.writer }
+    {
+        self.port.turn_shown(rt);
+    }
+
+    /// A law of each port under its lock, without code: whenever the lock is got, the journal says
+    /// where each ticket stands; the port is what a run of the one that was opened has made of it; and,
+    /// if the wire was honest and the device had been handed no
+    /// request when the port was opened, the device's record fits the journal, and both ends are
+    /// level between requests.
+    pub fn keeps_record(&self)
+        ensures replayed { IsReplayed self.now.parts.book.state }
+        ensures run { IsRun W.honest W.far W.silence self.now.opening self.now.parts }
+        ensures record_fits { OpensWell self.now.opening → KeepsRecord W.honest W.far W.silence self.now.parts }
+        ensures level { OpensWell self.now.opening → IsLevelBetween W.far self.now.parts }
+    {
+        self.port.keeps_record();
+    }
+
+    /// The share, and how many tickets the port gave since it was opened. The port is dropped.
+    pub(crate) fn close(self) -> (Share<K>, u64)
+    where
+        W: Drop,
+        ensures parts { result.0.parts ≡ 1 }
+        ensures amount { result.0.amount ≡ result.1 }
+        ensures given { HasGiven self result.1 }
+    {
+        let Held {
+            port: _,
+            tickets,
+            share,
+        } = self;
+        (share, tickets)
+    }
+}

@@ -1,0 +1,189 @@
+//! The master: its ports and its tally, each under a lock.
+ghost use Rattle.std.specs.Prelude.{◌≡◌, ◌≤◌, All, vec_len, MatchResult, MatchOption};
+ghost use Rattle.iol_master.specs.declared.fault.MasterFault.TheVariants as fault;
+ghost use Rattle.iol_master.specs.Tickets.{HasGiven};
+ghost use Rattle.iol_master.specs.Master.{IsPort, Desks, Submitted, SettledAs};
+ghost use Rattle.iol_master.specs.Counts.{IsClosed};
+
+use crate::accounts::{Accounts, Desk, Settled, Tally};
+use crate::fault::MasterFault;
+use crate::held::Held;
+use iol_book::Ticket;
+use iol_image::Handle;
+use iol_isdu::Request;
+use iol_link::Wire;
+use iol_port::Port;
+use std::alloc::Global;
+use std::marker::Model;
+use std::sync::ledger::{Blank, Ledger};
+use std::sync::{Mutex, MutexGuard, Wait};
+
+/// Several ports, each under a lock of its own, and their clients' tally under one more.
+///
+/// Ports are numbered from 1. L and K name two ledgers: of the submits that were accepted, by desk,
+/// and of the tickets that were given, by port.
+///
+/// A port's lock is taken first, then the tally's: [`Master::submit`] takes both in this order,
+/// [`Master::lock`] and each worker's turn a port's only, [`Master::desk`] and [`Master::settle`]
+/// the tally's only. No call takes the locks of two ports. So a thread that holds a port's guard
+/// may open and settle desks, and must let go of the guard before it submits at that port, takes
+/// its lock again or waits for `serve`. What a port publishes is read at a seat of crate iol_image,
+/// without any lock.
+///
+/// No call but `open`, `submit` and `serve` asks for memory.
+///
+/// Contracts see the number of the ports. What lies under a lock no clause of a call that takes it
+/// can name, so they say what the caller holds before and after: its desk, the answer. The exact
+/// clauses are those of the calls on a value whose lock is held: of [`Held`], and inside this crate
+/// of `Held::submit` and of the tally.
+#[derive(Drop)]
+pub struct Master<W: Wire, L: Ledger, K: Ledger, A: Handle = Global> {
+    pub(crate) ports: Vec<Mutex<Held<W, K, A>>, A>,
+    accounts: Mutex<Accounts<L, K>>,
+}
+
+impl<W: Wire, L: Ledger, K: Ledger, A: Handle> Model for Master<W, L, K, A> {
+    ghost use Rattle.std.specs.Prelude.{◌≡◌, ℕ, ◌<◌, ◌≤◌, vec_len};
+
+    ghost Value = { ℕ };
+
+    ghost view = { λ m. vec_len m.ports };
+
+    ghost invariant = { λ m. (vec_len m.ports ≡ K.parts) × (0 < K.parts) × (K.parts ≤ 32) };
+}
+
+impl<W: Wire, L: Ledger, K: Ledger, A: Handle> Master<W, L, K, A> {
+    /// A master of these 1 to 32 ports, which gave no ticket yet.
+    ///
+    /// The blanks name its ledgers and are used up: one of 1,025 parts for the desks, one with a
+    /// part for each port. A port that is to publish its image has its writer already. Refused by
+    /// 24 where there is no memory for the locks, the only thing asked for; the ports are handed
+    /// back.
+    pub fn open(
+        alloc: A,
+        ports: Vec<Port<W, A>, A>,
+        clients: Blank,
+        tickets: Blank,
+    ) -> Result<Master<W, L, K, A>, (MasterFault, Vec<Port<W, A>, A>)>
+    where
+        W: Drop,
+        requires clients { (clients.name ≡ L.name) × (clients.parts ≡ L.parts) × (clients.parts ≡ 1025) }
+        requires tickets { (tickets.name ≡ K.name) × (tickets.parts ≡ K.parts)
+            × (tickets.parts ≡ vec_len ports) }
+        requires count { (1 ≤ vec_len ports) × (vec_len ports ≤ 32) }
+        requires fresh { All (λ p. HasGiven p 0) ports.items }
+        ensures { MatchResult result (λ m. m ≡ vec_len ports)
+            (λ e. (e.0 ≡ fault.OutOfMemory) × (e.1 ≡ ports)) }
+    {
+        let count = ports.len();
+        let Ok(mut locks) = Vec::with_capacity(alloc, count) else {
+            return Err((MasterFault::OutOfMemory, ports));
+        };
+        let (accounts, mut rest) = Accounts::<L, K>::open(clients, tickets);
+        for port in ports {
+            let share = rest.split_off(1, 0);
+            locks.push_reserved(Mutex::new(Held::new(port, share)));
+        }
+        Ok(Master {
+            ports: locks,
+            accounts: Mutex::new(accounts),
+        })
+    }
+
+    /// The lock of a port.
+    fn port(&self, port: u32) -> Option<&Mutex<Held<W, K, A>>>
+        ensures { MatchOption result (¬ IsPort self.now port) (λ _. IsPort self.now port) }
+    {
+        if port == 0 || port as usize > self.ports.len() {
+            return None;
+        }
+        Some(&self.ports[port as usize - 1])
+    }
+
+    /// Opens a desk at a port, with no submit.
+    ///
+    /// Refused by 31 where there is no such port, and then by 33 where 1,024 desks are open at this
+    /// master.
+    pub fn desk<R: Wait>(&self, rt: &R, port: u32) -> Result<Desk<L>, MasterFault>
+        ensures { Desks self.now port result }
+    {
+        if self.port(port).is_none() {
+            return Err(MasterFault::NoSuchPort);
+        }
+        self.accounts
+            .lock(rt)
+            .desk(port)
+            .ok_or(MasterFault::DesksFull)
+    }
+
+    /// Submits a request at a desk's port. The desk counts one more exactly where a ticket is
+    /// answered.
+    ///
+    /// Memory is asked for by the port's book alone, for the ticket's place and its entries.
+    /// Refused, with nothing changed, by the first of 31 where there is no such port, 23 where the
+    /// master's ports gave 2^64 - 1 tickets, and then as the port refuses it: 21 where 64 tickets
+    /// are outstanding there, 22 where its journal has no room for the request's entries, 23 where
+    /// its last ticket was 2^64 - 1, and 24 where a growth was refused.
+    pub fn submit<R: Wait>(
+        &self,
+        rt: &R,
+        desk: &mut Desk<L>,
+        request: Request,
+    ) -> Result<Ticket, MasterFault>
+        ensures { Submitted self.now desk.old result desk.new }
+    {
+        let Some(port) = self.port(desk.port()) else {
+            return Err(MasterFault::NoSuchPort);
+        };
+        let mut held = port.lock(rt);
+        let mut accounts = self.accounts.lock(rt);
+        held.submit(&mut accounts, desk, request)
+    }
+
+    /// Takes a port's lock, which is let go when the guard is dropped. Refused by 31 where there is
+    /// no such port.
+    pub fn lock<R: Wait>(
+        &self,
+        rt: &R,
+        port: u32,
+    ) -> Result<MutexGuard<'_, Held<W, K, A>>, MasterFault>
+        ensures { MatchResult result (λ _. IsPort self.now port)
+            (λ e. (e ≡ fault.NoSuchPort) × (¬ IsPort self.now port)) }
+    {
+        match self.port(port) {
+            Some(held) => Ok(held.lock(rt)),
+            None => Err(MasterFault::NoSuchPort),
+        }
+    }
+
+    /// Closes a desk, whose place another may take, and tells what it counted; of the last one open
+    /// also what all desks counted.
+    pub fn settle<R: Wait>(&self, rt: &R, desk: Desk<L>) -> Settled
+        ensures { SettledAs desk.accepted result }
+    {
+        self.accounts.lock(rt).settle(desk)
+    }
+
+    /// Closes the master, drops its ports and tells what was counted.
+    pub fn close(self) -> Tally
+    where
+        W: Drop,
+        ensures { IsClosed result }
+    {
+        let Master {
+            mut ports,
+            accounts,
+        } = self;
+        let mut accounts = accounts.into_inner();
+        let Some(first) = ports.pop() else {
+            unreachable!()
+        };
+        let (mut whole, mut tickets) = first.into_inner().close();
+        for held in ports {
+            let (share, given) = held.into_inner().close();
+            accounts.gather(&mut whole, share);
+            tickets += given;
+        }
+        accounts.close(whole, tickets)
+    }
+}
