@@ -4,3 +4,5 @@ pub mod CheckLines
 pub mod RunLines
 pub mod Script
 pub mod DraftInside
+pub mod PlanRanges
+pub mod Plan

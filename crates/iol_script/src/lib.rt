@@ -2,8 +2,8 @@
 //!
 //! A text is cut into numbered lines and a line into words; a word is a name, a number or octets. A [`CheckLine`] asks
 //! for a layout or spells a message. A [`RunLine`] sets up a device and a port, makes steps of the wire between them,
-//! or makes calls of the port, and a [`Script`] is what all the lines of a text set up. All of this is this project's
-//! own format (profile).
+//! or makes calls of the port, and a [`Script`] is what all the lines of a text set up. A [`Plan`] is what the lines of a
+//! text say that many ports and their clients are to do. All of this is this project's own format (profile).
 #![tactic(auto)]
 
 mod call_line;
@@ -13,6 +13,8 @@ mod fault;
 mod fields;
 mod numerals;
 mod parts;
+mod plan;
+mod plan_draft;
 mod run_line;
 mod script;
 mod setting;
@@ -25,6 +27,7 @@ pub use numerals::{
     decimal_number, hexadecimal_code, hexadecimal_octet, hexadecimal_octets, parted_octets,
 };
 pub use parts::{Lines, Words};
+pub use plan::Plan;
 pub use run_line::RunLine;
 pub use script::Script;
 pub use setting::Setting;

@@ -1,6 +1,6 @@
 use crate::{
-    CallLine, CheckLine, LayoutLine, Lines, RunLine, Script, ScriptFault, Setting, WireLine, Words,
-    decimal_number, hexadecimal_octet,
+    CallLine, CheckLine, LayoutLine, Lines, Plan, RunLine, Script, ScriptFault, Setting, WireLine,
+    Words, decimal_number, hexadecimal_octet,
 };
 use iol_book::{Limits, Ticket};
 use iol_event::Event;
@@ -11,6 +11,7 @@ use iol_port::Call;
 use iol_sim::{Fate, Params, Step};
 use scarce::{Refusal, Scarce};
 use std::alloc::{Allocator, Global};
+use std::process::Abort;
 use std::test::Fail;
 
 /// Page Y: one octet of on-request data, two octets in, one out.
@@ -422,5 +423,76 @@ fn finds_bad_lines_without_memory(rt: HostRuntime) {
     ] {
         let result = Script::read(&scarce, input).err();
         assert_eq!(rt; result, Some(ScriptFault::Line(line)));
+    }
+}
+
+/// Reads a plan.
+fn planned(rt: &impl Abort, input: &[u8]) -> Result<Plan, ScriptFault> {
+    assert!(rt; input.len() < usize::MAX);
+    Plan::read(input)
+}
+
+#[test]
+fn reads_plans(rt: HostRuntime) -> Result<(), Fail> {
+    for (input, (ports, clients, each, turns)) in [
+        (
+            b"ports 2\nclients 2\neach 8\nturns 100".as_slice(),
+            (2, 2, 8, 100),
+        ),
+        (b"ports 1\nclients 1\neach 1\nturns 1\n", (1, 1, 1, 1)),
+        (
+            b"ports 32\nclients 16\neach 4\nturns 100000\n",
+            (32, 16, 4, 100_000),
+        ),
+        (
+            b"# as many as one client may\n\nports 3\nclients 1\n#\neach 64\n\nturns 15\n\n# no more\n",
+            (3, 1, 64, 15),
+        ),
+    ] {
+        let plan = planned(&rt, input)?;
+        assert_eq!(rt; (plan.ports, plan.clients), (ports, clients));
+        assert_eq!(rt; (plan.each, plan.turns), (each, turns));
+    }
+    Ok(())
+}
+
+#[test]
+fn refuses_plans(rt: HostRuntime) {
+    for (input, line) in [
+        // A line is missing.
+        (b"".as_slice(), 1),
+        (b"\n# only this\n", 3),
+        (b"ports 2\n", 2),
+        (b"ports 2\nclients 2", 3),
+        (b"ports 2\nclients 2\neach 8\n\n#\n", 6),
+        // A number is out of its range.
+        (b"ports 0\n", 1),
+        (b"ports 33\n", 1),
+        (b"\nports 2\nclients 0\n", 3),
+        (b"ports 2\nclients 17\n", 2),
+        (b"ports 2\nclients 2\neach 0\n", 3),
+        (b"ports 2\nclients 1\neach 65\n", 3),
+        (b"ports 2\nclients 2\neach 33\nturns 100\n", 3),
+        (b"ports 2\nclients 16\neach 5\nturns 100\n", 3),
+        (b"ports 2\nclients 2\neach 8\nturns 0\n", 4),
+        (b"ports 2\nclients 2\neach 8\nturns 100001\n", 4),
+        // A line fits no form.
+        (b"ports\n", 1),
+        (b"ports 2 2\n", 1),
+        (b"ports 02\n", 1),
+        (b"Ports 2\n", 1),
+        (b"ports 2\nclients 2\neach 8\nturns 100 \n", 4),
+        // A line stands in another's place.
+        (b"clients 2\nports 2\neach 8\nturns 100\n", 1),
+        (b"ports 2\nports 2\nclients 2\neach 8\nturns 100\n", 2),
+        (b"ports 2\nclients 2\nturns 100\neach 8\n", 3),
+        (b"ports 2\nclients 2\neach 8\nturns 100\nturns 100\n", 5),
+        (b"ports 2\nclients 2\neach 8\nturns 100\n\n#\n ", 7),
+    ] {
+        assert_eq!(rt;
+            planned(&rt, input),
+            Err(ScriptFault::Line(line)),
+            "{input:?}"
+        );
     }
 }

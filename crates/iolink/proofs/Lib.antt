@@ -3,3 +3,4 @@ pub mod PlayLemmas
 pub mod PrintedLemmas
 pub mod RunLemmas
 pub mod Taken
+pub mod ManyLemmas

@@ -1,8 +1,10 @@
 -- How the program ends.
-use Rattle.std.specs.Prelude.{◌≡◌, ◌≢◌, ℕ}
+use Rattle.std.specs.Prelude.{◌≡◌, ◌≢◌, ℕ, Result, Ok, Err}
 use Rattle.clap.specs.Values.{kind_of}
 use Rattle.clap.specs.declared.error.Error.{Error}
 use Rattle.clap.specs.declared.error.ErrorKind.TheVariants as kind
+use Rattle.iol_clients.specs.declared.fault.ClientsFault.{ClientsFault}
+use Rattle.iol_clients.specs.declared.fault.ClientsFault.TheVariants as clients
 use Rattle.iol_script.specs.declared.fault.ScriptFault.{ScriptFault}
 use Rattle.iol_script.specs.declared.fault.ScriptFault.TheVariants as script
 use Rattle.iolink.specs.declared.fault.ProgramFault.{ProgramFault}
@@ -15,11 +17,21 @@ abbrev pub fault_of : ScriptFault → ProgramFault
 fault_of (script.Line number) = fault.Line number
 fault_of script.OutOfMemory = fault.OutOfMemory
 
--- the exit status: 1 where the command failed, 2 where the command line is refused
+-- how the command fails whose clients can't be served
+abbrev pub clients_fault_of : ClientsFault → ProgramFault
+clients_fault_of clients.OutOfMemory = fault.OutOfMemory
+clients_fault_of clients.NoThread = fault.NoThread
+
+-- the status of an ending: 1 where the command failed, 2 where the command line is refused
 abbrev pub status_of : Ending → ℕ
 status_of (Failed e) = 1
 status_of (Refused error) = 2
 status_of NoText = 2
+
+-- the exit status: 0, or that of the ending
+abbrev pub status_after : {T : Type 0} → Result T Ending → ℕ
+status_after (Ok done) = 0
+status_after (Err ending) = status_of ending
 
 -- a command line that is refused ends the program, but for want of memory
 pub record EndsBy (error : Error) (ending : Ending) : Type 0 where

@@ -1,4 +1,6 @@
 //! The words of the command line.
+ghost use Rattle.std.specs.Prelude.{◌≡◌};
+
 use clap::{Command, Error};
 use std::alloc::{AllocError, Global};
 use std::convert::AsStr;
@@ -10,16 +12,32 @@ pub(crate) enum Mode {
     Check,
     /// Makes the calls of a script, and prints what each of them answers.
     Run,
+    /// Lets the clients of many ports submit requests, and prints what became of them.
+    Many,
+}
+
+impl Mode {
+    ghost use Rattle.iolink.specs.Command.{mode_named};
+
+    /// The command of this name.
+    fn named(name: &str) -> Option<Mode>
+        ensures { result ≡ mode_named name.now }
+    {
+        match name.as_bytes() {
+            b"check" => Some(Mode::Check),
+            b"run" => Some(Mode::Run),
+            b"many" => Some(Mode::Many),
+            _ => None,
+        }
+    }
 }
 
 /// The command that the words name, the program's own name first.
 pub(crate) fn mode_of<'a, S: AsStr>(alloc: Global, words: &'a [S]) -> Result<Mode, Error> {
     let matches = command(alloc)?.try_get_matches_from(words)?;
-    // Some command is named, since clap refuses words without one.
-    match matches.subcommand_name() {
-        Some("run") => Ok(Mode::Run),
-        _ => Ok(Mode::Check),
-    }
+    // One of the three is named, since clap refuses all other words.
+    let name = matches.subcommand_name().unwrap_or("check");
+    Ok(Mode::named(name).unwrap_or(Mode::Check))
 }
 
 /// The command line of the program.
@@ -30,9 +48,13 @@ fn command<'a>(alloc: Global) -> Result<Command<'a>, AllocError> {
     let run = Command::new(alloc, "run").about(
         "Reads a script, makes its calls on a port over a simulated wire, and prints what each answers",
     );
+    let many = Command::new(alloc, "many").about(
+        "Reads a plan, lets the clients of its ports submit reads, and prints what became of them",
+    );
     Command::new(alloc, "iolink")
         .about("IO-Link master and device")
         .subcommand_required(true)
         .subcommand(check)?
-        .subcommand(run)
+        .subcommand(run)?
+        .subcommand(many)
 }

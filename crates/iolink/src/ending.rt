@@ -1,10 +1,13 @@
 //! How the program ends where a command isn't carried out: its status, and its text on standard error.
 ghost use Rattle.std.specs.Prelude.{◌≡◌};
+ghost use Rattle.std.specs.Process.{exit_status};
+ghost use Rattle.iolink.specs.Ending.{status_after};
 
 use crate::fault::ProgramFault;
 use clap::Error;
 use clap::error::ErrorKind;
 use std::fmt;
+use std::process::ExitCode;
 
 /// Why the program ends with a status other than 0.
 #[derive(Debug, Drop)]
@@ -20,7 +23,7 @@ pub(crate) enum Ending {
 impl Ending {
     ghost use Rattle.iolink.specs.Ending.{status_of};
 
-    /// The exit status.
+    /// The exit status of this ending.
     pub(crate) fn status(&self) -> u8
         ensures { result ≡ status_of self.now }
     {
@@ -61,5 +64,15 @@ impl From<Error> for Ending {
             ErrorKind::OutOfMemory => Ending::Failed(ProgramFault::OutOfMemory),
             _ => Ending::Refused(error),
         }
+    }
+}
+
+/// The exit status of the program: 0, or that of its ending.
+pub(crate) fn exit_of(outcome: &Result<(), Ending>) -> ExitCode
+    ensures { exit_status result ≡ status_after outcome.now }
+{
+    match outcome {
+        Ok(()) => ExitCode::from(0),
+        Err(ending) => ExitCode::from(ending.status()),
     }
 }

@@ -2,6 +2,7 @@
 ghost use Rattle.std.specs.Prelude.{◌≡◌};
 ghost use Rattle.iolink.specs.declared.fault.ProgramFault.TheVariants.{OutOfMemory};
 
+use iol_clients::ClientsFault;
 use iol_script::ScriptFault;
 use std::alloc::{AllocError, AllocFailed};
 use thiserror::Error;
@@ -24,7 +25,7 @@ pub enum ProgramFault {
     /// No memory was left.
     #[error("out of memory")]
     OutOfMemory,
-    /// A thread couldn't be started: only a command that works in threads says it.
+    /// A thread couldn't be started: only `many` says it, which works in threads.
     #[error("no thread")]
     NoThread,
 }
@@ -54,6 +55,19 @@ impl From<ScriptFault> for ProgramFault {
         match fault {
             ScriptFault::Line(number) => ProgramFault::Line(number),
             ScriptFault::OutOfMemory => ProgramFault::OutOfMemory,
+        }
+    }
+}
+
+impl From<ClientsFault> for ProgramFault {
+    ghost use Rattle.iolink.specs.Ending.{clients_fault_of};
+
+    ghost from_gives = { λ fault e. e ≡ clients_fault_of fault };
+
+    fn from(fault: ClientsFault) -> ProgramFault {
+        match fault {
+            ClientsFault::OutOfMemory => ProgramFault::OutOfMemory,
+            ClientsFault::NoThread => ProgramFault::NoThread,
         }
     }
 }

@@ -8,6 +8,9 @@ mod check;
 mod command;
 mod ending;
 mod fault;
+mod many;
+mod many_printing;
+mod performing;
 mod playing;
 mod printing;
 mod run;
@@ -16,28 +19,19 @@ mod streams;
 #[cfg(test)]
 mod tests;
 
-use crate::check::check;
-use crate::command::{Mode, mode_of};
-use crate::ending::Ending;
+use crate::command::mode_of;
+use crate::ending::{Ending, exit_of};
 use crate::fault::ProgramFault;
-use crate::run::run;
+use crate::performing::perform;
 use std::alloc::Global;
 use std::process::ExitCode;
 use std::rt::Runtime;
+use std::sync::Wait;
+use std::thread::Threads;
 use std::{env, io};
 
-/// Carries out a command over standard input and standard output.
-fn perform<R: Runtime<A = Global>>(rt: &R, mode: Mode) -> Result<(), ProgramFault> {
-    let mut reader = rt.reader();
-    let mut writer = io::writer(rt);
-    match mode {
-        Mode::Check => check(rt.alloc(), &mut reader, &mut writer),
-        Mode::Run => run(rt.alloc(), &mut reader, &mut writer),
-    }
-}
-
 /// Reads the command line, and carries out its command.
-fn work<R: Runtime<A = Global>>(rt: &R) -> Result<(), Ending> {
+fn work<R: Runtime<A = Global> + Threads + Wait + Sync>(rt: &R) -> Result<(), Ending> {
     let words = match env::args(rt) {
         Ok(words) => words,
         Err(error) if error.kind() == io::ErrorKind::OutOfMemory => {
@@ -49,17 +43,15 @@ fn work<R: Runtime<A = Global>>(rt: &R) -> Result<(), Ending> {
         .collect(rt.alloc())
         .map_err(|_| ProgramFault::OutOfMemory)?;
     let mode = mode_of(rt.alloc(), words.as_slice())?;
-    perform(rt, mode)?;
+    perform(rt, rt.alloc(), mode, &mut rt.reader(), &mut io::writer(rt))?;
     Ok(())
 }
 
 fn main(rt: HostRuntime) -> ExitCode {
-    match work(&rt) {
-        Ok(()) => ExitCode::SUCCESS,
-        Err(ending) => {
-            // Nobody is left to tell where the text can't be written.
-            let _ = eprint!(rt; "{ending}");
-            ExitCode::from(ending.status())
-        }
+    let outcome = work(&rt);
+    if let Err(ending) = &outcome {
+        // Nobody is left to tell where the text can't be written.
+        let _ = eprint!(rt; "{ending}");
     }
+    exit_of(&outcome)
 }

@@ -13,11 +13,19 @@ use std::io::{Cursor, ErrorKind, Read, Write};
 use std::process::Abort;
 use std::test::Fail;
 
+mod plans;
 mod runs;
+
+/// A command that takes any allocator.
+#[derive(Clone, Copy)]
+enum Tried {
+    Check,
+    Run,
+}
 
 /// A command, its input, how many reads that takes, its output, and how many writes that takes.
 struct Case {
-    mode: Mode,
+    command: Tried,
     input: &'static str,
     reads: u32,
     output: &'static str,
@@ -26,14 +34,14 @@ struct Case {
 
 static CASES: [Case; 2] = [
     Case {
-        mode: Mode::Check,
+        command: Tried::Check,
         input: "# two good lines\nm A2 00\n\nr 17 1B\n",
         reads: 8,
         output: "read page 02\nod 17 event 0 pd valid\n",
         writes: 6,
     },
     Case {
-        mode: Mode::Run,
+        command: Tried::Run,
         input: "param 16 0 ro 4142\nread 16 0\nturn 18\ncollect 1\n",
         reads: 11,
         output: PLAIN,
@@ -43,14 +51,14 @@ static CASES: [Case; 2] = [
 
 /// Carries out a command.
 fn perform<A: Handle, R: Read, W: Write>(
-    mode: Mode,
+    command: Tried,
     alloc: A,
     reader: &mut R,
     writer: &mut W,
 ) -> Result<(), ProgramFault> {
-    match mode {
-        Mode::Check => check(alloc, reader, writer),
-        Mode::Run => run(alloc, reader, writer),
+    match command {
+        Tried::Check => check(alloc, reader, writer),
+        Tried::Run => run(alloc, reader, writer),
     }
 }
 
@@ -232,12 +240,12 @@ fn fails_at_each_read(rt: HostRuntime) -> Result<(), Fail> {
     for case in &CASES {
         for read in 0..case.reads {
             let (mut source, mut sink) = failing(rt.alloc(), case.input, read, u32::MAX);
-            let result = perform(case.mode, rt.alloc(), &mut source, &mut sink);
+            let result = perform(case.command, rt.alloc(), &mut source, &mut sink);
             assert_eq!(rt; result, Err(ProgramFault::ReadFailed), "at {read}");
             assert!(rt; sink.held.is_empty());
         }
         let (mut source, mut sink) = failing(rt.alloc(), case.input, case.reads, u32::MAX);
-        let result = perform(case.mode, rt.alloc(), &mut source, &mut sink);
+        let result = perform(case.command, rt.alloc(), &mut source, &mut sink);
         assert_eq!(rt; result, Ok(()));
         assert!(rt; sink.held.as_slice() == case.output.as_bytes());
     }
@@ -249,11 +257,11 @@ fn fails_at_each_write(rt: HostRuntime) -> Result<(), Fail> {
     for case in &CASES {
         for write in 0..case.writes {
             let (mut source, mut sink) = failing(rt.alloc(), case.input, u32::MAX, write);
-            let result = perform(case.mode, rt.alloc(), &mut source, &mut sink);
+            let result = perform(case.command, rt.alloc(), &mut source, &mut sink);
             assert_eq!(rt; result, Err(ProgramFault::WriteFailed), "at {write}");
         }
         let (mut source, mut sink) = failing(rt.alloc(), case.input, u32::MAX, case.writes);
-        let result = perform(case.mode, rt.alloc(), &mut source, &mut sink);
+        let result = perform(case.command, rt.alloc(), &mut source, &mut sink);
         assert_eq!(rt; result, Ok(()));
         assert!(rt; sink.held.as_slice() == case.output.as_bytes());
     }
@@ -270,7 +278,7 @@ fn is_refused(
 ) -> bool {
     let (mut source, mut sink) = failing(alloc, case.input, u32::MAX, u32::MAX);
     scarce.order(refusal);
-    let result = perform(case.mode, scarce, &mut source, &mut sink);
+    let result = perform(case.command, scarce, &mut source, &mut sink);
     let refused = scarce.has_refused();
     if refused {
         assert_eq!(rt; result, Err(ProgramFault::OutOfMemory));
@@ -343,5 +351,6 @@ fn reads_the_words(rt: HostRuntime) -> Result<(), Fail> {
     assert!(rt; mode_of(rt.alloc(), &["iolink", "check", "x"]).is_err());
     assert!(rt; mode_of(rt.alloc(), &["iolink", "check"]).is_ok_and(|mode| mode == Mode::Check));
     assert!(rt; mode_of(rt.alloc(), &["iolink", "run"]).is_ok_and(|mode| mode == Mode::Run));
+    assert!(rt; mode_of(rt.alloc(), &["iolink", "many"]).is_ok_and(|mode| mode == Mode::Many));
     Ok(())
 }

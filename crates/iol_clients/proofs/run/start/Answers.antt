@@ -1,0 +1,9 @@
+use denote.Param.Send.{sendable}
+use Rattle.std.proofs.Crossing.{crosses}
+use Rattle.iol_master.proofs.Crosses.{master_sync}
+use Rattle.iol_clients.proofs.client.Client.TheSendSync.{the_send}
+use Rattle.iol_clients.proofs.run.start.Goals as goal
+
+-- the thread owns the client, and borrows the master and the runtime
+pub spawn-requires-send-F : goal.spawn-requires-send-F
+spawn-requires-send-F g c κs within = search (master_sync, the_send, crosses, sendable) depth 60 fits 20000

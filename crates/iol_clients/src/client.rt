@@ -1,0 +1,108 @@
+ghost use Rattle.std.specs.Prelude.{◌≡◌, ◌+◌, ◌*◌, ◌≤◌, vec_len};
+
+use crate::counts::Counted;
+use crate::fault::ClientsFault;
+use crate::ports::PLACE;
+use iol_book::{BookFault, Ticket};
+use iol_isdu::Request;
+use iol_link::Wire;
+use iol_master::{Desk, Held, Master, MasterFault, Settled};
+use iol_port::PortFault;
+use std::alloc::Global;
+use std::sync::Wait;
+use std::sync::ledger::Ledger;
+
+/// The most tickets of a client, as many as a port has outstanding.
+const MOST_TICKETS: usize = 64;
+
+/// A client: its desk, and the tickets that it was given there.
+#[derive(Drop)]
+pub(crate) struct Client<L: Ledger> {
+    desk: Desk<L>,
+    tickets: Vec<Ticket, Global>,
+    ghost each_has_a_ticket: { desk.accepted ≡ vec_len tickets },
+    ghost few: { vec_len tickets ≤ 64 },
+}
+
+impl<L: Ledger> Client<L> {
+    ghost use Rattle.iol_clients.specs.Counts.{AddsUp, accepted_at};
+
+    /// A client at a new desk of a port.
+    pub(crate) fn open<W: Wire, K: Ledger, R: Wait>(
+        rt: &R,
+        alloc: Global,
+        master: &Master<W, L, K>,
+        port: u32,
+    ) -> Result<Client<L>, MasterFault> {
+        let desk = master.desk(rt, port)?;
+        Ok(Client {
+            desk,
+            tickets: Vec::new(alloc),
+        })
+    }
+
+    /// Submits so many reads.
+    pub(crate) fn submit<W: Wire, K: Ledger, R: Wait>(
+        self,
+        rt: &R,
+        master: &Master<W, L, K>,
+        each: u32,
+    ) -> Result<Client<L>, ClientsFault> {
+        let mut client = self;
+        for _ in 0..each {
+            client.submit_one(rt, master)?;
+        }
+        Ok(client)
+    }
+
+    /// Submits a read, and keeps its ticket. Where it is refused, there is none.
+    fn submit_one<W: Wire, K: Ledger, R: Wait>(
+        &mut self,
+        rt: &R,
+        master: &Master<W, L, K>,
+    ) -> Result<(), ClientsFault> {
+        if self.tickets.len() >= MOST_TICKETS {
+            return Ok(());
+        }
+        self.tickets.reserve(1)?;
+        match master.submit(rt, &mut self.desk, Request::read(PLACE)) {
+            Ok(ticket) => self.tickets.push_reserved(ticket),
+            Err(MasterFault::Port(PortFault::Book(BookFault::OutOfMemory))) => {
+                return Err(ClientsFault::OutOfMemory);
+            }
+            Err(_) => {}
+        }
+        Ok(())
+    }
+
+    /// Collects each ticket of a client of this port, and counts what is answered.
+    pub(crate) fn collect<W: Wire, K: Ledger>(
+        &self,
+        port: u32,
+        held: &mut Held<W, K>,
+        counted: &mut Counted,
+    )
+        requires up { AddsUp counted.old }
+        requires room { counted.old.tickets ≤ 64 * 512 }
+        ensures up { AddsUp counted.new }
+        ensures tickets { counted.new.tickets ≡ counted.old.tickets + accepted_at port self.now.desk }
+        ensures few { accepted_at port self.now.desk ≤ 64 }
+    {
+        if self.desk.port() != port {
+            return;
+        }
+        for ticket in &self.tickets {
+            counted.note(&held.collect(*ticket));
+        }
+    }
+
+    /// Settles the desk.
+    pub(crate) fn settle<W: Wire, K: Ledger, R: Wait>(
+        self,
+        rt: &R,
+        master: &Master<W, L, K>,
+    ) -> Settled {
+        let Client { desk, tickets: _ } = self;
+        master.settle(rt, desk)
+    }
+}

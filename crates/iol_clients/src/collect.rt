@@ -1,0 +1,69 @@
+ghost use Rattle.std.specs.Prelude.{◌≡◌, ◌≤◌, All, IfOk, length, vec_len};
+ghost use Rattle.std.specs.List.{sum_by};
+ghost use Rattle.iol_clients.specs.Counts.{AddsUp, accepted_at};
+
+use crate::client::Client;
+use crate::counts::Counted;
+use crate::fault::ClientsFault;
+use iol_link::Wire;
+use iol_master::{Master, Settled};
+use std::alloc::Global;
+use std::sync::Wait;
+use std::sync::ledger::Ledger;
+
+/// Collects the tickets of one port's clients, and counts what is answered.
+fn count_port<W: Wire, L: Ledger, K: Ledger, R: Wait>(
+    rt: &R,
+    master: &Master<W, L, K>,
+    port: u32,
+    clients: &[Client<L>],
+) -> Counted
+    requires port { (1 ≤ port) × (port ≤ master.now) }
+    requires few { length clients.now ≤ 512 }
+    ensures up { AddsUp result }
+    ensures tickets { result.tickets ≡ sum_by (λ client. accepted_at port client.desk) clients.now }
+{
+    let Ok(mut held) = master.lock(rt, port) else {
+        unreachable!()
+    };
+    let mut counted = Counted::none();
+    for client in clients {
+        client.collect(port, &mut held, &mut counted);
+    }
+    counted
+}
+
+/// Collects all tickets, and counts them by ports.
+pub(crate) fn count_ports<W: Wire, L: Ledger, K: Ledger, R: Wait>(
+    rt: &R,
+    alloc: Global,
+    master: &Master<W, L, K>,
+    ports: u32,
+    clients: &[Client<L>],
+) -> Result<Vec<Counted>, ClientsFault>
+    requires ports { ports ≡ master.now }
+    requires few { length clients.now ≤ 512 }
+    ensures count { IfOk result (λ counts. vec_len counts ≡ ports) }
+    ensures up { IfOk result (λ counts. All AddsUp counts.items) }
+{
+    let mut counts = Vec::new(alloc);
+    for port in 0..ports {
+        counts.push(count_port(rt, master, port + 1, clients))?;
+    }
+    Ok(counts)
+}
+
+/// Settles all desks. Answers the accepted submits of all, as the last one is told.
+pub(crate) fn settle_all<W: Wire, L: Ledger, K: Ledger, R: Wait>(
+    rt: &R,
+    master: &Master<W, L, K>,
+    clients: Vec<Client<L>>,
+) -> u64 {
+    let mut total = 0;
+    for client in clients {
+        if let Settled::Last(_, all) = client.settle(rt, master) {
+            total = all;
+        }
+    }
+    total
+}

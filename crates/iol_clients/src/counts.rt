@@ -1,0 +1,58 @@
+ghost use Rattle.std.specs.Prelude.{◌≡◌, ◌+◌, ◌<◌, ◌^◌};
+
+use iol_book::Outcome;
+use iol_port::PortFault;
+use std::alloc::Global;
+
+/// What became of the requests of one port.
+#[derive(Clone, Copy, Debug, PartialEq, Eq)]
+pub struct Counted {
+    /// The submits that a ticket answered.
+    pub tickets: u64,
+    /// The tickets whose request the device answered.
+    pub done: u64,
+    /// The tickets whose request was cut off, so that nobody knows whether the device carried it out.
+    pub unknown: u64,
+    /// The other tickets: their requests wait, or are under way. None is withdrawn here.
+    pub waiting: u64,
+}
+
+/// What became of the requests of all ports.
+#[derive(Debug, PartialEq, Eq, Drop)]
+pub struct Counts {
+    /// The ports in their order, from port 1.
+    pub ports: Vec<Counted, Global>,
+    /// The accepted submits of all desks, as the last desk was told when it was settled.
+    pub total: u64,
+}
+
+impl Counted {
+    ghost use Rattle.iol_clients.specs.Counts.{AddsUp, noted};
+
+    /// No ticket.
+    pub(crate) fn none() -> Counted
+        ensures { result ≡ record { tickets = 0; done = 0; unknown = 0; waiting = 0 } }
+    {
+        Counted {
+            tickets: 0,
+            done: 0,
+            unknown: 0,
+            waiting: 0,
+        }
+    }
+
+    /// Counts a ticket by what its `collect` answered.
+    pub(crate) fn note(&mut self, answer: &Result<Outcome, PortFault>)
+        requires up { AddsUp self.old }
+        requires room { self.old.tickets + 1 < 2 ^ 64 }
+        ensures noted { self.new ≡ noted self.old answer.now }
+        ensures up { AddsUp self.new }
+    {
+        self.tickets += 1;
+        match answer {
+            Ok(Outcome::Done(_)) => self.done += 1,
+            Ok(Outcome::Unknown(_)) => self.unknown += 1,
+            Ok(Outcome::Withdrawn) | Err(_) => self.waiting += 1,
+        }
+    }
+}

@@ -1,0 +1,41 @@
+ghost use Rattle.std.specs.Prelude.{◌≡◌};
+
+use std::alloc::{AllocError, AllocFailed};
+use thiserror::Error;
+
+/// Why a run of many clients is refused.
+#[derive(Clone, Copy, Debug, PartialEq, Eq, Error)]
+pub enum ClientsFault {
+    /// 24: a request for memory was refused.
+    #[error("OutOfMemory")]
+    OutOfMemory,
+    /// 32: a thread can't be started.
+    #[error("NoThread")]
+    NoThread,
+}
+
+impl ClientsFault {
+    ghost use Rattle.iol_clients.specs.Faults.{fault_number};
+
+    /// Its number among the refusals.
+    pub fn code(&self) -> u8
+        ensures { result ≡ fault_number self.now }
+    {
+        match self {
+            ClientsFault::OutOfMemory => 24,
+            ClientsFault::NoThread => 32,
+        }
+    }
+}
+
+impl From<AllocError> for ClientsFault {
+    fn from(_: AllocError) -> ClientsFault {
+        ClientsFault::OutOfMemory
+    }
+}
+
+impl<T: Drop> From<AllocFailed<T>> for ClientsFault {
+    fn from(_: AllocFailed<T>) -> ClientsFault {
+        ClientsFault::OutOfMemory
+    }
+}

@@ -1,0 +1,20 @@
+//! Many ports, clients and workers over the simulated wire.
+//!
+//! [`serve_clients`] opens a master whose ports stand over clean wires, lets clients in threads of their own submit
+//! while its workers make turns, and counts what became of the tickets.
+#![tactic(auto)]
+
+mod client;
+mod collect;
+mod counts;
+mod fault;
+mod ports;
+mod run;
+mod serve;
+
+pub use counts::{Counted, Counts};
+pub use fault::ClientsFault;
+pub use serve::serve_clients;
+
+#[cfg(test)]
+mod tests;

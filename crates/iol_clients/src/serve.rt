@@ -1,0 +1,63 @@
+ghost use Rattle.std.specs.Prelude.{◌≡◌, All, IfOk, vec_len};
+ghost use Rattle.iol_clients.specs.Counts.{AddsUp};
+
+use crate::collect::{count_ports, settle_all};
+use crate::counts::Counts;
+use crate::fault::ClientsFault;
+use crate::ports::open_ports;
+use crate::run::{make_turns, submit_all};
+use iol_master::Master;
+use iol_script::Plan;
+use iol_sim::{Params, Sim};
+use std::alloc::Global;
+use std::marker::Brand;
+use std::sync::Wait;
+use std::sync::ledger::{Blank, Ledger};
+use std::thread::Threads;
+
+/// Serves the clients of a plan, and counts what became of their requests.
+///
+/// Each port stands over a clean wire, at whose far end is a device with the page `17 2D 11 00 00 12 34 00 01 07` and
+/// one parameter, 16/0, which is read and has the octets `41 42`. The clients submit their reads of it, each in a
+/// thread of its own, while a worker for each port makes the plan's turns; when all have submitted, the workers make
+/// as many again. Then each client's tickets are collected and its desk is settled.
+///
+/// Refused by 24 where a request for memory is refused, and by 32 where a thread can't be started. Threads that were
+/// started have then ended.
+pub fn serve_clients<R: Threads + Wait + Sync>(
+    rt: &R,
+    alloc: Global,
+    plan: &Plan,
+) -> Result<Counts, ClientsFault>
+    ensures ports { IfOk result (λ counts. vec_len counts.ports ≡ plan.now.ports) }
+    ensures up { IfOk result (λ counts. All AddsUp counts.ports.items) }
+{
+    let ports = u64::from(plan.ports);
+    with_ledgers::<Brand, Brand, R>(rt, alloc, plan, Blank::new(1025), Blank::new(ports))
+}
+
+/// The same, where the blanks name the ledgers: of the desks, and of the ports.
+fn with_ledgers<L: Ledger + Sync, K: Ledger + Sync, R: Threads + Wait + Sync>(
+    rt: &R,
+    alloc: Global,
+    plan: &Plan,
+    clients: Blank,
+    tickets: Blank,
+) -> Result<Counts, ClientsFault>
+    requires clients { (clients.name ≡ L.name) × (clients.parts ≡ L.parts) × (clients.parts ≡ 1025) }
+    requires tickets { (tickets.name ≡ K.name) × (tickets.parts ≡ K.parts) × (tickets.parts ≡ plan.now.ports) }
+    ensures ports { IfOk result (λ counts. vec_len counts.ports ≡ plan.now.ports) }
+    ensures up { IfOk result (λ counts. All AddsUp counts.ports.items) }
+{
+    let ports = open_ports(alloc, plan.ports)?;
+    let opened: Result<Master<Sim<Params>, L, K>, _> = Master::open(alloc, ports, clients, tickets);
+    let Ok(master) = opened else {
+        return Err(ClientsFault::OutOfMemory);
+    };
+    let clients = submit_all(rt, alloc, &master, *plan)?;
+    make_turns(rt, &master, *plan)?;
+    let ports = count_ports(rt, alloc, &master, plan.ports, clients.as_slice())?;
+    let total = settle_all(rt, &master, clients);
+    let _ = master.close();
+    Ok(Counts { ports, total })
+}

@@ -1,0 +1,344 @@
+//! Masters over the simulated wire: workers, clients and readers of images at once.
+ghost use Rattle.std.specs.Prelude.{◌≡◌, All, IfOk, vec_len};
+ghost use Rattle.std.specs.Sync.Mutex.{mutex_guard_value};
+ghost use Rattle.iol_port.specs.declared.call.Call.TheVariants as call;
+ghost use Rattle.iol_port.specs.View.{Does};
+ghost use Rattle.iol_port.specs.Replies.{outcome_reply};
+ghost use Rattle.iol_master.specs.Tickets.{HasGiven};
+
+use crate::*;
+use iol_book::{BookFault, Limits, Outcome, Ticket};
+use iol_device::Device;
+use iol_isdu::{Answer, Octets, Place, Request};
+use iol_link::Wire;
+use iol_master::{Desk, Gate, Held, Master, MasterFault, Settled, Tally};
+use iol_page::Page;
+use iol_port::{Port, PortFault};
+use iol_script::Plan;
+use iol_sim::{Params, Sim};
+use std::alloc::Global;
+use std::marker::Brand;
+use std::process::Abort;
+use std::sync::atomic::{AtomicBool, Ordering};
+use std::sync::ledger::{Blank, Ledger};
+use std::sync::{MutexGuard, Wait};
+use std::test::Fail;
+use std::thread;
+use std::thread::{JoinHandle, Scope, Threads};
+
+mod images;
+
+/// How often a thread looks for what another one does: seconds, where it never comes.
+const LOOKS: u64 = 1_000_000_000;
+
+/// What each port is opened with.
+const LIMITS: Limits = Limits {
+    journal: 1_000,
+    busy: 100,
+    given: 0,
+};
+
+#[test]
+fn faults_have_numbers_and_names(rt: HostRuntime) -> Result<(), Fail> {
+    let table = [
+        (ClientsFault::OutOfMemory, 24, "OutOfMemory"),
+        (ClientsFault::NoThread, 32, "NoThread"),
+    ];
+    for (fault, number, name) in table {
+        assert_eq!(rt; fault.code(), number);
+        assert_eq!(rt; format!(in rt.alloc(); "{fault}")?.as_str(), name);
+    }
+    Ok(())
+}
+
+/// Runs a plan, and compares what is counted at each port.
+fn compare<R: Threads + Wait + Abort + Sync>(
+    rt: &R,
+    alloc: Global,
+    plan: &Plan,
+    wanted: Counted,
+    total: u64,
+) -> Result<(), Fail> {
+    let counts = serve_clients(rt, alloc, plan)?;
+    assert_eq!(rt; counts.ports.len(), plan.ports as usize);
+    for counted in &counts.ports {
+        assert_eq!(rt; *counted, wanted);
+    }
+    assert_eq!(rt; counts.total, total);
+    Ok(())
+}
+
+fn counted(tickets: u64, done: u64, waiting: u64) -> Counted {
+    Counted {
+        tickets,
+        done,
+        unknown: 0,
+        waiting,
+    }
+}
+
+/// A port takes no request in its first 15 turns, and then 3 turns for each.
+#[test]
+fn clients_are_served(rt: HostRuntime) -> Result<(), Fail> {
+    let rows = [
+        (
+            Plan {
+                ports: 2,
+                clients: 2,
+                each: 8,
+                turns: 100,
+            },
+            counted(16, 16, 0),
+            32,
+        ),
+        (
+            Plan {
+                ports: 1,
+                clients: 1,
+                each: 1,
+                turns: 1,
+            },
+            counted(1, 0, 1),
+            1,
+        ),
+        (
+            Plan {
+                ports: 1,
+                clients: 1,
+                each: 8,
+                turns: 15,
+            },
+            counted(8, 5, 3),
+            8,
+        ),
+        (
+            Plan {
+                ports: 3,
+                clients: 4,
+                each: 2,
+                turns: 12,
+            },
+            counted(8, 3, 5),
+            24,
+        ),
+        (
+            Plan {
+                ports: 1,
+                clients: 16,
+                each: 4,
+                turns: 200,
+            },
+            counted(64, 64, 0),
+            64,
+        ),
+    ];
+    for (plan, wanted, total) in rows {
+        compare(&rt, rt.alloc(), &plan, wanted, total)?;
+    }
+    Ok(())
+}
+
+/// Each port sets its flag at turn 20, and looks for the other's.
+#[derive(Drop)]
+struct Meet {
+    here: [AtomicBool; 2],
+    met: [AtomicBool; 2],
+}
+
+impl Meet {
+    fn new() -> Meet {
+        Meet {
+            here: [AtomicBool::new(false), AtomicBool::new(false)],
+            met: [AtomicBool::new(false), AtomicBool::new(false)],
+        }
+    }
+}
+
+impl Gate for Meet {
+    fn pass(&self, port: u32, turn: u64) -> bool {
+        if turn != 20 || port == 0 || port > 2 {
+            return true;
+        }
+        let me = port as usize - 1;
+        self.here[me].store(true, Ordering::SeqCst);
+        for _ in 0..LOOKS {
+            if self.here[1 - me].load(Ordering::SeqCst) {
+                self.met[me].store(true, Ordering::SeqCst);
+                break;
+            }
+        }
+        true
+    }
+}
+
+fn read() -> Request {
+    Request::read(Place { index: 16, sub: 0 })
+}
+
+fn answer(octets: &[u8]) -> Result<Outcome, Fail> {
+    let value = Octets::try_from(octets).map_err(|_| "too long")?;
+    Ok(Outcome::Done(Answer::Read(value)))
+}
+
+fn opened(alloc: Global, value: &[u8]) -> Result<Port<Sim<Params>>, Fail>
+    ensures { IfOk result (λ p. HasGiven p 0) }
+{
+    let mut params = Params::new();
+    params.add(Place { index: 16, sub: 0 }, false, value)?;
+    let page = Page::from_octets(&[0x17, 0x2D, 0x11, 0, 0, 0x12, 0x34, 0, 0x01, 0x07]);
+    if page.layouts().is_err() {
+        return Err("a page without layouts")?;
+    }
+    let device = match Device::open(alloc, params, page, 1_000) {
+        Ok(device) => device,
+        Err((fault, _)) => return Err(Fail::from(fault)),
+    };
+    let wire = Sim::new(alloc, device, &[]).map_err(|(fault, _)| Fail::from(fault))?;
+    Port::open(alloc, wire, &LIMITS).map_err(|(fault, _)| Fail::from(fault))
+}
+
+fn two_ports(alloc: Global) -> Result<Vec<Port<Sim<Params>>>, Fail>
+    ensures { IfOk result (λ v. (vec_len v ≡ 2) × All (λ p. HasGiven p 0) v.items) }
+{
+    let mut ports = Vec::with_capacity(alloc, 2)?;
+    ports.push_reserved(opened(alloc, &[0x41, 0x42])?);
+    ports.push_reserved(opened(alloc, &[0x43, 0x44])?);
+    Ok(ports)
+}
+
+/// A client submits one request at its desk.
+fn client<W: Wire, L: Ledger, K: Ledger, R: Wait>(
+    rt: &R,
+    master: &Master<W, L, K>,
+    desk: Desk<L>,
+) -> (Desk<L>, bool) {
+    let mut desk = desk;
+    let given = master.submit(rt, &mut desk, read()).is_ok();
+    (desk, given)
+}
+
+fn collected<W: Wire, L: Ledger, K: Ledger, R: Wait>(
+    rt: &R,
+    master: &Master<W, L, K>,
+    number: u32,
+    ticket: Ticket,
+) -> Result<Outcome, MasterFault> {
+    let mut held = master.lock(rt, number)?;
+    held.collect(ticket).map_err(MasterFault::Port)
+}
+
+/// A call through the guard is the port's call.
+fn through<W: Wire, K: Ledger>(
+    guard: &mut MutexGuard<'_, Held<W, K>>,
+    ticket: Ticket,
+) -> Result<Outcome, PortFault>
+    ensures { Does W.honest W.far W.silence (mutex_guard_value guard.old).parts (call.Collect ticket) (outcome_reply result) (mutex_guard_value guard.new).parts }
+{
+    guard.collect(ticket)
+}
+
+type Four<T> = (T, T, T, T);
+
+/// Starts a client.
+fn begin<'s, E, W: Wire + Send, L: Ledger + Sync, K: Ledger + Sync, R: Wait + Abort + Sync>(
+    scope: &Scope<'s, E>,
+    rt: &'s R,
+    master: &'s Master<W, L, K>,
+    desk: Desk<L>,
+) -> JoinHandle<(Desk<L>, bool)> {
+    scope
+        .spawn(move || client(rt, master, desk))
+        .ok()
+        .expect(rt, "a thread")
+}
+
+/// Four clients, and the workers beside them.
+fn meanwhile<
+    's,
+    E,
+    W: Wire + Send,
+    L: Ledger + Sync,
+    K: Ledger + Sync,
+    R: Threads + Wait + Abort + Sync,
+>(
+    scope: &Scope<'s, E>,
+    rt: &'s R,
+    master: &'s Master<W, L, K>,
+    desks: Four<Desk<L>>,
+    gate: &Meet,
+) -> Four<(Desk<L>, bool)> {
+    let (one, two, three, four) = desks;
+    let one = begin(scope, rt, master, one);
+    let two = begin(scope, rt, master, two);
+    let three = begin(scope, rt, master, three);
+    let four = begin(scope, rt, master, four);
+    assert!(rt; master.serve(rt, gate, 100).is_ok());
+    (one.join(rt), two.join(rt), three.join(rt), four.join(rt))
+}
+
+fn together<W: Wire + Send, L: Ledger + Sync, K: Ledger + Sync, R: Threads + Wait + Abort + Sync>(
+    rt: &R,
+    master: &Master<W, L, K>,
+    desks: Four<Desk<L>>,
+    gate: &Meet,
+) -> Four<(Desk<L>, bool)> {
+    thread::scope(thread::scope_env(), rt, move |scope| {
+        meanwhile(scope, rt, master, desks, gate)
+    })
+}
+
+fn row<L: Ledger + Sync, K: Ledger + Sync, R: Threads + Wait + Abort + Sync>(
+    rt: &R,
+    alloc: Global,
+    clients: Blank,
+    tickets: Blank,
+) -> Result<(), Fail>
+    requires clients { (clients.name ≡ L.name) × (clients.parts ≡ L.parts) × (clients.parts ≡ 1025) }
+    requires tickets { (tickets.name ≡ K.name) × (tickets.parts ≡ K.parts) × (tickets.parts ≡ 2) }
+{
+    let ports = two_ports(alloc)?;
+    let opened: Result<Master<Sim<Params>, L, K>, _> = Master::open(alloc, ports, clients, tickets);
+    let master = opened.ok().expect(rt, "memory");
+    assert!(rt; master.desk(rt, 0).err() == Some(MasterFault::NoSuchPort));
+    assert!(rt; master.desk(rt, 3).err() == Some(MasterFault::NoSuchPort));
+    let one = master.desk(rt, 1)?;
+    let two = master.desk(rt, 1)?;
+    let three = master.desk(rt, 2)?;
+    let four = master.desk(rt, 2)?;
+    let gate = Meet::new();
+    let done = together(rt, &master, (one, two, three, four), &gate);
+    let ((one, a), (two, b), (three, c), (four, d)) = done;
+    assert!(rt; a && b && c && d);
+    assert!(rt; gate.met[0].load(Ordering::SeqCst) && gate.met[1].load(Ordering::SeqCst));
+    assert!(rt; master.serve(rt, &gate, 100).is_ok());
+    let values = [[0x41u8, 0x42], [0x43, 0x44]];
+    for number in 1..=2u32 {
+        for ticket in 1..=2u64 {
+            let wanted = answer(&values[number as usize - 1])?;
+            assert!(rt; collected(rt, &master, number, Ticket(ticket)) == Ok(wanted));
+        }
+    }
+    assert!(rt;
+        collected(rt, &master, 1, Ticket(3))
+            == Err(MasterFault::Port(PortFault::Book(BookFault::UnknownTicket)))
+    );
+    assert_eq!(rt; master.settle(rt, one), Settled::Part(1));
+    assert_eq!(rt; master.settle(rt, two), Settled::Part(1));
+    assert_eq!(rt; master.settle(rt, three), Settled::Part(1));
+    assert_eq!(rt; master.settle(rt, four), Settled::Last(1, 4));
+    let tally = master.close();
+    assert_eq!(rt;
+        tally,
+        Tally {
+            desks: 0,
+            settled: 4,
+            tickets: 4
+        }
+    );
+    Ok(())
+}
+
+#[test]
+fn two_ports_are_served(rt: HostRuntime) -> Result<(), Fail> {
+    row::<Brand, Brand, HostRuntime>(&rt, rt.alloc(), Blank::new(1025), Blank::new(2))
+}

@@ -1,0 +1,55 @@
+//! The plan of `many`.
+ghost use Rattle.std.specs.Prelude.{◌≡◌, ◌<◌, ℕ, Ok, Err, IfOk, IfErr, length};
+ghost use Rattle.iol_script.specs.declared.fault.ScriptFault.TheVariants.{Line};
+ghost use Rattle.iol_script.specs.PlanRanges.{ArePlanned};
+ghost use Rattle.iol_script.specs.Text.{numbered_lines};
+
+use crate::fault::ScriptFault;
+use crate::parts::Lines;
+use crate::plan_draft::PlanDraft;
+
+/// What `many` is to do.
+#[derive(Clone, Copy, Debug, PartialEq, Eq)]
+pub struct Plan {
+    /// How many ports there are: 1 to 32.
+    pub ports: u32,
+    /// How many clients each port has: 1 to 16.
+    pub clients: u32,
+    /// How many requests each client submits: 1 to 64. Those of all clients of a port are 64 at most.
+    pub each: u32,
+    /// How many turns each port makes while its clients submit, and how many afterwards: 1 to 100,000.
+    pub turns: u32,
+    pub ghost ranges: { ArePlanned ports clients each turns },
+}
+
+impl Plan {
+    ghost use Rattle.iol_script.specs.Plan.{numbers_of, plan_of};
+
+    /// Reads the lines of a whole input, from first to last, without memory.
+    ///
+    /// Four lines say something, in this order: `ports`, `clients`, `each` and `turns`, each with its number. Refused
+    /// is the first line that is bad: one that fits no form, that stands in another's place, or that makes the clients
+    /// of a port submit more than 64 requests. Where the input ends before its `turns`, the line behind its last is bad.
+    pub fn read(input: &[u8]) -> Result<Plan, ScriptFault>
+        requires { length input.now < usize.MAX }
+        ensures plan { IfOk result (λ plan. plan_of (numbered_lines input.now) ≡ Ok (numbers_of plan)) }
+        ensures bad_line { IfErr result (λ fault. (n : ℕ) × (fault ≡ Line n) × (plan_of (numbered_lines input.now) ≡ Err n)) }
+    {
+        let mut draft = PlanDraft::Empty;
+        for (number, line) in Lines::of(input) {
+            let Some(next) = draft.after(line) else {
+                return Err(ScriptFault::Line(number));
+            };
+            draft = next;
+        }
+        match draft {
+            PlanDraft::Turns(ports, clients, each, turns) => Ok(Plan {
+                ports,
+                clients,
+                each,
+                turns,
+            }),
+            _ => Err(ScriptFault::Line(Lines::of(input).count() as u64 + 1)),
+        }
+    }
+}
