@@ -8,6 +8,10 @@ mod bench;
 #[cfg(test)]
 mod far;
 #[cfg(test)]
+mod liar;
+#[cfg(test)]
+mod peers;
+#[cfg(test)]
 mod play;
 #[cfg(test)]
 mod ports;
@@ -18,6 +22,10 @@ mod runs;
 #[cfg(test)]
 mod sessions;
 #[cfg(test)]
+mod stretches;
+#[cfg(test)]
 mod tests;
+#[cfg(test)]
+mod timing;
 #[cfg(test)]
 mod watched;

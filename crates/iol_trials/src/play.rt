@@ -16,6 +16,9 @@ use std::fmt::Debug;
 use std::process::Abort;
 use std::test::Fail;
 
+/// How many requests a device records.
+const ROOM: u32 = 8;
+
 /// What becomes of one call of the wire, instead of what the table says.
 #[derive(Clone, Copy, Debug)]
 pub struct Fault {
@@ -327,11 +330,21 @@ pub fn device(alloc: Global, page: &[u8; 10], steps: &[Step]) -> Result<Sim<Para
     let mut params = Params::new();
     params.add(Place { index: 16, sub: 0 }, false, &[0x41, 0x42])?;
     params.add(Place { index: 256, sub: 0 }, true, &[0; 232])?;
+    device_of(alloc, params, page, steps)
+}
+
+/// A device of this page with these parameters, behind a wire of this script.
+pub fn device_of(
+    alloc: Global,
+    params: Params,
+    page: &[u8; 10],
+    steps: &[Step],
+) -> Result<Sim<Params>, Fail> {
     let page = Page::from_octets(page);
     if page.layouts().is_err() {
         return Err("a page without layouts")?;
     }
-    let device = match Device::open(alloc, params, page, 2) {
+    let device = match Device::open(alloc, params, page, ROOM) {
         Ok(device) => device,
         Err((fault, _)) => return Err(Fail::from(fault)),
     };
