@@ -1,17 +1,14 @@
 -- The call that a turn makes is the one that the station before it asked for.
-use Rattle.std.proofs.Common.{◌≡◌, ℕ, ◌+◌, ◌*◌, ◌++◌, Bool, true, false, List, [], ◌∷◌, refl, sym, ◌∙◌, ap, subst, Option, Some, None, is_none, IsTrue, ◌&&◌}
+use Rattle.std.proofs.Common.{◌≡◌, ℕ, Bool, true, false, List, [], ◌∷◌, refl, sym, ◌∙◌, ap, subst, Option, Some, None, is_none, IsTrue, ◌&&◌}
 use Rattle.arrayvec.specs.ArrayVec.{ArrayVec}
-use Rattle.iol_octets.specs.Checksum.{with_checksum}
-use Rattle.iol_octets.specs.Control.{channel_code}
-use Rattle.iol_mseq.specs.Shape.{Shape, startup_shape}
+use Rattle.iol_mseq.specs.Shape.{Shape}
 use Rattle.iol_mseq.specs.Texts.{master_text}
 use Rattle.iol_mseq.specs.declared.master.MasterMsg.{MasterMsg}
 use Rattle.iol_device.specs.Far.{Far}
 use Rattle.iol_link.specs.declared.wire.Rate.{Rate}
 use Rattle.iol_link.specs.Attempts.{Sending}
-use Rattle.iol_mode.specs.declared.states.Operate.{Operate}
 use Rattle.iol_mode.specs.Next.{message_out}
-use Rattle.iol_mode.specs.States.{sending_of, operate_turned, startup_turned, preoperate_turned}
+use Rattle.iol_mode.specs.States.{sending_of}
 use Rattle.iol_steps.specs.declared.said.Said.{Said}
 use Rattle.iol_isdu.specs.declared.values.Request.{Request}
 use Rattle.iol_app.specs.declared.request.Current.{Current}
@@ -21,9 +18,9 @@ use Rattle.iol_app.specs.declared.station.AnyLink.{AnyLink}
 use Rattle.iol_app.specs.declared.station.AnyLink.TheVariants.{Down as InDown, Startup as InStartup, Preoperate as InPreoperate, Operate as InOperate}
 use Rattle.iol_app.specs.Outputs.{carried_by}
 use Rattle.iol_app.specs.Messages.{Head, head_of, head_for, data_for}
-use Rattle.iol_app.specs.State.{SessionState, od_size, begun_in, sent, sent_by, sending, IsMessageFor, IsOutBy, IsOutFor}
+use Rattle.iol_app.specs.State.{SessionState, od_size, begun_in, sent, sent_by, IsOutBy, IsOutFor}
 use Rattle.iol_app.specs.Due.{due_of, first_of, is_idle, is_ready}
-use Rattle.iol_app.specs.StationState.{StationState, wire_of, LinkFits, IsTurn, IsWake, IsExchange, IsOperateTurn, IsStartupTurn}
+use Rattle.iol_app.specs.StationState.{StationState, wire_of, LinkFits, IsTurn, IsExchange}
 use Rattle.iol_app.specs.Asking.{text_by, text_for, text_due, text_of, asked_of, IsCall}
 
 -- the octets of a message are those of its parts

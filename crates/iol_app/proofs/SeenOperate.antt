@@ -16,7 +16,7 @@ use Rattle.iol_page.specs.declared.page.Layouts.{Layouts}
 use Rattle.iol_device.specs.Device.{octets_in}
 use Rattle.iol_device.specs.Far.{Far, command_in}
 use Rattle.iol_device.specs.Level.{Link, taken, turned}
-use Rattle.iol_device.specs.declared.commands.Mode.TheVariants.{Preoperate as FarPreoperate, Operate as FarOperate}
+use Rattle.iol_device.specs.declared.commands.Mode.TheVariants.{Operate as FarOperate}
 use Rattle.iol_link.specs.declared.handler.Attempt.TheVariants.{Again, Lost}
 use Rattle.iol_link.specs.declared.wire.Rate.{Rate}
 use Rattle.iol_link.specs.Attempts.{Sending, good_reply}
@@ -53,7 +53,7 @@ use Rattle.iol_app.proofs.Seeing.{Steps, steps_by, settled_seen, honest_by}
 use Rattle.iol_app.proofs.StartSending.{lost_steps}
 use Rattle.iol_app.proofs.DueFacts.{IsDue, due_is, output_for, reads_for}
 use Rattle.iol_app.proofs.OperateMessages.{exchange_reads, exchange_command}
-use Rattle.iol_app.proofs.OperateSending.{Ready, operate_out, made_out, made_seen, accepted_here, operate_new}
+use Rattle.iol_app.proofs.OperateSending.{Ready, operate_out, made_out, made_seen, accepted_here, operate_new, not_operate}
 use Rattle.iol_app.proofs.OperateReading.{ReadOn, read_on_seen}
 use Rattle.iol_app.proofs.OperateRequest.{BringsSome, exchange_brings}
 use Rattle.iol_app.proofs.Telling.{told_layout}
@@ -171,7 +171,7 @@ module _ {W : Type 0} (honest : W → Bool) (far : W → Far) (silence : W → �
     out = operate_out layouts.run message exchange session.current tries
 
     od_is : message.od.items ≡ data_for exchange layouts.run.od session.current
-    od_is = goes.is_for.octets ∙ ap (λ (l : Option Shape). data_for exchange (od_size l) session.current) fits.told
+    od_is = goes.is_for.octets ∙ ap (λ (l : Option Shape). data_for exchange (od_size l) session.current) fits.told.0
 
     exchanges : (answer : Option (List ℕ)) (reply : Option Reply) → HonestExchange (far link.wire) (silence link.wire) octets answer next_far next_silence → good_reply layouts.run message answer ≡ reply
         → Exchanges s u out next_far next_silence reply
@@ -221,12 +221,12 @@ module _ {W : Type 0} (honest : W → Bool) (far : W → Far) (silence : W → �
 
     -- A good reply
 
-    next_link : turned s.link octets message ≡ operate_link
+    next_link : turned s.terms.page s.link octets message ≡ operate_link
     next_link =
         ⊎_elim
-        (λ (k : (turned s.link octets message ≡ entering_link layouts) × (message.mc.channel ≡ Page)).
-        absurd (let e : FarPreoperate ≡ FarOperate = sym (ap (λ (l : Link). l.mode) k.0) ∙ goes.mode in cc))
-        (λ (k : turned s.link octets message ≡ operate_link). k)
+        (λ (k : (turned s.terms.page s.link octets message ≡ entering_link layouts) × (message.mc.channel ≡ Page)).
+        absurd (not_operate layouts.pre (sym (ap (λ (l : Link). l.mode) k.0) ∙ goes.mode)))
+        (λ (k : turned s.terms.page s.link octets message ≡ operate_link). k)
         accepted.next
 
     commands : output_by s.seen.mode (command_in message) ≡ output_for exchange
@@ -244,7 +244,7 @@ module _ {W : Type 0} (honest : W → Bool) (far : W → Far) (silence : W → �
         read_on_seen session.events.reading session.events.flag s.reading seen.reading session.current message reply goes.wants tells.events exchange goes.is_for.head in
         let reads : reads_events message ≡ reads_for exchange = exchange_reads exchange session.events.reading session.current message goes.is_for.head in
         let brought : BringsSome s out reply session.limit _ said =
-        exchange_brings laws.names laws.taken laws.follows s session valid ready message layouts.run fits.told at tries reply next_far next_silence said exchange goes.suits tells reads on.list settled.said_is in
+        exchange_brings laws.names laws.taken laws.follows s session valid ready message layouts.run fits.told.0 at tries reply next_far next_silence said exchange goes.suits tells reads on.list settled.said_is in
         let brings = brought.1 in
         let next : Station = had brought.0 s out reply next_far next_silence in
         let image : image_had (layout_at s).pd_in reply ≡ image_in reply = same_image (layout_at s).pd_in reply (sized ∙ ap (λ (l : Shape). l.pd_in) (sym at)) in
@@ -269,6 +269,7 @@ module _ {W : Type 0} (honest : W → Bool) (far : W → Far) (silence : W → �
             wanted = goes.shown.wanted ∙ sym (output_wanted exchange output);
             sent = carried_on session.layout (made s).shown goes.shown.sent;
             told = goes.shown.told;
+            isdu = goes.shown.isdu;
           };
           output_told = ap (λ (c : Option Bool). told_by c s.output_told) commands ∙ output_told exchange output s.output_told (seen.output_told ∙ sym goes.told);
         }))
@@ -292,7 +293,7 @@ module _ {W : Type 0} (honest : W → Bool) (far : W → Far) (silence : W → �
     sends = sending_of link.state.out message
 
     accepted : IsAccepted layouts s.terms.page s.link sends.message
-    accepted = accepted_here laws.moves s u stands session valid layouts seen.mode asked fits.told ready seen.link sends.message accepts
+    accepted = accepted_here laws.moves s u stands session valid layouts seen.mode asked fits.told.0 ready seen.link sends.message accepts
 
     by_message : (due : Exchange) (output : Output) → Goes due output sends.message sends.tries → sent (due_of session room) session ≡ out_session due output → Steps honest far silence s u said new
     by_message due output goes same =
@@ -315,11 +316,11 @@ module _ {W : Type 0} (honest : W → Bool) (far : W → Far) (silence : W → �
         let tries : sends.tries ≡ 0 = ap (λ (x : Sending). x.tries) first in
         let made_message : sends.message ≡ message = ap (λ (x : Sending). x.message) first in
         let is : IsMessageFor due (sending due session) sends.message = subst (λ (t : SessionState). IsOutFor (Some sends.message) t) same is_for in
-        let od : sends.message.od.items ≡ data_for due layouts.run.od session.current = is.octets ∙ ap (λ (l : Option Shape). data_for due (od_size l) session.current) fits.told in
+        let od : sends.message.od.items ≡ data_for due layouts.run.od session.current = is.octets ∙ ap (λ (l : Option Shape). data_for due (od_size l) session.current) fits.told.0 in
         let carried : sends.message.out.items ≡ carried_by session.output = ap (λ (m : MasterMsg). m.out.items) made_message ∙ carries (ap message_out no_message) in
         let is_due : IsDue session room due = due_is session room in
         let fresh : IsNew s (operate_out layouts.run sends.message due session.current 0) =
-        operate_new laws.moves s u stands session valid layouts seen.mode asked fits.told ready seen.link sends.message accepts room due is_due none is.head od carried in
+        operate_new laws.moves s u stands session valid layouts seen.mode asked fits.told.0 ready seen.link sends.message accepts room due is_due none is.head od carried in
         by_message due (carrying session.output) (record {
           sends = subst (λ (o : Option Out). Sends s o (operate_out layouts.run sends.message due session.current sends.tries)) (sym none)
               (subst (λ (n : ℕ). IsNew s (operate_out layouts.run sends.message due session.current n)) (sym tries) fresh);
@@ -328,7 +329,7 @@ module _ {W : Type 0} (honest : W → Bool) (far : W → Far) (silence : W → �
           is_for = record { head = is.head; octets = is.octets };
           suits = is_due.suits;
           told = refl;
-          shown = made_seen s session due layouts.run fits.told seen.mode none seen.shown;
+          shown = made_seen s session due layouts.run fits.told.0 seen.mode none seen.shown;
         }) same
 
     -- the one that is out

@@ -1,8 +1,7 @@
 -- Each new message is the move that the request's progress asks for.
-use Rattle.std.proofs.Common.{◌≡◌, ℕ, zero, suc, ◌%◌, ◌≤◌, Bool, true, false, ◌&&◌, nat_le, [], length, refl, sym, ap, subst, ◌∙◌, arith, Option, Some, None}
-use Rattle.std.specs.Prelude.{nat_lt, ◌==◌, IfSome, IsTrue}
+use Rattle.std.proofs.Common.{◌≡◌, ℕ, zero, suc, ◌%◌, ◌≤◌, true, false, [], refl, sym, ap, subst, ◌∙◌, arith, Option, Some, None}
+use Rattle.std.specs.Prelude.{nat_lt, ◌==◌, IfSome}
 use Rattle.std.proofs.lemmas.Bool.Decides.{nat_tests}
-use Rattle.std.proofs.lemmas.Grind.{common_steps}
 use Rattle.std.proofs.Math.Numerals.{add-one}
 use Rattle.arrayvec.specs.ArrayVec.{ArrayVec}
 use Rattle.iol_octets.specs.declared.control.Channel.TheVariants.{Isdu}
@@ -11,14 +10,13 @@ use Rattle.iol_octets.specs.declared.flow_control.Flow.TheVariants.{Start, Count
 use Rattle.iol_octets.specs.Flow.{flow_address}
 use Rattle.iol_mseq.specs.Shape.{Shape}
 use Rattle.iol_isdu.specs.declared.values.Request.{Request}
-use Rattle.iol_isdu.specs.declared.values.Answer.{Answer}
 use Rattle.iol_isdu.specs.Answers.{is_read}
 use Rattle.iol_isdu.specs.Texts.{IsRequest, request_text}
 use Rattle.iol_segment.specs.Cut.{Cutting, flow_at, last_given}
 use Rattle.iol_segment.specs.Join.{Joining, stage}
 use Rattle.iol_segment.specs.TextLaws.{TextLaws}
 use Rattle.iol_device.specs.Codec.{flow_of}
-use Rattle.iol_device.specs.Isdu.{answer_text, fits}
+use Rattle.iol_device.specs.Isdu.{answer_text}
 use Rattle.iol_device.specs.SegmentLaws.{AnswersFit}
 use Rattle.iol_device.specs.Level.{Quiet, Written, Had, Begin, More, Ask, Next, IsMove}
 use Rattle.iol_app.specs.declared.event_work.Reading.{Reading}

@@ -1,5 +1,5 @@
 -- Which call of the wire a turn makes, as a function of the station before it.
-use Rattle.std.specs.Prelude.{◌≡◌, ℕ, ◌+◌, ◌*◌, Bool, ◌&&◌, if◌then◌else◌, List, ◌∷◌, ◌++◌, Option, Some, None}
+use Rattle.std.specs.Prelude.{ℕ, ◌+◌, ◌*◌, Bool, true, ◌&&◌, if◌then◌else◌, List, ◌∷◌, ◌++◌, Option, Some, None, unwrap_or}
 use Rattle.arrayvec.specs.ArrayVec.{ArrayVec}
 use Rattle.iol_octets.specs.Checksum.{with_checksum}
 use Rattle.iol_octets.specs.Control.{channel_code}
@@ -39,22 +39,26 @@ abbrev pub text_of : Shape → Option MasterMsg → SessionState → Bool → Li
 text_of layout None s room = text_due layout s room
 text_of layout (Some message) s room = master_text layout message
 
--- where no message is out and nothing is due, the request that waits longest is begun
+-- where no message is out and nothing is due, the request that waits longest is begun, unless the device has no ISDU
 abbrev pub begin_where : Bool → Option Request → SessionState → SessionState
 begin_where ready None s = s
 begin_where ready (Some request) s = if ready then begun_in request s else s
 
+-- no start-up has told that the device has no ISDU
+abbrev pub takes_requests : SessionState → Bool
+takes_requests s = unwrap_or s.isdu true
+
 abbrev pub beginning : Option Request → SessionState → Bool → SessionState
-beginning next s room = begin_where (is_ready s room) next s
+beginning next s room = begin_where (is_ready s room && takes_requests s) next s
 
 module _ {W : Type 0} where
   abbrev pub prepared : Option Request → StationState W → Bool → StationState W
-  prepared next s room = record s { session = begin_where (is_operating s.link && is_ready s.session room) next s.session }
+  prepared next s room = record s { session = begin_where (is_operating s.link && is_ready s.session room && takes_requests s.session) next s.session }
 
   abbrev pub asked_in : AnyLink W → SessionState → Bool → Asked
   asked_in (InDown link) s room = Wake
   asked_in (InStartup link) s room = Exchange (record { items = master_text startup_shape link.state.sent.message })
-  asked_in (InPreoperate link) s room = Exchange (record { items = master_text link.state.layouts.pre link.state.sent.message })
+  asked_in (InPreoperate link) s room = Exchange (record { items = master_text link.state.pre link.state.sent.message })
   asked_in (InOperate link) s room = Exchange (record { items = text_of link.state.layouts.run (message_out link.state.out) s room })
 
   -- the call that the next turn makes, where there is room for events or not

@@ -5,6 +5,7 @@ ghost use Rattle.iol_app.specs.StationLaws.{StationLaws};
 use iol_device::{messages_are_heard, requests_are_received, texts_are_heard};
 use iol_isdu::one_text_each;
 use iol_link::exchanges_keep_ends_level;
+use iol_page::pages_ask_for_layouts;
 use iol_segment::texts_join;
 use iol_steps::{
     good_reply_gives_steps, good_reply_tells, lost_link_gives_steps, missed_attempt_gives_steps,
@@ -46,6 +47,7 @@ pub(crate) fn answers_are_taken_up()
 pub(crate) fn station_laws()
     ensures { StationLaws }
 {
+    pages_ask_for_layouts();
     texts_are_heard();
     exchanges_keep_ends_level();
     wake_gives_steps();

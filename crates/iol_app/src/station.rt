@@ -1,5 +1,5 @@
 //! A station: the link in its mode, and the session over it.
-ghost use Rattle.std.specs.Prelude.{◌≡◌, None, Some, true, false, is_some, IsSome, IfSome, IsTrue, OnOk, OnErr, ◌&&◌};
+ghost use Rattle.std.specs.Prelude.{◌≡◌, None, Some, true, false, is_some, IsSome, IfSome, IsTrue, OnOk, OnErr, ◌&&◌, ◌≢◌};
 ghost use Rattle.std.specs.Result.{result_err};
 ghost use Rattle.std.specs.Option.{option_copied};
 ghost use Rattle.iol_mode.specs.Next.{wire_of as wire_in, outcome_of};
@@ -8,7 +8,7 @@ ghost use Rattle.iol_app.specs.State.{opened, aborted_in, begun_in, wanting, out
 ghost use Rattle.iol_app.specs.Requests.{request_in, request_after, EndsRequest};
 ghost use Rattle.iol_app.specs.Due.{is_ready};
 ghost use Rattle.iol_app.specs.Reports.{is_reading, ReadingAfter};
-ghost use Rattle.iol_app.specs.Seen.{TurnSteps, NewSteps, BeginSteps, AbortSteps, WantSteps, RestartSteps};
+ghost use Rattle.iol_app.specs.Seen.{TurnSteps, NewSteps, BeginSteps, AbortSteps, WantSteps, RestartSteps, DenySteps};
 ghost use Rattle.iol_app.specs.Asking.{asked_of, prepared, IsCall};
 ghost use Rattle.iol_app.specs.StationState.{wire_of, mode_of, why_of, is_operating, linked, is_waked, waked_session, settled_session, reply_session, IsReplySaid, fallen, attempt_session, IsAttemptSaid, IsReplyHearable, LinkFits, NextFits, IsSettledSaid, IsTurn};
 
@@ -23,8 +23,8 @@ use iol_link::{Attempt, Wire};
 use iol_mode::{Down, Link, Next, Operate, Preoperate, Startup, Why};
 use iol_mseq::{Reply, encode_master};
 use iol_steps::{
-    Mode, Said, begin_takes_the_request, new_station_stands, restart_cuts_the_request,
-    wanted_output_stands,
+    Mode, Said, begin_takes_the_request, denial_changes_nothing, new_station_stands,
+    restart_cuts_the_request, wanted_output_stands,
 };
 use std::marker::Model;
 
@@ -158,10 +158,28 @@ impl<W: Wire> Station<W> {
         }
     }
 
-    /// Begins a request, in OPERATE, while none is under way.
+    /// Whether the device has ISDU, as the last start-up that read a good page told; none before.
+    pub fn isdu(&self) -> Option<bool>
+        ensures { result ≡ self.now.session.isdu }
+    {
+        self.session.isdu()
+    }
+
+    /// A law, without code: what may happen in a turn in which a request is denied, because the device has no ISDU.
+    pub fn may_deny(&self)
+        requires operate { mode_of self.now.link ≡ Mode.Operate }
+        requires free { self.now.session.current ≡ None }
+        requires isdu { self.now.session.isdu ≡ Some false }
+        ensures steps { DenySteps W.honest W.far W.silence self.now }
+    {
+        denial_changes_nothing();
+    }
+
+    /// Begins a request, in OPERATE, while none is under way, at a device that has ISDU.
     pub fn begin(&mut self, request: Request)
         requires operate { mode_of self.old.link ≡ Mode.Operate }
         requires free { self.old.session.current ≡ None }
+        requires isdu { self.old.session.isdu ≢ Some false }
         ensures station { self.new ≡ record self.old { session = begun_in request self.old.session } }
         ensures steps { BeginSteps W.honest W.far W.silence request self.old self.new }
     {
@@ -386,7 +404,7 @@ fn settled<W: Wire>(next: Next<W>, session: &mut Session) -> (AnyLink<W>, Said)
         }
         Next::Startup(link) => {
             if let Some(layouts) = link.told() {
-                session.take_layout(&layouts.run);
+                session.take_layout(&layouts.run, layouts.isdu);
             }
             (AnyLink::Startup(link), Said::Idle)
         }

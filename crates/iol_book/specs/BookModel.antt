@@ -1,13 +1,14 @@
 -- What callers see of a book, and what its calls answer and leave.
 use Rattle.std.specs.Prelude.{◌≡◌, ℕ, ◌+◌, ◌*◌, ◌^◌, ◌≤◌, Bool, true, false, ◌||◌, ◌&&◌, not, List, [], ◌∷◌, ◌++◌, Option, None, Some, Result, Ok, Err, is_some, is_ok, length, nat_eq, nat_lt, nat_le, if◌then◌else◌, slice_get, drop}
-use Rattle.std.specs.Option.{option_map, option_map_or}
+use Rattle.std.specs.Option.{option_map_or}
 use Rattle.std.specs.Map.{lookup}
+use Rattle.indexmap.specs.IndexMap.{insert_entry}
 use Rattle.iol_isdu.specs.declared.values.Request.{Request}
 use Rattle.iol_isdu.specs.declared.values.Cause.TheVariants.{LinkLost, Restarted, BusyTooLong, Protocol}
 use Rattle.iol_book.specs.declared.entries.Ticket.{Ticket}
 use Rattle.iol_book.specs.declared.entries.Limits.{Limits}
 use Rattle.iol_book.specs.declared.entries.Outcome.{Outcome}
-use Rattle.iol_book.specs.declared.entries.Outcome.TheVariants.{Done, Unknown, Withdrawn}
+use Rattle.iol_book.specs.declared.entries.Outcome.TheVariants.{Done, Unknown, Withdrawn, NoIsdu}
 use Rattle.iol_book.specs.declared.entries.Entry.{Entry}
 use Rattle.iol_book.specs.declared.entries.Entry.TheVariants.{Submitted, Taken, Answered, Withdrawn as WithdrawnEntry, Collected}
 use Rattle.iol_book.specs.declared.fault.BookFault.{BookFault}
@@ -95,6 +96,13 @@ took book taken = record book {
   standing = record book.standing { waiting = drop 1 book.standing.waiting; taken = Some taken };
 }
 
+-- the book after the request of this ticket, which waited longest, is denied
+abbrev pub denied : BookState → Ticket → BookState
+denied book ticket = record book {
+  journal = book.journal ++ Answered ticket NoIsdu ∷ [];
+  standing = record book.standing { waiting = drop 1 book.standing.waiting; outcomes = insert_entry same_ticket book.standing.outcomes ticket NoIsdu };
+}
+
 -- whether the request may still be carried out, though it has its outcome
 abbrev pub leaves_unsure : Outcome → Bool
 leaves_unsure (Done answer) = false
@@ -103,11 +111,19 @@ leaves_unsure (Unknown Restarted) = true
 leaves_unsure (Unknown BusyTooLong) = false
 leaves_unsure (Unknown Protocol) = false
 leaves_unsure Withdrawn = false
+leaves_unsure NoIsdu = false
 
 -- the book after the request that is taken has this outcome
+abbrev pub ended_with : BookState → Option (Ticket × Request) → Outcome → BookState
+ended_with book None outcome = book
+ended_with book (Some taken) outcome = record book {
+  journal = book.journal ++ Answered taken.0 outcome ∷ [];
+  standing = record book.standing { taken = None; outcomes = insert_entry same_ticket book.standing.outcomes taken.0 outcome };
+}
+
 abbrev pub posted : BookState → Outcome → BookState
 posted book outcome =
-    record (entered_if book (option_map (λ taken. Answered taken.0 outcome) book.standing.taken)) {
+    record (ended_with book book.standing.taken outcome) {
       unsure = book.unsure || leaves_unsure outcome;
     }
 

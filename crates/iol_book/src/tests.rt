@@ -77,6 +77,32 @@ fn a_waiting_request_is_withdrawn(rt: HostRuntime) -> Result<(), Fail> {
     Ok(())
 }
 
+#[test]
+fn a_waiting_request_is_denied(rt: HostRuntime) -> Result<(), Fail> {
+    let mut book = Book::open(rt.alloc(), &LIMITS)?;
+    assert_eq!(rt; book.deny(), None);
+    assert_eq!(rt; book.submit(read(16)), Ok(Ticket(1)));
+    assert_eq!(rt; book.submit(read(17)), Ok(Ticket(2)));
+    assert_eq!(rt; book.deny(), Some(Ticket(1)));
+    assert_eq!(rt; book.withdraw(Ticket(1)), Err(BookFault::TakenAlready));
+    assert_eq!(rt; book.take(), Some((Ticket(2), read(17))));
+    assert_eq!(rt; book.deny(), None);
+    assert_eq!(rt; book.collect(Ticket(1)), Ok(Outcome::NoIsdu));
+    assert_eq!(rt; book.collect(Ticket(1)), Err(BookFault::UnknownTicket));
+    assert_eq!(rt;
+        book.journal(),
+        [
+            Entry::Submitted(Ticket(1), read(16)),
+            Entry::Submitted(Ticket(2), read(17)),
+            Entry::Answered(Ticket(1), Outcome::NoIsdu),
+            Entry::Taken(Ticket(2)),
+            Entry::Collected(Ticket(1)),
+        ]
+        .as_slice()
+    );
+    Ok(())
+}
+
 /// A book whose only request was cut off and collected, whether it may be archived then, and whether after a reset.
 fn archives_after(alloc: Global, cause: Cause) -> Result<(bool, bool), BookFault> {
     let mut book = Book::open(alloc, &LIMITS)?;

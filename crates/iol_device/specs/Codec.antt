@@ -1,5 +1,5 @@
 -- Messages, as the far end reads and writes them.
-use Rattle.std.specs.Prelude.{ℕ, ◌==◌, nat_lt, if◌then◌else◌, List, Option, Result, Ok, Err}
+use Rattle.std.specs.Prelude.{ℕ, ◌==◌, nat_lt, if◌then◌else◌, List, Option, unwrap_or, Result, Ok, Err}
 use Rattle.iol_octets.specs.declared.flow_control.Flow.{Flow}
 use Rattle.iol_octets.specs.declared.flow_control.Flow.TheVariants.{Start, Count, Idle1, Idle2, Abort, Reserved}
 use Rattle.iol_mseq.specs.Shape.{Shape, startup_shape}
@@ -13,10 +13,11 @@ use Rattle.iol_page.specs.declared.fault.PageFault.{PageFault}
 use Rattle.iol_device.specs.declared.commands.Mode.{Mode}
 use Rattle.iol_device.specs.declared.commands.Mode.TheVariants.{Startup, Preoperate, Operate}
 
--- the layout of a mode, by the layouts that a page asks for; a page that asks for none has that of STARTUP alone
+-- the layout of a mode, by the layouts that a page asks for; a page that asks for none has that of STARTUP alone, and
+-- so has PREOPERATE where a device of V1.0 has none
 abbrev pub layout_by : Mode → Result Layouts PageFault → Shape
 layout_by Startup asked = startup_shape
-layout_by Preoperate (Ok layouts) = layouts.pre
+layout_by Preoperate (Ok layouts) = unwrap_or layouts.pre startup_shape
 layout_by Operate (Ok layouts) = layouts.run
 layout_by mode (Err fault) = startup_shape
 

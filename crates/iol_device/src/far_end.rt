@@ -55,13 +55,13 @@ impl<A: Allocator + Copy> Model for FarEnd<A> {
       room = d.room;
     } };
 
-    ghost invariant = { λ d. IsSound d.page d.mode d.layouts.pre d.layouts.run d.isdu.size d.input d.out
+    ghost invariant = { λ d. IsSound d.page d.mode d.layouts d.isdu.size d.input d.out
         × (d.room ≤ vec_capacity d.carried) };
 }
 
 impl<A: Allocator + Copy> FarEnd<A> {
     ghost use Rattle.iol_mseq.specs.Shape.{IsLayout};
-    ghost use Rattle.iol_page.specs.Page.{layouts_of};
+    ghost use Rattle.iol_page.specs.Page.{layouts_of, knows_isdu};
     ghost use Rattle.iol_event.specs.Memory.{is_full};
     ghost use Rattle.iol_device.specs.Codec.{layout_in, flow_of};
     ghost use Rattle.iol_device.specs.Far as far;
@@ -103,7 +103,7 @@ impl<A: Allocator + Copy> FarEnd<A> {
     {
         match mode {
             Mode::Startup => Layout::startup(),
-            Mode::Preoperate => self.layouts.pre,
+            Mode::Preoperate => self.layouts.pre.unwrap_or(Layout::startup()),
             Mode::Operate => self.layouts.run,
         }
     }
@@ -171,14 +171,24 @@ impl<A: Allocator + Copy> FarEnd<A> {
         self.work_cycle_time(message);
     }
 
+    /// The mode asked for, where a device of this page has it.
+    fn known_mode(&self, asked: Option<Mode>) -> Option<Mode>
+        ensures { result ≡ far.known_mode self.now.page asked }
+    {
+        match asked {
+            Some(Mode::Preoperate) if self.layouts.pre.is_none() => None,
+            _ => asked,
+        }
+    }
+
     fn work_command(&mut self, octets: &[u8], command: Option<MasterCommand>)
         requires { length octets.now ≤ 66 }
         ensures { self.new ≡ record self.old {
-          waits = far.waits_after self.old.mode self.old.waits octets.now (far.mode_asked command);
+          waits = far.waits_after self.old.mode self.old.waits octets.now (far.known_mode self.old.page (far.mode_asked command));
           valid = far.valid_after self.old.mode self.old.valid command;
         } }
     {
-        if let Some(into) = mode_asked(command)
+        if let Some(into) = self.known_mode(mode_asked(command))
             && into != self.mode
         {
             self.waits = Some(Waiting {
@@ -197,17 +207,20 @@ impl<A: Allocator + Copy> FarEnd<A> {
 
     fn work_isdu(&mut self, message: &MasterMsg)
         ensures { self.new ≡ record self.old {
-          isdu = far.isdu_after (layout_of self.old).od self.old.isdu
+          isdu = far.isdu_after (knows_isdu self.old.page) (layout_of self.old).od self.old.isdu
               message.now.mc.channel message.now.mc.read (flow_of message.now.mc.address) message.now.od.items;
         } }
     {
-        if message.mc.channel == Channel::Isdu {
-            let flow = flow_of(message.mc);
-            if message.mc.read {
-                self.isdu.read(flow);
-            } else {
-                self.isdu.write(flow, message.od.as_slice());
-            }
+        if message.mc.channel != Channel::Isdu {
+            return;
+        }
+        let flow = flow_of(message.mc);
+        if !self.layouts.isdu {
+            self.isdu.clear();
+        } else if message.mc.read {
+            self.isdu.read(flow);
+        } else {
+            self.isdu.write(flow, message.od.as_slice());
         }
     }
 

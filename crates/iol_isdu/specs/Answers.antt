@@ -1,4 +1,4 @@
--- The texts of an answer (IEC 61131-9, A.5).
+-- The texts of an answer (IEC 61131-9, A.5.1 to A.5.6).
 use Rattle.std.specs.Prelude.{◌≡◌, ℕ, ◌/◌, ◌≤◌, Bool, true, false, ◌==◌, ◌&&◌, ◌||◌, if◌then◌else◌, List, [], ◌∷◌, ◌++◌, length, Option, Some, None, slice_index}
 use Rattle.iol_isdu.specs.declared.fault.IsduFault.{IsduFault}
 use Rattle.iol_isdu.specs.declared.fault.IsduFault.TheVariants.{WrongAnswerKind}

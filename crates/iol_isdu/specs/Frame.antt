@@ -1,4 +1,4 @@
--- How every ISDU text is made: first octet, ExtLength in long ones, a body, CHKPDU (IEC 61131-9, A.5).
+-- How every ISDU text is made: first octet, ExtLength in long ones, a body, CHKPDU (IEC 61131-9, A.5.1, A.5.3, A.5.6).
 use Rattle.std.specs.Prelude.{◌≡◌, ℕ, ◌+◌, ◌*◌, ◌/◌, ◌%◌, Bool, ◌==◌, nat_lt, nat_le, not, ◌&&◌, if◌then◌else◌, List, [], ◌∷◌, ◌++◌, length, fold, bit_xor, take, Option, Some, None, Result, Ok, Err, slice_index}
 use Rattle.iol_isdu.specs.declared.fault.IsduFault.{IsduFault}
 use Rattle.iol_isdu.specs.declared.fault.IsduFault.TheVariants.{Truncated, BadIsduLength, BadService, BadChkpdu}

@@ -10,7 +10,7 @@ use crate::frame::{frame_of, framed, xor_of};
 use crate::service::Service;
 use crate::values::{Answer, Octets, Request, Text};
 
-/// The text of the answer to this request (IEC 61131-9, A.5).
+/// The text of the answer to this request (IEC 61131-9, A.5.1 to A.5.6).
 ///
 /// Only a read is answered by `Read`, and only a write by `Written`.
 pub fn encode_answer(request: &Request, answer: &Answer) -> Text
@@ -38,7 +38,7 @@ fn text_to(request: &Request, answer: &Answer) -> Text
 }
 
 /// The answer to this request whose text the octets begin with; what stands behind the text is
-/// ignored (IEC 61131-9, A.5).
+/// ignored (IEC 61131-9, A.5.1 to A.5.6).
 ///
 /// The first of these that holds refuses:
 /// - 10 `Truncated`: no octet;

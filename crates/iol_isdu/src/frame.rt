@@ -22,7 +22,7 @@ pub(crate) fn xor_of(octets: &[u8]) -> u8
 }
 
 /// The total length of the text that the octets begin with, in octets, as its first octet or its
-/// ExtLength says (IEC 61131-9, A.5): 2 to 15, or 17 to 238.
+/// ExtLength says (IEC 61131-9, A.5.3): 2 to 15, or 17 to 238.
 ///
 /// Refused with 10 `Truncated` where the octets are too few to hold a total length, and with
 /// 11 `BadIsduLength` where they hold one that no text has. Service and CHKPDU are not looked at.

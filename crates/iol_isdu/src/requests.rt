@@ -12,7 +12,7 @@ use crate::service::{Form, Service};
 use crate::values::{Octets, Place, Request, Text};
 
 /// The text that the master sends for a request, in the shortest form that says its place
-/// (IEC 61131-9, A.5).
+/// (IEC 61131-9, A.5.1 to A.5.6).
 pub fn encode_request(request: &Request) -> Text
     ensures short { IsShortText request.now result.items }
     ensures text { result.items ≡ request_text request.now }
@@ -36,7 +36,7 @@ fn short_text(request: &Request) -> Text
 }
 
 /// The request whose text the octets begin with; what stands behind the text is ignored
-/// (IEC 61131-9, A.5).
+/// (IEC 61131-9, A.5.1 to A.5.6).
 ///
 /// A place is taken in each form that says it, also in one that isn't the shortest (profile).
 /// The first of these that holds refuses:

@@ -17,7 +17,7 @@ pub(crate) enum Form {
     WideIndexSub,
 }
 
-/// What a text is, as the high four bits of its first octet say (IEC 61131-9, A.5).
+/// What a text is, as the high four bits of its first octet say (IEC 61131-9, A.5.2).
 #[derive(Clone, Copy)]
 pub(crate) enum Service {
     /// Write request.

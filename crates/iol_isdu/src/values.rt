@@ -4,14 +4,14 @@ use crate::fault::IsduFault;
 use arrayvec::ArrayVec;
 
 /// The octets of a parameter: at most 232, so that they fit into one ISDU
-/// beside the longest form of a place (IEC 61131-9, A.5).
+/// beside the longest form of a place (IEC 61131-9, A.5.3 and A.5.4).
 pub type Octets = ArrayVec<u8, 232>;
 
 /// The text of an ISDU, from its first octet to its CHKPDU: 2 to 238 octets
-/// (IEC 61131-9, A.5).
+/// (IEC 61131-9, A.5.3).
 pub type Text = ArrayVec<u8, 238>;
 
-/// Where a parameter lies in the device (IEC 61131-9, A.5).
+/// Where a parameter lies in the device (IEC 61131-9, A.5.4).
 #[derive(Clone, Copy, Debug, PartialEq, Eq)]
 pub struct Place {
     /// The index of the parameter, 0 to 65,535.
@@ -20,7 +20,7 @@ pub struct Place {
     pub sub: u8,
 }
 
-/// What the master asks of the device by one ISDU (IEC 61131-9, A.5).
+/// What the master asks of the device by one ISDU (IEC 61131-9, A.5.2).
 #[derive(Clone, Debug, PartialEq, Eq, Drop)]
 pub enum Request {
     /// Read the parameter at this place.
@@ -29,7 +29,7 @@ pub enum Request {
     Write(Place, Octets),
 }
 
-/// What the device answers to one request (IEC 61131-9, A.5).
+/// What the device answers to one request (IEC 61131-9, A.5.2).
 #[derive(Clone, Debug, PartialEq, Eq, Drop)]
 pub enum Answer {
     /// Read response (+): the octets of the parameter that was read.

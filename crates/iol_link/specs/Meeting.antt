@@ -20,10 +20,11 @@ pub record IsOut (page : List ℕ) (link : Link) (octets : List ℕ) (message : 
 
 -- The link alone
 
--- after a good reply: both ends have one link, and the reply is what the far end says there
-pub record LinkMet (link : Link) (octets : List ℕ) (message : MasterMsg) (layout : Shape) (silence : ℕ) (far : Far) (reply : Reply) : Type 0 where
+-- after a good reply: both ends have one link, by what a device of this page does with the message, and the reply is
+-- what the far end says there
+pub record LinkMet (page : List ℕ) (link : Link) (octets : List ℕ) (message : MasterMsg) (layout : Shape) (silence : ℕ) (far : Far) (reply : Reply) : Type 0 where
   pub silent : silence ≡ 0
-  pub at : IsAt far.page (turned link octets message) far
+  pub at : IsAt far.page (turned page link octets message) far
   pub reply_is : reply ≡ reply_to far layout message
 
 -- after none: one attempt more
@@ -34,16 +35,16 @@ pub record LinkMissed (link : Link) (octets : List ℕ) (tries silence : ℕ) (f
 pub record LinkExchanges : Type 0 where
   pub met : (far : Far) (silence : ℕ) (octets : List ℕ) (answer : Option (List ℕ)) (far_new : Far) (silence_new : ℕ) → HonestExchange far silence octets answer far_new silence_new
       → (link : Link) (message : MasterMsg) (layout : Shape) (tries : ℕ) → IsOut far.page link octets message layout → IsLinked far.page link octets tries far
-      → (reply : Reply) → good_reply layout message answer ≡ Some reply → LinkMet link octets message layout silence_new far_new reply
+      → (reply : Reply) → good_reply layout message answer ≡ Some reply → LinkMet far.page link octets message layout silence_new far_new reply
   pub missed : (far : Far) (silence : ℕ) (octets : List ℕ) (answer : Option (List ℕ)) (far_new : Far) (silence_new : ℕ) → HonestExchange far silence octets answer far_new silence_new
       → (link : Link) (message : MasterMsg) (layout : Shape) (tries : ℕ) → IsOut far.page link octets message layout → IsLinked far.page link octets tries far
       → tries < 3 → tries ≤ silence → good_reply layout message answer ≡ None → LinkMissed link octets tries silence_new far_new
 
 -- The request and the record too
 
-pub record LevelMet (size : ℕ) (base : List Carried) (link : Link) (progress : Progress) (octets : List ℕ) (message : MasterMsg) (what : Move) (layout : Shape) (silence : ℕ) (far : Far) (reply : Reply) : Type 0 where
+pub record LevelMet (page : List ℕ) (size : ℕ) (base : List Carried) (link : Link) (progress : Progress) (octets : List ℕ) (message : MasterMsg) (what : Move) (layout : Shape) (silence : ℕ) (far : Far) (reply : Reply) : Type 0 where
   pub silent : silence ≡ 0
-  pub before : IsBefore far.page size (base_after what base far.carried) (turned link octets message) (after progress what (isdu_data size far.isdu)) far
+  pub before : IsBefore far.page size (base_after what base far.carried) (turned page link octets message) (after progress what (isdu_data size far.isdu)) far
   pub grown : IsGrown base progress far.carried
   pub reply_is : reply ≡ reply_to far layout message
 
@@ -56,7 +57,7 @@ pub record LevelExchanges (size : ℕ) : Type 0 where
   pub met : (far : Far) (silence : ℕ) (octets : List ℕ) (answer : Option (List ℕ)) (far_new : Far) (silence_new : ℕ) → HonestExchange far silence octets answer far_new silence_new
       → (link : Link) (message : MasterMsg) (layout : Shape) (tries : ℕ) → IsOut far.page link octets message layout
       → (base : List Carried) (progress : Progress) (what : Move) → IsSent far.page size link progress octets message what → IsLevel far.page size base link progress octets tries far
-      → (reply : Reply) → good_reply layout message answer ≡ Some reply → LevelMet size base link progress octets message what layout silence_new far_new reply
+      → (reply : Reply) → good_reply layout message answer ≡ Some reply → LevelMet far.page size base link progress octets message what layout silence_new far_new reply
   pub missed : (far : Far) (silence : ℕ) (octets : List ℕ) (answer : Option (List ℕ)) (far_new : Far) (silence_new : ℕ) → HonestExchange far silence octets answer far_new silence_new
       → (link : Link) (message : MasterMsg) (layout : Shape) (tries : ℕ) → IsOut far.page link octets message layout
       → (base : List Carried) (progress : Progress) (what : Move) → IsSent far.page size link progress octets message what → IsLevel far.page size base link progress octets tries far

@@ -25,7 +25,7 @@ use crate::why::Why;
 use iol_device::{ends_stay_level, links_stay_level, texts_are_heard};
 use iol_link::{Attempt, Handler, Wire, exchanges_keep_ends_level};
 use iol_mseq::{Layout, MasterMsg, Message, Reply, encode_master};
-use iol_page::Layouts;
+use iol_page::{Layouts, pages_ask_for_layouts};
 use std::marker::Model;
 
 /// A link in the mode `S`, which owns the wire.
@@ -66,6 +66,7 @@ pub enum Next<W: Wire> {
 fn laws()
     ensures { Laws }
 {
+    pages_ask_for_layouts();
     texts_are_heard();
     ends_stay_level();
     links_stay_level();
@@ -194,8 +195,9 @@ impl<W: Wire> Link<W, Startup> {
     /// Sends the message of the step once.
     ///
     /// With its good reply the next step begins: the page is read from 0x02 to 0x0B and then checked, MasterIdent and
-    /// DevicePreoperate are written. Down with a fault of the page, or with `Lost` at the third attempt in a row that
-    /// had no good reply.
+    /// DevicePreoperate are written. To a device of V1.0 MasterCycleTime and DeviceOperate are written in their place, and
+    /// with the good reply to DeviceOperate the mode is OPERATE (profile). Down with a fault of the page, or with `Lost` at
+    /// the third attempt in a row that had no good reply.
     pub fn turn(self) -> Next<W>
         ensures honest { W.honest (wire_of result) ≡ W.honest self.wire }
 
@@ -215,6 +217,8 @@ impl<W: Wire> Link<W, Startup> {
         ensures lost { IsTrue (W.honest self.wire) → LostFits (outcome_of result) (W.silence (wire_of result)) }
         ensures still { IsTrue (W.honest self.wire) → (W.far (wire_of result)).carried ≡ (W.far self.wire).carried }
         ensures fault { IsTrue (W.honest self.wire) → FaultFits (outcome_of result) (W.far (wire_of result)) }
+        ensures entered { IsTrue (W.honest self.wire)
+            → EnteredFits (outcome_of result) (W.silence (wire_of result)) (W.far (wire_of result)) }
     {
         laws();
         let Link { mut wire, state } = self;
@@ -237,8 +241,9 @@ impl<W: Wire> Link<W, Startup> {
     {
         match &self.state.step {
             Step::Read(_) => None,
-            Step::Ident(told) => Some(&told.layouts),
-            Step::Leave(told) => Some(&told.layouts),
+            Step::Ident(told, _) | Step::Leave(told, _) | Step::Cycle(told) | Step::Enter(told) => {
+                Some(&told.layouts)
+            }
         }
     }
 }
@@ -253,10 +258,10 @@ impl<W: Wire> Link<W, Preoperate> {
 
         // the wire is called once, with the octets of the message; its answer alone says what becomes of the mode
         ensures exchange { (answer : Option (ArrayVec ℕ))
-            × W.exchange_gives self.wire (master_text self.state.layouts.pre self.state.sent.message) answer (wire_of result)
+            × W.exchange_gives self.wire (master_text self.state.pre self.state.sent.message) answer (wire_of result)
             × (IsTrue (W.honest self.wire) → HonestExchange (W.far self.wire) (W.silence self.wire)
-            (master_text self.state.layouts.pre self.state.sent.message) (octets_in answer) (W.far (wire_of result)) (W.silence (wire_of result)))
-            × (outcome_of result ≡ preoperate_turned self.state (good_reply self.state.layouts.pre self.state.sent.message (octets_in answer))) }
+            (master_text self.state.pre self.state.sent.message) (octets_in answer) (W.far (wire_of result)) (W.silence (wire_of result)))
+            × (outcome_of result ≡ preoperate_turned self.state (good_reply self.state.pre self.state.sent.message (octets_in answer))) }
 
         ensures fits { OutcomeFits (outcome_of result) }
 
@@ -274,12 +279,14 @@ impl<W: Wire> Link<W, Preoperate> {
         let Preoperate {
             mut sent,
             cycle_written,
+            pre,
             layouts,
         } = state;
-        let attempt = sent.attempt(&mut wire, &layouts.pre);
+        let attempt = sent.attempt(&mut wire, &pre);
         let state = Preoperate {
             sent,
             cycle_written,
+            pre,
             layouts,
         };
         linked(wire, preoperate_done(state, attempt))
@@ -287,9 +294,9 @@ impl<W: Wire> Link<W, Preoperate> {
 
     /// The octets that the next turn sends.
     pub fn octets(&self) -> Message
-        ensures { result.items ≡ master_text self.now.state.layouts.pre self.now.state.sent.message }
+        ensures { result.items ≡ master_text self.now.state.pre self.now.state.sent.message }
     {
-        encode_master(&self.state.layouts.pre, self.state.sent.message())
+        encode_master(&self.state.pre, self.state.sent.message())
     }
 
     /// The layouts that the page asks for.

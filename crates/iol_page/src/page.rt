@@ -14,16 +14,21 @@ const PROCESS_DATA_IN: u8 = 0x05;
 
 const PROCESS_DATA_OUT: u8 = 0x06;
 
+/// RevisionID of V1.0.
+const VERSION_1_0: u8 = 0x10;
+
 /// RevisionID of V1.1.
 const VERSION_1_1: u8 = 0x11;
 
-/// The layouts that a page asks for, after STARTUP.
+/// What a page asks for: the layouts after STARTUP, and whether the device has the ISDU channel.
 #[derive(Clone, Copy, Debug, PartialEq, Eq)]
 pub struct Layouts {
-    /// That of PREOPERATE.
-    pub pre: Layout,
+    /// That of PREOPERATE, none of a device of V1.0.
+    pub pre: Option<Layout>,
     /// That of OPERATE.
     pub run: Layout,
+    /// Whether the device has the ISDU channel.
+    pub isdu: bool,
 }
 
 /// The octets of direct parameter page 1 that a device fills: addresses 0x02 to 0x0B (IEC 61131-9, B.1.1).
@@ -70,27 +75,32 @@ impl Page {
         }
     }
 
-    /// The layouts that the page asks for.
+    /// The layouts that the page asks for. RevisionID 0x10 (V1.0) has no PREOPERATE, and bits 5 and 4 of its capability
+    /// are not looked at (profile).
     ///
-    /// Refusals, the first that holds: 8 Revision, the RevisionID isn't 0x11; 20 NoIsdu; 7 BadPdLength,
+    /// Refusals, the first that holds: 8 Revision, the RevisionID is neither 0x11 nor 0x10; 7 BadPdLength,
     /// of ProcessDataIn, then of ProcessDataOut; 2 UnsupportedCode.
     pub fn layouts(&self) -> Result<Layouts, PageFault>
         ensures { result ≡ layouts_of self.now }
     {
         let revision = self.octet(REVISION);
-        if revision != VERSION_1_1 {
+        if revision != VERSION_1_1 && revision != VERSION_1_0 {
             return Err(PageFault::Revision(revision));
         }
         let capability = Capability::from_octet(self.octet(CAPABILITY));
-        if !capability.isdu {
-            return Err(PageFault::NoIsdu);
-        }
         let pd_in = PdLength::from_octet(self.octet(PROCESS_DATA_IN))?;
         let pd_out = PdLength::from_octet(self.octet(PROCESS_DATA_OUT))?;
-        let pre = Layout::preoperate(capability.pre);
+        let pre = match revision {
+            VERSION_1_0 => Ok(None),
+            _ => Layout::preoperate(capability.pre).map(Some),
+        };
         let run = Layout::operate(capability.run, pd_in.0, pd_out.0);
         match (pre, run) {
-            (Ok(pre), Ok(run)) => Ok(Layouts { pre, run }),
+            (Ok(pre), Ok(run)) => Ok(Layouts {
+                pre,
+                run,
+                isdu: capability.isdu,
+            }),
             _ => Err(PageFault::UnsupportedCode),
         }
     }

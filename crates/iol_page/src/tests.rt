@@ -21,30 +21,52 @@ fn changed(capability: u8, revision: u8, process_data_in: u8) -> Page {
     Page::from_octets(&octets)
 }
 
+fn refusal(page: &Page) -> Option<PageFault> {
+    match page.layouts() {
+        Ok(_) => None,
+        Err(fault) => Some(fault),
+    }
+}
+
 #[test]
 fn layouts_of_pages(rt: HostRuntime) -> Result<(), Fail> {
     let plain = Page::from_octets(&PLAIN).layouts()?;
-    assert_eq!(rt; sizes(&plain.pre), (1, 8, 0, 0));
+    assert_eq!(rt; plain.pre.map(|l| sizes(&l)), Some((1, 8, 0, 0)));
     assert_eq!(rt; sizes(&plain.run), (1, 8, 0, 0));
     let process = Page::from_octets(&PROCESS).layouts()?;
-    assert_eq!(rt; sizes(&process.pre), (0, 1, 0, 0));
+    assert_eq!(rt; process.pre.map(|l| sizes(&l)), Some((0, 1, 0, 0)));
     assert_eq!(rt; sizes(&process.run), (2, 1, 2, 1));
     let two = changed(0x23, 0x11, 0x00).layouts()?;
     assert_eq!(rt; sizes(&two.run), (1, 2, 0, 0));
+    assert!(rt; plain.isdu && process.isdu && two.isdu);
+    Ok(())
+}
+
+#[test]
+fn layouts_of_old_devices(rt: HostRuntime) -> Result<(), Fail> {
+    let old = changed(0x2D, 0x10, 0x00).layouts()?;
+    assert_eq!(rt; old.pre, None);
+    assert_eq!(rt; (sizes(&old.run), old.isdu), ((1, 8, 0, 0), true));
+    let without = changed(0x2C, 0x11, 0x00).layouts()?;
+    assert_eq!(rt; without.pre, Layout::preoperate(2).ok());
+    assert_eq!(rt; (sizes(&without.run), without.isdu), ((1, 8, 0, 0), false));
+    let both = changed(0x2C, 0x10, 0x00).layouts()?;
+    assert_eq!(rt; (both.pre, both.isdu), (None, false));
     Ok(())
 }
 
 #[test]
 fn refused_pages(rt: HostRuntime) {
     for (capability, revision, process_data_in, fault) in [
-        (0x2C, 0x10, 0x11, PageFault::Revision(0x10)),
-        (0x2C, 0x11, 0x11, PageFault::NoIsdu),
+        (0x2C, 0x12, 0x11, PageFault::Revision(0x12)),
+        (0x2C, 0x11, 0x11, PageFault::BadPdLength),
+        (0x24, 0x10, 0x00, PageFault::UnsupportedCode),
         (0x25, 0x11, 0x00, PageFault::UnsupportedCode),
         (0x23, 0x11, 0x08, PageFault::UnsupportedCode),
         (0x25, 0x11, 0x11, PageFault::BadPdLength),
     ] {
         let page = changed(capability, revision, process_data_in);
-        assert_eq!(rt; page.layouts().err(), Some(fault));
+        assert_eq!(rt; refusal(&page), Some(fault));
     }
 }
 
@@ -95,8 +117,7 @@ fn commands(rt: HostRuntime) {
 #[test]
 fn faults_have_names(rt: HostRuntime) -> Result<(), Fail> {
     for (fault, number, name) in [
-        (PageFault::Revision(0x10), 8, "Revision"),
-        (PageFault::NoIsdu, 20, "NoIsdu"),
+        (PageFault::Revision(0x12), 8, "Revision"),
         (PageFault::BadPdLength, 7, "BadPdLength"),
         (PageFault::UnsupportedCode, 2, "UnsupportedCode"),
     ] {

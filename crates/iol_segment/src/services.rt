@@ -3,7 +3,7 @@ ghost use Rattle.iol_isdu.specs.Requests.{request_accepts};
 ghost use Rattle.iol_isdu.specs.Answers.{answer_accepts};
 ghost use Rattle.iol_segment.specs.Parts.{first_octets};
 
-// The services, the high four bits of the first octet (IEC 61131-9, A.5). Those of a request stand here
+// The services, the high four bits of the first octet (IEC 61131-9, A.5.2). Those of a request stand here
 // for an 8-bit index; the one behind is for an index and a subindex, the next for a 16-bit index.
 pub(crate) const WRITE_REQUEST: u8 = 0x1;
 

@@ -10,7 +10,7 @@ use iol_isdu::{Answer, Place, Request};
 
 /// A value whose ISDU text can be had octet by octet, with no copy of it.
 ///
-/// The text is the octets that the source gives, followed by their XOR, the CHKPDU (IEC 61131-9, A.5).
+/// The text is the octets that the source gives, followed by their XOR, the CHKPDU (IEC 61131-9, A.5.6).
 pub trait Source {
     /// The octets of the text before its CHKPDU.
     ghost octets: { Self → List ℕ };

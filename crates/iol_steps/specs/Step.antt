@@ -24,6 +24,8 @@ Image = List ℕ
 pub data Step : Type 0 where
   -- a request, under the number of its ticket, is under way
   Take : ℕ → Request → Step
+  -- the request of this ticket is answered NoIsdu, and never under way
+  Deny : ℕ → Step
   -- the device carries out the request under way, and answers this
   Carry : Answer → Step
   -- the request under way has this answer, or is cut off
@@ -105,10 +107,13 @@ silence_left moment = silence_by moment.call moment.silence
 
 -- Steps of one turn beside each other
 
--- two steps that don't stand in one turn: a second of a kind, and a busy reply beside the taking or the carrying out of
--- its request
+-- two steps that don't stand in one turn: a second of a kind, a denial beside a taking, and a busy reply beside the
+-- taking or the carrying out of its request
 abbrev pub clash : Step → Step → Bool
 clash (Take ticket request) (Take other next) = true
+clash (Take ticket request) (Deny other) = true
+clash (Deny ticket) (Take other next) = true
+clash (Deny ticket) (Deny other) = true
 clash (Done answer) (Done other) = true
 clash (Unknown cause) (Unknown other) = true
 clash (Report events) (Report others) = true
@@ -129,6 +134,7 @@ is_clash_free (step ∷ steps) = list_all (λ other. not (clash step other)) ste
 -- the steps that the book hears of
 abbrev pub is_for_book : Step → Bool
 is_for_book (Take ticket request) = true
+is_for_book (Deny ticket) = true
 is_for_book (Done answer) = true
 is_for_book (Unknown cause) = true
 is_for_book Reset = true

@@ -1,6 +1,6 @@
 //! Laws of the definitions, each carried by a function that does nothing when it runs: what one call of an honest wire gives,
 //! for every master whose fields and far end stand together before it.
-ghost use Rattle.iol_steps.specs.Promises.{WakeGives, MissedGives, LostGives, HadGives, StartedGives, ReplyTells, TextNamesAnswer, OpenGives, WantGives, BeginGives, RestartGives};
+ghost use Rattle.iol_steps.specs.Promises.{WakeGives, MissedGives, LostGives, HadGives, StartedGives, ReplyTells, TextNamesAnswer, OpenGives, WantGives, BeginGives, DenyGives, RestartGives};
 
 use iol_device::{
     ends_stay_level, events_stay_until_confirmed, modes_have_layouts, page_and_room_stay,
@@ -113,7 +113,15 @@ pub fn wanted_output_stands()
     ensures { WantGives }
 {}
 
-/// A request is begun in OPERATE where none is under way: both ends stand together as before, and it is taken.
+/// Where the device has no ISDU a request is denied in OPERATE, where none is under way: nothing changes in the
+/// session.
+#[tactic(auto, using(crate::proofs::Calls::deny_gives))]
+pub fn denial_changes_nothing()
+    ensures { DenyGives }
+{}
+
+/// A request is begun in OPERATE where none is under way, and the device has ISDU: both ends stand together as before,
+/// and it is taken.
 #[tactic(auto, using(crate::proofs::Calls::begin_gives))]
 pub fn begin_takes_the_request()
     ensures { BeginGives }

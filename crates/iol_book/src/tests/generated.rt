@@ -8,6 +8,7 @@ use std::test::Fail;
 enum Call {
     Submit(u16),
     Take,
+    Deny,
     Post(Outcome),
     Collect(Ticket),
     Withdraw(Ticket),
@@ -43,9 +44,9 @@ impl Random {
     fn call(&mut self, last: u64, is_quiet: bool) -> Call {
         let ticket = Ticket(last.saturating_sub(self.number() % 8));
         let kind = if is_quiet {
-            self.number() % 12 + 4
+            self.number() % 13 + 4
         } else {
-            self.number() % 16
+            self.number() % 17
         };
         match kind {
             0..=4 => Call::Submit(16),
@@ -55,6 +56,7 @@ impl Random {
             10..=12 => Call::Collect(ticket),
             13 => Call::Withdraw(ticket),
             14 => Call::Reset,
+            15 => Call::Deny,
             _ => Call::Archive,
         }
     }
@@ -76,6 +78,7 @@ fn same_reply(book: &mut Book, plain: &mut PlainBook, call: Call) -> Result<bool
     Ok(match call {
         Call::Submit(index) => book.submit(read(index)) == plain.submit(index)?,
         Call::Take => book.take() == plain.take(),
+        Call::Deny => book.deny() == plain.deny(),
         Call::Post(outcome) => same_post(book, plain, outcome),
         Call::Collect(ticket) => book.collect(ticket) == plain.collect(ticket),
         Call::Withdraw(ticket) => book.withdraw(ticket) == plain.withdraw(ticket),

@@ -97,6 +97,18 @@ impl PlainBook {
         Some(taken)
     }
 
+    pub fn deny(&mut self) -> Option<Ticket> {
+        if self.taken().is_some() {
+            return None;
+        }
+        let place = self.rows.iter().position(|row| row.waits())?;
+        let row = &mut self.rows[place];
+        row.stage = Stage::Ended(Outcome::NoIsdu);
+        let ticket = row.ticket;
+        self.enter();
+        Some(ticket)
+    }
+
     pub fn taken(&self) -> Option<Ticket> {
         let place = self.taken_row()?;
         Some(self.rows[place].ticket)
