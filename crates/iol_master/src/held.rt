@@ -9,6 +9,7 @@ ghost use Rattle.iol_port.specs.declared.call.Call.TheVariants as call;
 ghost use Rattle.iol_port.specs.declared.call.Answered.TheVariants as answered;
 ghost use Rattle.iol_port.specs.View.{Does, IsRun, OpensWell, KeepsRecord, shown_in, status_of};
 ghost use Rattle.iol_port.specs.Asks.{asks_of};
+ghost use Rattle.iol_port.specs.WireCalls.{ComesFrom};
 ghost use Rattle.iol_port.specs.EveryWire.{CollectGives, WithdrawGives, ArchiveGives, TakeEventGives, SetOutputGives};
 ghost use Rattle.iol_port.specs.EveryWire.{ClearOutputGives, RestartGives, TurnGives};
 ghost use Rattle.iol_port.specs.Clean.{CleanTurn, IsLevelBetween};
@@ -232,14 +233,15 @@ impl<W: Wire, K: Ledger, A: Handle> Held<W, K, A> {
         self.port.turn_shown(rt);
     }
 
-    /// A law of each port under its lock, without code: whenever the lock is got, the journal says
-    /// where each ticket stands; the port is what a run of the one that was opened has made of it; and,
-    /// if the wire was honest and the device had been handed no
-    /// request when the port was opened, the device's record fits the journal, and both ends are
-    /// level between requests.
+    /// A law of each port under its lock, without code: whenever the lock is got, the journal says where each ticket
+    /// stands; the port is what a run of the one that was opened has made of it, and its wire what the one at the
+    /// opening became by the calls of turns; and, if the wire was honest and the device had been handed no request when
+    /// the port was opened, the device's record fits the journal, and both ends are level between requests.
     pub fn keeps_record(&self)
         ensures replayed { IsReplayed self.now.parts.book.state }
         ensures run { IsRun W.honest W.far W.silence self.now.opening self.now.parts }
+        ensures wire { ComesFrom W.wake_gives W.exchange_gives
+            self.now.opening.wire (wire_of self.now.parts.station.link) }
         ensures record_fits { OpensWell self.now.opening → KeepsRecord W.honest W.far W.silence self.now.parts }
         ensures level { OpensWell self.now.opening → IsLevelBetween W.far self.now.parts }
     {

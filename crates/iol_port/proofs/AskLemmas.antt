@@ -1,5 +1,5 @@
 -- A port asks what its station asks, and a turn is its station's turn.
-use Rattle.std.proofs.Common.{◌≡◌, ◌∷◌, [], ◌++◌, ℕ, Bool, cond, not, ◌&&◌, List, subst, sym, ap, ◌∙◌, Option}
+use Rattle.std.proofs.Common.{◌≡◌, ◌∷◌, [], ◌++◌, ℕ, Bool, cond, not, ◌&&◌, List, subst, ap, ◌∙◌, Option}
 use Rattle.arrayvec.specs.ArrayVec.{ArrayVec}
 use Rattle.iol_isdu.specs.declared.values.Request.{Request}
 use Rattle.iol_device.specs.Far.{Far}

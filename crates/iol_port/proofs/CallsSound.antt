@@ -10,11 +10,10 @@ use Rattle.iol_book.specs.declared.entries.Ticket.{Ticket}
 use Rattle.iol_book.specs.declared.entries.Limits.{Limits}
 use Rattle.iol_book.specs.declared.entries.Outcome.{Outcome}
 use Rattle.iol_book.specs.declared.entries.Outcome.TheVariants as outcome
-use Rattle.iol_book.specs.declared.entries.Entry.{Entry}
 use Rattle.iol_book.specs.declared.entries.Entry.TheVariants.{Submitted, Collected, Withdrawn}
 use Rattle.iol_book.specs.declared.fault.BookFault.{BookFault}
 use Rattle.iol_book.specs.BookModel.{BookState, IsReplayed, entered, submitted, next_ticket, collected, collect_answer, withdrawn, withdraw_refusal, may_archive, posted}
-use Rattle.iol_book.specs.Takings.{ended, FitsTakings, FitsEnded, FitsJournal}
+use Rattle.iol_book.specs.Takings.{FitsTakings, FitsEnded, FitsJournal}
 use Rattle.iol_steps.specs.Step.{Image}
 use Rattle.iol_steps.specs.Session.{Job, Session, cut_for}
 use Rattle.iol_steps.specs.declared.mode.Mode.TheVariants.{Down}
@@ -25,24 +24,7 @@ use Rattle.iol_port.specs.declared.call.Answered.{Answered}
 use Rattle.iol_port.specs.Run.{PortState, CallOf, Run, Is, opened, moment_in, request_of, submit_of, collect_of, withdraw_of, archive_of, take_event_of, set_output_of, restarted}
 use Rattle.iol_port.specs.Sound.{Sound, IsSound, RecordFits, FitsOpen, pairs_from, request_taken, written}
 use Rattle.iol_port.proofs.Replaying.{entered_replayed, free_archive}
-use Rattle.iol_port.proofs.SoundLemmas.{BookLaws, taken_is, sound_cut, sound_moved, sound_through}
-
--- the record fits the same, once the same requests ended
-fits_same : (job : Option Job) (late : Option Request) (journal next : List Entry) (pairs : List (Request × Answer)) → ended next ≡ ended journal → FitsOpen job late journal pairs → FitsOpen job late next pairs
-fits_same (Some job) late journal next pairs e (earlier, are, fits) = (earlier, are, subst (λ ts. FitsTakings ts earlier) (sym e) fits)
-fits_same None (Some q) journal next pairs e (earlier, cause, is, fits) = (earlier, cause, e ∙ is, fits)
-fits_same None None journal next pairs e fits = subst (λ ts. FitsTakings ts pairs) (sym e) fits
-
--- a book in which the same request is taken, and the same ended
-sound_book : (b next : BookState) (s : Session) (base : ℕ) → IsReplayed next → next.standing.taken ≡ b.standing.taken → next.unsure ≡ b.unsure → ended next.journal ≡ ended b.journal → Sound b s base → Sound next s base
-sound_book b next s base replayed taken unsure same sound = record {
-  replayed = replayed;
-  same = ap request_taken taken ∙ sound.same;
-  sure = λ h. sound.sure (sym unsure ∙ h);
-  alone = sound.alone;
-  within = sound.within;
-  fits = fits_same s.job s.late b.journal next.journal _ same sound.fits;
-}
+use Rattle.iol_port.proofs.SoundLemmas.{BookLaws, taken_is, sound_book, sound_cut, sound_moved, sound_through}
 
 by_is : (a b : PortState) → b ≡ a → IsSound a → IsSound b
 by_is a b is sound = subst IsSound (sym is) sound

@@ -8,6 +8,7 @@ use Rattle.iol_mseq.specs.Texts.{master_text}
 use Rattle.iol_mseq.specs.declared.master.MasterMsg.{MasterMsg}
 use Rattle.iol_mseq.specs.declared.reply.Reply.{Reply}
 use Rattle.iol_page.specs.declared.page.Layouts.{Layouts}
+use Rattle.iol_page.specs.Page.{knows_isdu}
 use Rattle.iol_isdu.specs.declared.values.Request.{Request}
 use Rattle.iol_isdu.specs.declared.values.Answer.{Answer}
 use Rattle.iol_device.specs.Device.{octets_in}
@@ -220,7 +221,7 @@ module _ {W : Type 0} (honest : W → Bool) (far : W → Far) (silence : W → �
             subst (λ (p : List ℕ). IsAccepted layouts p link message) (sym same.page) (t.accepted stood.is_honest link stood.operating) in
             let sized : IsSized (hear x.ready o).far = stays_sized.hears x.ready o (same.sized (t.exchange.passes stood.is_honest).regular.sized) in
             let quiet : IsQuiet x.ready.events = subst IsQuiet (sym same.events) stood.quiet in
-            let found = heard_well read_back layouts message link x.ready accepted channel (same.awake ∙ stood.awake) (same.link_is ∙ stood.at) quiet sized in
+            let found = heard_well read_back layouts message link x.ready accepted channel (same.awake ∙ stood.awake) (ap knows_isdu same.page ∙ stood.isdu) (same.link_is ∙ stood.at) quiet sized in
             let reply : Reply = found.0 in
             let well : HeardWell layouts message x.ready (far (wire_of new.link)) (octets_in t.exchange.answer) reply =
             rw (x.far_is, x.answer_is) found.1 in
@@ -237,6 +238,7 @@ module _ {W : Type 0} (honest : W → Bool) (far : W → Far) (silence : W → �
                 operating = inr_link;
                 awake = well.awake;
                 at = well.link_is;
+                isdu = ap knows_isdu (well.page ∙ same.page) ∙ stood.isdu;
                 quiet = well.quiet;
               };
               message = message;

@@ -4,7 +4,6 @@ use Rattle.std.specs.Prelude.{IsTrue, if◌then◌else◌, MatchBool, nat_lt}
 use Rattle.std.proofs.lemmas.Bool.{cases_lt}
 use Rattle.std.proofs.lemmas.Bool.Decides.{nat_tests}
 use Rattle.arrayvec.specs.ArrayVec.{ArrayVec}
-use Rattle.iol_octets.specs.declared.control.Channel.TheVariants.{Isdu}
 use Rattle.iol_page.specs.declared.page.Layouts.{Layouts}
 use Rattle.iol_isdu.specs.declared.values.Request.{Request}
 use Rattle.iol_isdu.specs.declared.values.Answer.{Answer}
@@ -16,7 +15,7 @@ use Rattle.iol_segment.specs.TextLaws.{joined}
 use Rattle.iol_device.specs.declared.app.Carried.{Carried}
 use Rattle.iol_device.specs.Codec.{flow_of}
 use Rattle.iol_device.specs.Isdu.{IsduState, Handed, Answered, received, isdu_data, answer_text, fits, handed}
-use Rattle.iol_device.specs.Far.{Far, isdu_after}
+use Rattle.iol_device.specs.Far.{Far, isdu_moved}
 use Rattle.iol_device.specs.Local.{Carry, local, carried_by, has_room, IsWorkedOff}
 use Rattle.iol_device.specs.Level.{Link, link_of, grown_by}
 use Rattle.iol_link.specs.declared.wire.Rate.{Rate}
@@ -83,7 +82,7 @@ module _ {W : Type 0} (honest : W → Bool) (far : W → Far) (silence : W → �
 
     -- what the message makes of the device's ISDU state
     abbrev after : Current → IsduState → IsduState
-    after c state = isdu_after size state Isdu (progress_head c.progress).read (flow_of (progress_head c.progress).address) (progress_data c.progress)
+    after c state = isdu_moved size state (progress_head c.progress).read (flow_of (progress_head c.progress).address) (progress_data c.progress)
 
     module _ (old : StationState W) (wire : W) (c : Current) (said : Said) (new : StationState W) (t : Turns old wire c said new) where
       same : SameBut (far wire) t.ready
@@ -92,8 +91,8 @@ module _ {W : Type 0} (honest : W → Bool) (far : W → Far) (silence : W → �
       pub state_by : (far t.next).isdu ≡ after c t.heard_as.before
       state_by =
           t.heard_as.isdu
-          ∙ ap (λ (h : Head). isdu_after size t.heard_as.before Isdu h.read (flow_of h.address) t.message.od.items) t.head
-          ∙ ap (λ (xs : List ℕ). isdu_after size t.heard_as.before Isdu (progress_head c.progress).read (flow_of (progress_head c.progress).address) xs) t.octets
+          ∙ ap (λ (h : Head). isdu_moved size t.heard_as.before h.read (flow_of h.address) t.message.od.items) t.head
+          ∙ ap (λ (xs : List ℕ). isdu_moved size t.heard_as.before (progress_head c.progress).read (flow_of (progress_head c.progress).address) xs) t.octets
 
       pub state_is : link_of (far wire) ≡ operate_link → (far t.next).isdu ≡ after c t.ready.isdu
       state_is at =

@@ -5,10 +5,11 @@ pub mod CallLemmas
 pub mod Filters
 pub mod TurnLemmas
 pub mod RunLemmas
+pub mod WireLemmas
 pub mod TurnsRuleOut
 pub mod TieLemmas
-pub mod LateLemmas
 pub mod AskLemmas
+pub mod Denying
 pub mod CleanHearing
 pub mod CleanSession
 pub mod CleanStages
@@ -17,4 +18,6 @@ pub mod CleanTurns
 pub mod CleanRuns
 pub mod CleanLevel
 pub mod Crosses
+pub mod OwnedLists
 pub mod Owning
+pub mod WithoutIsdu

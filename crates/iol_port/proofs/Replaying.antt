@@ -3,13 +3,15 @@ use Rattle.std.proofs.Common.{◌≡◌, Bool, true, false, List, [], ◌∷◌,
 use Rattle.std.proofs.lemmas.Bool.{eq-eqb}
 use Rattle.std.proofs.lemmas.Bool.Decides.{nat_tests}
 use Rattle.std.specs.Option.{option_map}
+use Rattle.indexmap.specs.IndexMap.{insert_entry}
 use Rattle.iol_isdu.specs.declared.values.Request.{Request}
 use Rattle.iol_book.specs.declared.entries.Ticket.{Ticket}
 use Rattle.iol_book.specs.declared.entries.Outcome.{Outcome}
+use Rattle.iol_book.specs.declared.entries.Outcome.TheVariants.{NoIsdu}
 use Rattle.iol_book.specs.declared.entries.Entry.{Entry}
 use Rattle.iol_book.specs.declared.entries.Entry.TheVariants.{Taken, Answered}
-use Rattle.iol_book.specs.Replay.{Standing, nothing, step, replay_from}
-use Rattle.iol_book.specs.BookModel.{BookState, IsReplayed, entered, entered_if, leaves_unsure, took, posted, next_taken, may_archive}
+use Rattle.iol_book.specs.Replay.{Standing, nothing, same_ticket, waiting_after, step, replay_from}
+use Rattle.iol_book.specs.BookModel.{BookState, IsReplayed, entered, leaves_unsure, took, denied, ended_with, posted, next_taken, may_archive}
 
 replay_from-push : (s : Standing) (entries : List Entry) (entry : Entry) → replay_from s (entries ++ entry ∷ []) ≡ step (replay_from s entries) entry
 replay_from-push s [] entry = refl
@@ -35,12 +37,33 @@ took_replayed book t q next h =
     let (none, (rest, head)) = next_is book.standing t q next in
     head_taken book.standing t q rest head ∙ entered_replayed book (Taken t) h
 
-pub posted_replayed : (book : BookState) (o : Outcome) → IsReplayed book → IsReplayed (posted book o)
-posted_replayed book o h = by_taken book.standing.taken
+-- of an outcome that isn't NoIsdu: those that wait stay
+abbrev pub LeavesWaiting : Outcome → Type 0
+LeavesWaiting o = (t : Ticket) (waiting : List (Ticket × Request)) → waiting_after t o waiting ≡ waiting
+
+pub posted_replayed : (book : BookState) (o : Outcome) → LeavesWaiting o → IsReplayed book → IsReplayed (posted book o)
+posted_replayed book o leaves h = by_taken book.standing.taken
   where
-    by_taken : (taken : Option (Ticket × Request)) → IsReplayed (record (entered_if book (option_map (λ t. Answered t.0 o) taken)) { unsure = book.unsure || leaves_unsure o })
+    by_taken : (taken : Option (Ticket × Request)) → IsReplayed (record (ended_with book taken o) { unsure = book.unsure || leaves_unsure o })
     by_taken None = h
-    by_taken (Some t) = entered_replayed book (Answered t.0 o) h
+    by_taken (Some t) =
+        ap (λ (ws : List (Ticket × Request)). record book.standing { waiting = ws; taken = None; outcomes = insert_entry same_ticket book.standing.outcomes t.0 o }) (sym (leaves t.0 book.standing.waiting))
+        ∙ entered_replayed book (Answered t.0 o) h
+
+-- the ticket that waits longest is that of a request
+pub next_ticket_is : (next : Option (Ticket × Request)) (t : Ticket) → option_map (λ p. p.0) next ≡ Some t → (q : Request) × (next ≡ Some (t, q))
+next_ticket_is None t h = absurd (cc)
+next_ticket_is (Some p) t h = let e : p.0 ≡ t = cc in (p.1, ap (λ (k : Ticket). Some (k, p.1)) e)
+
+-- a denied request was the head of the queue
+pub denied_replayed : (book : BookState) (t : Ticket) (q : Request) → next_taken book.standing ≡ Some (t, q) → IsReplayed book → IsReplayed (denied book t)
+denied_replayed book t q next h =
+    let (none, (rest, head)) = next_is book.standing t q next in
+    head_denied book.standing t q rest head none ∙ entered_replayed book (Answered t NoIsdu) h
+  where
+    head_denied : (s : Standing) (t : Ticket) (q : Request) (rest : List (Ticket × Request)) → s.waiting ≡ (t, q) ∷ rest → s.taken ≡ None
+        → record s { waiting = drop 1 s.waiting; outcomes = insert_entry same_ticket s.outcomes t NoIsdu } ≡ step s (Answered t NoIsdu)
+    head_denied s t q rest h none = rw (h, none) (rw (eq-eqb t.0 t.0 refl) refl)
 
 -- nothing is outstanding in a book that may be archived, and it is sure
 pub free_archive : (book : BookState) → may_archive book ≡ true → (book.standing ≡ nothing) × (book.unsure ≡ false)

@@ -1,6 +1,7 @@
 -- every step of the abstract port keeps it sound
 use Rattle.std.proofs.Common.{◌≡◌, ◌⊎◌, ◌∷◌, ◌++◌, [], List, ℕ, Bool, true, false, Option, Some, None, IsSomeAnd, refl, ap, sym, ◌∙◌, append-nil, drop, length, map, length-append, inl, inr, arith, subst, ◌||◌, ◌≤◌}
 use Rattle.std.proofs.lemmas.List.{drop-append-le, map-append}
+use Rattle.std.specs.Option.{option_map}
 use Rattle.iol_isdu.specs.declared.values.Request.{Request}
 use Rattle.iol_isdu.specs.declared.values.Answer.{Answer}
 use Rattle.iol_isdu.specs.declared.values.Cause.{Cause}
@@ -10,23 +11,24 @@ use Rattle.iol_book.specs.declared.entries.Ticket.{Ticket}
 use Rattle.iol_book.specs.declared.entries.Outcome.{Outcome}
 use Rattle.iol_book.specs.declared.entries.Outcome.TheVariants as outcome
 use Rattle.iol_book.specs.declared.entries.Entry.{Entry}
-use Rattle.iol_book.specs.BookModel.{BookState, IsReplayed, next_taken, took, posted, leaves_unsure, reset}
+use Rattle.iol_book.specs.BookModel.{BookState, IsReplayed, next_taken, took, denied, posted, leaves_unsure, reset}
 use Rattle.iol_book.specs.Takings.{ended, FitsTakings, FitsEnded}
-use Rattle.iol_book.specs.TakingLaws.{SubmitTakesNone, CollectTakesNone, WithdrawTakesNone, TakeEndsNone, PostEndsTaken, FitsWithout, FitsWith, DoneFits, CutOffFits, TakenFits, ArchivedFits}
+use Rattle.iol_book.specs.TakingLaws.{SubmitTakesNone, CollectTakesNone, WithdrawTakesNone, DenyTakesNone, TakeEndsNone, PostEndsTaken, FitsWithout, FitsWith, DoneFits, CutOffFits, TakenFits, ArchivedFits}
 use Rattle.iol_steps.specs.declared.mode.Mode.{Mode}
 use Rattle.iol_mode.specs.declared.why.Why.{Why}
-use Rattle.iol_steps.specs.Step.{Step, Take, Carry, Done, Unknown, LateCarry, Reset, Busy, Move, Moment}
+use Rattle.iol_steps.specs.Step.{Step, Take, Deny, Carry, Done, Unknown, LateCarry, Reset, Busy, Move, Moment}
 use Rattle.iol_steps.specs.Session.{Job, Session, MaySession, MaySessionAll, MayCut, session_after, session_through, carried_out, carried_late, unanswered, left_of, cut_for, busy_once_more}
 use Rattle.iol_port.specs.Steps.{ticket_of, MayBook, MayBookAll, book_after, book_through}
 use Rattle.iol_port.specs.Run.{request_of}
 use Rattle.iol_port.specs.Sound.{pairs_from, written, FitsOpen, request_taken, Sound}
-use Rattle.iol_port.proofs.Replaying.{took_replayed, posted_replayed}
+use Rattle.iol_port.proofs.Replaying.{LeavesWaiting, next_is, next_ticket_is, took_replayed, denied_replayed, posted_replayed}
 
 -- the laws of a book
 pub record BookLaws : Type 0 where
   pub submit : SubmitTakesNone
   pub collect : CollectTakesNone
   pub withdraw : WithdrawTakesNone
+  pub deny : DenyTakesNone
   pub take : TakeEndsNone
   pub post : PostEndsTaken
   pub without : FitsWithout
@@ -73,7 +75,31 @@ unanswered_pairs q answer earlier none = ap (λ o. earlier ++ written q o) none 
 answered_pairs : (q : Request) (a : Answer) (answer : Option Answer) (earlier : List (Request × Answer)) → answer ≡ Some a → earlier ++ written q answer ≡ earlier ++ (q, a) ∷ []
 answered_pairs q a answer earlier is = ap (λ o. earlier ++ written q o) is
 
+-- the record fits the same, once the same requests ended
+fits_same : (job : Option Job) (late : Option Request) (journal next : List Entry) (pairs : List (Request × Answer)) → ended next ≡ ended journal → FitsOpen job late journal pairs → FitsOpen job late next pairs
+fits_same (Some job) late journal next pairs e (earlier, are, fits) = (earlier, are, subst (λ ts. FitsTakings ts earlier) (sym e) fits)
+fits_same None (Some q) journal next pairs e (earlier, cause, is, fits) = (earlier, cause, e ∙ is, fits)
+fits_same None None journal next pairs e fits = subst (λ ts. FitsTakings ts pairs) (sym e) fits
+
+-- a book in which the same request is taken, and the same ended
+pub sound_book : (b next : BookState) (s : Session) (base : ℕ) → IsReplayed next → next.standing.taken ≡ b.standing.taken → next.unsure ≡ b.unsure → ended next.journal ≡ ended b.journal → Sound b s base → Sound next s base
+sound_book b next s base replayed taken unsure same sound = record {
+  replayed = replayed;
+  same = ap request_taken taken ∙ sound.same;
+  sure = λ h. sound.sure (sym unsure ∙ h);
+  alone = sound.alone;
+  within = sound.within;
+  fits = fits_same s.job s.late b.journal next.journal _ same sound.fits;
+}
+
 module _ (laws : BookLaws) where
+  -- a denied request was never taken
+  sound_deny : (t : Ticket) (b : BookState) (s : Session) (base : ℕ) → option_map (λ p. p.0) (next_taken b.standing) ≡ Some t → Sound b s base → Sound (denied b t) s base
+  sound_deny t b s base head sound =
+      let (q, next) = next_ticket_is (next_taken b.standing) t head in
+      let (none, _) = next_is b.standing t q next in
+      sound_book b (denied b t) s base (denied_replayed b t q next sound.replayed) refl refl (laws.deny b t sound.replayed none).0 sound
+
   sound_take : (t : Ticket) (q : Request) (b : BookState) (s : Session) (base : ℕ) → next_taken b.standing ≡ Some (t, q) → s.job ≡ None → s.late ≡ None → Sound b s base → Sound (took b (t, q)) (record s { job = Some (record { request = q; answer = None; busy = 0 }) }) base
   sound_take t q b s base next free none sound =
       let fits : FitsOpen None None b.journal (pairs_from base s.carried) = subst (λ l. FitsOpen None l b.journal (pairs_from base s.carried)) none (subst (λ o. FitsOpen o s.late b.journal (pairs_from base s.carried)) free sound.fits) in
@@ -101,14 +127,14 @@ module _ (laws : BookLaws) where
       in subst (λ o. Sound b (carried_out a o s) base) (sym is) goal
 
   -- the request under way has an outcome, and the record fits with what is written of it
-  sound_post : (o : Outcome) (job : Job) (b : BookState) (s : Session) (base : ℕ) → s.job ≡ Some job → ((taken : Ticket × Request) → b.standing.taken ≡ Some taken → (earlier : List (Request × Answer)) → FitsEnded b.journal earlier → FitsEnded (posted b o).journal (earlier ++ written taken.1 job.answer)) → Sound b s base → Sound (posted b o) (record s { job = None }) base
-  sound_post o job b s base is leaves sound =
+  sound_post : (o : Outcome) (job : Job) (b : BookState) (s : Session) (base : ℕ) → s.job ≡ Some job → ((taken : Ticket × Request) → b.standing.taken ≡ Some taken → (earlier : List (Request × Answer)) → FitsEnded b.journal earlier → FitsEnded (posted b o).journal (earlier ++ written taken.1 job.answer)) → LeavesWaiting o → Sound b s base → Sound (posted b o) (record s { job = None }) base
+  sound_post o job b s base is leaves waiting sound =
       let (earlier, pairs_are, fits) = fits_job s job b.journal _ is sound.fits in
       let (t, taken) = taken_is b.standing.taken job.request (sound.same ∙ ap request_of is) in
       let none : s.late ≡ None = alone_late s job is sound.alone in
       let fits' : FitsOpen None None (posted b o).journal (pairs_from base s.carried) = subst (λ pairs. FitsEnded (posted b o).journal pairs) (sym pairs_are) (leaves (t, job.request) taken earlier fits) in
       record {
-        replayed = posted_replayed b o sound.replayed;
+        replayed = posted_replayed b o waiting sound.replayed;
         same = posted_free b o t job.request taken;
         sure = λ _. none;
         alone = inl refl;
@@ -126,7 +152,7 @@ module _ (laws : BookLaws) where
       let pairs : pairs_from base s.carried ≡ earlier = pairs_are ∙ unanswered_pairs job.request job.answer earlier none in
       let (t, taken) = taken_is b.standing.taken job.request (sound.same ∙ ap request_of is) in
       record {
-        replayed = posted_replayed b _ sound.replayed;
+        replayed = posted_replayed b _ (λ t waiting. refl) sound.replayed;
         same = posted_free b t job.request taken;
         sure = λ h. absurd (let u = either b.unsure _ unsure in let v : false ≡ true = sym h ∙ u in cc);
         alone = inl refl;
@@ -158,13 +184,13 @@ module _ (laws : BookLaws) where
   sound_cut_off cause job (Some a) b s base is e unsure sound =
       subst (λ l. Sound (posted b (outcome.Unknown cause)) (record s { job = None; late = l }) base)
       (alone_late s job is sound.alone ∙ sym (ap left_of is ∙ ap (λ o. unanswered o job.request) e))
-      (sound_post (outcome.Unknown cause) job b s base is (leaves_unknown cause job.answer b sound.replayed) sound)
+      (sound_post (outcome.Unknown cause) job b s base is (leaves_unknown cause job.answer b sound.replayed) (λ t waiting. refl) sound)
 
   pub sound_cut : (cause : Cause) (b : BookState) (s : Session) (base : ℕ) (job : Job) → s.job ≡ Some job → Sound b s base → Sound (posted b (outcome.Unknown cause)) (cut_for cause s) base
   sound_cut LinkLost b s base job is sound = sound_cut_off LinkLost job job.answer b s base is refl refl sound
   sound_cut Restarted b s base job is sound = sound_cut_off Restarted job job.answer b s base is refl refl sound
-  sound_cut BusyTooLong b s base job is sound = sound_post (outcome.Unknown BusyTooLong) job b s base is (leaves_unknown BusyTooLong job.answer b sound.replayed) sound
-  sound_cut Protocol b s base job is sound = sound_post (outcome.Unknown Protocol) job b s base is (leaves_unknown Protocol job.answer b sound.replayed) sound
+  sound_cut BusyTooLong b s base job is sound = sound_post (outcome.Unknown BusyTooLong) job b s base is (leaves_unknown BusyTooLong job.answer b sound.replayed) (λ t waiting. refl) sound
+  sound_cut Protocol b s base job is sound = sound_post (outcome.Unknown Protocol) job b s base is (leaves_unknown Protocol job.answer b sound.replayed) (λ t waiting. refl) sound
 
   -- a late request is in the record
   sound_late : (a : Answer) (late : Option Request) (b : BookState) (s : Session) (base : ℕ) → s.late ≡ late → Sound b s base → Sound b (carried_late a late s) base
@@ -226,12 +252,13 @@ module _ (laws : BookLaws) where
   }
 
   sound_after : (m : Moment) (step : Step) (b : BookState) (s : Session) (base : ℕ) → MayBook step b → MaySession m step s → Sound b s base → Sound (book_after step b) (session_after step s) base
-  sound_after m (Take t q) b s base next may sound = sound_take (ticket_of t) q b s base next may.0 may.1 sound
+  sound_after m (Take t q) b s base next may sound = sound_take (ticket_of t) q b s base next may.1 may.2 sound
+  sound_after m (Deny t) b s base next may sound = sound_deny (ticket_of t) b s base next sound
   sound_after m (Carry a) b s base next may sound =
       let (job, is, none) = some_of (λ job. job.answer ≡ None) s.job may in sound_carry a job b s base is none sound
   sound_after m (Done a) b s base next may sound =
       let (job, is, answered) = some_of (λ job. job.answer ≡ Some a) s.job may in
-      sound_post (outcome.Done a) job b s base is (leaves_done a job.answer b answered sound.replayed) sound
+      sound_post (outcome.Done a) job b s base is (leaves_done a job.answer b answered sound.replayed) (λ t waiting. refl) sound
   sound_after m (Unknown cause) b s base next may sound =
       let (job, is, cut) = some_of (λ job. MayCut m cause job) s.job may in sound_cut cause b s base job is sound
   sound_after m (LateCarry a) b s base next may sound = sound_late a s.late b s base refl sound

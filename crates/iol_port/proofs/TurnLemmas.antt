@@ -2,15 +2,14 @@
 use Rattle.std.proofs.Common.{◌≡◌, ◌≢◌, ◌∷◌, ◌++◌, [], List, Bool, ℕ, Option, Some, None, refl, ap, sym, ◌∙◌, subst, inl, inr}
 use Rattle.iol_isdu.specs.declared.values.Request.{Request}
 use Rattle.iol_book.specs.declared.entries.Ticket.{Ticket}
-use Rattle.iol_book.specs.BookModel.{BookState, next_taken, took, posted, entered_if}
+use Rattle.iol_book.specs.BookModel.{BookState, next_taken, took, denied, posted, ended_with}
 use Rattle.iol_book.specs.declared.entries.Outcome.{Outcome}
 use Rattle.iol_book.specs.declared.entries.Outcome.TheVariants as outcome
-use Rattle.iol_book.specs.declared.entries.Entry.TheVariants.{Answered}
 use Rattle.std.specs.Option.{option_map}
 use Rattle.iol_steps.specs.declared.mode.Mode.TheVariants.{Down, Operate}
 use Rattle.iol_steps.specs.declared.said.Said.{Said}
-use Rattle.iol_steps.specs.Step.{Step, Take, Done, Unknown, Moment, woke_up, book_said, reports_said}
-use Rattle.iol_steps.specs.Session.{MaySessionAll, session_after, session_through}
+use Rattle.iol_steps.specs.Step.{Step, Take, Deny, Done, Unknown, Moment, woke_up, book_said, reports_said}
+use Rattle.iol_steps.specs.Session.{MaySession, MaySessionAll, session_after, session_through}
 use Rattle.iol_device.specs.Far.{Far}
 use Rattle.iol_event.specs.declared.event.Event.{Event}
 use Rattle.iol_steps.specs.Station.{Station, Unseen, Stands, session_in, job_of}
@@ -18,13 +17,13 @@ use Rattle.iol_steps.specs.Exchange.{begun, unseen_begun}
 use Rattle.iol_steps.specs.Promises.{Begins}
 use Rattle.iol_steps.specs.Turn.{moment_of, TurnGives}
 use Rattle.iol_app.specs.StationState.{StationState, mode_of}
-use Rattle.iol_app.specs.Seen.{IsSeen, TurnSteps, BeginSteps}
+use Rattle.iol_app.specs.Seen.{IsSeen, TurnSteps, BeginSteps, DenySteps}
 use Rattle.iol_port.specs.declared.call.Call.TheVariants as call
 use Rattle.iol_port.specs.declared.call.Answered.TheVariants as answered
 use Rattle.iol_port.specs.Steps.{MayBookAll, book_after, book_through, kept_through}
 use Rattle.iol_port.specs.Run.{TurnOf, CallOf}
 use Rattle.iol_port.specs.View.{Parts, Choice, state_of, Shows, Follows, BeginsNext}
-use Rattle.iol_port.proofs.Filters.{book_through-filter, MayBookAll-filter, kept_through-filter, clash_free-take, may_book_said}
+use Rattle.iol_port.proofs.Filters.{book_through-filter, MayBookAll-filter, kept_through-filter, clash_free-take, clash_free-deny, may_book_said}
 use Rattle.iol_port.proofs.CallLemmas.{does_by_choice}
 
 -- down leaves no request under way
@@ -72,12 +71,35 @@ module _ (base : ℕ) (s next : Station) (u : Unseen) (said : Said) (b after : B
       let may_session : MaySessionAll m g.steps (session_after (Take t.0 q) (session_in s u)) = subst (λ x. MaySessionAll m g.steps x) (sym taken_is) g.session.may in
       let session_is : session_in next g.after ≡ session_through g.steps (session_after (Take t.0 q) (session_in s u)) = sym g.session.is ∙ ap (λ x. session_through g.steps x) (sym taken_is) in (
         record { call = g.call; steps = Take t.0 q ∷ g.steps },
-        record { fits = g.turn.fits; silence = g.turn.silence; clash_free = rw (clash_free-take t.0 q g.steps (g.turn.fresh refl)) g.turn.clash_free; terms = g.turn.terms },
+        record { fits = g.turn.fits; silence = g.turn.silence; clash_free = rw (clash_free-take t.0 q g.steps (g.turn.fresh refl) (clash_free-deny t.0 g.steps _ _ said g.turn.said_book)) g.turn.clash_free; terms = g.turn.terms },
         record {
           may_book = (head, may);
           book = book_is;
-          may_session = (begins.may m t.0, may_session);
+          may_session = (begins.may m t.0 refl, may_session);
           session = session_is;
+          base = refl;
+          down = λ down. no_job_down next g.after g.stands down;
+        },
+        record { may_frozen = (tt, g.frozen.may); frozen = sym g.frozen.is; kept = kept_is },
+        record { may_images = (tt, g.images.may); images = sym g.images.is; image_is_last = g.images.image_is_last; output_is_wanted = g.images.output_is_wanted },
+      )
+
+  -- after a denial, which leaves the station as it is
+  denying_turn : (t : Ticket) → option_map (λ p. p.0) (next_taken b.standing) ≡ Some t → ((m : Moment) → m.terms ≡ s.terms → MaySession m (Deny t.0) (session_in s u)) → Settles (denied b t) kept s next said after later →
+      (g : TurnGives s u said next) → TurnOf (state_of (record { base = base; station = s; unseen = u }) b kept) (state_of (record { base = base; station = next; unseen = g.after }) after later)
+  denying_turn t head may_deny settles g =
+      let mid : BookState = denied b t in
+      let may : MayBookAll g.steps mid = MayBookAll-filter g.steps mid (rw g.turn.said_book (may_book_said _ _ said mid)) in
+      let book_is : after ≡ book_through g.steps mid = settles.posts ∙ (rw (← g.turn.said_book) (sym (book_through-filter g.steps mid))) in
+      let kept_is : later ≡ kept_through g.steps kept = settles.keeps ∙ (rw (← g.turn.said_reports) (sym (kept_through-filter g.steps kept))) in
+      let m : Moment = moment_of s g.call in (
+        record { call = g.call; steps = Deny t.0 ∷ g.steps },
+        record { fits = g.turn.fits; silence = g.turn.silence; clash_free = rw (clash_free-deny t.0 g.steps _ _ said g.turn.said_book) g.turn.clash_free; terms = g.turn.terms },
+        record {
+          may_book = (head, may);
+          book = book_is;
+          may_session = (may_deny m refl, g.session.may);
+          session = sym g.session.is;
           base = refl;
           down = λ down. no_job_down next g.after g.stands down;
         },
@@ -94,7 +116,7 @@ module _ {W : Type 0} (honest : W → Bool) (far : W → Far) (silence : W → �
 
   pub turn_does : (p next : Parts W) (said : Said) (s : StationState W) (b : BookState) → BeginsNext honest far silence p.station p.book.state s b → TurnSteps honest far silence s said next.station
       → next.book.state ≡ book_through (woke_up (mode_of s.link) (mode_of next.station.link) ++ book_said said) b → next.kept ≡ kept_through (reports_said said) p.kept → Follows honest far silence p call.Turn answered.Nothing next
-  unfolding TurnSteps BeginSteps
+  unfolding TurnSteps BeginSteps DenySteps
   turn_does p next said s b begins gives book kept = does_by_choice honest far silence p call.Turn answered.Nothing next (λ u shows. by_begins begins gives book u shows)
     where
       After : Choice → Type 0
@@ -107,18 +129,25 @@ module _ {W : Type 0} (honest : W → Bool) (far : W → Far) (silence : W → �
           let settles : Settles b p.kept u.station n said next.book.state next.kept = settles_seen s next.station u.station n said b next.book.state p.kept next.kept seen seen_next book kept in
           let settled : Settles p.book.state p.kept u.station n said next.book.state next.kept = subst (λ x. Settles x p.kept u.station n said next.book.state next.kept) b_is settles in
           (record { base = u.base; station = n; unseen = g.after }, record { seen = seen_next; stands = g.stands }, (refl, idle_turn u.base u.station n u.unseen said p.book.state next.book.state p.kept next.kept settled g))
-      by_begins (inr (t, q, head, b_is, free, s_is, begins)) gives book u shows =
+      by_begins (inr (inl (t, q, head, b_is, free, s_is, begins))) gives book u shows =
           let (seen, taken) = begins u.station u.unseen shows.seen shows.stands in
           let (n, seen_next, g) = gives (begun q u.station) (unseen_begun u.unseen) seen taken.stands in
           let settles : Settles b p.kept (begun q u.station) n said next.book.state next.kept = settles_seen s next.station (begun q u.station) n said b next.book.state p.kept next.kept seen seen_next book kept in
           let settled : Settles (took p.book.state (t, q)) p.kept (begun q u.station) n said next.book.state next.kept = subst (λ x. Settles x p.kept (begun q u.station) n said next.book.state next.kept) b_is settles in
           (record { base = u.base; station = n; unseen = g.after }, record { seen = seen_next; stands = g.stands }, (refl, taking_turn u.base u.station n u.unseen said p.book.state next.book.state p.kept next.kept t q head taken settled g))
+      by_begins (inr (inr (t, head, b_is, free, s_is, told, denies))) gives book u shows =
+          let seen : IsSeen honest far silence s u.station = rw s_is shows.seen in
+          let (n, seen_next, g) = gives u.station u.unseen seen shows.stands in
+          let settles : Settles b p.kept u.station n said next.book.state next.kept = settles_seen s next.station u.station n said b next.book.state p.kept next.kept seen seen_next book kept in
+          let settled : Settles (denied p.book.state t) p.kept u.station n said next.book.state next.kept = subst (λ x. Settles x p.kept u.station n said next.book.state next.kept) b_is settles in
+          let may_deny : (m : Moment) → m.terms ≡ u.station.terms → MaySession m (Deny t.0) (session_in u.station u.unseen) = λ m terms. denies u.station u.unseen shows.seen shows.stands m t.0 terms in
+          (record { base = u.base; station = n; unseen = g.after }, record { seen = seen_next; stands = g.stands }, (refl, denying_turn u.base u.station n u.unseen said p.book.state next.book.state p.kept next.kept t head may_deny settled g))
 
 -- a turn gives no ticket
 last_posted : (b : BookState) (o : Outcome) → (posted b o).last ≡ b.last
 last_posted b o = by_taken b.standing.taken
   where
-    by_taken : (taken : Option (Ticket × Request)) → (entered_if b (option_map (λ t. Answered t.0 o) taken)).last ≡ b.last
+    by_taken : (taken : Option (Ticket × Request)) → (ended_with b taken o).last ≡ b.last
     by_taken None = refl
     by_taken (Some t) = refl
 
@@ -126,6 +155,7 @@ last_after : (step : Step) (b : BookState) → (book_after step b).last ≡ b.la
 last_after (Done a) b = last_posted b (outcome.Done a)
 last_after (Unknown c) b = last_posted b (outcome.Unknown c)
 last_after (Take t q) b = refl
+last_after (Deny t) b = refl
 last_after _ b = refl
 
 last_through : (steps : List Step) (b : BookState) → (book_through steps b).last ≡ b.last
@@ -135,4 +165,5 @@ last_through (step ∷ steps) b = last_through steps (book_after step b) ∙ las
 module _ {W : Type 0} (honest : W → Bool) (far : W → Far) (silence : W → ℕ) where
   pub turn_gives_none : (s next : StationState W) (b mid after : BookState) (steps : List Step) → BeginsNext honest far silence s b next mid → after ≡ book_through steps mid → after.last ≡ b.last
   turn_gives_none s next b mid after steps (inl (_, is)) e = ap (λ x. x.last) e ∙ last_through steps mid ∙ ap (λ x. x.last) is
-  turn_gives_none s next b mid after steps (inr (t, q, head, is, _, _, _)) e = ap (λ x. x.last) e ∙ last_through steps mid ∙ ap (λ x. x.last) is
+  turn_gives_none s next b mid after steps (inr (inl (t, q, head, is, _, _, _))) e = ap (λ x. x.last) e ∙ last_through steps mid ∙ ap (λ x. x.last) is
+  turn_gives_none s next b mid after steps (inr (inr (t, head, is, _, _, _, _))) e = ap (λ x. x.last) e ∙ last_through steps mid ∙ ap (λ x. x.last) is

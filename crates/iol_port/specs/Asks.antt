@@ -1,17 +1,41 @@
--- What the next turn of a port asks of its wire.
-use Rattle.std.specs.Prelude.{ℕ, Bool, nat_le, List, length}
+-- What the next turn of a port asks of its wire, and which of its calls makes a call of the wire.
+use Rattle.std.specs.Prelude.{◌≡◌, ℕ, Bool, false, not, nat_le, if◌then◌else◌, List, length, Option, Some, None}
 use Rattle.std.specs.Option.{option_map}
+use Rattle.arrayvec.specs.ArrayVec.{ArrayVec}
+use Rattle.iol_isdu.specs.declared.values.Request.{Request}
 use Rattle.iol_event.specs.declared.event.Event.{Event}
+use Rattle.iol_link.specs.declared.wire.Rate.{Rate}
+use Rattle.iol_book.specs.declared.entries.Ticket.{Ticket}
 use Rattle.iol_book.specs.BookModel.{next_taken}
 use Rattle.iol_app.specs.declared.asked.Asked.{Asked}
-use Rattle.iol_app.specs.Asking.{asked_of, prepared}
+use Rattle.iol_app.specs.Asking.{asked_of, prepared, IsCall}
 use Rattle.iol_port.specs.View.{Parts}
+use Rattle.iol_port.specs.declared.call.Call.{Call}
+use Rattle.iol_port.specs.declared.call.Call.TheVariants.{Turn}
 
 -- events are read only where at most 58 are kept
 abbrev pub has_room : List Event → Bool
 has_room kept = nat_le (length kept) 58
 
+-- a start-up told that the device has no ISDU
+abbrev pub lacks_isdu : Option Bool → Bool
+lacks_isdu None = false
+lacks_isdu (Some has) = not has
+
+-- of the request that waits longest, the one that a turn may begin: none where the device has no ISDU
+abbrev pub to_begin : Bool → Option (Ticket × Request) → Option Request
+to_begin lacks next = if lacks then None else option_map (λ t. t.1) next
+
 module _ {W : Type 0} where
-  -- the one call of the wire in the next turn: the request that waits longest is begun first, where nothing else is due
+  -- that of a port
+  abbrev pub begun_next : Parts W → Option Request
+  begun_next p = to_begin (lacks_isdu p.station.session.isdu) (next_taken p.book.state.standing)
+
+  -- the one call of the wire in the next turn: that request is begun first, where nothing else is due
   abbrev pub asks_of : Parts W → Asked
-  asks_of p = asked_of (prepared (option_map (λ t. t.1) (next_taken p.book.state.standing)) p.station (has_room p.kept)) (has_room p.kept)
+  asks_of p = asked_of (prepared (begun_next p) p.station (has_room p.kept)) (has_room p.kept)
+
+  -- a turn makes the call of the wire that was asked, and no other call of the port touches the wire
+  abbrev pub IsWireCall : (W → Option Rate → W → Type 0) → (W → List ℕ → Option (ArrayVec ℕ) → W → Type 0) → Call → Asked → W → W → Type 0
+  IsWireCall wakes gives Turn asked old new = IsCall wakes gives asked old new
+  IsWireCall wakes gives other asked old new = new ≡ old

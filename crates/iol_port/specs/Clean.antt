@@ -10,6 +10,7 @@ use Rattle.iol_segment.specs.JoinLaws.{JoinLaws}
 use Rattle.iol_segment.specs.TextLaws.{TextLaws}
 use Rattle.iol_event.specs.Memory.{Events}
 use Rattle.iol_page.specs.declared.page.Layouts.{Layouts}
+use Rattle.iol_page.specs.Page.{knows_isdu}
 use Rattle.iol_device.specs.declared.app.Carried.{Carried}
 use Rattle.iol_device.specs.Device.{octets_in}
 use Rattle.iol_device.specs.Far.{Far}
@@ -77,7 +78,7 @@ IsLevelBetween {W} far p =
     → (link : Link) × IsOperating layouts link × IsBefore (far wire).page layouts.run.od (far wire).carried link Quiet (far wire)
 
 module _ {W : Type 0} (honest : W → Bool) (far : W → Far) (clean : W → Bool) where
-  -- in OPERATE over a clean wire, with no message out; the device is awake, in that link, and has no events
+  -- in OPERATE over a clean wire, with no message out; the device is awake, in that link, has ISDU, and has no events
   pub record Stood (layouts : Layouts) (link : Link) (station : StationState W) (wire : W) : Type 0 where
     pub link_is : station.link ≡ InOperate (record { wire = wire; state = record { out = None; layouts = layouts } })
     pub is_honest : IsTrue (honest wire)
@@ -86,6 +87,7 @@ module _ {W : Type 0} (honest : W → Bool) (far : W → Far) (clean : W → Boo
     pub operating : IsOperating layouts link
     pub awake : (far wire).awake ≡ true
     pub at : link_of (far wire) ≡ link
+    pub isdu : knows_isdu (far wire).page ≡ true
     pub quiet : IsQuiet (far wire).events
 
   -- a station over its wire, at this stage of a request that the device's record, then `base`, had room for
@@ -104,7 +106,8 @@ module _ {W : Type 0} (honest : W → Bool) (far : W → Far) (clean : W → Boo
     pub low : 1 ≤ layouts.run.od
 
   -- From here a request takes an exact number of turns: the port is in OPERATE over a clean wire, and its next turn would send IDLE 1, with
-  -- room for events; both ends are level, the device awake; it has no events, and its record has room; the request waits longest
+  -- room for events; both ends are level, the device awake; it has ISDU, as the port was told, and no events, and its record has room; the request
+  -- waits longest
   pub record MayStart (layouts : Layouts) (ticket : Ticket) (request : Request) (p : Parts W) : Type 0 where
     pub wire : W
     pub link_is : p.station.link ≡ InOperate (record { wire = wire; state = record { out = None; layouts = layouts } })
@@ -114,6 +117,8 @@ module _ {W : Type 0} (honest : W → Bool) (far : W → Far) (clean : W → Boo
     pub link : Link
     pub operating : IsOperating layouts link
     pub level : IsBefore (far wire).page layouts.run.od (far wire).carried link Quiet (far wire)
+    pub isdu : knows_isdu (far wire).page ≡ true
+    pub told : p.station.session.isdu ≡ Some true
     pub quiet : IsQuiet (far wire).events
     pub room : length (far wire).carried < (far wire).room
     pub next : next_taken p.book.state.standing ≡ Some (ticket, request)

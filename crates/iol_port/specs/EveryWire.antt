@@ -1,7 +1,8 @@
 -- What each call of a port answers and leaves on every wire, honest or not, from the port's own parts.
-use Rattle.std.specs.Prelude.{◌≡◌, ℕ, Bool, ◌&&◌, if◌then◌else◌, List, [], ◌∷◌, ◌++◌, drop, Option, Some, None, Result, Ok, Err, is_ok, IfOk, IfErr, OnOk, OnErr, slice_get}
+use Rattle.std.specs.Prelude.{◌≡◌, ℕ, Bool, ◌&&◌, if◌then◌else◌, List, [], ◌∷◌, ◌++◌, drop, Option, Some, None, Result, is_ok, IfOk, IfErr, OnOk, OnErr, slice_get, ◌⊎◌, false, IsTrue}
 use Rattle.std.specs.Option.{ok_or, option_map}
 use Rattle.std.specs.Result.{result_err}
+use Rattle.std.specs.Map.{lookup}
 use Rattle.arrayvec.specs.ArrayVec.{ArrayVec}
 use Rattle.iol_isdu.specs.declared.values.Request.{Request}
 use Rattle.iol_event.specs.declared.event.Event.{Event}
@@ -10,35 +11,43 @@ use Rattle.iol_link.specs.declared.wire.Rate.{Rate}
 use Rattle.iol_book.specs.declared.entries.Entry.{Entry}
 use Rattle.iol_book.specs.declared.entries.Outcome.{Outcome}
 use Rattle.iol_book.specs.declared.entries.Ticket.{Ticket}
-use Rattle.iol_book.specs.declared.fault.BookFault.{BookFault}
 use Rattle.iol_book.specs.declared.fault.BookFault.TheVariants.{Outstanding}
-use Rattle.iol_book.specs.BookModel.{BookState, BookValue, RefusesFor, submit_refusal, submitted, next_ticket, next_taken, took, collect_answer, collected, withdraw_refusal, withdrawn, may_archive, archived}
+use Rattle.iol_book.specs.declared.entries.Outcome.TheVariants.{NoIsdu}
+use Rattle.iol_book.specs.Replay.{same_ticket}
+use Rattle.iol_book.specs.BookModel.{BookState, BookValue, RefusesFor, submit_refusal, submitted, next_ticket, next_taken, took, denied, waits, collect_answer, collected, withdraw_refusal, withdrawn, may_archive, archived}
 use Rattle.iol_steps.specs.declared.mode.Mode.TheVariants.{Down}
 use Rattle.iol_steps.specs.declared.said.Said.{Said}
 use Rattle.iol_steps.specs.Step.{Image, woke_up, book_said, reports_said}
 use Rattle.iol_steps.specs.Kinds.{restart_steps}
-use Rattle.iol_app.specs.declared.output.OutputFault.{OutputFault}
 use Rattle.iol_app.specs.State as session
 use Rattle.iol_app.specs.Due.{is_ready}
-use Rattle.iol_app.specs.Asking.{prepared}
+use Rattle.iol_app.specs.Asking.{prepared, IsCall}
 use Rattle.iol_app.specs.StationState.{StationState, wire_of, mode_of, why_of, is_operating, IsTurn}
 use Rattle.iol_port.specs.declared.fault.PortFault.{PortFault}
 use Rattle.iol_port.specs.declared.fault.PortFault.TheVariants as fault
-use Rattle.iol_port.specs.Asks.{has_room}
-use Rattle.iol_port.specs.Replies.{by_book, by_output}
+use Rattle.iol_port.specs.declared.call.Call.{Call}
+use Rattle.iol_port.specs.declared.call.Call.TheVariants as call
+use Rattle.iol_port.specs.declared.call.Answered.{Answered}
+use Rattle.iol_port.specs.declared.call.Answered.TheVariants as answered
+use Rattle.iol_port.specs.Asks.{has_room, asks_of, lacks_isdu, begun_next}
+use Rattle.iol_port.specs.Replies.{by_book, ticket_reply, outcome_reply, nothing_reply, event_reply, archive_reply}
 use Rattle.iol_port.specs.Sound.{request_taken}
 use Rattle.iol_port.specs.Steps.{book_through, kept_through}
-use Rattle.iol_port.specs.View.{Parts}
+use Rattle.iol_port.specs.View.{Parts, status_of}
 
 -- the first refusal that holds, or want of memory where a growth was needed
 abbrev pub RefusesSubmit : BookValue → PortFault → Type 0
 RefusesSubmit b (fault.Book why) = RefusesFor (submit_refusal b.state) why b.room
 RefusesSubmit b other = ⊥
 
--- the book once the next request is taken, where the station is ready for one and one waits
-abbrev pub taken_where : Bool → Option (Ticket × Request) → BookState → BookState
-taken_where ready None b = b
-taken_where ready (Some next) b = if ready then took b next else b
+-- the book once the next request is taken, or denied where the device has no ISDU: where the station is ready for one, and one waits
+abbrev pub taken_where : Bool → Bool → Option (Ticket × Request) → BookState → BookState
+taken_where ready lacks None b = b
+taken_where ready lacks (Some next) b = if ready then (if lacks then denied b next.0 else took b next) else b
+
+-- the outcome of a ticket is that the device has no ISDU
+abbrev pub HasNoIsdu : BookState → Ticket → Type 0
+HasNoIsdu b ticket = lookup (same_ticket ticket) b.standing.outcomes ≡ Some NoIsdu
 
 module _ {W : Type 0} where
   -- Only the book changes: the station with its wire, and the events that are kept, are what they were
@@ -95,22 +104,61 @@ module _ {W : Type 0} where
     pub book : new.book.state ≡ book_through (restart_steps (request_taken old.book.state.standing.taken)) old.book.state
     pub kept : new.kept ≡ old.kept
 
-  -- whether the next turn would send IDLE 1, so that it takes the request that waits longest
+  -- whether the next turn would send IDLE 1, so that it takes or denies the request that waits longest
   abbrev pub takes_next : Parts W → Bool
   takes_next p = is_operating p.station.link && is_ready p.station.session (has_room p.kept)
 
-  -- the station and the book with which a turn begins: that request is taken and begun
+  -- the station and the book with which a turn begins: that request is taken and begun, or denied
   abbrev pub station_begun : Parts W → StationState W
-  station_begun p = prepared (option_map (λ t. t.1) (next_taken p.book.state.standing)) p.station (has_room p.kept)
+  station_begun p = prepared (begun_next p) p.station (has_room p.kept)
 
   abbrev pub book_begun : Parts W → BookState
-  book_begun p = taken_where (takes_next p) (next_taken p.book.state.standing) p.book.state
+  book_begun p = taken_where (takes_next p) (lacks_isdu p.station.session.isdu) (next_taken p.book.state.standing) p.book.state
+
+  -- The ticket's request waited, none was taken, and a start-up told that the device has no ISDU; all that the turn does in the book is to give
+  -- it this outcome, without a taking
+  pub record IsDenied (old new : Parts W) (ticket : Ticket) : Type 0 where
+    pub told : old.station.session.isdu ≡ Some false
+    pub waited : IsTrue (waits old.book.state.standing ticket)
+    pub free : old.book.state.standing.taken ≡ None
+    pub book : new.book.state ≡ denied old.book.state ticket
 
   module _ (honest : W → Bool) (far : W → Far) (silence : W → ℕ) (wakes : W → Option Rate → W → Type 0) (gives : W → List ℕ → Option (ArrayVec ℕ) → W → Type 0) where
-    -- A turn: the station makes its own one, with room for events where at most 58 are kept, and what that says goes to the book and to the
+    -- A turn: the next request is begun or denied; the station makes its own one, with room for events where at most 58 are kept, and what that says goes to the book and to the
     -- kept events; a wake that had success ends what a request that was cut off may still do
     pub record TurnGives (old new : Parts W) : Type 0 where
       pub said : Said
       pub turn : IsTurn honest far silence wakes gives (has_room old.kept) (station_begun old) said new.station
       pub book : new.book.state ≡ book_through (woke_up (mode_of old.station.link) (mode_of new.station.link) ++ book_said said) (book_begun old)
       pub kept : new.kept ≡ kept_through (reports_said said) old.kept
+      -- each new outcome NoIsdu is that of a request which this turn denied
+      pub denies : (ticket : Ticket) → HasNoIsdu new.book.state ticket → HasNoIsdu old.book.state ticket ⊎ IsDenied old new ticket
+
+    -- One call, with the answer that a list of calls has for it
+    abbrev pub CallGives : Parts W → Call → Answered → Parts W → Type 0
+    CallGives old (call.Submit request) reply new =
+        (result : Result Ticket PortFault) × (reply ≡ ticket_reply result) × SubmitGives old request result new
+    CallGives old (call.Collect ticket) reply new =
+        (result : Result Outcome PortFault) × (reply ≡ outcome_reply result) × CollectGives old ticket result new
+    CallGives old (call.Withdraw ticket) reply new =
+        (result : Result (Unit {0}) PortFault) × (reply ≡ nothing_reply result) × WithdrawGives old ticket result new
+    CallGives old call.Restart reply new = (reply ≡ answered.Nothing) × RestartGives old new
+    CallGives old (call.SetOutput image) reply new =
+        (result : Result (Unit {0}) PortFault) × (reply ≡ nothing_reply result) × SetOutputGives old image result new
+    CallGives old call.ClearOutput reply new = (reply ≡ answered.Nothing) × ClearOutputGives old new
+    CallGives old call.Look reply new = (reply ≡ answered.Image old.station.session.image) × (new ≡ old)
+    CallGives old call.TakeEvent reply new =
+        (result : Result Event PortFault) × (reply ≡ event_reply result) × TakeEventGives old result new
+    CallGives old call.Status reply new = (reply ≡ answered.Status (status_of old.station)) × (new ≡ old)
+    CallGives old call.Archive reply new =
+        (result : Result (List Entry) PortFault) × (reply ≡ archive_reply result) × ArchiveGives old result new
+    CallGives old call.Turn reply new =
+        (reply ≡ answered.Nothing) × TurnGives old new
+        × IsCall wakes gives (asks_of old) (wire_of old.station.link) (wire_of new.station.link)
+
+    -- a run: each call in order, once, with its answer
+    abbrev pub RunGives : Parts W → List Call → List Answered → Parts W → Type 0
+    RunGives old [] [] new = new ≡ old
+    RunGives old (call ∷ calls) (reply ∷ replies) new = (mid : Parts W) × CallGives old call reply mid × RunGives mid calls replies new
+    RunGives old [] (reply ∷ replies) new = ⊥
+    RunGives old (call ∷ calls) [] new = ⊥

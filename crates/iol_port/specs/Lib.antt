@@ -2,6 +2,7 @@ pub mod Faults
 pub mod Steps
 pub mod Run
 pub mod Sound
+pub mod WireCalls
 pub mod View
 pub mod Asks
 pub mod EveryWire
@@ -10,3 +11,4 @@ pub mod Replies
 pub mod Turns
 pub mod Clean
 pub mod Owned
+pub mod Denials

@@ -1,32 +1,36 @@
--- What a client may conclude of a whole run: each request that is done has a pair of its own in the device's record.
-use Rattle.std.specs.Prelude.{◌≡◌, ◌⊎◌, ◌≤◌, ◌<◌, ℕ, List, [], ◌∷◌, length, slice_get, Some}
+-- What a client may conclude of a whole run: which requests the device carried out in it, each once.
+use Rattle.std.specs.Prelude.{◌≡◌, ◌⊎◌, ◌<◌, ℕ, List, [], ◌∷◌, ◌++◌, map, Some}
+use Rattle.std.specs.Map.{lookup}
 use Rattle.iol_isdu.specs.declared.values.Request.{Request}
 use Rattle.iol_isdu.specs.declared.values.Answer.{Answer}
+use Rattle.iol_isdu.specs.declared.values.Cause.{Cause}
 use Rattle.iol_device.specs.declared.app.Carried.{Carried}
 use Rattle.iol_device.specs.Far.{Far}
 use Rattle.iol_book.specs.declared.entries.Limits.{Limits}
-use Rattle.iol_book.specs.declared.entries.Outcome.TheVariants.{Done}
+use Rattle.iol_book.specs.declared.entries.Outcome.TheVariants.{Done, Unknown}
 use Rattle.iol_book.specs.declared.entries.Ticket.{Ticket}
+use Rattle.iol_book.specs.Replay.{same_ticket}
+use Rattle.iol_steps.specs.declared.mode.Mode.TheVariants.{Down}
 use Rattle.iol_port.specs.declared.call.Call.{Call}
 use Rattle.iol_port.specs.declared.call.Call.TheVariants as call
 use Rattle.iol_port.specs.declared.call.Answered.{Answered}
 use Rattle.iol_port.specs.declared.call.Answered.TheVariants as answered
-use Rattle.iol_port.specs.Run.{PortState, Run, opened}
+use Rattle.iol_port.specs.Run.{PortState, TurnOf, Run, opened}
 
--- a request that is done: its ticket, itself and its answer, and where their pair stands in the record
+-- a request that the device carried out: the ticket under which it was submitted, itself, and the answer
 pub record Owned : Type 0 where
   pub ticket : Ticket
   pub request : Request
   pub answer : Answer
-  pub place : ℕ
 
--- The pairs of these, the one done last first: each stands in the record at its place, from `base` on and before `top`, and those of the
--- requests that were done before it stand before it
-abbrev pub AreOwned : ℕ → List Carried → ℕ → List Owned → Type 0
-AreOwned base carried top [] = Unit {0}
-AreOwned base carried top (o ∷ earlier) =
-    (base ≤ o.place) × (o.place < top) × (slice_get carried o.place ≡ Some (record { request = o.request; answer = o.answer }))
-    × AreOwned base carried o.place earlier
+-- their pairs in the record
+abbrev pub pairs_of : List Owned → List Carried
+pairs_of owned = map (λ o. record { request = o.request; answer = o.answer }) owned
+
+-- the tickets rise from above `low` on: none stands there twice
+abbrev pub Rise : ℕ → List Owned → Type 0
+Rise low [] = Unit {0}
+Rise low (o ∷ owned) = (low < o.ticket.0) × Rise o.ticket.0 owned
 
 abbrev pub IsOneOf : Owned → List Owned → Type 0
 IsOneOf o [] = ⊥
@@ -38,15 +42,37 @@ Happens [] replies call reply = ⊥
 Happens (c ∷ calls) [] call reply = ⊥
 Happens (c ∷ calls) (r ∷ replies) call reply = ((c ≡ call) × (r ≡ reply)) ⊎ Happens calls replies call reply
 
--- Each outcome Done that was collected is that of a request which was submitted under its ticket and has a pair of its own, with that answer
-pub record OwnPairs (base : ℕ) (calls : List Call) (replies : List Answered) (carried : List Carried) : Type 0 where
-  pub done : List Owned
-  pub stand : AreOwned base carried (length carried) done
-  pub each : (ticket : Ticket) (answer : Answer) → Happens calls replies (call.Collect ticket) (answered.Outcome (Done answer))
-      → (o : Owned) × IsOneOf o done × (o.ticket ≡ ticket) × (o.answer ≡ answer) × Happens calls replies (call.Submit o.request) (answered.Ticket ticket)
+-- The record grew by the pairs of these, in this order. Each was submitted in the run under its ticket, and no two have one ticket; each outcome
+-- Done that was collected is that of one of them
+pub record CarriesOut (given : ℕ) (before : List Carried) (calls : List Call) (replies : List Answered) (carried : List Carried) (owned : List Owned) : Type 0 where
+  pub record_is : carried ≡ before ++ pairs_of owned
+  pub rise : Rise given owned
+  pub asked : (o : Owned) → IsOneOf o owned → Happens calls replies (call.Submit o.request) (answered.Ticket o.ticket)
+  pub done : (ticket : Ticket) (answer : Answer) → Happens calls replies (call.Collect ticket) (answered.Outcome (Done answer))
+      → (o : Owned) × IsOneOf o owned × (o.ticket ≡ ticket) × (o.answer ≡ answer)
 
 -- so it is in every run of a port that is opened, across losses, restarts and archives
 abbrev pub EachDoneHasItsPair : Type 0
 EachDoneHasItsPair =
     (limits : Limits) (far : Far) (silence : ℕ) (calls : List Call) (replies : List Answered) (b : PortState) → Run (opened limits far silence) calls replies b
-    → OwnPairs (length far.carried) calls replies b.session.carried
+    → (owned : List Owned) × CarriesOut limits.given far.carried calls replies b.session.carried owned
+
+-- the request of a ticket was cut off: that is its outcome, which was collected in the run, or may still be
+abbrev pub IsCutOff : List Call → List Answered → PortState → Ticket → Type 0
+IsCutOff calls replies a ticket =
+    (cause : Cause) × (Happens calls replies (call.Collect ticket) (answered.Outcome (Unknown cause)) ⊎ (lookup (same_ticket ticket) a.book.standing.outcomes ≡ Some (Unknown cause)))
+
+-- a turn whose wake had success: it leads out of down
+pub record Wakes (a b : PortState) : Type 0 where
+  pub turn : TurnOf a b
+  pub down : a.session.mode ≡ Down
+  pub up : b.session.mode ≡ Down → ⊥
+
+-- A run comes to `a`, by such a turn to `b`, and goes on to `c`: of what is carried out from `b` on, nothing was cut off before
+abbrev pub LateEnds : Type 0
+LateEnds =
+    (limits : Limits) (far : Far) (silence : ℕ) (calls more : List Call) (replies others : List Answered) (a b c : PortState)
+    → Run (opened limits far silence) calls replies a → Wakes a b → Run b more others c
+    → (owned later : List Owned) × (b.session.carried ≡ far.carried ++ pairs_of owned)
+    × CarriesOut limits.given far.carried (calls ++ call.Turn ∷ more) (replies ++ answered.Nothing ∷ others) c.session.carried (owned ++ later)
+    × ((o : Owned) → IsOneOf o later → IsCutOff calls replies a o.ticket → ⊥)

@@ -1,10 +1,7 @@
 -- The laws of the abstract port, over whole runs.
-use Rattle.std.specs.Prelude.{◌≡◌, ◌++◌, ℕ, List, [], ◌∷◌, None, ⊤}
+use Rattle.std.specs.Prelude.{◌≡◌, ◌++◌, ℕ, List}
 use Rattle.iol_device.specs.Far.{Far}
 use Rattle.iol_book.specs.declared.entries.Limits.{Limits}
-use Rattle.iol_isdu.specs.declared.values.Answer.{Answer}
-use Rattle.iol_steps.specs.Step.{Step, Unknown, LateCarry, Reset, Moment}
-use Rattle.iol_steps.specs.Session.{Session, MaySessionAll, session_after, session_through}
 use Rattle.iol_steps.specs.declared.mode.Mode.TheVariants.{Operate}
 use Rattle.iol_port.specs.declared.call.Call.{Call}
 use Rattle.iol_port.specs.declared.call.Answered.{Answered}
@@ -36,24 +33,3 @@ abbrev pub RunsJoin : Type 0
 RunsJoin =
     (a b c : PortState) (calls more : List Call) (replies others : List Answered) → Run a calls replies b → Run b more others c
     → Run a (calls ++ more) (replies ++ others) c
-
--- steps of which none cuts a request off, and of which none carries out one that was cut off
-abbrev pub NoneCut : List Step → Type 0
-NoneCut [] = ⊤
-NoneCut (Unknown cause ∷ steps) = ⊥
-NoneCut (step ∷ steps) = NoneCut steps
-
-abbrev pub NoneLate : List Step → Type 0
-NoneLate [] = ⊤
-NoneLate (LateCarry answer ∷ steps) = ⊥
-NoneLate (step ∷ steps) = NoneLate steps
-
--- where none is late, none is carried out late until another is cut off, and none is late then
-abbrev pub NoneLateStays : Type 0
-NoneLateStays =
-    (moment : Moment) (steps : List Step) (s : Session) → s.late ≡ None → NoneCut steps → MaySessionAll moment steps s
-    → NoneLate steps × ((session_through steps s).late ≡ None)
-
--- none is late once the late one was carried out, and none after a wake that had success
-abbrev pub LateEnds : Type 0
-LateEnds = (s : Session) → ((answer : Answer) → (session_after (LateCarry answer) s).late ≡ None) × ((session_after Reset s).late ≡ None)

@@ -1,6 +1,7 @@
 -- What a call answers, as the list of a run's answers has it.
-use Rattle.std.specs.Prelude.{Result, Ok, Err}
+use Rattle.std.specs.Prelude.{List, length, Result, Ok, Err}
 use Rattle.iol_event.specs.declared.event.Event.{Event}
+use Rattle.iol_book.specs.declared.entries.Entry.{Entry}
 use Rattle.iol_book.specs.declared.entries.Outcome.{Outcome}
 use Rattle.iol_book.specs.declared.entries.Ticket.{Ticket}
 use Rattle.iol_book.specs.declared.fault.BookFault.{BookFault}
@@ -26,6 +27,10 @@ nothing_reply result = reply_of (λ _. answered.Nothing) result
 
 abbrev pub event_reply : Result Event PortFault → Answered
 event_reply result = reply_of (λ event. answered.Event event) result
+
+-- of an archive, how many entries were handed out
+abbrev pub archive_reply : Result (List Entry) PortFault → Answered
+archive_reply result = reply_of (λ entries. answered.Archived (length entries)) result
 
 -- the book's refusals are the port's
 abbrev pub by_book : {X : Type 0} → Result X BookFault → Result X PortFault

@@ -1,6 +1,7 @@
-ghost use Rattle.iol_port.specs.Promises.{OpensSound, RunsSound, SoundFits, GoodLinkStays, NothingIsNoTurn, RunsJoin, NoneLateStays, LateEnds};
+ghost use Rattle.iol_port.specs.Promises.{OpensSound, RunsSound, SoundFits, GoodLinkStays, NothingIsNoTurn, RunsJoin};
 ghost use Rattle.iol_port.specs.Clean.{CleanLaws};
-ghost use Rattle.iol_port.specs.Owned.{EachDoneHasItsPair};
+ghost use Rattle.iol_port.specs.Denials.{CarriesNone, IsDeniedWithoutIsdu};
+ghost use Rattle.iol_port.specs.Owned.{EachDoneHasItsPair, LateEnds};
 
 use iol_book::{records_fit, takings_of_calls};
 use iol_device::{modes_have_layouts, page_and_room_stay, replies_are_read, requests_are_received};
@@ -23,8 +24,9 @@ pub fn record_fits_journal()
 
 /// A law of the definitions: what no turn of the abstract port is.
 ///
-/// With a good reply in OPERATE the link stays in OPERATE; and in OPERATE, where the last reply is missing, leaving all as
-/// it was is no turn. What a turn does on every wire is said by the clause `gives` of [`Port::turn`](crate::Port::turn).
+/// With a good reply in OPERATE the link stays in OPERATE; and in OPERATE, where the last reply is missing, leaving all
+/// as it was is no turn. What a turn does on every wire is said by the clause `gives` of
+/// [`Port::turn`](crate::Port::turn).
 pub fn turns_rule_out()
     ensures stays { GoodLinkStays }
     ensures nothing { NothingIsNoTurn }
@@ -36,25 +38,33 @@ pub fn runs_join()
     ensures { RunsJoin }
 {}
 
-/// A law of the definitions: a request that was cut off by a lost link or a restart is carried out once at most, and
-/// not after a wake that had success.
+/// A law of the definitions, over whole runs of a port that is opened: each pair by which the device's record grew is
+/// that of a request which was submitted under a ticket of its own, and each outcome Done that was collected has its
+/// pair there, with that answer.
 ///
-/// Either leaves none that is late, and while none is late no step carries one out, until another request is cut off.
-#[tactic(auto, using(crate::proofs::LateLemmas::none_late_stays, crate::proofs::LateLemmas::late_ends))]
-pub fn late_requests_end()
-    ensures stays { NoneLateStays }
-    ensures ends { LateEnds }
-{}
-
-/// A law of the definitions, over whole runs of a port that is opened: each outcome Done that was collected is that of
-/// a request which was submitted under its ticket, and the device's record has a pair of its own for it: this request,
-/// with this answer.
-///
-/// The pairs stand behind what the record had at the opening, in the order in which the requests were taken and done,
-/// across losses, restarts and archives.
+/// The pairs stand behind what the record had at the opening, and their tickets rise, across losses, restarts and
+/// archives: so each request is carried out once at most, one that was cut off as well.
 #[tactic(auto, using(crate::proofs::Owning::each_done_has_its_pair))]
 pub fn each_done_has_its_pair()
     ensures { EachDoneHasItsPair }
+{}
+
+/// A law of the definitions, over whole runs of a port that is opened: a request that was cut off is carried out once
+/// at most, and not after a wake that had success.
+///
+/// The run has a turn that leads out of down. Over the whole of it each request that the device carries out has a
+/// ticket of its own; and none that it carries out after that turn had been cut off before it.
+#[tactic(auto, using(crate::proofs::Owning::late_ends))]
+pub fn late_requests_end()
+    ensures { LateEnds }
+{}
+
+/// A law of the definitions, over whole runs of a port that is opened: a device without ISDU carries nothing out, and
+/// each outcome NoIsdu that was collected is that of such a device.
+#[tactic(auto, using(crate::proofs::WithoutIsdu::carries_none, crate::proofs::WithoutIsdu::denied_without_isdu))]
+pub fn denied_requests_stay_out()
+    ensures carries { CarriesNone }
+    ensures denied { IsDeniedWithoutIsdu }
 {}
 
 /// What the number of turns on a clean wire rests on.

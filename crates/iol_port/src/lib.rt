@@ -21,7 +21,8 @@ mod settle;
 pub use call::{Answered, Call};
 pub use fault::PortFault;
 pub use laws::{
-    each_done_has_its_pair, late_requests_end, record_fits_journal, runs_join, turns_rule_out,
+    denied_requests_stay_out, each_done_has_its_pair, late_requests_end, record_fits_journal,
+    runs_join, turns_rule_out,
 };
 pub use port::Port;
 

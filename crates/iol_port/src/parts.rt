@@ -2,7 +2,6 @@
 ghost use Rattle.std.specs.Prelude.{◌≡◌, ◌<◌, ◌≤◌, ◌^◌, None, IsTrue, IfOk, IfErr, length};
 ghost use Rattle.std.specs.Option.{option_copied};
 ghost use Rattle.std.specs.Result.{result_map_both};
-ghost use Rattle.iol_device.specs.Isdu.{handed};
 ghost use Rattle.iol_book.specs.declared.fault.BookFault.TheVariants.{OutOfMemory};
 ghost use Rattle.iol_book.specs.BookModel.{AreLimits, IsReplayed};
 ghost use Rattle.iol_app.specs.StationState.{wire_of};
@@ -11,15 +10,18 @@ ghost use Rattle.iol_port.specs.declared.call.Call.TheVariants as call;
 ghost use Rattle.iol_port.specs.declared.call.Answered.TheVariants as answered;
 ghost use Rattle.iol_port.specs.Run.{opened};
 ghost use Rattle.iol_app.specs.Asking.{IsCall};
-ghost use Rattle.iol_port.specs.View.{Does, Runs, StandsFor, IsOpened, status_of};
-ghost use Rattle.iol_port.specs.Asks.{asks_of, has_room};
-ghost use Rattle.iol_port.specs.EveryWire.{SubmitGives, CollectGives, WithdrawGives, ArchiveGives, TakeEventGives, SetOutputGives, ClearOutputGives, RestartGives, TurnGives};
+ghost use Rattle.iol_port.specs.View.{Does, Runs, StandsFor, OpensWell, IsOpened, opening_of, status_of};
+ghost use Rattle.iol_port.specs.Asks.{asks_of, has_room, IsWireCall};
+ghost use Rattle.iol_port.specs.EveryWire.{SubmitGives, CollectGives, WithdrawGives, ArchiveGives};
+ghost use Rattle.iol_port.specs.EveryWire.{TakeEventGives, SetOutputGives, ClearOutputGives, RestartGives};
+ghost use Rattle.iol_port.specs.EveryWire.{TurnGives, CallGives, RunGives};
 ghost use Rattle.iol_port.specs.Clean.{CleanTurn, CleanRuns};
-ghost use Rattle.iol_port.specs.Replies.{ticket_reply, outcome_reply, nothing_reply, event_reply, reply_of};
+ghost use Rattle.iol_port.specs.Replies.{ticket_reply, outcome_reply, nothing_reply, event_reply};
+ghost use Rattle.iol_port.specs.Replies.{archive_reply, reply_of};
 
 use crate::copies::{copy_of_image, copy_of_request};
 use crate::laws::clean_laws;
-use crate::settle::{KEPT, ROOM, begin_next, by_book, by_output, settle, woke_up};
+use crate::settle::{KEPT, ROOM, begin_next, by_book, by_output, lacks_isdu, settle, woke_up};
 use crate::{Answered, Call, PortFault};
 use arrayvec::ArrayVec;
 use iol_app::{Asked, Station, Status};
@@ -51,8 +53,8 @@ impl<W: Wire, A: Allocator + Copy> Model for Parts<W, A> {
 impl<W: Wire, A: Allocator + Copy> Parts<W, A> {
     pub(crate) fn open(alloc: A, wire: W, limits: &Limits) -> Result<Parts<W, A>, (PortFault, W)>
         requires limits { AreLimits limits.now }
-        ensures parts { IfOk result (λ p. IsOpened (record { limits = limits.now; far = W.far wire; silence = W.silence wire; honest = W.honest wire }) wire p) }
-        ensures stands { IfOk result (λ p. IsTrue (W.honest wire) → handed (W.far wire).isdu ≡ None
+        ensures parts { IfOk result (λ p. IsOpened (opening_of W.honest W.far W.silence limits.now wire) p) }
+        ensures stands { IfOk result (λ p. OpensWell (opening_of W.honest W.far W.silence limits.now wire)
             → StandsFor W.honest W.far W.silence p (opened limits.now (W.far wire) (W.silence wire))) }
         ensures refused { IfErr result (λ e. e.0 ≡ fault.Book OutOfMemory) }
         ensures back { IfErr result (λ e. e.1 ≡ wire) }
@@ -71,6 +73,8 @@ impl<W: Wire, A: Allocator + Copy> Parts<W, A> {
         ensures does { Does W.honest W.far W.silence self.old (call.Submit request) (ticket_reply result) self.new }
         ensures lacks { IfErr result (λ e. e ≡ fault.Book OutOfMemory → self.old.book.room ≡ 0) }
         ensures gives { SubmitGives self.old request result self.new }
+        ensures called { CallGives W.honest W.far W.silence W.wake_gives W.exchange_gives
+            self.old (call.Submit request) (ticket_reply result) self.new }
     {
         by_book(self.book.submit(request))
     }
@@ -78,6 +82,8 @@ impl<W: Wire, A: Allocator + Copy> Parts<W, A> {
     pub(crate) fn collect(&mut self, ticket: Ticket) -> Result<Outcome, PortFault>
         ensures does { Does W.honest W.far W.silence self.old (call.Collect ticket) (outcome_reply result) self.new }
         ensures gives { CollectGives self.old ticket result self.new }
+        ensures called { CallGives W.honest W.far W.silence W.wake_gives W.exchange_gives
+            self.old (call.Collect ticket) (outcome_reply result) self.new }
     {
         by_book(self.book.collect(ticket))
     }
@@ -85,6 +91,8 @@ impl<W: Wire, A: Allocator + Copy> Parts<W, A> {
     pub(crate) fn withdraw(&mut self, ticket: Ticket) -> Result<(), PortFault>
         ensures does { Does W.honest W.far W.silence self.old (call.Withdraw ticket) (nothing_reply result) self.new }
         ensures gives { WithdrawGives self.old ticket result self.new }
+        ensures called { CallGives W.honest W.far W.silence W.wake_gives W.exchange_gives
+            self.old (call.Withdraw ticket) (nothing_reply result) self.new }
     {
         by_book(self.book.withdraw(ticket))
     }
@@ -92,6 +100,8 @@ impl<W: Wire, A: Allocator + Copy> Parts<W, A> {
     pub(crate) fn restart(&mut self)
         ensures does { Does W.honest W.far W.silence self.old call.Restart answered.Nothing self.new }
         ensures gives { RestartGives self.old self.new }
+        ensures called { CallGives W.honest W.far W.silence W.wake_gives W.exchange_gives
+            self.old call.Restart answered.Nothing self.new }
     {
         if self.station.restart() {
             self.book.post(Outcome::Unknown(Cause::Restarted));
@@ -99,8 +109,11 @@ impl<W: Wire, A: Allocator + Copy> Parts<W, A> {
     }
 
     pub(crate) fn set_output(&mut self, image: &Image) -> Result<(), PortFault>
-        ensures does { Does W.honest W.far W.silence self.old (call.SetOutput image.now) (nothing_reply result) self.new }
+        ensures does { Does W.honest W.far W.silence
+            self.old (call.SetOutput image.now) (nothing_reply result) self.new }
         ensures gives { SetOutputGives self.old image.now result self.new }
+        ensures called { CallGives W.honest W.far W.silence W.wake_gives W.exchange_gives
+            self.old (call.SetOutput image.now) (nothing_reply result) self.new }
     {
         by_output(self.station.set_output(image))
     }
@@ -108,12 +121,15 @@ impl<W: Wire, A: Allocator + Copy> Parts<W, A> {
     pub(crate) fn clear_output(&mut self)
         ensures does { Does W.honest W.far W.silence self.old call.ClearOutput answered.Nothing self.new }
         ensures gives { ClearOutputGives self.old self.new }
+        ensures called { CallGives W.honest W.far W.silence W.wake_gives W.exchange_gives
+            self.old call.ClearOutput answered.Nothing self.new }
     {
         self.station.clear_output();
     }
 
     pub(crate) fn image(&self) -> Option<&Image>
-        ensures does { Does W.honest W.far W.silence self.now call.Look (answered.Image (option_copied result)) self.now }
+        ensures does { Does W.honest W.far W.silence
+            self.now call.Look (answered.Image (option_copied result)) self.now }
         ensures value { option_copied result ≡ self.now.station.session.image }
     {
         self.station.image()
@@ -122,6 +138,8 @@ impl<W: Wire, A: Allocator + Copy> Parts<W, A> {
     pub(crate) fn take_event(&mut self) -> Result<Event, PortFault>
         ensures does { Does W.honest W.far W.silence self.old call.TakeEvent (event_reply result) self.new }
         ensures gives { TakeEventGives self.old result self.new }
+        ensures called { CallGives W.honest W.far W.silence W.wake_gives W.exchange_gives
+            self.old call.TakeEvent (event_reply result) self.new }
     {
         self.kept.pop_at(0).ok_or(PortFault::NoEvent)
     }
@@ -134,9 +152,13 @@ impl<W: Wire, A: Allocator + Copy> Parts<W, A> {
     }
 
     pub(crate) fn archive(&mut self) -> Result<Vec<Entry, A>, PortFault>
-        ensures does { Does W.honest W.far W.silence self.old call.Archive (reply_of (λ entries. answered.Archived (length entries.items)) result) self.new }
+        ensures does { Does W.honest W.far W.silence self.old call.Archive
+            (reply_of (λ entries. answered.Archived (length entries.items)) result) self.new }
         ensures within { IfOk result (λ entries. length entries.items ≤ 1000000) }
-        ensures gives { ArchiveGives self.old (result_map_both (λ entries. entries.items) (λ why. why) result) self.new }
+        ensures gives { ArchiveGives self.old
+            (result_map_both (λ entries. entries.items) (λ why. why) result) self.new }
+        ensures called { CallGives W.honest W.far W.silence W.wake_gives W.exchange_gives self.old call.Archive
+            (archive_reply (result_map_both (λ entries. entries.items) (λ why. why) result)) self.new }
     {
         by_book(self.book.archive())
     }
@@ -144,7 +166,12 @@ impl<W: Wire, A: Allocator + Copy> Parts<W, A> {
     pub(crate) fn asks(&self) -> Asked
         ensures { result ≡ asks_of self.now }
     {
-        self.station.asks(self.has_room(), self.book.next())
+        let next = if lacks_isdu(self.station.isdu()) {
+            None
+        } else {
+            self.book.next()
+        };
+        self.station.asks(self.has_room(), next)
     }
 
     /// Whether a turn may begin to read events.
@@ -156,9 +183,12 @@ impl<W: Wire, A: Allocator + Copy> Parts<W, A> {
 
     pub(crate) fn turn(&mut self)
         ensures does { Does W.honest W.far W.silence self.old call.Turn answered.Nothing self.new }
-        ensures asked { IsCall W.wake_gives W.exchange_gives (asks_of self.old) (wire_of self.old.station.link) (wire_of self.new.station.link) }
+        ensures asked { IsCall W.wake_gives W.exchange_gives (asks_of self.old)
+            (wire_of self.old.station.link) (wire_of self.new.station.link) }
         ensures clean { CleanTurn W.honest W.far W.clean self.old self.new }
         ensures gives { TurnGives W.honest W.far W.silence W.wake_gives W.exchange_gives self.old self.new }
+        ensures called { CallGives W.honest W.far W.silence W.wake_gives W.exchange_gives
+            self.old call.Turn answered.Nothing self.new }
     {
         clean_laws();
         let room = self.has_room();
@@ -170,8 +200,12 @@ impl<W: Wire, A: Allocator + Copy> Parts<W, A> {
     }
 
     /// One call, with the answer that a list of calls has for it.
-    fn answer(&mut self, asked: &Call) -> Answered
+    pub(crate) fn answer(&mut self, asked: &Call) -> Answered
         ensures does { Does W.honest W.far W.silence self.old asked.now result self.new }
+        ensures called { CallGives W.honest W.far W.silence W.wake_gives W.exchange_gives
+            self.old asked.now result self.new }
+        ensures wire { IsWireCall W.wake_gives W.exchange_gives asked.now (asks_of self.old)
+            (wire_of self.old.station.link) (wire_of self.new.station.link) }
         ensures clean { asked.now ≡ call.Turn → CleanTurn W.honest W.far W.clean self.old self.new }
     {
         match asked {
@@ -215,7 +249,10 @@ impl<W: Wire, A: Allocator + Copy> Parts<W, A> {
         alloc: B,
         calls: &[Call],
     ) -> Result<Vec<Answered, B>, PortFault>
-        ensures run { IfOk result (λ replies. Runs W.honest W.far W.silence self.old calls.now replies.items self.new) }
+        ensures run { IfOk result (λ replies. Runs W.honest W.far W.silence
+            self.old calls.now replies.items self.new) }
+        ensures gives { IfOk result (λ replies. RunGives W.honest W.far W.silence W.wake_gives W.exchange_gives
+            self.old calls.now replies.items self.new) }
         ensures clean { IfOk result (λ _. CleanRuns W.honest W.far W.clean self.old calls.now self.new) }
         ensures refused { IfErr result (λ e. e ≡ fault.Book OutOfMemory) }
         ensures unchanged { IfErr result (λ _. self.new ≡ self.old) }

@@ -10,9 +10,13 @@ ghost use Rattle.iol_port.specs.declared.call.Answered.TheVariants as answered;
 ghost use Rattle.iol_port.specs.Run.{opened};
 ghost use Rattle.iol_app.specs.StationState.{wire_of};
 ghost use Rattle.iol_app.specs.Asking.{IsCall};
-ghost use Rattle.iol_port.specs.Asks.{asks_of};
-ghost use Rattle.iol_port.specs.EveryWire.{SubmitGives, CollectGives, WithdrawGives, ArchiveGives, TakeEventGives, SetOutputGives, ClearOutputGives, RestartGives, TurnGives};
-ghost use Rattle.iol_port.specs.View.{Does, Runs, StandsFor, IsOpened, IsRun, OpensWell, KeepsRecord, shown_in, status_of};
+ghost use Rattle.iol_port.specs.Asks.{asks_of, IsWireCall};
+ghost use Rattle.iol_port.specs.EveryWire.{SubmitGives, CollectGives, WithdrawGives, ArchiveGives};
+ghost use Rattle.iol_port.specs.EveryWire.{TakeEventGives, SetOutputGives, ClearOutputGives, RestartGives};
+ghost use Rattle.iol_port.specs.EveryWire.{TurnGives, CallGives, RunGives};
+ghost use Rattle.iol_port.specs.WireCalls.{ComesFrom};
+ghost use Rattle.iol_port.specs.View.{Does, Runs, StandsFor, IsOpened, IsRun, OpensWell, opening_of};
+ghost use Rattle.iol_port.specs.View.{KeepsRecord, shown_in, status_of};
 ghost use Rattle.iol_port.specs.Clean.{CleanTurn, CleanRuns, IsLevelBetween};
 ghost use Rattle.iol_port.specs.Replies.{ticket_reply, outcome_reply, nothing_reply, event_reply, reply_of};
 
@@ -33,9 +37,9 @@ use std::sync::Wait;
 /// A port of an IO-Link master: a queue of requests, and the link to one device that carries them out.
 ///
 /// Contracts see what the port stands for: an abstract port, of which each call is one call. Over an honest wire they
-/// say which; on every wire no call is unsafe, the journal alone says where each ticket stands, and each call answers and
-/// leaves what its clause `gives` says of the port's own parts. Beside that they see with what the port was opened, and
-/// what it published.
+/// say which. On every wire no call is unsafe, the journal alone says where each ticket stands, each call answers and
+/// leaves what its clause `gives` says of the port's own parts, and the wire is what the one at the opening became by
+/// the calls of turns. Beside that they see with what the port was opened, and what it published.
 #[derive(Drop)]
 pub struct Port<W: Wire, A: Handle = Global> {
     parts: Parts<W, A>,
@@ -45,29 +49,30 @@ pub struct Port<W: Wire, A: Handle = Global> {
 }
 
 impl<W: Wire, A: Handle> Model for Port<W, A> {
-    ghost use Rattle.iol_port.specs.View.{Port, IsRun};
+    ghost use Rattle.iol_port.specs.View.{Port, IsPort, opening_of};
 
     ghost Value = { Port W };
 
     ghost view = { λ p. record {
       parts = p.parts;
-      opening = record { limits = p.limits.value; far = W.far p.wire_then.value; silence = W.silence p.wire_then.value; honest = W.honest p.wire_then.value };
+      opening = opening_of W.honest W.far W.silence p.limits.value p.wire_then.value;
       writer = p.writer;
     } };
 
-    ghost invariant = { λ p. IsRun W.honest W.far W.silence (record { limits = p.limits.value; far = W.far p.wire_then.value; silence = W.silence p.wire_then.value; honest = W.honest p.wire_then.value }) p.parts };
+    ghost invariant = { λ p. IsPort W.honest W.far W.silence W.wake_gives W.exchange_gives
+        (opening_of W.honest W.far W.silence p.limits.value p.wire_then.value) p.parts };
 }
 
-#[tactic(auto, using(crate::proofs::RunLemmas::run_kept))]
 impl<W: Wire, A: Handle> Port<W, A> {
     /// A port over this wire, whose link is down and whose first ticket is `given` + 1.
     ///
     /// Refused by 24 where there is no memory for its book; the wire is handed back.
     pub fn open(alloc: A, wire: W, limits: &Limits) -> Result<Port<W, A>, (PortFault, W)>
         requires limits { AreLimits limits.now }
-        ensures opening { IfOk result (λ p. p.opening ≡ record { limits = limits.now; far = W.far wire; silence = W.silence wire; honest = W.honest wire }) }
-        ensures parts { IfOk result (λ p. IsOpened p.opening wire p.parts) }
-        ensures stands { IfOk result (λ p. OpensWell p.opening → StandsFor W.honest W.far W.silence p.parts (opened limits.now (W.far wire) (W.silence wire))) }
+        ensures opening { IfOk result (λ p. p.opening ≡ opening_of W.honest W.far W.silence limits.now wire) }
+        ensures parts { IfOk result (λ p. IsOpened p.opening p.parts) }
+        ensures stands { IfOk result (λ p. OpensWell p.opening
+            → StandsFor W.honest W.far W.silence p.parts (opened limits.now (W.far wire) (W.silence wire))) }
         ensures writer { IfOk result (λ p. p.writer ≡ None) }
         ensures refused { IfErr result (λ e. e.0 ≡ fault.Book OutOfMemory) }
         ensures back { IfErr result (λ e. e.1 ≡ wire) }
@@ -87,7 +92,8 @@ impl<W: Wire, A: Handle> Port<W, A> {
     /// Refused, with nothing changed, by the first of 21 where 64 tickets are outstanding, 22 where the journal has no
     /// room for the request's entries, 23 where the last ticket was 2^64 - 1, and 24 where a growth was refused.
     pub fn submit(&mut self, request: Request) -> Result<Ticket, PortFault>
-        ensures does { Does W.honest W.far W.silence self.old.parts (call.Submit request) (ticket_reply result) self.new.parts }
+        ensures does { Does W.honest W.far W.silence
+            self.old.parts (call.Submit request) (ticket_reply result) self.new.parts }
         ensures lacks { IfErr result (λ e. e ≡ fault.Book OutOfMemory → self.old.parts.book.room ≡ 0) }
         ensures gives { SubmitGives self.old.parts request result self.new.parts }
         ensures rest { self.new ≡ record self.old { parts = self.new.parts } }
@@ -99,7 +105,8 @@ impl<W: Wire, A: Handle> Port<W, A> {
     ///
     /// Refused, with nothing changed, by 25 where no such ticket is outstanding, and by 26 where it has no outcome yet.
     pub fn collect(&mut self, ticket: Ticket) -> Result<Outcome, PortFault>
-        ensures does { Does W.honest W.far W.silence self.old.parts (call.Collect ticket) (outcome_reply result) self.new.parts }
+        ensures does { Does W.honest W.far W.silence
+            self.old.parts (call.Collect ticket) (outcome_reply result) self.new.parts }
         ensures gives { CollectGives self.old.parts ticket result self.new.parts }
         ensures rest { self.new ≡ record self.old { parts = self.new.parts } }
     {
@@ -110,7 +117,8 @@ impl<W: Wire, A: Handle> Port<W, A> {
     ///
     /// Refused, with nothing changed, by 25 where no such ticket is outstanding, and by 27 where it waits no longer.
     pub fn withdraw(&mut self, ticket: Ticket) -> Result<(), PortFault>
-        ensures does { Does W.honest W.far W.silence self.old.parts (call.Withdraw ticket) (nothing_reply result) self.new.parts }
+        ensures does { Does W.honest W.far W.silence
+            self.old.parts (call.Withdraw ticket) (nothing_reply result) self.new.parts }
         ensures gives { WithdrawGives self.old.parts ticket result self.new.parts }
         ensures rest { self.new ≡ record self.old { parts = self.new.parts } }
     {
@@ -134,7 +142,8 @@ impl<W: Wire, A: Handle> Port<W, A> {
     /// Refused, with nothing changed, by the first of 34 where no start-up has told the lengths of the process data
     /// yet, and 29 where the image has not the length that was told last.
     pub fn set_output(&mut self, image: &Image) -> Result<(), PortFault>
-        ensures does { Does W.honest W.far W.silence self.old.parts (call.SetOutput image.now) (nothing_reply result) self.new.parts }
+        ensures does { Does W.honest W.far W.silence
+            self.old.parts (call.SetOutput image.now) (nothing_reply result) self.new.parts }
         ensures gives { SetOutputGives self.old.parts image.now result self.new.parts }
         ensures rest { self.new ≡ record self.old { parts = self.new.parts } }
     {
@@ -153,7 +162,8 @@ impl<W: Wire, A: Handle> Port<W, A> {
     /// The device's input by the last good reply in OPERATE: one whole image, or none where it was not valid. None
     /// in every other mode.
     pub fn image(&self) -> Option<&Image>
-        ensures does { Does W.honest W.far W.silence self.now.parts call.Look (answered.Image (option_copied result)) self.now.parts }
+        ensures does { Does W.honest W.far W.silence
+            self.now.parts call.Look (answered.Image (option_copied result)) self.now.parts }
         ensures value { option_copied result ≡ self.now.parts.station.session.image }
     {
         self.parts.image()
@@ -161,7 +171,8 @@ impl<W: Wire, A: Handle> Port<W, A> {
 
     /// Hands out the event that was kept longest. Refused by 30 where none is kept.
     pub fn take_event(&mut self) -> Result<Event, PortFault>
-        ensures does { Does W.honest W.far W.silence self.old.parts call.TakeEvent (event_reply result) self.new.parts }
+        ensures does { Does W.honest W.far W.silence
+            self.old.parts call.TakeEvent (event_reply result) self.new.parts }
         ensures gives { TakeEventGives self.old.parts result self.new.parts }
         ensures rest { self.new ≡ record self.old { parts = self.new.parts } }
     {
@@ -170,7 +181,8 @@ impl<W: Wire, A: Handle> Port<W, A> {
 
     /// The mode of the link, and why it is down.
     pub fn status(&self) -> Status
-        ensures does { Does W.honest W.far W.silence self.now.parts call.Status (answered.Status result) self.now.parts }
+        ensures does { Does W.honest W.far W.silence
+            self.now.parts call.Status (answered.Status result) self.now.parts }
         ensures value { result ≡ status_of self.now.parts.station }
     {
         self.parts.status()
@@ -178,12 +190,14 @@ impl<W: Wire, A: Handle> Port<W, A> {
 
     /// Hands the journal out and begins a new one, which is empty. Tickets go on.
     ///
-    /// Refused, with nothing changed, by 28 where a ticket is outstanding, or where a request was cut off by a lost link
-    /// or a restart and no wake succeeded since, as the device may still carry that request out.
+    /// Refused, with nothing changed, by 28 where a ticket is outstanding, or where a request was cut off by a lost
+    /// link or a restart and no wake succeeded since, as the device may still carry that request out.
     pub fn archive(&mut self) -> Result<Vec<Entry, A>, PortFault>
-        ensures does { Does W.honest W.far W.silence self.old.parts call.Archive (reply_of (λ entries. answered.Archived (length entries.items)) result) self.new.parts }
+        ensures does { Does W.honest W.far W.silence self.old.parts call.Archive
+            (reply_of (λ entries. answered.Archived (length entries.items)) result) self.new.parts }
         ensures within { IfOk result (λ entries. length entries.items ≤ 1000000) }
-        ensures gives { ArchiveGives self.old.parts (result_map_both (λ entries. entries.items) (λ why. why) result) self.new.parts }
+        ensures gives { ArchiveGives self.old.parts
+            (result_map_both (λ entries. entries.items) (λ why. why) result) self.new.parts }
         ensures rest { self.new ≡ record self.old { parts = self.new.parts } }
     {
         self.parts.archive()
@@ -201,27 +215,47 @@ impl<W: Wire, A: Handle> Port<W, A> {
     /// One turn: one wake-up request where the link is down, else one exchange with the device.
     ///
     /// In OPERATE, where nothing else is to be sent, the request that waits longest is taken, and its first segment
-    /// goes out in this turn. At most 64 events are kept, and a list of events is read only where there is room for it.
+    /// goes out in this turn; where the device has no ISDU it is denied, never taken, and IDLE 1 goes out. At most 64
+    /// events are kept, and a list of events is read only where there is room for it.
     pub fn turn(&mut self)
         ensures does { Does W.honest W.far W.silence self.old.parts call.Turn answered.Nothing self.new.parts }
         ensures clean { CleanTurn W.honest W.far W.clean self.old.parts self.new.parts }
-        ensures gives { TurnGives W.honest W.far W.silence W.wake_gives W.exchange_gives self.old.parts self.new.parts }
+        ensures gives { TurnGives W.honest W.far W.silence W.wake_gives W.exchange_gives
+            self.old.parts self.new.parts }
         ensures rest { self.new ≡ record self.old { parts = self.new.parts } }
-        ensures asked { IsCall W.wake_gives W.exchange_gives (asks_of self.old.parts) (wire_of self.old.parts.station.link) (wire_of self.new.parts.station.link) }
+        ensures asked { IsCall W.wake_gives W.exchange_gives (asks_of self.old.parts)
+            (wire_of self.old.parts.station.link) (wire_of self.new.parts.station.link) }
     {
         self.parts.turn();
     }
 
-    /// The calls in order, each with what it answered.
+    /// One call by its name, with what it answered.
+    ///
+    /// A turn makes the one call of the wire that the port `asks` for, and no other call touches the wire.
+    pub fn call(&mut self, asked: &Call) -> Answered
+        ensures does { Does W.honest W.far W.silence self.old.parts asked.now result self.new.parts }
+        ensures gives { CallGives W.honest W.far W.silence W.wake_gives W.exchange_gives
+            self.old.parts asked.now result self.new.parts }
+        ensures wire { IsWireCall W.wake_gives W.exchange_gives asked.now (asks_of self.old.parts)
+            (wire_of self.old.parts.station.link) (wire_of self.new.parts.station.link) }
+        ensures clean { asked.now ≡ call.Turn → CleanTurn W.honest W.far W.clean self.old.parts self.new.parts }
+        ensures rest { self.new ≡ record self.old { parts = self.new.parts } }
+    {
+        self.parts.answer(asked)
+    }
+
+    /// The calls in order, each made once, with what it answered. A call that is refused doesn't end the run.
     ///
     /// Refused by 24 where there is no memory for the list of answers, before the first call and with nothing done.
-    #[tactic(auto, using(crate::proofs::RunLemmas::run_kept_by))]
     pub fn run<B: Allocator>(
         &mut self,
         alloc: B,
         calls: &[Call],
     ) -> Result<Vec<Answered, B>, PortFault>
-        ensures run { IfOk result (λ replies. Runs W.honest W.far W.silence self.old.parts calls.now replies.items self.new.parts) }
+        ensures run { IfOk result (λ replies. Runs W.honest W.far W.silence
+            self.old.parts calls.now replies.items self.new.parts) }
+        ensures gives { IfOk result (λ replies. RunGives W.honest W.far W.silence W.wake_gives W.exchange_gives
+            self.old.parts calls.now replies.items self.new.parts) }
         ensures clean { IfOk result (λ _. CleanRuns W.honest W.far W.clean self.old.parts calls.now self.new.parts) }
         ensures rest { self.new ≡ record self.old { parts = self.new.parts } }
         ensures refused { IfErr result (λ e. e ≡ fault.Book OutOfMemory) }
@@ -241,8 +275,10 @@ impl<W: Wire, A: Handle> Port<W, A> {
     pub fn turn_shown<R: Wait>(&mut self, rt: &R)
         ensures does { Does W.honest W.far W.silence self.old.parts call.Turn answered.Nothing self.new.parts }
         ensures clean { CleanTurn W.honest W.far W.clean self.old.parts self.new.parts }
-        ensures asked { IsCall W.wake_gives W.exchange_gives (asks_of self.old.parts) (wire_of self.old.parts.station.link) (wire_of self.new.parts.station.link) }
-        ensures gives { TurnGives W.honest W.far W.silence W.wake_gives W.exchange_gives self.old.parts self.new.parts }
+        ensures asked { IsCall W.wake_gives W.exchange_gives (asks_of self.old.parts)
+            (wire_of self.old.parts.station.link) (wire_of self.new.parts.station.link) }
+        ensures gives { TurnGives W.honest W.far W.silence W.wake_gives W.exchange_gives
+            self.old.parts self.new.parts }
         ensures opening { self.new.opening ≡ self.old.opening }
         ensures shown { self.new.writer ≡ shown_in self.new.parts.station.session.image self.old.writer }
     {
@@ -262,7 +298,9 @@ impl<W: Wire, A: Handle> Port<W, A> {
     }
 
     fn show<R: Wait>(&mut self, rt: &R)
-        ensures { self.new ≡ record self.old { writer = shown_in self.old.parts.station.session.image self.old.writer } }
+        ensures { self.new ≡ record self.old {
+          writer = shown_in self.old.parts.station.session.image self.old.writer;
+        } }
     {
         if let Some(writer) = &mut self.writer {
             writer.publish(rt, self.parts.image());
@@ -289,11 +327,14 @@ impl<W: Wire, A: Handle> Port<W, A> {
         parts.into_wire()
     }
 
-    /// A law of each port, without code: at every moment the journal says where each ticket stands; and the device's
-    /// record fits it, if the wire was honest and the device had been handed no request when the port was opened.
+    /// A law of each port, without code: at every moment the journal says where each ticket stands, and the wire is
+    /// what the one at the opening became by wakes and exchanges, and by nothing else; and the device's record fits the
+    /// journal, if the wire was honest and the device had been handed no request when the port was opened.
     pub fn keeps_record(&self)
         ensures replayed { IsReplayed self.now.parts.book.state }
         ensures run { IsRun W.honest W.far W.silence self.now.opening self.now.parts }
+        ensures wire { ComesFrom W.wake_gives W.exchange_gives
+            self.now.opening.wire (wire_of self.now.parts.station.link) }
         ensures record_fits { OpensWell self.now.opening → KeepsRecord W.honest W.far W.silence self.now.parts }
         ensures level { OpensWell self.now.opening → IsLevelBetween W.far self.now.parts }
     {

@@ -1,10 +1,10 @@
 //! The pieces of a turn: the next request is begun, and what the turn says goes to the book and to the kept events.
 ghost use Rattle.std.specs.Prelude.{◌≡◌, ◌+◌, ◌≤◌, ◌&&◌, [], ◌∷◌, ◌++◌, cond, not, length};
-ghost use Rattle.std.specs.Option.{option_map};
 ghost use Rattle.iol_book.specs.BookModel.{next_taken};
 ghost use Rattle.iol_app.specs.Asking.{prepared};
 ghost use Rattle.iol_app.specs.Due.{is_ready};
 ghost use Rattle.iol_app.specs.StationState.{is_operating};
+ghost use Rattle.iol_port.specs.Asks.{lacks_isdu, to_begin};
 ghost use Rattle.iol_port.specs.EveryWire.{taken_where};
 ghost use Rattle.iol_steps.specs.Step.{Reset, is_down as is_down_mode, book_said, reports_said};
 ghost use Rattle.iol_port.specs.Steps.{book_through, kept_through};
@@ -62,20 +62,38 @@ pub(crate) fn woke_up(began: Mode, ended: Mode) -> bool
     is_down(began) && !is_down(ended)
 }
 
-/// The request that waits longest is taken and begun, where the turn would have nothing else to send.
+/// Whether a start-up told that the device has no ISDU.
+pub(crate) fn lacks_isdu(told: Option<bool>) -> bool
+    ensures { result ≡ lacks_isdu told }
+{
+    match told {
+        Some(has) => !has,
+        None => false,
+    }
+}
+
+/// The request that waits longest is taken and begun, or denied where the device has no ISDU, where the turn would have
+/// nothing else to send.
 pub(crate) fn begin_next<W: Wire, A: Allocator + Copy>(
     station: &mut Station<W>,
     book: &mut Book<A>,
     room: bool,
 )
     ensures next { BeginsNext W.honest W.far W.silence station.old book.old.state station.new book.new.state }
-    ensures exact { station.new ≡ prepared (option_map (λ t. t.1) (next_taken book.old.state.standing)) station.old room }
-    ensures taken { book.new.state ≡ taken_where (is_operating station.old.link && is_ready station.old.session room) (next_taken book.old.state.standing) book.old.state }
+    ensures exact { station.new
+        ≡ prepared (to_begin (lacks_isdu station.old.session.isdu) (next_taken book.old.state.standing)) station.old room }
+    ensures taken { book.new.state ≡ taken_where
+        (is_operating station.old.link && is_ready station.old.session room)
+        (lacks_isdu station.old.session.isdu) (next_taken book.old.state.standing) book.old.state }
     ensures takes { TakesNext W.honest W.far W.silence room station.old book.old.state station.new book.new.state }
 {
-    if station.ready(room)
-        && let Some((_, request)) = book.take()
-    {
+    if !station.ready(room) {
+        return;
+    }
+    if lacks_isdu(station.isdu()) {
+        station.may_deny();
+        let _denied = book.deny();
+    } else if let Some((_, request)) = book.take() {
         station.begin(request);
     }
 }

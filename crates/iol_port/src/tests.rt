@@ -81,6 +81,7 @@ fn faults_have_numbers_and_names(rt: HostRuntime) -> Result<(), Fail> {
         assert_eq!(rt; fault.code(), number);
         assert_eq!(rt; format!(in rt.alloc(); "{fault}")?.as_str(), name);
     }
+    denied_requests_stay_out();
     each_done_has_its_pair();
     late_requests_end();
     record_fits_journal();

@@ -8,6 +8,7 @@ returns c =
       submit = c.takings_of_calls.ensures.submit;
       collect = c.takings_of_calls.ensures.collect;
       withdraw = c.takings_of_calls.ensures.withdraw;
+      deny = c.takings_of_calls.ensures.deny;
       take = c.takings_of_calls.ensures.take;
       post = c.takings_of_calls.ensures.post;
       without = c.records_fit.ensures.without;

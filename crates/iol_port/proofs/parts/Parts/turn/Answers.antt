@@ -1,17 +1,17 @@
-use Rattle.std.proofs.Common.{◌≡◌, Bool, ◌&&◌, Option, ap, sym, ◌∙◌, subst, cond, ◌∷◌, [], ◌++◌, arith}
+use Rattle.std.proofs.Common.{◌≡◌, refl, Bool, ◌&&◌, Option, ap, sym, ◌∙◌, subst, cond, ◌∷◌, [], ◌++◌, arith}
 use Rattle.std.proofs.lemmas.Grind.{common_steps}
 use Rattle.iol_steps.specs.Step.{Reset, woke_up, book_said}
 use Rattle.iol_app.specs.Due.{is_ready}
-use Rattle.iol_app.specs.StationState.{wire_of, mode_of, is_operating}
+use Rattle.iol_app.specs.StationState.{StationState, wire_of, mode_of, is_operating}
 use Rattle.iol_app.specs.Asking.{asked_of, prepared, IsCall}
-use Rattle.std.specs.Option.{option_map}
 use Rattle.iol_isdu.specs.declared.values.Request.{Request}
 use Rattle.iol_book.specs.BookModel.{BookState, next_taken}
-use Rattle.iol_port.specs.Asks.{has_room}
+use Rattle.iol_port.specs.Asks.{has_room, lacks_isdu, to_begin}
 use Rattle.iol_port.specs.View.{Parts}
 use Rattle.iol_port.specs.EveryWire.{taken_where}
 use Rattle.iol_port.specs.Steps.{book_through}
 use Rattle.iol_port.proofs.AskLemmas.{call_asked, turn_begun, book_told}
+use Rattle.iol_port.proofs.Denying.{turn_denies}
 use Rattle.iol_port.proofs.TieLemmas.{begun_same, ends_ask, turn_tied, turn_limit}
 use Rattle.iol_port.proofs.TurnLemmas.{turn_does, turn_gives_none}
 use Rattle.iol_port.proofs.CleanTurns.{clean_turn, none_woke}
@@ -51,7 +51,7 @@ returns-clause-clean g c =
 
 pub returns-clause-asked : goal.returns-clause-asked
 returns-clause-asked g c =
-    let next : Option Request = option_map (λ t. t.1) (next_taken c.self.inside.book.state.standing) in
+    let next : Option Request = to_begin (lacks_isdu c.self.inside.station.session.isdu) (next_taken c.self.inside.book.state.standing) in
     let room : c.has_room-room.result ≡ has_room c.self.inside.kept.items = c.has_room-room.ensures ∙ ap (λ (p : Parts g.row.W.Denot). has_room p.kept) (sym c.self.view_is) in
     let call = call_asked g.W.Wire.wake_gives g.W.Wire.exchange_gives c.self.inside.station c.begin_next.new.station c.turn-said.new.self next c.has_room-room.result c.begin_next.ensures.exact c.turn-said.ensures.asked in
     rw (← c.self.view_is)
@@ -60,7 +60,7 @@ returns-clause-asked g c =
 pub returns-clause-gives : goal.returns-clause-gives
 returns-clause-gives g c =
     let wire = g.W.Wire in
-    let next : Option Request = option_map (λ t. t.1) (next_taken c.self.inside.book.state.standing) in
+    let next : Option Request = to_begin (lacks_isdu c.self.inside.station.session.isdu) (next_taken c.self.inside.book.state.standing) in
     let room : c.has_room-room.result ≡ has_room c.self.inside.kept.items = c.has_room-room.ensures ∙ ap (λ (p : Parts g.row.W.Denot). has_room p.kept) (sym c.self.view_is) in
     rw (← c.self.view_is)
     (record {
@@ -71,6 +71,16 @@ returns-clause-gives g c =
           ∙ book_told c.self.inside.station c.begin_next.new.station c.turn-said.new.self next c.has_room-room.result c.woke_up-woke.result c.status-began.result.mode c.status.result.mode c.turn-said.result c.begin_next.new.book.state
           c.begin_next.ensures.exact c.status-began.ensures.mode c.status.ensures.mode c.woke_up-woke.ensures
           ∙ ap (λ (b : BookState). book_through (woke_up (mode_of c.self.inside.station.link) (mode_of c.turn-said.new.self.link) ++ book_said c.turn-said.result) b)
-          (c.begin_next.ensures.taken ∙ ap (λ (r : Bool). taken_where (is_operating c.self.inside.station.link && is_ready c.self.inside.station.session r) (next_taken c.self.inside.book.state.standing) c.self.inside.book.state) room);
+          (c.begin_next.ensures.taken ∙ ap (λ (r : Bool). taken_where (is_operating c.self.inside.station.link && is_ready c.self.inside.station.session r) (lacks_isdu c.self.inside.station.session.isdu) (next_taken c.self.inside.book.state.standing) c.self.inside.book.state) room);
       kept = c.settle.ensures.kept;
+      denies = λ ticket has. turn_denies (record { station = c.self.inside.station; book = c.self.inside.book; kept = c.self.inside.kept.items })
+          (record { station = c.turn-said.new.self; book = c.settle.new.book; kept = c.settle.new.kept.items })
+          c.begin_next.new.book.state c.woke_up-woke.result c.turn-said.result
+          (ends_ask _ _ _ (begun_same wire.honest wire.far wire.silence _ _ _ _ c.begin_next.ensures.next c.self.invariant.same) c.turn-said.ensures.ends)
+          c.settle.ensures.book ticket has (is_operating c.self.inside.station.link && is_ready c.self.inside.station.session c.has_room-room.result) c.begin_next.ensures.taken
+          (λ ready. none_woke wire.honest wire.far wire.silence wire.wake_gives wire.exchange_gives wire.clean c.begin_next.new.station.link _ _ c.woke_up-woke.result c.status-began.ensures.mode c.woke_up-woke.ensures
+          (ap (λ (s : StationState g.row.W.Denot). is_operating s.link) c.begin_next.ensures.exact ∙ (grind (arith, common_steps))));
     })
+
+pub returns-clause-called : goal.returns-clause-called
+returns-clause-called g c = (refl, returns-clause-gives g c, returns-clause-asked g c)
