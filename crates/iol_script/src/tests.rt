@@ -132,7 +132,7 @@ fn reads_settings(rt: HostRuntime) -> Result<(), Fail> {
         assert_eq!(rt; RunLine::parse(line), Some(RunLine::Setting(param)));
     }
     for line in [
-        b"page 17 01 10 10 08 12 34 00 01 07".as_slice(),
+        b"page 17 01 12 10 08 12 34 00 01 07".as_slice(),
         b"page 17 01 11 10 08 12 34 00 01",
         b"page 17 01 11 10 08 12 34 00 01 07 00",
         b"limits 1 4",

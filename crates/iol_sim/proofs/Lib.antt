@@ -1,4 +1,3 @@
 pub mod Scripts
 pub mod Calls
 pub mod Entries
-pub mod Copies

@@ -68,21 +68,19 @@ impl<P: App, A: Allocator + Copy> Sim<P, A> {
     ghost use Rattle.iol_sim.specs.Script.{fate_of, rest_of, auto_of, IsDone, AreDone};
     ghost use Rattle.iol_sim.specs.Sim.{fate_now, prepared, IsReady, woken_by, rate_by, exchanged, silence_by};
 
-    /// A wire to this device, with a copy of the script.
+    /// A wire to this device, with this script, which isn't copied.
     ///
-    /// Refused with 24 OutOfMemory, the device handed back, where there is no memory for the two.
+    /// Refused with 24 OutOfMemory, the device and the script handed back, where there is no memory for the device.
     pub fn new(
         alloc: A,
         device: Device<P, A>,
-        steps: &[Step],
-    ) -> Result<Sim<P, A>, (SimFault, Device<P, A>)>
-        ensures value { IfOk result (λ sim. sim ≡ record { device = device; steps = steps.now; auto = true; silent = false; silence = 0 }) }
+        steps: Vec<Step, A>,
+    ) -> Result<Sim<P, A>, (SimFault, Device<P, A>, Vec<Step, A>)>
+        ensures value { IfOk result (λ sim. sim ≡ record { device = device; steps = steps.items; auto = true; silent = false; silence = 0 }) }
         ensures refused { IfErr result (λ e. e.0 ≡ SimFault.OutOfMemory) }
-        ensures back { IfErr result (λ e. e.1 ≡ device) }
+        ensures device { IfErr result (λ e. e.1 ≡ device) }
+        ensures script { IfErr result (λ e. e.2 ≡ steps) }
     {
-        let Ok(steps) = Vec::from_clones(alloc, steps) else {
-            return Err((SimFault::OutOfMemory, device));
-        };
         match Box::new(alloc, device) {
             Ok(device) => Ok(Sim {
                 line: Line {
@@ -93,7 +91,7 @@ impl<P: App, A: Allocator + Copy> Sim<P, A> {
                 device,
                 steps: steps.into_iter(),
             }),
-            Err(failed) => Err((SimFault::OutOfMemory, failed.value)),
+            Err(failed) => Err((SimFault::OutOfMemory, failed.value, steps)),
         }
     }
 

@@ -119,7 +119,8 @@ fn opened<A: Allocator + Copy>(alloc: A) -> Result<Device<Params, A>, Fail> {
 }
 
 fn wired(alloc: Global, steps: &[Step]) -> Result<Sim<Params>, Fail> {
-    Sim::new(alloc, opened(alloc)?, steps).map_err(|(fault, _)| Fail::from(fault))
+    let steps = Vec::from_clones(alloc, steps)?;
+    Sim::new(alloc, opened(alloc)?, steps).map_err(|(fault, _, _)| Fail::from(fault))
 }
 
 #[test]
@@ -216,18 +217,20 @@ fn each_request_for_memory_is_refused(rt: HostRuntime) -> Result<(), Fail> {
         for refusal in [Refusal::From(number), Refusal::Only(number)] {
             scarce.order(Refusal::Never);
             let device = opened(&scarce)?;
+            let given = Vec::from_clones(&scarce, &steps)?;
             scarce.order(refusal);
-            match Sim::new(&scarce, device, &steps) {
+            match Sim::new(&scarce, device, given) {
                 Ok(mut sim) => {
                     assert!(rt; !scarce.has_refused());
                     assert!(rt; number > 0);
                     assert_eq!(rt; sim.wake(), Some(Rate::Com2));
                     return Ok(());
                 }
-                Err((fault, device)) => {
+                Err((fault, device, back)) => {
                     assert!(rt; scarce.has_refused());
                     assert_eq!(rt; fault, SimFault::OutOfMemory);
                     assert_eq!(rt; device.app(), &params()?);
+                    assert_eq!(rt; back.as_slice(), steps.as_slice());
                 }
             }
         }

@@ -1,0 +1,37 @@
+-- A wire with a tap round it, and what the tap notes.
+use Rattle.std.specs.Prelude.{◌≡◌, ℕ, List, take, Option, Some}
+use Rattle.arrayvec.specs.ArrayVec.{ArrayVec}
+use Rattle.iol_link.specs.declared.wire.Rate.{Rate}
+use Rattle.iol_tap.specs.declared.tap.Passed.{Passed}
+use Rattle.iol_tap.specs.declared.tap.Passed.TheVariants.{Wake, Exchange}
+
+-- the wire within, and the last call that passed
+pub record Tapped (W : Type 0) : Type 0 where
+  pub wire : W
+  pub last : Option Passed
+
+-- what holds of the wire within holds of the tap
+abbrev pub through : {W X : Type 0} → (W → X) → Tapped W → X
+through of tap = of tap.wire
+
+-- the note of a wake: what was answered
+abbrev pub wake_noted : Option Rate → Passed
+wake_noted answer = Wake answer
+
+-- the note of an exchange: the octets sent, the first 66 where there are more, and the answer
+abbrev pub exchange_noted : List ℕ → Option (ArrayVec ℕ) → Passed
+exchange_noted sent answer = Exchange (record { items = take 66 sent }) answer
+
+module _ {W : Type 0} (wakes : W → Option Rate → W → Type 0) (gives : W → List ℕ → Option (ArrayVec ℕ) → W → Type 0) where
+  -- a wake of the tap: one of the wire within, and its note
+  abbrev pub TapWakes : Tapped W → Option Rate → Tapped W → Type 0
+  TapWakes old answer new = wakes old.wire answer new.wire × (new.last ≡ Some (wake_noted answer))
+
+  -- an exchange of the tap: one of the wire within, and its note
+  abbrev pub TapGives : Tapped W → List ℕ → Option (ArrayVec ℕ) → Tapped W → Type 0
+  TapGives old sent answer new = gives old.wire sent answer new.wire × (new.last ≡ Some (exchange_noted sent answer))
+
+  -- a note is of one call of a wire, which led from the one state of it to the other
+  abbrev pub IsNoteOf : Passed → W → W → Type 0
+  IsNoteOf (Wake answer) old new = wakes old answer new
+  IsNoteOf (Exchange first answer) old new = (sent : List ℕ) × (first.items ≡ take 66 sent) × gives old sent answer new
