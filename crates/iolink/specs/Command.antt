@@ -2,11 +2,12 @@
 use Rattle.std.specs.Prelude.{ℕ, Option, Some, None, List, if◌then◌else◌, codes}
 use Rattle.std.specs.Str.{bytes_eq}
 use Rattle.iolink.specs.declared.command.Mode.{Mode}
-use Rattle.iolink.specs.declared.command.Mode.TheVariants.{Check, Run, Many}
+use Rattle.iolink.specs.declared.command.Mode.TheVariants.{Check, Run, Trace, Many}
 
 -- the command of a name
 abbrev pub mode_named : List ℕ → Option Mode
 mode_named name =
     if bytes_eq name (codes "check") then Some Check else
     if bytes_eq name (codes "run") then Some Run else
+    if bytes_eq name (codes "trace") then Some Trace else
     if bytes_eq name (codes "many") then Some Many else None

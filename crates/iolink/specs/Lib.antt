@@ -6,3 +6,5 @@ pub mod Ending
 pub mod ManyPrinted
 pub mod Performed
 pub mod Command
+pub mod Passing
+pub mod TracePrinted

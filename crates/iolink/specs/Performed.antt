@@ -6,18 +6,21 @@ use Rattle.iol_script.specs.Script.{first_bad_run}
 use Rattle.iol_script.specs.Plan.{plan_of}
 use Rattle.iolink.specs.Checked.{PrintsAll}
 use Rattle.iolink.specs.RunPlayed.{PrintsRun}
+use Rattle.iolink.specs.TracePrinted.{PrintsTrace}
 use Rattle.iolink.specs.ManyPrinted.{PrintsCounts}
 use Rattle.iolink.specs.declared.command.Mode.{Mode}
-use Rattle.iolink.specs.declared.command.Mode.TheVariants.{Check, Run, Many}
+use Rattle.iolink.specs.declared.command.Mode.TheVariants.{Check, Run, Trace, Many}
 
 -- the first bad line of a command's input has this number
 abbrev pub IsBadAt : Mode → List (ℕ × List ℕ) → ℕ → Type 0
 IsBadAt Check lines n = first_bad lines ≡ Some n
 IsBadAt Run lines n = first_bad_run lines ≡ Some n
+IsBadAt Trace lines n = first_bad_run lines ≡ Some n
 IsBadAt Many lines n = plan_of lines ≡ Err n
 
 -- a command prints this text for the lines of its input
 abbrev pub Prints : Mode → List (ℕ × List ℕ) → List ℕ → Type 0
 Prints Check lines text = PrintsAll startup_shape lines text
 Prints Run lines text = PrintsRun lines text
+Prints Trace lines text = PrintsTrace lines text
 Prints Many lines text = PrintsCounts lines text

@@ -94,7 +94,8 @@ fn layout_of(line: LayoutLine) -> Result<Layout, MseqFault>
     }
 }
 
-fn answer_message<A: Allocator>(
+/// What the octets of a master message spell.
+pub(crate) fn answer_message<A: Allocator>(
     output: &mut String<A>,
     layout: &Layout,
     octets: &[u8],
@@ -107,8 +108,8 @@ fn answer_message<A: Allocator>(
     }
 }
 
-/// The reply to a read or to a write.
-fn answer_reply<A: Allocator>(
+/// What the octets of the reply to a read or to a write spell.
+pub(crate) fn answer_reply<A: Allocator>(
     output: &mut String<A>,
     layout: &Layout,
     read: bool,

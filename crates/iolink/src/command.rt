@@ -1,6 +1,7 @@
 //! The words of the command line.
 ghost use Rattle.std.specs.Prelude.{◌≡◌};
 
+use crate::help;
 use clap::{Command, Error};
 use std::alloc::{AllocError, Global};
 use std::convert::AsStr;
@@ -12,6 +13,8 @@ pub(crate) enum Mode {
     Check,
     /// Makes the calls of a script, and prints what each of them answers.
     Run,
+    /// Does what `run` does, and prints what goes over the wire too.
+    Trace,
     /// Lets the clients of many ports submit requests, and prints what became of them.
     Many,
 }
@@ -26,6 +29,7 @@ impl Mode {
         match name.as_bytes() {
             b"check" => Some(Mode::Check),
             b"run" => Some(Mode::Run),
+            b"trace" => Some(Mode::Trace),
             b"many" => Some(Mode::Many),
             _ => None,
         }
@@ -35,26 +39,36 @@ impl Mode {
 /// The command that the words name, the program's own name first.
 pub(crate) fn mode_of<'a, S: AsStr>(alloc: Global, words: &'a [S]) -> Result<Mode, Error> {
     let matches = command(alloc)?.try_get_matches_from(words)?;
-    // One of the three is named, since clap refuses all other words.
+    // One of the four is named, since clap refuses all other words.
     let name = matches.subcommand_name().unwrap_or("check");
     Ok(Mode::named(name).unwrap_or(Mode::Check))
 }
 
 /// The command line of the program.
 fn command<'a>(alloc: Global) -> Result<Command<'a>, AllocError> {
-    let check = Command::new(alloc, "check").about(
-        "Reads layouts, master messages and replies, one a line, and prints what each says",
-    );
-    let run = Command::new(alloc, "run").about(
-        "Reads a script, makes its calls on a port over a simulated wire, and prints what each answers",
-    );
-    let many = Command::new(alloc, "many").about(
-        "Reads a plan, lets the clients of its ports submit reads, and prints what became of them",
-    );
+    let check = Command::new(alloc, "check")
+        .about("Reads layouts, master messages and replies, one a line, and prints what each says")
+        .after_help(help::CHECK);
+    let run = Command::new(alloc, "run")
+        .about(
+            "Reads a script, makes its calls on a port over a simulated wire, and prints what each answers",
+        )
+        .after_help(help::RUN);
+    let trace = Command::new(alloc, "trace")
+        .about("Does what run does, and prints what goes over the wire too")
+        .after_help(help::TRACE);
+    let many = Command::new(alloc, "many")
+        .about(
+            "Reads a plan, lets the clients of its ports submit reads, and prints what became of them",
+        )
+        .after_help(help::MANY);
     Command::new(alloc, "iolink")
         .about("IO-Link master and device")
+        .version(help::VERSION)
+        .after_help(help::PROGRAM)
         .subcommand_required(true)
         .subcommand(check)?
         .subcommand(run)?
+        .subcommand(trace)?
         .subcommand(many)
 }

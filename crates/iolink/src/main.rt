@@ -1,15 +1,17 @@
 //! The program `iolink`: it reads standard input whole, and prints what its command makes of it.
 //!
 //! It ends with status 0; with status 1 and one line on standard error where the command fails; or with status 2
-//! and the text of `clap` on standard error where the command line is refused or asks for help.
+//! and the text of `clap` on standard error where the command line is refused, or asks for help or the version.
 #![tactic(auto)]
 
 mod check;
 mod command;
 mod ending;
 mod fault;
+mod help;
 mod many;
 mod many_printing;
+mod passing;
 mod performing;
 mod playing;
 mod printing;
@@ -18,6 +20,8 @@ mod run_printing;
 mod streams;
 #[cfg(test)]
 mod tests;
+mod trace;
+mod tracing;
 
 use crate::command::mode_of;
 use crate::ending::{Ending, exit_of};

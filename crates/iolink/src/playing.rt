@@ -107,7 +107,7 @@ fn play<W: Wire, A: Handle>(
 }
 
 /// Whether a call was refused for want of memory.
-fn lacks_memory(answer: &Answered) -> bool
+pub(crate) fn lacks_memory(answer: &Answered) -> bool
     ensures { result ≡ lacks_memory answer.now }
 {
     matches!(

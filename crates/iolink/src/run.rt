@@ -8,6 +8,7 @@ ghost use Rattle.iol_script.specs.Script.{first_bad_run};
 ghost use Rattle.iol_script.specs.Text.{numbered_lines};
 ghost use Rattle.iolink.specs.declared.fault.ProgramFault.TheVariants.{Line, NoThread, OutOfMemory, TooLong, WriteFailed};
 ghost use Rattle.iolink.specs.RunPlayed.{PrintsRun};
+ghost use Rattle.iolink.specs.TracePrinted.{first_wire};
 
 use crate::fault::ProgramFault;
 use crate::playing::play_lines;
@@ -71,13 +72,14 @@ fn played<A: Handle>(alloc: A, input: &[u8]) -> Result<String<A>, ProgramFault>
 }
 
 /// The wire of a script, with its device.
-fn wire_of<A: Handle>(alloc: A, script: Script<A>) -> Result<Sim<Params, A>, AllocError>
+pub(crate) fn wire_of<A: Handle>(alloc: A, script: Script<A>) -> Result<Sim<Params, A>, AllocError>
     requires { IsOk (layouts_of script.page) }
     ensures far { IfOk result (λ sim. sim.device.far ≡ opened script.page ROOM) }
     ensures app { IfOk result (λ sim. sim.device.app ≡ script.params) }
     ensures steps { IfOk result (λ sim. sim.steps ≡ script.steps.items) }
     ensures silence { IfOk result (λ sim. sim.silence ≡ 0) }
+    ensures whole { IfOk result (λ sim. sim ≡ first_wire (record { page = script.page; params = script.params; limits = script.limits; steps = script.steps.items })) }
 {
     let device = Device::open(alloc, script.params, script.page, ROOM).map_err(|_| AllocError)?;
-    Sim::new(alloc, device, script.steps.as_slice()).map_err(|_| AllocError)
+    Sim::new(alloc, device, script.steps).map_err(|_| AllocError)
 }

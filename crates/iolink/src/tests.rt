@@ -2,6 +2,7 @@ use crate::check::check;
 use crate::command::{Mode, mode_of};
 use crate::ending::Ending;
 use crate::fault::ProgramFault;
+use crate::help::VERSION;
 use crate::run::run;
 use crate::tests::runs::PLAIN;
 use iol_image::Handle;
@@ -15,6 +16,7 @@ use std::test::Fail;
 
 mod plans;
 mod runs;
+mod traces;
 
 /// A command that takes any allocator.
 #[derive(Clone, Copy)]
@@ -337,6 +339,7 @@ fn says_how_it_ends(rt: HostRuntime) -> Result<(), Fail> {
 fn reads_the_words(rt: HostRuntime) -> Result<(), Fail> {
     for (words, text) in [
         (["iolink", "--help"], "Usage: iolink <COMMAND>"),
+        (["iolink", "--version"], VERSION),
         (["iolink", "play"], "unrecognized subcommand 'play'"),
         (["iolink", "-x"], "unexpected argument '-x'"),
     ] {
@@ -351,6 +354,7 @@ fn reads_the_words(rt: HostRuntime) -> Result<(), Fail> {
     assert!(rt; mode_of(rt.alloc(), &["iolink", "check", "x"]).is_err());
     assert!(rt; mode_of(rt.alloc(), &["iolink", "check"]).is_ok_and(|mode| mode == Mode::Check));
     assert!(rt; mode_of(rt.alloc(), &["iolink", "run"]).is_ok_and(|mode| mode == Mode::Run));
+    assert!(rt; mode_of(rt.alloc(), &["iolink", "trace"]).is_ok_and(|mode| mode == Mode::Trace));
     assert!(rt; mode_of(rt.alloc(), &["iolink", "many"]).is_ok_and(|mode| mode == Mode::Many));
     Ok(())
 }

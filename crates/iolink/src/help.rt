@@ -1,0 +1,118 @@
+//! What the help of each command says below its usage.
+
+/// The version that `--version` prints.
+pub(crate) const VERSION: &str = "0.1.0";
+
+/// Where the help of each command stands, and where the formats are.
+pub(crate) const PROGRAM: &str = "\
+'iolink COMMAND --help' has the lines that a command reads, an example, its limits and the exit statuses.
+Every line, and what is printed for it, is in docs/FORMATS.md, section 8.";
+
+pub(crate) const CHECK: &str = "\
+Reads standard input to its end, a line at a time:
+  layout startup          the layout of the messages from now on; STARTUP at first
+  layout preoperate C     C is the code of the M-sequence capability
+  layout operate C IN OUT IN and OUT are the octets of process data
+  m OCTET ..              a master message, each octet as two hexadecimal digits
+  r OCTET ..              the reply to a read
+  w OCTET ..              the reply to a write
+  # ..                    a comment; an empty line is skipped too
+
+Example:
+  printf 'm A2 00\\nr 17 1B\\n' | iolink check
+prints
+  read page 02
+  od 17 event 0 pd valid
+
+Limits: 1,048,576 bytes of input, 1,024 bytes a line, 1 to 128 octets a message; C, IN and OUT up to 255.
+
+Exit status: 0, all is printed; 1, the command failed, and a line on standard error says why; 2, the words of
+the command line are wrong, or ask for this help. After 1 and 2 nothing is printed, but where a write failed.
+
+Every line, and what is printed for it: docs/FORMATS.md, sections 8.2 and 8.3.";
+
+pub(crate) const RUN: &str = "\
+Reads standard input to its end, a line at a time. First the device and the port:
+  page OCTET ..                           direct parameter page 1 of the device, 0x02 to 0x0B
+  limits BUSY JOURNAL                     the busy replies that end a request, the entries of the journal
+  param INDEX SUB ro H                    a parameter that is read; rw: and written
+Then what happens on the wire, and the calls of the port, in any order:
+  wire clean N                            N calls of the wire; also outlost, backlost, outdamaged, backdamaged, nowake
+  wire silent                             from now on nothing reaches the device
+  wire work | wire auto on | off          when the device carries out what it was handed
+  wire raise QQ CCCC                      an event of the device
+  wire input H | wire input none          the device's process data
+  wire power                              a power cycle of the device
+  read INDEX SUB | write INDEX SUB H      submits a request, and prints its ticket
+  collect T | withdraw T                  the outcome of a ticket; takes a request back
+  output H | output none | image          process data out; in
+  event | status | archive | restart      as the port's calls of these names
+  turn N                                  N turns of the port, each one call of the wire
+  # ..                                    a comment; an empty line is skipped too
+H is octets without spaces, as 4142, or - for none.
+
+Example:
+  printf 'param 16 0 ro 4142\\nread 16 0\\nturn 18\\ncollect 1\\n' | iolink run
+prints
+  ticket 1
+  ticket 1 done read 41 42
+  record 1
+  carried read 16 0: read 41 42
+
+Limits: 1,048,576 bytes of input, 1,024 bytes a line, 32 parameters, N up to 100,000, 1,000,000 steps of the wire and
+1,000,000 calls in all, 64 tickets at a time, 232 octets a value, 32 octets of process data.
+
+Exit status: 0, all is printed; 1, the command failed, and a line on standard error says why; 2, the words of
+the command line are wrong, or ask for this help. After 1 and 2 nothing is printed, but where a write failed.
+
+Every line, and what is printed for it: docs/FORMATS.md, sections 8.2 and 8.4.";
+
+pub(crate) const TRACE: &str = "\
+Reads standard input to its end: the lines of 'iolink run'. It prints what 'iolink run' prints, and for each call of the
+wire what goes over it, numbered from 1, before the line of the call that made it:
+  N wake COM2             a wake-up request, and the rate that was answered, or none
+  N > OCTET ..: TEXT      a message as the master sent it, and what 'iolink check' prints for it
+  N < OCTET ..: TEXT      what came back, and what 'iolink check' prints for it as a reply
+  N < none                nothing came back
+
+Example:
+  printf 'wire clean 2\\nwire backlost 1\\nturn 3\\nstatus\\n' | iolink trace
+prints
+  1 wake COM2
+  2 > A2 00: read page 02
+  2 < 17 1B: od 17 event 0 pd valid
+  3 > A3 11: read page 03
+  3 < none
+  status startup
+  record 0
+
+Limits: those of 'iolink run'. What is printed is written as it comes: a million turns print some 110 megabytes.
+
+Exit status: 0, all is printed; 1, the command failed, and a line on standard error says why; 2, the words of
+the command line are wrong, or ask for this help. After 1 and 2 nothing is printed, but where a write failed or
+memory ran out.
+
+Every line, and what is printed for it: docs/FORMATS.md, sections 8.2, 8.4 and 8.6.";
+
+pub(crate) const MANY: &str = "\
+Reads standard input to its end: four lines in this order.
+  ports P                 how many ports
+  clients K               how many clients at each port
+  each M                  how many reads each client submits
+  turns T                 how many turns each port makes while they do, and as many afterwards
+  # ..                    a comment; an empty line is skipped too
+
+Example:
+  printf 'ports 2\\nclients 2\\neach 8\\nturns 100\\n' | iolink many
+prints
+  port 1 tickets 16 done 16 unknown 0 waiting 0
+  port 2 tickets 16 done 16 unknown 0 waiting 0
+  total 32
+
+Limits: P up to 32, K up to 16, M up to 64, K times M up to 64, T up to 100,000; 1,048,576 bytes of input, 1,024 bytes
+a line.
+
+Exit status: 0, all is printed; 1, the command failed, and a line on standard error says why; 2, the words of
+the command line are wrong, or ask for this help. After 1 and 2 nothing is printed, but where a write failed.
+
+Every line, and what is printed for it: docs/FORMATS.md, sections 8.2 and 8.5.";
