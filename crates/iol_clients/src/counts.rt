@@ -13,7 +13,7 @@ pub struct Counted {
     pub done: u64,
     /// The tickets whose request was cut off, so that nobody knows whether the device carried it out.
     pub unknown: u64,
-    /// The other tickets: their requests wait, or are under way. None is withdrawn here.
+    /// The other tickets: their requests wait, or are under way. None is withdrawn here, and each device has ISDU.
     pub waiting: u64,
 }
 
@@ -52,7 +52,7 @@ impl Counted {
         match answer {
             Ok(Outcome::Done(_)) => self.done += 1,
             Ok(Outcome::Unknown(_)) => self.unknown += 1,
-            Ok(Outcome::Withdrawn) | Err(_) => self.waiting += 1,
+            Ok(Outcome::Withdrawn | Outcome::NoIsdu) | Err(_) => self.waiting += 1,
         }
     }
 }

@@ -15,6 +15,3 @@ mod serve;
 pub use counts::{Counted, Counts};
 pub use fault::ClientsFault;
 pub use serve::serve_clients;
-
-#[cfg(test)]
-mod tests;

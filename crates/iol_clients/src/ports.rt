@@ -40,7 +40,7 @@ fn open_port(alloc: Global) -> Result<Port<Sim<Params>>, ClientsFault>
     let Ok(device) = Device::open(alloc, params, page, ROOM) else {
         return Err(ClientsFault::OutOfMemory);
     };
-    let Ok(wire) = Sim::new(alloc, device, &[]) else {
+    let Ok(wire) = Sim::new(alloc, device, Vec::new(alloc)) else {
         return Err(ClientsFault::OutOfMemory);
     };
     Port::open(alloc, wire, &LIMITS).map_err(|_| ClientsFault::OutOfMemory)

@@ -3,6 +3,7 @@ ghost use Rattle.std.specs.Prelude.{◌≡◌, IsSome, IsTrue};
 
 use crate::far::Line;
 use crate::rows::{Ask, Call};
+use crate::wires::AnyWire;
 use iol_app::{Said, Station};
 use iol_image::Image;
 use iol_isdu::Cause;
@@ -13,7 +14,7 @@ use std::test::Fail;
 /// A station, and whether a request is under way.
 #[derive(Drop)]
 pub struct Bench<'a> {
-    station: Station<Line<'a>>,
+    station: Station<AnyWire<Line<'a>>>,
     asked: bool,
     ghost under_way: { IsTrue asked → IsSome station.session.current },
 }
@@ -21,17 +22,17 @@ pub struct Bench<'a> {
 impl<'a> Bench<'a> {
     pub fn new(line: Line<'a>, busy: u16) -> Self {
         Bench {
-            station: Station::new(line, busy),
+            station: Station::new(AnyWire(line), busy),
             asked: false,
         }
     }
 
-    pub fn station(&self) -> &Station<Line<'a>> {
+    pub fn station(&self) -> &Station<AnyWire<Line<'a>>> {
         &self.station
     }
 
     pub fn line(&self) -> &Line<'a> {
-        self.station.wire()
+        &self.station.wire().0
     }
 
     /// The device, where there is one.
@@ -63,6 +64,7 @@ impl<'a> Bench<'a> {
 
     fn begin(&mut self, rt: &impl Abort, ask: Ask, room: bool) -> Result<(), Fail> {
         assert!(rt; self.station.ready(room));
+        assert_eq!(rt; self.station.isdu(), Some(true));
         self.station.begin(ask.request()?);
         self.asked = true;
         Ok(())

@@ -1,8 +1,5 @@
-//! A wire that hands on other octets than the device at its far end says.
-ghost use Rattle.std.proofs.Common.{rules};
-ghost use Rattle.std.specs.Prelude.{[], false, ⊤};
-ghost use Rattle.iol_device.specs.Far.{opened};
-
+//! A peer that hands on other octets than a device says.
+use crate::wires::Peer;
 use iol_link::{Rate, Wire};
 use iol_mseq::Message;
 use iol_sim::{Params, Sim};
@@ -54,23 +51,7 @@ impl Liar {
     }
 }
 
-impl Wire for Liar {
-    ghost far = { λ w. opened [] 0 };
-
-    ghost honest = { λ w. false };
-
-    ghost silence = { λ w. 0 };
-
-    ghost clean = { λ w. false };
-
-    ghost wake_gives = { λ w answer v. ⊤ };
-
-    ghost exchange_gives = { λ w sent answer v. ⊤ };
-
-    ghost clean_exchanges = { λ old sent answer new never. Prim.search rules };
-
-    ghost clean_wakes = { λ old answer new never. Prim.search rules };
-
+impl Peer for Liar {
     fn wake(&mut self) -> Option<Rate> {
         self.sim.wake()
     }

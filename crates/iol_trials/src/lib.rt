@@ -1,14 +1,25 @@
-//! Links, stations and ports over the simulated wire: whole runs, one after another.
+//! Links, stations, ports, masters and their clients over the simulated wire: whole runs, one after another.
 //!
-//! This crate has tests alone. What a link, a station, a port and a wire do at each call is proved in their own crates.
+//! What a link, a station, a port and a wire do at each call is proved in their own crates. Beside the tests this crate
+//! has the laws of a port over a simulated wire that need both: whose application answered the record's requests.
 #![tactic(auto)]
 
+mod laws;
+
+pub use laws::{first_app_follows_record, record_is_answered_by_the_first_params};
+
+#[cfg(test)]
+mod answers;
 #[cfg(test)]
 mod bench;
+#[cfg(test)]
+mod clients;
 #[cfg(test)]
 mod far;
 #[cfg(test)]
 mod liar;
+#[cfg(test)]
+mod masters;
 #[cfg(test)]
 mod peers;
 #[cfg(test)]
@@ -20,6 +31,8 @@ mod rows;
 #[cfg(test)]
 mod runs;
 #[cfg(test)]
+mod seats;
+#[cfg(test)]
 mod sessions;
 #[cfg(test)]
 mod stretches;
@@ -29,3 +42,5 @@ mod tests;
 mod timing;
 #[cfg(test)]
 mod watched;
+#[cfg(test)]
+mod wires;

@@ -4,6 +4,7 @@ use crate::play::device;
 use crate::rows::NO_DATA;
 use crate::stretches::{DOWN, EVENT_FORM, End, LOST, OPERATE, Stretch, play};
 use crate::watched::START_UP;
+use crate::wires::AnyWire;
 use iol_app::Status;
 use iol_event::Event;
 use iol_isdu::Cause;
@@ -139,8 +140,8 @@ fn lied(
     (truths, lies): (u32, u32),
     stretches: &[Stretch],
 ) -> Result<(), Fail> {
-    let wire = Liar::new(device(alloc, NO_DATA, &[])?, lie, truths, lies);
-    play(rt, alloc, wire, stretches, (truths, lies))
+    let liar = Liar::new(device(alloc, NO_DATA, &[])?, lie, truths, lies);
+    play(rt, alloc, AnyWire(liar), stretches, (truths, lies))
 }
 
 /// Octets that are no reply cost a turn, but in the place of busy, and in three turns on end the link.
@@ -256,6 +257,16 @@ const READ: Stretch = Stretch { turns: 2, ..DONE };
 /// The same behind a start-up.
 const LINKED: Stretch = Stretch { turns: 17, ..DONE };
 
+/// And behind the start-up of a device of V1.0.
+const OLD: Stretch = Stretch { turns: 15, ..DONE };
+
+/// A read of a device without ISDU is denied in the first turn behind the start-up.
+const NO_ISDU: Stretch = Stretch {
+    turns: 16,
+    end: End::NoIsdu,
+    ..OPERATE
+};
+
 const CUT_OFF: Stretch = Stretch {
     turns: 19,
     end: End::Cut(Cause::LinkLost),
@@ -269,17 +280,9 @@ const PAGE: Stretch = Stretch {
     ..OPERATE
 };
 
-const OLD: Stretch = Stretch {
+const OTHER_REVISION: Stretch = Stretch {
     status: Status {
-        why: Some(Why::Revision(0x10)),
-        ..DOWN
-    },
-    ..PAGE
-};
-
-const NO_ISDU: Stretch = Stretch {
-    status: Status {
-        why: Some(Why::NoIsdu),
+        why: Some(Why::Revision(0x12)),
         ..DOWN
     },
     ..PAGE
@@ -337,7 +340,7 @@ const BLANK: Stretch = Stretch {
 /// The confirm, and a read.
 const CONFIRMED: Stretch = Stretch { turns: 3, ..DONE };
 
-static ROWS: [Row; 11] = [
+static ROWS: [Row; 12] = [
     // The answer to a write.
     Row {
         replies: &[
@@ -377,22 +380,36 @@ static ROWS: [Row; 11] = [
         ],
         stretches: &[CUT_OFF, LINKED],
     },
-    // Pages that are refused.
+    // A page of V1.0: MasterCycleTime and DeviceOperate follow. One without ISDU, where IDLE 1 does.
     Row {
         replies: &[
             Replies::Page(2, &[0x10, 0x39]),
-            Replies::StartUp,
+            Replies::Own(&[&[0x2D], &[0x2D]]),
             Replies::Read,
         ],
-        stretches: &[OLD, LINKED],
+        stretches: &[OLD],
     },
     Row {
         replies: &[
             Replies::Page(1, &[0x2C, 0x39]),
+            Replies::Own(&[
+                &[0x2D],
+                &[0x2D],
+                &[0x2D],
+                &[0x2D],
+                &[0, 0, 0, 0, 0, 0, 0, 0, 0x2D],
+            ]),
+        ],
+        stretches: &[NO_ISDU],
+    },
+    // Pages that are refused.
+    Row {
+        replies: &[
+            Replies::Page(2, &[0x12, 0x18]),
             Replies::StartUp,
             Replies::Read,
         ],
-        stretches: &[NO_ISDU, LINKED],
+        stretches: &[OTHER_REVISION, LINKED],
     },
     Row {
         replies: &[

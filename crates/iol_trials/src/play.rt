@@ -17,7 +17,7 @@ use std::process::Abort;
 use std::test::Fail;
 
 /// How many requests a device records.
-const ROOM: u32 = 8;
+pub const ROOM: u32 = 8;
 
 /// What becomes of one call of the wire, instead of what the table says.
 #[derive(Clone, Copy, Debug)]
@@ -236,12 +236,7 @@ impl<'a> Case<'a> {
         for _ in 1..turns {
             self.miss(rt, bench, turn);
         }
-        let wanted = match bench.quiet() {
-            Said::Busy => Said::Cut(Cause::LinkLost),
-            _ => Said::Idle,
-        };
-        let said = bench.turn(run.room);
-        self.same(rt, turn, &said, &wanted);
+        self.last(rt, bench, turn);
         self.same(rt, turn, &bench.station().image().is_none(), &true);
         let status = Status {
             mode: Mode::Down,
@@ -251,6 +246,16 @@ impl<'a> Case<'a> {
         self.same(rt, turn, &bench.station().status(), &status);
         let carried = run.carried.filter(|(carried, _)| *carried <= turn);
         self.record(rt, bench, carried.map(|(_, ask)| ask))
+    }
+
+    /// The turn in which the link is lost.
+    fn last(&self, rt: &impl Abort, bench: &mut Bench<'_>, turn: usize) {
+        let wanted = match bench.quiet() {
+            Said::Busy => Said::Cut(Cause::LinkLost),
+            _ => Said::Idle,
+        };
+        let said = bench.turn(self.run.room);
+        self.same(rt, turn, &said, &wanted);
     }
 
     /// How the station and the device stand at the end.
@@ -348,5 +353,6 @@ pub fn device_of(
         Ok(device) => device,
         Err((fault, _)) => return Err(Fail::from(fault)),
     };
-    Sim::new(alloc, device, steps).map_err(|(fault, _)| Fail::from(fault))
+    let steps = Vec::from_clones(alloc, steps)?;
+    Sim::new(alloc, device, steps).map_err(|(fault, _, _)| Fail::from(fault))
 }

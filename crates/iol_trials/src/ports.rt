@@ -42,6 +42,32 @@ pub fn collects<W: Wire>(
     assert_eq!(rt; seen, wanted, "{mark:?}");
 }
 
+/// How many requests the device carried out.
+pub fn carried(port: &Port<Sim<Params>>) -> usize {
+    port.wire().device().carried().len()
+}
+
+/// What comes of a read in so many turns; answers its ticket.
+fn comes_to<W: Wire>(
+    rt: &impl Abort,
+    port: &mut Port<W>,
+    turns: u32,
+    outcome: Outcome,
+) -> Result<Ticket, Fail> {
+    let ticket = port.submit(read())?;
+    turn(port, turns);
+    collects(rt, port, ticket, Ok(outcome), (turns, 0));
+    Ok(ticket)
+}
+
+/// The port gave one ticket before; a read is done, and nothing else was carried out.
+fn is_read(rt: &impl Abort, port: &mut Port<Sim<Params>>) -> Result<(), Fail> {
+    let done = Outcome::Done(Ask::Read.answer()?);
+    assert_eq!(rt; comes_to(rt, port, 18, done)?, Ticket(2));
+    assert_eq!(rt; carried(port), 1);
+    Ok(())
+}
+
 /// A wire on which a request was cut off when it fell silent in turn 17.
 fn fallen_silent(rt: &impl Abort, alloc: Global) -> Result<Sim<Params>, Fail> {
     let mut steps = Vec::new(alloc);
@@ -50,15 +76,7 @@ fn fallen_silent(rt: &impl Abort, alloc: Global) -> Result<Sim<Params>, Fail> {
     }
     steps.push(Step::Fate(Fate::Silent))?;
     let mut port = opened(alloc, device(alloc, NO_DATA, &steps)?, 0)?;
-    let ticket = port.submit(read())?;
-    turn(&mut port, 30);
-    collects(
-        rt,
-        &mut port,
-        ticket,
-        Ok(Outcome::Unknown(Cause::LinkLost)),
-        (0, 0),
-    );
+    comes_to(rt, &mut port, 30, Outcome::Unknown(Cause::LinkLost))?;
     Ok(port.into_wire())
 }
 
@@ -68,12 +86,7 @@ fn a_wire_that_is_given_back_serves_another_port(rt: HostRuntime) -> Result<(), 
     let mut wire = fallen_silent(&rt, rt.alloc())?;
     wire.mend();
     let mut port = opened(rt.alloc(), wire, 1)?;
-    port.submit(read())?;
-    turn(&mut port, 18);
-    let done = Outcome::Done(Ask::Read.answer()?);
-    collects(&rt, &mut port, Ticket(2), Ok(done), (1, 0));
-    assert_eq!(rt; port.wire().device().carried().len(), 1);
-    Ok(())
+    is_read(&rt, &mut port)
 }
 
 /// Input 12 34 for 17 calls of the wire, none for one, 56 78 from then on; the last three replies are lost.

@@ -79,5 +79,6 @@ pub fn wired(alloc: Global, steps: &[Step]) -> Result<Sim<Params>, Fail> {
         Ok(device) => device,
         Err((fault, _)) => return Err(Fail::from(fault)),
     };
-    Sim::new(alloc, device, steps).map_err(|(fault, _)| Fail::from(fault))
+    let steps = Vec::from_clones(alloc, steps)?;
+    Sim::new(alloc, device, steps).map_err(|(fault, _, _)| Fail::from(fault))
 }

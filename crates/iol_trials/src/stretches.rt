@@ -21,6 +21,8 @@ pub enum End {
     NotYet,
     Done,
     Cut(Cause),
+    /// It is denied.
+    NoIsdu,
 }
 
 /// Turns of a port. Before them a read is submitted, where none is outstanding.
@@ -77,24 +79,42 @@ impl End {
             End::NotAsked | End::NotYet => Err(PortFault::Book(BookFault::NotYet)),
             End::Done => Ok(Outcome::Done(Ask::Read.answer()?)),
             End::Cut(cause) => Ok(Outcome::Unknown(cause)),
+            End::NoIsdu => Ok(Outcome::NoIsdu),
         })
     }
 }
 
-/// Compares how a port stands.
-fn stands<W: Wire>(rt: &impl Abort, port: &mut Port<W>, stretch: &Stretch, mark: (u32, u32)) {
+/// The law of a port's record holds, whatever its wire does.
+fn keeps_record<W: Wire>(port: &Port<W>) {
     port.keeps_record();
-    assert_eq!(rt; port.status(), stretch.status, "{mark:?}");
-    for event in stretch.events {
-        assert_eq!(rt; port.take_event(), Ok(*event), "{mark:?}");
-    }
-    assert_eq!(rt; port.take_event(), Err(PortFault::NoEvent), "{mark:?}");
 }
 
-/// What the journal has of a request that came to its end.
+/// Compares the event that is kept longest.
+fn takes<W: Wire>(
+    rt: &impl Abort,
+    port: &mut Port<W>,
+    wanted: Result<Event, PortFault>,
+    mark: (u32, u32),
+) {
+    assert_eq!(rt; port.take_event(), wanted, "{mark:?}");
+}
+
+/// Compares how a port stands.
+fn stands<W: Wire>(rt: &impl Abort, port: &mut Port<W>, stretch: &Stretch, mark: (u32, u32)) {
+    keeps_record(port);
+    assert_eq!(rt; port.status(), stretch.status, "{mark:?}");
+    for event in stretch.events {
+        takes(rt, port, Ok(*event), mark);
+    }
+    takes(rt, port, Err(PortFault::NoEvent), mark);
+}
+
+/// What the journal has of a request that came to its end; one that is denied was never taken.
 fn enter(journal: &mut Vec<Entry>, ticket: Ticket, outcome: Outcome) -> Result<(), Fail> {
     journal.push(Entry::Submitted(ticket, read()))?;
-    journal.push(Entry::Taken(ticket))?;
+    if outcome != Outcome::NoIsdu {
+        journal.push(Entry::Taken(ticket))?;
+    }
     journal.push(Entry::Answered(ticket, outcome))?;
     journal.push(Entry::Collected(ticket))?;
     Ok(())
@@ -144,6 +164,18 @@ impl<W: Wire> Client<W> {
         }
     }
 
+    fn play(
+        &mut self,
+        rt: &impl Abort,
+        stretches: &[Stretch],
+        mark: (u32, u32),
+    ) -> Result<(), Fail> {
+        for stretch in stretches {
+            self.go(rt, stretch, mark)?;
+        }
+        self.end(rt, mark)
+    }
+
     /// Compares the journal; no request is outstanding.
     fn end(&mut self, rt: &impl Abort, mark: (u32, u32)) -> Result<(), Fail> {
         let seen = self.port.archive()?;
@@ -165,8 +197,5 @@ pub fn play<W: Wire + Drop>(
         asked: None,
         journal: Vec::new(alloc),
     };
-    for stretch in stretches {
-        client.go(rt, stretch, mark)?;
-    }
-    client.end(rt, mark)
+    client.play(rt, stretches, mark)
 }

@@ -1,9 +1,11 @@
-use crate::runs::{At, after, linked, place_of, script, turned, wire_of, wired};
+use crate::runs::{At, after, linked, place_of, script, wire_of, wired};
 use crate::watched::{Row, START_UP, Watched};
+use crate::wires::AnyWire;
 use iol_link::Wire;
-use iol_mode::{Next, Why};
+use iol_mode::{Link, Next, Why};
 use iol_mseq::Message;
 use iol_sim::{Fate, Raw, Step};
+use std::alloc::Global;
 use std::process::Abort;
 use std::test::Fail;
 
@@ -19,7 +21,7 @@ const FATES: [Fate; 5] = [
 ];
 
 /// Those from DevicePreoperate on, where its first reply is lost: it is repeated in the old layout.
-const COMMAND_REPEATED: [Row; 4] = [
+static COMMAND_REPEATED: [Row; 4] = [
     Row {
         sent: &[0x20, 0x36, 0x9A],
         answer: None,
@@ -38,11 +40,11 @@ const COMMAND_REPEATED: [Row; 4] = [
     },
 ];
 
-/// The replies of a device whose RevisionID is 0x10.
-const OLD_REVISION: [[u8; 2]; 10] = [
+/// The replies of a device whose RevisionID is 0x12.
+static OTHER_REVISION: [[u8; 2]; 10] = [
     [0x17, 0x1B],
     [0x2D, 0x28],
-    [0x10, 0x39],
+    [0x12, 0x18],
     [0x00, 0x2D],
     [0x00, 0x2D],
     [0x12, 0x18],
@@ -52,34 +54,51 @@ const OLD_REVISION: [[u8; 2]; 10] = [
     [0x07, 0x0F],
 ];
 
-/// Compares where a link stands; the number says which run it is.
-fn stands<W: Wire>(rt: &impl Abort, next: &Next<W>, wanted: At, number: u32) {
-    assert_eq!(rt; place_of(next), wanted, "at {number}");
+/// A link over this wire stands so after so many turns each; the number says which run it is. The wire is handed back.
+fn goes<W: Wire>(rt: &impl Abort, wire: W, stops: &[(u32, At)], number: u32) -> W {
+    let mut next = Next::Down(Link::new(wire));
+    for (turns, wanted) in stops {
+        next = after(next, *turns);
+        assert_eq!(rt; place_of(&next), *wanted, "at {number}");
+    }
+    wire_of(next)
+}
+
+/// A link stands in OPERATE a turn after PREOPERATE, and of its exchanges these were made, with those of the table among
+/// them.
+fn is_watched(
+    rt: &impl Abort,
+    alloc: Global,
+    steps: &[Step],
+    (first, rows): (usize, &[Row]),
+    turns: u32,
+) -> Result<(), Fail> {
+    let wire = AnyWire(Watched::new(wired(alloc, steps)?, first, rows));
+    let stops = [(turns, At::Preoperate), (1, At::Operate)];
+    let AnyWire(seen) = goes(rt, wire, &stops, turns);
+    assert_eq!(rt; seen.made, first.saturating_add(rows.len()));
+    assert_eq!(rt; seen.agreed, rows.len());
+    Ok(())
 }
 
 #[test]
 fn start_up_goes_octet_by_octet(rt: HostRuntime) -> Result<(), Fail> {
-    let sim = wired(rt.alloc(), &[])?;
-    let next = linked(Watched::new(sim, 0, &START_UP), CALLS - 1);
-    stands(&rt, &next, At::Preoperate, 0);
-    let next = turned(next);
-    stands(&rt, &next, At::Operate, 0);
-    let wire = wire_of(next);
-    assert_eq!(rt; (wire.made, wire.agreed), (14, 14));
-    Ok(())
+    is_watched(&rt, rt.alloc(), &[], (0, &START_UP), CALLS - 1)
 }
 
 #[test]
 fn mode_command_is_repeated_in_the_old_layout(rt: HostRuntime) -> Result<(), Fail> {
     let steps = script(rt.alloc(), 12, Step::Fate(Fate::BackLost))?;
-    let sim = wired(rt.alloc(), &steps)?;
-    let next = linked(Watched::new(sim, 11, &COMMAND_REPEATED), 15);
-    stands(&rt, &next, At::Preoperate, 0);
-    let next = turned(next);
-    stands(&rt, &next, At::Operate, 0);
-    let wire = wire_of(next);
-    assert_eq!(rt; (wire.made, wire.agreed), (15, 4));
-    Ok(())
+    is_watched(&rt, rt.alloc(), &steps, (11, &COMMAND_REPEATED), CALLS)
+}
+
+/// A link over this wire is a turn late.
+fn is_late<W: Wire>(rt: &impl Abort, wire: W, number: u32) -> W {
+    let next = linked(wire, CALLS);
+    assert!(rt; place_of(&next) != At::Operate, "at {number}");
+    let next = after(next, 1);
+    assert_eq!(rt; place_of(&next), At::Operate, "at {number}");
+    wire_of(next)
 }
 
 #[test]
@@ -87,10 +106,7 @@ fn one_fate_costs_one_turn(rt: HostRuntime) -> Result<(), Fail> {
     for call in 0..CALLS {
         for fate in FATES {
             let steps = script(rt.alloc(), call, Step::Fate(fate))?;
-            let next = linked(wired(rt.alloc(), &steps)?, CALLS);
-            assert!(rt; place_of(&next) != At::Operate);
-            let next = turned(next);
-            stands(&rt, &next, At::Operate, call);
+            is_late(&rt, wired(rt.alloc(), &steps)?, call);
         }
     }
     Ok(())
@@ -100,16 +116,10 @@ fn one_fate_costs_one_turn(rt: HostRuntime) -> Result<(), Fail> {
 fn power_cycle_loses_the_link(rt: HostRuntime) -> Result<(), Fail> {
     for call in 0..CALLS {
         let steps = script(rt.alloc(), call, Step::Power)?;
-        let sim = wired(rt.alloc(), &steps)?;
-        let next = if call == 0 {
-            linked(sim, 0)
-        } else {
-            let lost = linked(sim, call + 3);
-            stands(&rt, &lost, At::Down(Some(Why::Lost)), call);
-            lost
-        };
-        let next = after(next, CALLS);
-        stands(&rt, &next, At::Operate, call);
+        let stops = [(call + 3, At::Down(Some(Why::Lost))), (CALLS, At::Operate)];
+        // Before the first call there is no link to lose.
+        let stops = if call == 0 { &stops[1..] } else { &stops };
+        goes(&rt, wired(rt.alloc(), &steps)?, stops, call);
     }
     Ok(())
 }
@@ -118,30 +128,25 @@ fn power_cycle_loses_the_link(rt: HostRuntime) -> Result<(), Fail> {
 fn mended_wire_is_linked_anew(rt: HostRuntime) -> Result<(), Fail> {
     for call in 0..CALLS {
         let steps = script(rt.alloc(), call, Step::Fate(Fate::Silent))?;
-        let sim = wired(rt.alloc(), &steps)?;
         let (turns, why) = match call {
             0 => (1, Why::NoWake),
             _ => (call + 3, Why::Lost),
         };
-        let next = linked(sim, turns);
-        stands(&rt, &next, At::Down(Some(why)), call);
-        let mut sim = wire_of(next);
+        let lost = [(turns, At::Down(Some(why)))];
+        let mut sim = goes(&rt, wired(rt.alloc(), &steps)?, &lost, call);
         sim.mend();
-        let next = linked(sim, CALLS);
-        stands(&rt, &next, At::Operate, call);
+        goes(&rt, sim, &[(CALLS, At::Operate)], call);
     }
     Ok(())
 }
 
 #[test]
-fn old_revision_is_refused(rt: HostRuntime) -> Result<(), Fail> {
+fn another_revision_is_refused(rt: HostRuntime) -> Result<(), Fail> {
     let mut messages = Vec::new(rt.alloc());
-    for octets in OLD_REVISION {
+    for octets in OTHER_REVISION {
         messages.push(Message::try_from(octets.as_slice()).map_err(|_| "too long")?)?;
     }
-    let next = linked(Raw::new(rt.alloc(), &messages)?, 10);
-    stands(&rt, &next, At::Startup, 0);
-    let next = turned(next);
-    stands(&rt, &next, At::Down(Some(Why::Revision(0x10))), 0);
+    let stops = [(10, At::Startup), (1, At::Down(Some(Why::Revision(0x12))))];
+    goes(&rt, Raw::new(rt.alloc(), &messages)?, &stops, 0);
     Ok(())
 }

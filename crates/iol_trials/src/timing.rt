@@ -1,6 +1,6 @@
 //! Ports over a clean wire: how many turns a request takes, by the lengths of its text and of its answer's.
 use crate::play::device_of;
-use crate::ports::{collects, opened, turn};
+use crate::ports::{carried, collects, opened, turn};
 use iol_book::{BookFault, Outcome, Ticket};
 use iol_isdu::{Answer, IsduFault, Octets, Place, Request};
 use iol_port::{Port, PortFault};
@@ -268,7 +268,21 @@ fn follow(
     Ok(())
 }
 
-/// Errands that wait together behind a start-up take the sum of their turns.
+/// Those that wait together behind a start-up take the sum of their turns.
+fn wait_together(
+    rt: &impl Abort,
+    port: &mut Port<Sim<Params>>,
+    errands: &[Errand],
+    od: u32,
+) -> Result<(), Fail> {
+    turn(port, START_UP);
+    submit_all(port, errands)?;
+    follow(rt, port, errands, od)?;
+    assert_eq!(rt; carried(port), errands.len());
+    Ok(())
+}
+
+/// Errands over a page, each on time.
 fn are_on_time(
     rt: &impl Abort,
     alloc: Global,
@@ -277,11 +291,7 @@ fn are_on_time(
 ) -> Result<(), Fail> {
     let device = device_of(alloc, params_for(errands)?, &layout.page, &[])?;
     let mut port = opened(alloc, device, 0)?;
-    turn(&mut port, START_UP);
-    submit_all(&mut port, errands)?;
-    follow(rt, &mut port, errands, layout.od)?;
-    assert_eq!(rt; port.wire().device().carried().len(), errands.len());
-    Ok(())
+    wait_together(rt, &mut port, errands, layout.od)
 }
 
 /// A read, a write and refusals of each value.

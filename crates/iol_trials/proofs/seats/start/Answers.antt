@@ -4,8 +4,8 @@ use Rattle.std.specs.contracts.alloc.Global as Heap
 use Rattle.std.specs.contracts.impls.GlobalAllocator.TheImpl.{ghosts}
 use Rattle.iol_image.specs.contracts.cell.ImageSeat as Seat
 use Rattle.iol_image.proofs.cell.ImageSeat.TheSendSync as seat
-use Rattle.iol_clients.proofs.tests.images.Flags.TheSendSync as flags
-use Rattle.iol_clients.proofs.tests.images.start.Goals as goal
+use Rattle.iol_trials.proofs.seats.Flags.TheSendSync as flags
+use Rattle.iol_trials.proofs.seats.start.Goals as goal
 
 seat_send : IsSend (Seat.the_row Heap.the_row ghosts)
 seat_send = search (seat.the_send, send, sync, frees) depth 20

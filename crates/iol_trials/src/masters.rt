@@ -1,4 +1,4 @@
-//! Masters over the simulated wire: workers, clients and readers of images at once.
+//! Masters over the simulated wire: workers and clients at once.
 ghost use Rattle.std.specs.Prelude.{◌≡◌, All, IfOk, vec_len};
 ghost use Rattle.std.specs.Sync.Mutex.{mutex_guard_value};
 ghost use Rattle.iol_port.specs.declared.call.Call.TheVariants as call;
@@ -6,7 +6,6 @@ ghost use Rattle.iol_port.specs.View.{Does};
 ghost use Rattle.iol_port.specs.Replies.{outcome_reply};
 ghost use Rattle.iol_master.specs.Tickets.{HasGiven};
 
-use crate::*;
 use iol_book::{BookFault, Limits, Outcome, Ticket};
 use iol_device::Device;
 use iol_isdu::{Answer, Octets, Place, Request};
@@ -14,7 +13,6 @@ use iol_link::Wire;
 use iol_master::{Desk, Gate, Held, Master, MasterFault, Settled, Tally};
 use iol_page::Page;
 use iol_port::{Port, PortFault};
-use iol_script::Plan;
 use iol_sim::{Params, Sim};
 use std::alloc::Global;
 use std::marker::Brand;
@@ -26,117 +24,15 @@ use std::test::Fail;
 use std::thread;
 use std::thread::{JoinHandle, Scope, Threads};
 
-mod images;
-
 /// How often a thread looks for what another one does: seconds, where it never comes.
-const LOOKS: u64 = 1_000_000_000;
+pub const LOOKS: u64 = 1_000_000_000;
 
 /// What each port is opened with.
-const LIMITS: Limits = Limits {
+pub const LIMITS: Limits = Limits {
     journal: 1_000,
     busy: 100,
     given: 0,
 };
-
-#[test]
-fn faults_have_numbers_and_names(rt: HostRuntime) -> Result<(), Fail> {
-    let table = [
-        (ClientsFault::OutOfMemory, 24, "OutOfMemory"),
-        (ClientsFault::NoThread, 32, "NoThread"),
-    ];
-    for (fault, number, name) in table {
-        assert_eq!(rt; fault.code(), number);
-        assert_eq!(rt; format!(in rt.alloc(); "{fault}")?.as_str(), name);
-    }
-    Ok(())
-}
-
-/// Runs a plan, and compares what is counted at each port.
-fn compare<R: Threads + Wait + Abort + Sync>(
-    rt: &R,
-    alloc: Global,
-    plan: &Plan,
-    wanted: Counted,
-    total: u64,
-) -> Result<(), Fail> {
-    let counts = serve_clients(rt, alloc, plan)?;
-    assert_eq!(rt; counts.ports.len(), plan.ports as usize);
-    for counted in &counts.ports {
-        assert_eq!(rt; *counted, wanted);
-    }
-    assert_eq!(rt; counts.total, total);
-    Ok(())
-}
-
-fn counted(tickets: u64, done: u64, waiting: u64) -> Counted {
-    Counted {
-        tickets,
-        done,
-        unknown: 0,
-        waiting,
-    }
-}
-
-/// A port takes no request in its first 15 turns, and then 3 turns for each.
-#[test]
-fn clients_are_served(rt: HostRuntime) -> Result<(), Fail> {
-    let rows = [
-        (
-            Plan {
-                ports: 2,
-                clients: 2,
-                each: 8,
-                turns: 100,
-            },
-            counted(16, 16, 0),
-            32,
-        ),
-        (
-            Plan {
-                ports: 1,
-                clients: 1,
-                each: 1,
-                turns: 1,
-            },
-            counted(1, 0, 1),
-            1,
-        ),
-        (
-            Plan {
-                ports: 1,
-                clients: 1,
-                each: 8,
-                turns: 15,
-            },
-            counted(8, 5, 3),
-            8,
-        ),
-        (
-            Plan {
-                ports: 3,
-                clients: 4,
-                each: 2,
-                turns: 12,
-            },
-            counted(8, 3, 5),
-            24,
-        ),
-        (
-            Plan {
-                ports: 1,
-                clients: 16,
-                each: 4,
-                turns: 200,
-            },
-            counted(64, 64, 0),
-            64,
-        ),
-    ];
-    for (plan, wanted, total) in rows {
-        compare(&rt, rt.alloc(), &plan, wanted, total)?;
-    }
-    Ok(())
-}
 
 /// Each port sets its flag at turn 20, and looks for the other's.
 #[derive(Drop)]
@@ -193,7 +89,7 @@ fn opened(alloc: Global, value: &[u8]) -> Result<Port<Sim<Params>>, Fail>
         Ok(device) => device,
         Err((fault, _)) => return Err(Fail::from(fault)),
     };
-    let wire = Sim::new(alloc, device, &[]).map_err(|(fault, _)| Fail::from(fault))?;
+    let wire = Sim::new(alloc, device, Vec::new(alloc)).map_err(|(fault, _, _)| Fail::from(fault))?;
     Port::open(alloc, wire, &LIMITS).map_err(|(fault, _)| Fail::from(fault))
 }
 

@@ -1,7 +1,7 @@
 use denote.Param.Send.{sendable}
 use Rattle.std.proofs.Crossing.{crosses}
 use Rattle.iol_clients.proofs.Crosses.{sim_send}
-use Rattle.iol_clients.proofs.tests.row.Goals as goal
+use Rattle.iol_trials.proofs.masters.row.Goals as goal
 
 pub together-done-requires-send-W : goal.together-done-requires-send-W
 together-done-requires-send-W g c κs within = search (sim_send, crosses, sendable) depth 60 fits 20000

@@ -1,4 +1,4 @@
-use Rattle.iol_clients.proofs.tests.images.a_seat_reads_what_turns_publish.Given as goal
+use Rattle.iol_trials.proofs.seats.a_seat_reads_what_turns_publish.Given as goal
 
 -- the blanks name the ledgers of this master
 abbrev pub ghosts-image_row-L-Ledger : goal.ghosts-image_row-L-Ledger

@@ -1,4 +1,4 @@
-use Rattle.iol_clients.proofs.tests.images.a_seat_is_read_while_the_lock_is_held.Given as goal
+use Rattle.iol_trials.proofs.seats.a_seat_is_read_while_the_lock_is_held.Given as goal
 
 -- the blanks name the ledgers of this master
 abbrev pub ghosts-held_row-L-Ledger : goal.ghosts-held_row-L-Ledger

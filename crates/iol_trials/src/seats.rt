@@ -1,10 +1,9 @@
 //! A seat of a port's image cell reads without the port's lock.
-ghost use Rattle.std.proofs.Common.{rules};
-ghost use Rattle.std.specs.Prelude.{◌≡◌, [], false, ⊤, All, IfOk, vec_len};
-ghost use Rattle.iol_device.specs.Far.{opened};
+ghost use Rattle.std.specs.Prelude.{◌≡◌, All, IfOk, vec_len};
 ghost use Rattle.iol_master.specs.Tickets.{HasGiven};
 
-use super::{LIMITS, LOOKS};
+use crate::masters::{LIMITS, LOOKS};
+use crate::wires::{AnyWire, Peer};
 use iol_device::Device;
 use iol_image::{Image, ImageSeat, image_cell};
 use iol_link::{Rate, Wire};
@@ -39,30 +38,14 @@ struct Flags {
     seen: AtomicBool,
 }
 
-/// A wire to a device, whose exchange looks for a read of a seat before it sends.
+/// A device, whose exchange looks for a read of a seat before it sends.
 #[derive(Drop)]
-struct Watched {
+struct Looking {
     wire: Sim<Params>,
     flags: Arc<Flags, Global>,
 }
 
-impl Wire for Watched {
-    ghost far = { λ w. opened [] 0 };
-
-    ghost honest = { λ w. false };
-
-    ghost silence = { λ w. 0 };
-
-    ghost clean = { λ w. false };
-
-    ghost wake_gives = { λ w answer v. ⊤ };
-
-    ghost exchange_gives = { λ w sent answer v. ⊤ };
-
-    ghost clean_exchanges = { λ old sent answer new never. Prim.search rules };
-
-    ghost clean_wakes = { λ old answer new never. Prim.search rules };
-
+impl Peer for Looking {
     fn wake(&mut self) -> Option<Rate> {
         self.wire.wake()
     }
@@ -98,7 +81,7 @@ fn sending(alloc: Global) -> Result<Sim<Params>, Fail> {
         Err((fault, _)) => return Err(Fail::from(fault)),
     };
     device.set_input(&Image::new(&INPUT)?)?;
-    Sim::new(alloc, device, &[]).map_err(|(fault, _)| Fail::from(fault))
+    Sim::new(alloc, device, Vec::new(alloc)).map_err(|(fault, _, _)| Fail::from(fault))
 }
 
 fn open_port<W: Wire + Drop>(alloc: Global, wire: W) -> Result<Port<W>, Fail>
@@ -250,12 +233,14 @@ fn held_row<L: Ledger, K: Ledger, R: Threads + Wait + Abort + Sync>(
             seen: AtomicBool::new(false),
         },
     )?;
-    let wire = Watched {
+    let wire = AnyWire(Looking {
         wire: sending(alloc)?,
         flags: Arc::try_clone(&flags)?,
-    };
+    });
     let (ports, seat) = shown(rt, alloc, wire)?;
-    let opened: Result<Master<Watched, L, K>, _> = Master::open(alloc, ports, clients, tickets);
+    let opened: Result<Master<AnyWire<Looking>, L, K>, _> = Master::open(
+        alloc, ports, clients, tickets,
+    );
     let master = opened.ok().expect(rt, "memory");
     turns(rt, &master, 16);
     assert!(rt; beside(rt, &master, seat, &flags));

@@ -1,0 +1,88 @@
+//! Whose answers the record of a port's device has: those of the parameters with which that device was opened.
+ghost use Rattle.std.specs.Prelude.{IfOk};
+ghost use Rattle.iol_app.specs.StationState.{wire_of};
+ghost use Rattle.iol_sim.specs.Params.{AnsweredBy};
+
+use crate::play::ROOM;
+use crate::rows::NO_DATA;
+use crate::{first_app_follows_record, record_is_answered_by_the_first_params};
+use iol_book::Limits;
+use iol_device::Device;
+use iol_isdu::{Answer, Octets, Place, Request};
+use iol_page::Page;
+use iol_port::{Call, Port};
+use iol_sim::{Fate, Params, Sim, Step};
+use std::alloc::Global;
+use std::test::Fail;
+
+const LIMITS: Limits = Limits {
+    journal: 1_000,
+    busy: 100,
+    given: 0,
+};
+
+const PLACE: Place = Place { index: 16, sub: 0 };
+
+/// How many turns a start-up and one short request take, and two more.
+const TURNS: u32 = 20;
+
+/// A port over a new device with these parameters, once these calls were made: the parameters, as each request left
+/// them, answered all that its record has.
+fn played(
+    alloc: Global,
+    params: Params,
+    steps: &[Step],
+    calls: &[Call],
+) -> Result<Port<Sim<Params>>, Fail>
+    ensures { IfOk result (λ port. AnsweredBy params
+        (wire_of port.parts.station.link).device.far.carried
+        (wire_of port.parts.station.link).device.app) }
+{
+    let page = Page::from_octets(NO_DATA);
+    if page.layouts().is_err() {
+        return Err("a page without layouts")?;
+    }
+    let Ok(device) = Device::open(alloc, params, page, ROOM) else {
+        return Err("no device")?;
+    };
+    let steps = Vec::from_clones(alloc, steps)?;
+    let Ok(wire) = Sim::new(alloc, device, steps) else {
+        return Err("no wire")?;
+    };
+    let Ok(mut port) = Port::open(alloc, wire, &LIMITS) else {
+        return Err("no port")?;
+    };
+    let _answers = port.run(alloc, calls)?;
+    first_app_follows_record(&port);
+    record_is_answered_by_the_first_params(&port);
+    Ok(port)
+}
+
+/// A place is written, with a reply lost and the answer had, and read back after a restart.
+#[test]
+fn the_first_parameters_answer(rt: HostRuntime) -> Result<(), Fail> {
+    let alloc = rt.alloc();
+    let mut params = Params::new();
+    params.add(PLACE, true, &[0x41, 0x42])?;
+    let mut calls = Vec::new(alloc);
+    calls.push(Call::Submit(Request::write(PLACE, &[0x0A, 0x0B])?))?;
+    for _ in 0..TURNS {
+        calls.push(Call::Turn)?;
+    }
+    calls.push(Call::Restart)?;
+    calls.push(Call::Submit(Request::read(PLACE)))?;
+    for _ in 0..TURNS {
+        calls.push(Call::Turn)?;
+    }
+    let lost = [Step::Fate(Fate::Clean), Step::Fate(Fate::BackLost)];
+    let port = played(alloc, params, &lost, calls.as_slice())?;
+    let [written, read] = port.wire().device().carried() else {
+        return Err("two requests were not carried out")?;
+    };
+    assert_eq!(rt; written.answer, Answer::Written);
+    assert_eq!(rt;
+        read.answer,
+        Answer::Read(Octets::try_from(&[0x0A, 0x0B][..])?)
+    );
+    Ok(())
+}
