@@ -184,7 +184,8 @@ impl<A: Allocator + Copy> FarEnd<A> {
     fn work_command(&mut self, octets: &[u8], command: Option<MasterCommand>)
         requires { length octets.now ≤ 66 }
         ensures { self.new ≡ record self.old {
-          waits = far.waits_after self.old.mode self.old.waits octets.now (far.known_mode self.old.page (far.mode_asked command));
+          waits = far.waits_after self.old.mode self.old.waits octets.now
+              (far.known_mode self.old.page (far.mode_asked command));
           valid = far.valid_after self.old.mode self.old.valid command;
         } }
     {

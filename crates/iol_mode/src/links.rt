@@ -260,8 +260,10 @@ impl<W: Wire> Link<W, Preoperate> {
         ensures exchange { (answer : Option (ArrayVec ℕ))
             × W.exchange_gives self.wire (master_text self.state.pre self.state.sent.message) answer (wire_of result)
             × (IsTrue (W.honest self.wire) → HonestExchange (W.far self.wire) (W.silence self.wire)
-            (master_text self.state.pre self.state.sent.message) (octets_in answer) (W.far (wire_of result)) (W.silence (wire_of result)))
-            × (outcome_of result ≡ preoperate_turned self.state (good_reply self.state.pre self.state.sent.message (octets_in answer))) }
+            (master_text self.state.pre self.state.sent.message) (octets_in answer)
+            (W.far (wire_of result)) (W.silence (wire_of result)))
+            × (outcome_of result ≡ preoperate_turned self.state
+            (good_reply self.state.pre self.state.sent.message (octets_in answer))) }
 
         ensures fits { OutcomeFits (outcome_of result) }
 

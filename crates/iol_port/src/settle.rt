@@ -80,8 +80,9 @@ pub(crate) fn begin_next<W: Wire, A: Allocator + Copy>(
     room: bool,
 )
     ensures next { BeginsNext W.honest W.far W.silence station.old book.old.state station.new book.new.state }
-    ensures exact { station.new
-        ≡ prepared (to_begin (lacks_isdu station.old.session.isdu) (next_taken book.old.state.standing)) station.old room }
+    ensures exact { station.new ≡ prepared
+        (to_begin (lacks_isdu station.old.session.isdu) (next_taken book.old.state.standing))
+        station.old room }
     ensures taken { book.new.state ≡ taken_where
         (is_operating station.old.link && is_ready station.old.session room)
         (lacks_isdu station.old.session.isdu) (next_taken book.old.state.standing) book.old.state }

@@ -76,7 +76,13 @@ impl<P: App, A: Allocator + Copy> Sim<P, A> {
         device: Device<P, A>,
         steps: Vec<Step, A>,
     ) -> Result<Sim<P, A>, (SimFault, Device<P, A>, Vec<Step, A>)>
-        ensures value { IfOk result (λ sim. sim ≡ record { device = device; steps = steps.items; auto = true; silent = false; silence = 0 }) }
+        ensures value { IfOk result (λ sim. sim ≡ record {
+          device = device;
+          steps = steps.items;
+          auto = true;
+          silent = false;
+          silence = 0;
+        }) }
         ensures refused { IfErr result (λ e. e.0 ≡ SimFault.OutOfMemory) }
         ensures device { IfErr result (λ e. e.1 ≡ device) }
         ensures script { IfErr result (λ e. e.2 ≡ steps) }

@@ -82,7 +82,8 @@ impl<W: Wire> Wire for Tap<W> {
 
     ghost exchange_gives = { TapGives W.wake_gives W.exchange_gives };
 
-    ghost clean_exchanges = { λ old sent answer new clean gives. W.clean_exchanges old.wire sent answer new.wire clean gives.0 };
+    ghost clean_exchanges = { λ old sent answer new clean gives.
+        W.clean_exchanges old.wire sent answer new.wire clean gives.0 };
 
     ghost clean_wakes = { λ old answer new clean gives. W.clean_wakes old.wire answer new.wire clean gives.0 };
 

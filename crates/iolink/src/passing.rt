@@ -22,7 +22,8 @@ pub(crate) fn print_passed<A: Allocator>(
     layout: &Layout,
     passed: &Passed,
 ) -> Result<(), AllocError>
-    ensures { OnOk result ((text : List ℕ) × (string_bytes output.new ≡ string_bytes output.old ++ text) × PrintsPassed number layout.now passed.now text) }
+    ensures { OnOk result ((text : List ℕ) × (string_bytes output.new ≡ string_bytes output.old ++ text)
+        × PrintsPassed number layout.now passed.now text) }
 {
     match passed {
         Passed::Wake(rate) => print_wake(output, number, *rate),
@@ -65,7 +66,8 @@ fn print_front<A: Allocator>(
     way: &str,
     octets: &[u8],
 ) -> Result<(), AllocError>
-    ensures { OnOk result (string_bytes output.new ≡ string_bytes output.old ++ line_front number way.now octets.now) }
+    ensures { OnOk result (string_bytes output.new
+        ≡ string_bytes output.old ++ line_front number way.now octets.now) }
 {
     write!(output, "{number} {way}")?;
     print_octets(output, octets)?;
@@ -86,7 +88,8 @@ fn print_sent<A: Allocator>(
     layout: &Layout,
     octets: &[u8],
 ) -> Result<(), AllocError>
-    ensures { OnOk result ((text : List ℕ) × (string_bytes output.new ≡ string_bytes output.old ++ text) × PrintsSent number layout.now octets.now text) }
+    ensures { OnOk result ((text : List ℕ) × (string_bytes output.new ≡ string_bytes output.old ++ text)
+        × PrintsSent number layout.now octets.now text) }
 {
     print_front(output, number, ">", octets)?;
     answer_message(output, layout, octets)
@@ -100,7 +103,8 @@ fn print_came<A: Allocator>(
     read: bool,
     answer: &Option<Message>,
 ) -> Result<(), AllocError>
-    ensures { OnOk result ((text : List ℕ) × (string_bytes output.new ≡ string_bytes output.old ++ text) × PrintsCame number layout.now read (octets_in answer.now) text) }
+    ensures { OnOk result ((text : List ℕ) × (string_bytes output.new ≡ string_bytes output.old ++ text)
+        × PrintsCame number layout.now read (octets_in answer.now) text) }
 {
     let Some(octets) = answer else {
         return writeln!(output, "{number} < none");

@@ -33,7 +33,8 @@ pub(crate) fn perform<T: Threads + Wait + Sync, R: Read, W: Write>(
 
     // What is written.
     ensures printed { OnOk result ((text : List ℕ) × Appends (W.contents writer.old) (W.contents writer.new) text × IfSome (R.remaining reader.old) (λ input. Prints mode (numbered_lines input) text)) }
-    ensures nothing { OnErr result (result ≢ Err WriteFailed → (mode ≡ Trace → result ≢ Err OutOfMemory) → Keeps (W.contents writer.old) (W.contents writer.new)) }
+    ensures nothing { OnErr result (result ≢ Err WriteFailed → (mode ≡ Trace → result ≢ Err OutOfMemory)
+        → Keeps (W.contents writer.old) (W.contents writer.new)) }
 {
     match mode {
         Mode::Check => check(alloc, reader, writer),

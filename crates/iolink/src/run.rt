@@ -78,7 +78,12 @@ pub(crate) fn wire_of<A: Handle>(alloc: A, script: Script<A>) -> Result<Sim<Para
     ensures app { IfOk result (λ sim. sim.device.app ≡ script.params) }
     ensures steps { IfOk result (λ sim. sim.steps ≡ script.steps.items) }
     ensures silence { IfOk result (λ sim. sim.silence ≡ 0) }
-    ensures whole { IfOk result (λ sim. sim ≡ first_wire (record { page = script.page; params = script.params; limits = script.limits; steps = script.steps.items })) }
+    ensures whole { IfOk result (λ sim. sim ≡ first_wire (record {
+      page = script.page;
+      params = script.params;
+      limits = script.limits;
+      steps = script.steps.items;
+    })) }
 {
     let device = Device::open(alloc, script.params, script.page, ROOM).map_err(|_| AllocError)?;
     Sim::new(alloc, device, script.steps).map_err(|_| AllocError)

@@ -34,13 +34,18 @@ pub fn trace<A: Handle, R: Read, W: Write>(
 ) -> Result<(), ProgramFault>
     // What is read.
     ensures too_long { result ≡ Err TooLong → IfSome (R.remaining reader.old) (λ input. LIMIT < length input) }
-    ensures bad_line { (n : ℕ) → result ≡ Err (Line n) → IfSome (R.remaining reader.old) (λ input. (length input ≤ LIMIT) × (first_bad_run (numbered_lines input) ≡ Some n)) }
-    ensures good { OnOk result (IfSome (R.remaining reader.old) (λ input. (length input ≤ LIMIT) × (first_bad_run (numbered_lines input) ≡ None))) }
-    ensures taken { (bytes : List ℕ) × Consumes (R.remaining reader.old) (R.remaining reader.new) bytes × (length bytes ≤ LIMIT + 1) }
+    ensures bad_line { (n : ℕ) → result ≡ Err (Line n) → IfSome (R.remaining reader.old) (λ input.
+        (length input ≤ LIMIT) × (first_bad_run (numbered_lines input) ≡ Some n)) }
+    ensures good { OnOk result (IfSome (R.remaining reader.old) (λ input.
+        (length input ≤ LIMIT) × (first_bad_run (numbered_lines input) ≡ None))) }
+    ensures taken { (bytes : List ℕ) × Consumes (R.remaining reader.old) (R.remaining reader.new) bytes
+        × (length bytes ≤ LIMIT + 1) }
 
     // What is written.
-    ensures printed { OnOk result ((text : List ℕ) × Appends (W.contents writer.old) (W.contents writer.new) text × IfSome (R.remaining reader.old) (λ input. PrintsTrace (numbered_lines input) text)) }
-    ensures nothing { OnErr result (result ≢ Err WriteFailed → result ≢ Err OutOfMemory → Keeps (W.contents writer.old) (W.contents writer.new)) }
+    ensures printed { OnOk result ((text : List ℕ) × Appends (W.contents writer.old) (W.contents writer.new) text
+        × IfSome (R.remaining reader.old) (λ input. PrintsTrace (numbered_lines input) text)) }
+    ensures nothing { OnErr result (result ≢ Err WriteFailed → result ≢ Err OutOfMemory
+        → Keeps (W.contents writer.old) (W.contents writer.new)) }
     ensures threads { result ≢ Err NoThread }
 {
     let input = read_input(alloc, reader)?;
@@ -59,8 +64,14 @@ fn traced<A: Handle, W: Write>(
     requires limits { AreLimits script.limits }
     requires given { script.limits.given ≡ 0 }
     requires calls { length (calls_in (numbered_lines input.now)) ≤ 1000000 }
-    ensures printed { OnOk result ((text : List ℕ) × Appends (W.contents writer.old) (W.contents writer.new) text × IsOkAnd (layouts_of script.page) (λ layouts.
-        TracesOut (record { page = script.page; params = script.params; limits = script.limits; steps = script.steps.items }) layouts (calls_in (numbered_lines input.now)) text)) }
+    ensures printed { OnOk result ((text : List ℕ) × Appends (W.contents writer.old) (W.contents writer.new) text
+        × IsOkAnd (layouts_of script.page) (λ layouts. TracesOut (record {
+          page = script.page;
+          params = script.params;
+          limits = script.limits;
+          steps = script.steps.items;
+        })
+        layouts (calls_in (numbered_lines input.now)) text)) }
     ensures faults { IfErr result (λ e. (e ≡ OutOfMemory) ⊎ (e ≡ WriteFailed)) }
 {
     let limits = script.limits;

@@ -59,8 +59,10 @@ impl<A: Handle> Tracer<A> {
         input: &[u8],
     ) -> Result<(), ProgramFault>
         requires { self.old.number + length (calls_in (numbered_lines input.now)) < 2 ^ 64 }
-        ensures traced { OnOk result ((text : List ℕ) × Flows (O.contents writer.old) (O.contents writer.new) (string_bytes self.old.output) (string_bytes self.new.output) text
-            × PortTraces W.honest W.far W.silence W.wake_gives W.exchange_gives self.old.layouts self.old.number port.old.parts (calls_in (numbered_lines input.now)) self.new.number port.new.parts text) }
+        ensures traced { OnOk result ((text : List ℕ) × Flows (O.contents writer.old) (O.contents writer.new)
+            (string_bytes self.old.output) (string_bytes self.new.output) text
+            × PortTraces W.honest W.far W.silence W.wake_gives W.exchange_gives self.old.layouts
+            self.old.number port.old.parts (calls_in (numbered_lines input.now)) self.new.number port.new.parts text) }
         ensures faults { IfErr result (λ e. (e ≡ OutOfMemory) ⊎ (e ≡ WriteFailed)) }
     {
         for (_, line) in Lines::of(input) {
@@ -80,8 +82,10 @@ impl<A: Handle> Tracer<A> {
         line: &CallLine,
     ) -> Result<(), ProgramFault>
         requires { self.old.number + length (line_calls line.now) < 2 ^ 64 }
-        ensures traced { OnOk result ((text : List ℕ) × Flows (O.contents writer.old) (O.contents writer.new) (string_bytes self.old.output) (string_bytes self.new.output) text
-            × PortTraces W.honest W.far W.silence W.wake_gives W.exchange_gives self.old.layouts self.old.number port.old.parts (line_calls line.now) self.new.number port.new.parts text) }
+        ensures traced { OnOk result ((text : List ℕ) × Flows (O.contents writer.old) (O.contents writer.new)
+            (string_bytes self.old.output) (string_bytes self.new.output) text
+            × PortTraces W.honest W.far W.silence W.wake_gives W.exchange_gives self.old.layouts
+            self.old.number port.old.parts (line_calls line.now) self.new.number port.new.parts text) }
         ensures number { OnOk result (self.new.number ≤ self.old.number + length (line_calls line.now)) }
         ensures layouts { self.new.layouts ≡ self.old.layouts }
         ensures faults { IfErr result (λ e. (e ≡ OutOfMemory) ⊎ (e ≡ WriteFailed)) }
@@ -100,8 +104,10 @@ impl<A: Handle> Tracer<A> {
         count: usize,
     ) -> Result<(), ProgramFault>
         requires { self.old.number + count < 2 ^ 64 }
-        ensures traced { OnOk result ((text : List ℕ) × Flows (O.contents writer.old) (O.contents writer.new) (string_bytes self.old.output) (string_bytes self.new.output) text
-            × PortTraces W.honest W.far W.silence W.wake_gives W.exchange_gives self.old.layouts self.old.number port.old.parts (replicate count Turn) self.new.number port.new.parts text) }
+        ensures traced { OnOk result ((text : List ℕ) × Flows (O.contents writer.old) (O.contents writer.new)
+            (string_bytes self.old.output) (string_bytes self.new.output) text
+            × PortTraces W.honest W.far W.silence W.wake_gives W.exchange_gives self.old.layouts
+            self.old.number port.old.parts (replicate count Turn) self.new.number port.new.parts text) }
         ensures number { OnOk result (self.new.number ≤ self.old.number + count) }
         ensures layouts { self.new.layouts ≡ self.old.layouts }
         ensures faults { IfErr result (λ e. (e ≡ OutOfMemory) ⊎ (e ≡ WriteFailed)) }
@@ -120,8 +126,10 @@ impl<A: Handle> Tracer<A> {
         call: &Call,
     ) -> Result<(), ProgramFault>
         requires { self.old.number + 1 < 2 ^ 64 }
-        ensures traced { OnOk result ((text : List ℕ) × Flows (O.contents writer.old) (O.contents writer.new) (string_bytes self.old.output) (string_bytes self.new.output) text
-            × PortTraces W.honest W.far W.silence W.wake_gives W.exchange_gives self.old.layouts self.old.number port.old.parts (call.now ∷ []) self.new.number port.new.parts text) }
+        ensures traced { OnOk result ((text : List ℕ) × Flows (O.contents writer.old) (O.contents writer.new)
+            (string_bytes self.old.output) (string_bytes self.new.output) text
+            × PortTraces W.honest W.far W.silence W.wake_gives W.exchange_gives self.old.layouts
+            self.old.number port.old.parts (call.now ∷ []) self.new.number port.new.parts text) }
         ensures number { OnOk result (self.new.number ≤ self.old.number + 1) }
         ensures layouts { self.new.layouts ≡ self.old.layouts }
         ensures faults { IfErr result (λ e. (e ≡ OutOfMemory) ⊎ (e ≡ WriteFailed)) }
@@ -133,8 +141,10 @@ impl<A: Handle> Tracer<A> {
     /// Makes one call, and prints what passes meanwhile and what it answers.
     fn make<W: Wire>(&mut self, port: &mut Port<Tap<W>, A>, call: &Call) -> Result<(), AllocError>
         requires { self.old.number + 1 < 2 ^ 64 }
-        ensures traced { OnOk result ((text : List ℕ) × (string_bytes self.new.output ≡ string_bytes self.old.output ++ text)
-            × PortTraces W.honest W.far W.silence W.wake_gives W.exchange_gives self.old.layouts self.old.number port.old.parts (call.now ∷ []) self.new.number port.new.parts text) }
+        ensures traced { OnOk result ((text : List ℕ)
+            × (string_bytes self.new.output ≡ string_bytes self.old.output ++ text)
+            × PortTraces W.honest W.far W.silence W.wake_gives W.exchange_gives self.old.layouts
+            self.old.number port.old.parts (call.now ∷ []) self.new.number port.new.parts text) }
         ensures number { OnOk result (self.new.number ≤ self.old.number + 1) }
         ensures layouts { self.new.layouts ≡ self.old.layouts }
     {
@@ -155,7 +165,8 @@ impl<A: Handle> Tracer<A> {
         wire: &Tap<W>,
     ) -> Result<(), AllocError>
         requires { self.old.number + 1 < 2 ^ 64 }
-        ensures printed { OnOk result ((text : List ℕ) × (string_bytes self.new.output ≡ string_bytes self.old.output ++ text)
+        ensures printed { OnOk result ((text : List ℕ)
+            × (string_bytes self.new.output ≡ string_bytes self.old.output ++ text)
             × PrintsNoteOf call.now self.old.number layout.now wire.now.last self.new.number text) }
         ensures number { OnOk result (self.new.number ≤ self.old.number + 1) }
         ensures layouts { self.new.layouts ≡ self.old.layouts }
@@ -187,7 +198,8 @@ fn pass_on<A: Allocator, W: Write>(
     output: &mut String<A>,
     writer: &mut W,
 ) -> Result<(), ProgramFault>
-    ensures written { OnOk result (Flows (W.contents writer.old) (W.contents writer.new) (string_bytes output.old) (string_bytes output.new) []) }
+    ensures written { OnOk result (Flows (W.contents writer.old) (W.contents writer.new)
+        (string_bytes output.old) (string_bytes output.new) []) }
     ensures fault { IfErr result (λ e. e ≡ WriteFailed) }
 {
     if output.len() >= PIECE {
