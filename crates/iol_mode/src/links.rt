@@ -195,9 +195,9 @@ impl<W: Wire> Link<W, Startup> {
     /// Sends the message of the step once.
     ///
     /// With its good reply the next step begins: the page is read from 0x02 to 0x0B and then checked, MasterIdent and
-    /// DevicePreoperate are written. To a device of V1.0 MasterCycleTime and DeviceOperate are written in their place, and
-    /// with the good reply to DeviceOperate the mode is OPERATE (profile). Down with a fault of the page, or with `Lost` at
-    /// the third attempt in a row that had no good reply.
+    /// DevicePreoperate are written. To a device of V1.0 MasterCycleTime and DeviceOperate are written in their place,
+    /// and with the good reply to DeviceOperate the mode is OPERATE (profile). Down with a fault of the page, or with
+    /// `Lost` at the third attempt in a row that had no good reply.
     pub fn turn(self) -> Next<W>
         ensures honest { W.honest (wire_of result) ≡ W.honest self.wire }
 

@@ -64,8 +64,8 @@ fn goes<W: Wire>(rt: &impl Abort, wire: W, stops: &[(u32, At)], number: u32) -> 
     wire_of(next)
 }
 
-/// A link stands in OPERATE a turn after PREOPERATE, and of its exchanges these were made, with those of the table among
-/// them.
+/// A link stands in OPERATE a turn after PREOPERATE, and of its exchanges these were made, with those of the table
+/// among them.
 fn is_watched(
     rt: &impl Abort,
     alloc: Global,

@@ -1,4 +1,5 @@
-//! The calls of a script, made on a port over a wire with a tap, with what each of them answers and what passes meanwhile.
+//! The calls of a script, made on a port over a wire with a tap, with what each of them answers and what passes
+//! meanwhile.
 ghost use Rattle.std.specs.Prelude.{◌≡◌, ◌++◌, ◌+◌, ◌-◌, ◌<◌, ◌≤◌, ◌^◌, ◌⊎◌, ℕ, List, [], ◌∷◌, OnOk, IfErr, length, replicate};
 ghost use Rattle.std.specs.String.{string_bytes};
 ghost use Rattle.iol_port.specs.declared.call.Call.TheVariants.{Turn};
@@ -157,7 +158,8 @@ impl<A: Handle> Tracer<A> {
         print_answer(&mut self.output, call, &answer)
     }
 
-    /// Prints the call of the wire that a call made, if it made one: a turn alone does, and then it was the last to pass.
+    /// Prints the call of the wire that a call made, if it made one: a turn alone does, and then it was the last to
+    /// pass.
     fn note<W: Wire>(
         &mut self,
         call: &Call,

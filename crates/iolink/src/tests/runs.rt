@@ -165,7 +165,8 @@ fn loses_no_more_than_a_turn(rt: HostRuntime) -> Result<(), Fail> {
     Ok(())
 }
 
-/// A device of V1.0, with one more turn for the one that a fate takes; DeviceOperate is out in the last turn of start-up.
+/// A device of V1.0, with one more turn for the one that a fate takes; DeviceOperate is out in the last turn of
+/// start-up.
 #[test]
 fn old_devices_lose_no_more_than_a_turn(rt: HostRuntime) -> Result<(), Fail> {
     for clean in 0..16 {
