@@ -9,3 +9,4 @@ pub mod Level
 pub mod SegmentLaws
 pub mod Laws
 pub mod Linked
+pub mod Regular

@@ -4,7 +4,9 @@ ghost use Rattle.iol_event.specs.declared.event.Event.{Event};
 ghost use Rattle.iol_device.specs.SegmentLaws.{SegmentLaws};
 ghost use Rattle.iol_device.specs.Laws.{OnceIsEnough, MessagesAreHeard, ModesHaveLayouts, RepliesAreRead, InputStaysSized, MuchStays, OutputStaysInOperate, LevelLaws, EventLaws};
 ghost use Rattle.iol_device.specs.Linked.{LinkLaws, TextsAreHeard};
+ghost use Rattle.iol_device.specs.Regular.{RegularStays};
 
+use iol_event::memory_stays_valid;
 use iol_mseq::what_is_written_is_read;
 use iol_page::pages_ask_for_layouts;
 use iol_segment::texts_join;
@@ -84,4 +86,14 @@ pub fn texts_are_heard()
     ensures { TextsAreHeard }
 {
     what_is_written_is_read();
+}
+
+/// The parts of a device stay as they can be, whatever it hears or does by itself, and at a wake-up request: the page has
+/// ten octets, the input the page's length, and the event memory is one that events and messages lead to.
+#[tactic(auto, using(crate::proofs::Regularly::regular_stays))]
+pub fn parts_stay_regular()
+    ensures { RegularStays }
+{
+    memory_stays_valid();
+    modes_have_layouts();
 }

@@ -21,8 +21,8 @@ pub use device::Device;
 pub use fault::DeviceFault;
 pub use laws::{
     ends_stay_level, events_stay_until_confirmed, hearing_again_changes_nothing, links_stay_level,
-    messages_are_heard, modes_have_layouts, page_and_room_stay, replies_are_read,
-    requests_are_received, texts_are_heard,
+    messages_are_heard, modes_have_layouts, page_and_room_stay, parts_stay_regular,
+    replies_are_read, requests_are_received, texts_are_heard,
 };
 
 #[cfg(test)]

@@ -1,6 +1,5 @@
-ghost use Rattle.std.specs.Prelude.{◌≡◌, ℕ, ◌≤◌, List, None, Some, take, length};
+ghost use Rattle.std.specs.Prelude.{◌≡◌, None, take};
 ghost use Rattle.std.specs.Option.{option_copied};
-ghost use Rattle.arrayvec.specs.ArrayVec.{ArrayVec};
 
 use iol_link::{Rate, Wire};
 use iol_mseq::Message;
