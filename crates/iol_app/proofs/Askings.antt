@@ -35,7 +35,7 @@ new_is : (layout : Shape) (exchange : Option purpose.Exchange) (due : purpose.Ex
 new_is layout None due s message none is_for carries = text_is layout message _ _ _ is_for.head carries is_for.octets
 new_is layout (Some exchange) due s message none is_for carries = absurd none
 
-sent_is : (layout : Shape) (out : Option Sending) (message : MasterMsg) (s : SessionState) (room : Bool) → IsOutFor (message_out out) s
+pub sent_is : (layout : Shape) (out : Option Sending) (message : MasterMsg) (s : SessionState) (room : Bool) → IsOutFor (message_out out) s
     → IsOutFor (Some (sending_of out message).message) (sent (due_of s room) s) → (message_out out ≡ None → message.out.items ≡ carried_by s.output)
     → master_text layout (sending_of out message).message ≡ text_of layout (message_out out) s room
 sent_is layout None message s room out_for is_for carries = new_is layout s.exchange (due_of s room) s message out_for is_for (carries refl)

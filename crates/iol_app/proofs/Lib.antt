@@ -28,3 +28,5 @@ pub mod SeenCalls
 pub mod Reporting
 pub mod Ending
 pub mod Askings
+pub mod Rewiring
+pub mod AskedTurns

@@ -183,7 +183,7 @@ module _ {W : Type 0} (honest : W → Bool) (far : W → Far) (silence : W → �
     out = sym (ap (λ (n : ℕ). out_after n startup_shape state.sent.message Other) first);
     busy_limit = seen.busy_limit;
     request = ap (λ (x : Seen). x.request) same ∙ seen.request;
-    busy = subst (λ (x : Seen). BusySeen session.limit session.current x.busy) (sym same) seen.busy;
+    busy = subst (λ (x : Seen). BusySeen session.limit session.current x.busy x.asked) (sym same) seen.busy;
     progress = ap (λ (p : Progress). after p Other reply.od.items) quiet ∙ sym (ap progress_of fits.0.0);
     reading = (seen.reading.0, (reply.event, page_reading s.reading seen.reading.1.0 message reply is_page seen.reading.1.1));
     event_form = seen.event_form;

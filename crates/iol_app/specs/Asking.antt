@@ -39,7 +39,7 @@ abbrev pub text_of : Shape → Option MasterMsg → SessionState → Bool → Li
 text_of layout None s room = text_due layout s room
 text_of layout (Some message) s room = master_text layout message
 
--- where no message is out and nothing is due, the request that waits longest is begun, unless the device has no ISDU
+-- where no message is out and nothing is due, the next request is begun, unless the device has no ISDU
 abbrev pub begin_where : Bool → Option Request → SessionState → SessionState
 begin_where ready None s = s
 begin_where ready (Some request) s = if ready then begun_in request s else s

@@ -8,8 +8,10 @@ ghost use Rattle.iol_app.specs.State.{opened, aborted_in, begun_in, wanting, out
 ghost use Rattle.iol_app.specs.Requests.{request_in, request_after, EndsRequest};
 ghost use Rattle.iol_app.specs.Due.{is_ready};
 ghost use Rattle.iol_app.specs.Reports.{is_reading, ReadingAfter};
-ghost use Rattle.iol_app.specs.Seen.{TurnSteps, NewSteps, BeginSteps, AbortSteps, WantSteps, RestartSteps, DenySteps};
+ghost use Rattle.iol_app.specs.Seen.{TurnSteps, NewSteps, BeginSteps, AbortSteps, WantSteps, RestartSteps, DenySteps, CancelSteps};
 ghost use Rattle.iol_app.specs.Asking.{asked_of, prepared, IsCall};
+ghost use Rattle.iol_app.specs.AskedCalls.{AskedWakes, AskedGives};
+ghost use Rattle.iol_app.specs.Rewire.{rewired, RewireSteps};
 ghost use Rattle.iol_app.specs.StationState.{wire_of, mode_of, why_of, is_operating, linked, is_waked, waked_session, settled_session, reply_session, IsReplySaid, fallen, attempt_session, IsAttemptSaid, IsReplyHearable, LinkFits, NextFits, IsSettledSaid, IsTurn};
 
 use crate::asked::Asked;
@@ -23,8 +25,8 @@ use iol_link::{Attempt, Wire};
 use iol_mode::{Down, Link, Next, Operate, Preoperate, Startup, Why};
 use iol_mseq::{Reply, encode_master};
 use iol_steps::{
-    Mode, Said, begin_takes_the_request, denial_changes_nothing, new_station_stands,
-    restart_cuts_the_request, wanted_output_stands,
+    Mode, Said, begin_takes_the_request, cancel_marks_the_request, denial_changes_nothing,
+    new_station_stands, restart_cuts_the_request, wanted_output_stands,
 };
 use std::marker::Model;
 
@@ -187,15 +189,21 @@ impl<W: Wire> Station<W> {
         self.session.begin(request);
     }
 
-    /// Lets an abort of the request under way wait. A second one changes nothing.
+    /// Lets an abort of the request under way wait. A second one changes nothing: the first cause stays.
+    ///
+    /// A message that is out is repeated first, and may yet bring the answer. Then an ABORT goes out, behind an output
+    /// command that is due; its good reply cuts off the request.
     ///
     /// Over an honest wire the station is seen as before where the cause is `BusyTooLong`, and the device was busy as often
-    /// as it may be. No clause says what becomes of an abort for another cause there.
+    /// as it may be; where it is `Cancelled` the request has the mark that the program asked to cut it off. No clause says
+    /// what becomes of an abort for another cause there.
     pub fn abort(&mut self, cause: Cause)
         requires { IsSome self.old.session.current }
         ensures station { self.new ≡ record self.old { session = aborted_in cause self.old.session } }
         ensures steps { AbortSteps W.honest W.far W.silence cause self.old self.new }
+        ensures cancel { CancelSteps W.honest W.far W.silence cause self.old self.new }
     {
+        cancel_marks_the_request();
         self.session.abort(cause);
     }
 
@@ -247,6 +255,8 @@ impl<W: Wire> Station<W> {
         ensures reading { ReadingAfter room (is_reading self.old.session) result (is_reading self.new.session) }
         ensures steps { TurnSteps W.honest W.far W.silence self.old result self.new }
         ensures asked { IsCall W.wake_gives W.exchange_gives (asked_of self.old room) (wire_of self.old.link) (wire_of self.new.link) }
+        ensures exact { IsTurn W.honest W.far W.silence (AskedWakes W.wake_gives (asked_of self.old room))
+            (AskedGives W.exchange_gives (asked_of self.old room)) room self.old result self.new }
     {
         station_laws();
         self.turned(room)
@@ -294,6 +304,33 @@ impl<W: Wire> Station<W> {
         let Station { link, mut session } = self;
         let (link, said) = rise(link, &mut session, room);
         (Station { link, session }, said)
+    }
+
+    /// Goes on over this wire, which stands to the same device as the one before; that one is handed back.
+    pub fn rewire(&mut self, wire: W) -> W
+        requires honest { W.honest wire ≡ W.honest (wire_of self.old.link) }
+        requires far { W.far wire ≡ W.far (wire_of self.old.link) }
+        requires silence { W.silence wire ≡ W.silence (wire_of self.old.link) }
+        ensures station { self.new ≡ record self.old { link = rewired wire self.old.link } }
+        ensures before { result ≡ wire_of self.old.link }
+        ensures steps { RewireSteps W.honest W.far W.silence self.old self.new }
+    {
+        self.link_over(wire)
+    }
+
+    fn link_over(&mut self, wire: W) -> W
+        requires honest { W.honest wire ≡ W.honest (wire_of self.old.link) }
+        requires far { W.far wire ≡ W.far (wire_of self.old.link) }
+        requires silence { W.silence wire ≡ W.silence (wire_of self.old.link) }
+        ensures station { self.new ≡ record self.old { link = rewired wire self.old.link } }
+        ensures before { result ≡ wire_of self.old.link }
+    {
+        match &mut self.link {
+            AnyLink::Down(link) => link.rewire(wire),
+            AnyLink::Startup(link) => link.rewire(wire),
+            AnyLink::Preoperate(link) => link.rewire(wire),
+            AnyLink::Operate(link) => link.rewire(wire),
+        }
     }
 }
 

@@ -53,6 +53,8 @@ pub enum Cause {
     BusyTooLong,
     /// The device sent no text of an answer.
     Protocol,
+    /// The program asked for it, and the device has replied to the ABORT.
+    Cancelled,
 }
 
 impl Request {

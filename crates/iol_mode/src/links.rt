@@ -27,6 +27,7 @@ use iol_link::{Attempt, Handler, Wire, exchanges_keep_ends_level};
 use iol_mseq::{Layout, MasterMsg, Message, Reply, encode_master};
 use iol_page::{Layouts, pages_ask_for_layouts};
 use std::marker::Model;
+use std::mem::replace;
 
 /// A link in the mode `S`, which owns the wire.
 ///
@@ -131,6 +132,17 @@ impl<W: Wire, S: Mode> Link<W, S> {
         ensures { result.now ≡ self.now.wire }
     {
         &self.wire
+    }
+
+    /// Goes on over this wire, which stands to the same device as the one before; that one is handed back.
+    pub fn rewire(&mut self, wire: W) -> W
+        requires honest { W.honest wire ≡ W.honest self.old.wire }
+        requires far { W.far wire ≡ W.far self.old.wire }
+        requires silence { W.silence wire ≡ W.silence self.old.wire }
+        ensures link { self.new ≡ record self.old { wire = wire } }
+        ensures before { result ≡ self.old.wire }
+    {
+        replace(&mut self.wire, wire)
     }
 }
 

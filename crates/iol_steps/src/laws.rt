@@ -1,6 +1,6 @@
 //! Laws of the definitions, each carried by a function that does nothing when it runs: what one call of an honest wire gives,
 //! for every master whose fields and far end stand together before it.
-ghost use Rattle.iol_steps.specs.Promises.{WakeGives, MissedGives, LostGives, HadGives, StartedGives, ReplyTells, TextNamesAnswer, OpenGives, WantGives, BeginGives, DenyGives, RestartGives};
+ghost use Rattle.iol_steps.specs.Promises.{WakeGives, MissedGives, LostGives, HadGives, StartedGives, ReplyTells, TextNamesAnswer, OpenGives, WantGives, BeginGives, DenyGives, RestartGives, CancelGives};
 
 use iol_device::{
     ends_stay_level, events_stay_until_confirmed, modes_have_layouts, page_and_room_stay,
@@ -125,6 +125,13 @@ pub fn denial_changes_nothing()
 #[tactic(auto, using(crate::proofs::Calls::begin_gives))]
 pub fn begin_takes_the_request()
     ensures { BeginGives }
+{}
+
+/// The program asks to cut off the request under way, at whatever message it is: both ends stand together as before, and the
+/// request has the mark. Nothing is cut off yet; a good reply to an ABORT does that.
+#[tactic(auto, using(crate::proofs::Calls::cancel_gives))]
+pub fn cancel_marks_the_request()
+    ensures { CancelGives }
 {}
 
 /// A restart, in every mode: both ends stand together as before, a request under way is cut off, and the image is dropped.

@@ -1,5 +1,6 @@
 -- What a turn gives over an honest wire, and over every wire what an answer, a cut and a report need.
 use Rattle.iol_app.proofs.Askings.{turn_call}
+use Rattle.iol_app.proofs.AskedTurns.{turn_asked}
 use Rattle.iol_app.proofs.Ending.{turn_ends}
 use Rattle.iol_app.proofs.Reporting.{turn_reading}
 use Rattle.iol_app.proofs.Stepping.{turn_steps}
@@ -27,3 +28,8 @@ pub returns-clause-asked : goal.returns-clause-asked
 returns-clause-asked g c =
     let wire = g.W.Wire in
     turn_call wire.honest wire.far wire.silence wire.wake_gives wire.exchange_gives c.args.self.now c.args.room c.turned.result c.turned.new.self c.turned.ensures.fits c.turned.ensures.turn
+
+pub returns-clause-exact : goal.returns-clause-exact
+returns-clause-exact g c =
+    let wire = g.W.Wire in
+    turn_asked wire.honest wire.far wire.silence wire.wake_gives wire.exchange_gives c.args.self.now c.args.room c.turned.result c.turned.new.self c.turned.ensures.fits c.turned.ensures.turn

@@ -1,0 +1,67 @@
+-- The one call of an exact turn is the one that the station before it asked for.
+use Rattle.std.proofs.Common.{◌≡◌, ℕ, Bool, List, refl, sym, ap, Option}
+use Rattle.arrayvec.specs.ArrayVec.{ArrayVec}
+use Rattle.iol_mseq.specs.Shape.{Shape}
+use Rattle.iol_mseq.specs.Texts.{master_text}
+use Rattle.iol_mseq.specs.declared.master.MasterMsg.{MasterMsg}
+use Rattle.iol_mseq.specs.declared.reply.Reply.{Reply}
+use Rattle.iol_device.specs.Far.{Far}
+use Rattle.iol_link.specs.declared.wire.Rate.{Rate}
+use Rattle.iol_mode.specs.declared.states.Outcome.{Outcome}
+use Rattle.iol_steps.specs.declared.said.Said.{Said}
+use Rattle.iol_app.specs.declared.asked.Asked.{Asked}
+use Rattle.iol_app.specs.declared.asked.Asked.TheVariants.{Exchange}
+use Rattle.iol_app.specs.declared.station.AnyLink.{AnyLink}
+use Rattle.iol_app.specs.declared.station.AnyLink.TheVariants.{Down as InDown, Startup as InStartup, Preoperate as InPreoperate, Operate as InOperate}
+use Rattle.iol_app.specs.State.{SessionState}
+use Rattle.iol_app.specs.StationState.{StationState, LinkFits, IsTurn, IsLinkTurn, IsExchange}
+use Rattle.iol_app.specs.Asking.{asked_of, asked_in}
+use Rattle.iol_app.specs.AskedCalls.{AskedWakes, AskedGives}
+use Rattle.iol_app.proofs.Askings.{sent_is}
+
+module _ {W : Type 0} (honest : W → Bool) (far : W → Far) (silence : W → ℕ) (wakes : W → Option Rate → W → Type 0) (gives : W → List ℕ → Option (ArrayVec ℕ) → W → Type 0) where
+  abbrev exchange_asked : (asked : Asked) (wire : W) (layout : Shape) (message : MasterMsg) (turned : Option Reply → Outcome) (s : SessionState) (said : Said) (new : StationState W)
+      → asked ≡ Exchange (record { items = master_text layout message }) → IsExchange honest far silence wakes gives wire layout message turned s said new
+      → IsExchange honest far silence (AskedWakes wakes asked) (AskedGives gives asked) wire layout message turned s said new
+  exchange_asked asked wire layout message turned s said new is x = record {
+    answer = x.answer;
+    called = (is, x.called);
+    passes = x.passes;
+    settled = x.settled;
+    both = record { honesty = x.both.honesty; stands = x.both.stands; met = x.both.met; lost = x.both.lost; fits = x.both.fits };
+  }
+
+  link_asked : (link : AnyLink W) (s : SessionState) (room : Bool) (said : Said) (new : StationState W) → LinkFits link s
+      → IsLinkTurn honest far silence wakes gives link s room said new
+      → IsLinkTurn honest far silence (AskedWakes wakes (asked_in link s room)) (AskedGives gives (asked_in link s room)) link s room said new
+  link_asked (InDown link) s room said new fits t = record {
+    answer = t.answer;
+    called = (refl, t.called);
+    passes = t.passes;
+    honesty = t.honesty;
+    quiet = t.quiet;
+    stands = t.stands;
+    settled = t.settled;
+  }
+  link_asked (InStartup link) s room said new fits t = record {
+    exchange = exchange_asked _ _ _ _ _ _ _ _ refl t.exchange;
+    fault = t.fault;
+  }
+  link_asked (InPreoperate link) s room said new fits t = exchange_asked _ _ _ _ _ _ _ _ refl t
+  link_asked (InOperate link) s room said new fits t = record {
+    message = t.message;
+    is_for = t.is_for;
+    parts = t.parts;
+    carries = t.carries;
+    exchange = exchange_asked _ _ _ _ _ _ _ _
+        (ap (λ (octets : List ℕ). Exchange (record { items = octets })) (sym (sent_is link.state.layouts.run link.state.out t.message s room fits.out_for t.is_for t.carries)))
+        t.exchange;
+    fits = t.fits;
+    stood = t.stood;
+    few = t.few;
+    accepted = t.accepted;
+  }
+
+  pub turn_asked : (old : StationState W) (room : Bool) (said : Said) (new : StationState W) → LinkFits old.link old.session → IsTurn honest far silence wakes gives room old said new
+      → IsTurn honest far silence (AskedWakes wakes (asked_of old room)) (AskedGives gives (asked_of old room)) room old said new
+  turn_asked old room said new fits t = link_asked old.link old.session room said new fits t
