@@ -2,3 +2,4 @@ pub mod ReplayLemmas
 pub mod QueueLemmas
 pub mod NumberLemmas
 pub mod TakingLemmas
+pub mod SoundLemmas

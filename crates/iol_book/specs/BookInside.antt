@@ -4,18 +4,18 @@ use Rattle.std.specs.Vec.{vec_capacity}
 use Rattle.std.specs.VecDeque.{deque_capacity}
 use Rattle.indexmap.specs.IndexMap.{spare}
 use Rattle.iol_book.specs.Replay.{Standing}
-use Rattle.iol_book.specs.BookModel.{BookState, BookValue, IsReplayed, owed, taken_count}
+use Rattle.iol_book.specs.BookModel.{BookState, BookValue, IsReplayed, owed, taken_count, waiting_count}
 use Rattle.iol_book.specs.Numbers.{IsNumbered}
 use Rattle.iol_book.specs.declared.book.Book.TheInside.{Inside}
 
 -- how many requests have no outcome yet, so that each needs a place for it
 abbrev pub unanswered : Standing → ℕ
-unanswered standing = length standing.waiting + taken_count standing
+unanswered standing = waiting_count standing + taken_count standing
 
 module _ {A : Type 0} where
-  -- what the queue, the request that is taken and the map hold
+  -- what the queues, the request that is taken and the map hold
   abbrev pub standing_of : Inside A → Standing
-  standing_of fields = record { waiting = fields.waiting.items; taken = fields.taken; outcomes = fields.outcomes.entries }
+  standing_of fields = record { urgent = fields.urgent.items; waiting = fields.waiting.items; taken = fields.taken; outcomes = fields.outcomes.entries }
 
   -- the book without its memory
   abbrev pub state_of : Inside A → BookState
@@ -42,7 +42,8 @@ module _ {A : Type 0} where
     pub replayed : IsReplayed (state_of fields)
     -- each ticket names one request
     pub numbered : IsNumbered fields.last (standing_of fields)
-    -- the queue has room for 64 requests
+    -- each of the two queues has room for 64 requests
+    pub urgent_room : 64 ≤ deque_capacity fields.urgent
     pub queue_room : 64 ≤ deque_capacity fields.waiting
     -- each request with no outcome has a place for it
     pub outcome_room : unanswered (standing_of fields) ≤ spare fields.outcomes

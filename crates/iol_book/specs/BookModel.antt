@@ -4,16 +4,16 @@ use Rattle.std.specs.Option.{option_map_or}
 use Rattle.std.specs.Map.{lookup}
 use Rattle.indexmap.specs.IndexMap.{insert_entry}
 use Rattle.iol_isdu.specs.declared.values.Request.{Request}
-use Rattle.iol_isdu.specs.declared.values.Cause.TheVariants.{LinkLost, Restarted, BusyTooLong, Protocol}
+use Rattle.iol_isdu.specs.declared.values.Cause.TheVariants.{LinkLost, Restarted, BusyTooLong, Protocol, Cancelled}
 use Rattle.iol_book.specs.declared.entries.Ticket.{Ticket}
 use Rattle.iol_book.specs.declared.entries.Limits.{Limits}
 use Rattle.iol_book.specs.declared.entries.Outcome.{Outcome}
 use Rattle.iol_book.specs.declared.entries.Outcome.TheVariants.{Done, Unknown, Withdrawn, NoIsdu}
 use Rattle.iol_book.specs.declared.entries.Entry.{Entry}
-use Rattle.iol_book.specs.declared.entries.Entry.TheVariants.{Submitted, Taken, Answered, Withdrawn as WithdrawnEntry, Collected}
+use Rattle.iol_book.specs.declared.entries.Entry.TheVariants.{Submitted, Urgent, Taken, Answered, Withdrawn as WithdrawnEntry, Collected}
 use Rattle.iol_book.specs.declared.fault.BookFault.{BookFault}
-use Rattle.iol_book.specs.declared.fault.BookFault.TheVariants.{Full, JournalFull, TicketsSpent, OutOfMemory, UnknownTicket, NotYet, TakenAlready}
-use Rattle.iol_book.specs.Replay.{Standing, nothing, step, replay, same_ticket}
+use Rattle.iol_book.specs.declared.fault.BookFault.TheVariants.{Full, JournalFull, TicketsSpent, OutOfMemory, UnknownTicket, NotYet, TakenAlready, NotInFlight}
+use Rattle.iol_book.specs.Replay.{Standing, nothing, step, replay, same_ticket, is_among}
 
 pub record BookState : Type 0 where
   -- the entries since the book was opened or last archived
@@ -56,13 +56,17 @@ entered_if book (Some entry) = entered book entry
 abbrev pub taken_count : Standing → ℕ
 taken_count standing = if is_some standing.taken then 1 else 0
 
+-- how many requests wait
+abbrev pub waiting_count : Standing → ℕ
+waiting_count standing = length standing.urgent + length standing.waiting
+
 -- how many tickets are outstanding
 abbrev pub outstanding : Standing → ℕ
-outstanding standing = length standing.waiting + taken_count standing + length standing.outcomes
+outstanding standing = waiting_count standing + taken_count standing + length standing.outcomes
 
 -- the entries that the outstanding tickets will still get: taken, answered and collected, or withdrawn and collected
 abbrev pub owed : Standing → ℕ
-owed standing = 3 * length standing.waiting + 2 * taken_count standing + length standing.outcomes
+owed standing = 3 * waiting_count standing + 2 * taken_count standing + length standing.outcomes
 
 -- the first reason why a request can't be submitted, where it can't
 abbrev pub submit_refusal : BookState → Option BookFault
@@ -76,31 +80,48 @@ submit_refusal book =
 abbrev pub next_ticket : BookState → Ticket
 next_ticket book = record { 0 = book.last + 1 }
 
--- the book after it, where the request waits behind the others
+-- the book after it, where the request waits behind the others that are not urgent
 abbrev pub submitted : BookState → Request → BookState
 submitted book request = record (entered book (Submitted (next_ticket book) request)) { last = book.last + 1 }
+
+-- the book after the submit of an urgent one, which waits behind the other urgent ones
+abbrev pub submitted_urgent : BookState → Request → BookState
+submitted_urgent book request = record (entered book (Urgent (next_ticket book) request)) { last = book.last + 1 }
 
 -- a submit that is refused says the first of its reasons that holds, or that a growth was refused
 abbrev pub RefusesFor : Option BookFault → BookFault → ℕ → Type 0
 RefusesFor (Some why) fault room = fault ≡ why
 RefusesFor None fault room = (fault ≡ OutOfMemory) × (room ≡ 0)
 
--- the request that is taken next
+-- the request that is taken next: the first urgent one, and where no urgent one waits the first of the others
 abbrev pub next_taken : Standing → Option (Ticket × Request)
-next_taken standing = if is_some standing.taken then None else slice_get standing.waiting 0
+next_taken standing = if is_some standing.taken then None else slice_get (standing.urgent ++ standing.waiting) 0
+
+-- the others, once that request has left the list that it heads
+abbrev pub others_behind : List (Ticket × Request) → List (Ticket × Request) → List (Ticket × Request)
+others_behind [] waiting = drop 1 waiting
+others_behind (first ∷ urgent) waiting = waiting
 
 -- the book after that request is taken
 abbrev pub took : BookState → Ticket × Request → BookState
 took book taken = record book {
   journal = book.journal ++ Taken taken.0 ∷ [];
-  standing = record book.standing { waiting = drop 1 book.standing.waiting; taken = Some taken };
+  standing = record book.standing {
+    urgent = drop 1 book.standing.urgent;
+    waiting = others_behind book.standing.urgent book.standing.waiting;
+    taken = Some taken;
+  };
 }
 
--- the book after the request of this ticket, which waited longest, is denied
+-- the book after that request, which has this ticket, is denied
 abbrev pub denied : BookState → Ticket → BookState
 denied book ticket = record book {
   journal = book.journal ++ Answered ticket NoIsdu ∷ [];
-  standing = record book.standing { waiting = drop 1 book.standing.waiting; outcomes = insert_entry same_ticket book.standing.outcomes ticket NoIsdu };
+  standing = record book.standing {
+    urgent = drop 1 book.standing.urgent;
+    waiting = others_behind book.standing.urgent book.standing.waiting;
+    outcomes = insert_entry same_ticket book.standing.outcomes ticket NoIsdu;
+  };
 }
 
 -- whether the request may still be carried out, though it has its outcome
@@ -110,6 +131,8 @@ leaves_unsure (Unknown LinkLost) = true
 leaves_unsure (Unknown Restarted) = true
 leaves_unsure (Unknown BusyTooLong) = false
 leaves_unsure (Unknown Protocol) = false
+-- the device replied to the ABORT, so that it has the request no more
+leaves_unsure (Unknown Cancelled) = false
 leaves_unsure Withdrawn = false
 leaves_unsure NoIsdu = false
 
@@ -129,7 +152,7 @@ posted book outcome =
 
 -- whether the request of a ticket waits
 abbrev pub waits : Standing → Ticket → Bool
-waits standing ticket = is_some (lookup (same_ticket ticket) standing.waiting)
+waits standing ticket = is_among ticket standing.urgent || is_among ticket standing.waiting
 
 -- whether it is the one that is taken
 abbrev pub is_taken : Standing → Ticket → Bool
@@ -159,6 +182,13 @@ withdraw_refusal standing ticket =
 -- the book after a withdraw
 abbrev pub withdrawn : BookState → Ticket → BookState
 withdrawn book ticket = if is_some (withdraw_refusal book.standing ticket) then book else entered book (WithdrawnEntry ticket)
+
+-- why the request of a ticket can't be cut off, where it can't: it is not the one that is taken
+abbrev pub flight_refusal : Standing → Ticket → Option BookFault
+flight_refusal standing ticket =
+    if is_taken standing ticket then None
+    else if waits standing ticket || is_some (lookup (same_ticket ticket) standing.outcomes) then Some NotInFlight
+    else Some UnknownTicket
 
 -- the book after a wake of the device
 abbrev pub reset : BookState → BookState

@@ -5,10 +5,10 @@ use thiserror::Error;
 /// Why a book refuses a call.
 #[derive(Clone, Copy, Debug, PartialEq, Eq, Error)]
 pub enum BookFault {
-    /// 21: 64 tickets are outstanding.
+    /// 21: 64 tickets are outstanding, those of urgent requests and of others together.
     #[error("Full")]
     Full,
-    /// 22: the journal has no room for the entries of one more request.
+    /// 22: the journal has no room for the entries of one more request, urgent or not.
     #[error("JournalFull")]
     JournalFull,
     /// 23: the last ticket was 2^64 - 1.
@@ -23,12 +23,15 @@ pub enum BookFault {
     /// 26: the ticket has no outcome yet.
     #[error("NotYet")]
     NotYet,
-    /// 27: the request no longer waits.
+    /// 27: the request no longer waits, neither among the urgent ones nor among the others.
     #[error("TakenAlready")]
     TakenAlready,
     /// 28: a ticket is outstanding, or the device may still carry out a request that was cut off.
     #[error("Outstanding")]
     Outstanding,
+    /// 36: the request is not the one that is taken: it waits, or has an outcome.
+    #[error("NotInFlight")]
+    NotInFlight,
 }
 
 impl BookFault {
@@ -47,6 +50,7 @@ impl BookFault {
             BookFault::NotYet => 26,
             BookFault::TakenAlready => 27,
             BookFault::Outstanding => 28,
+            BookFault::NotInFlight => 36,
         }
     }
 }

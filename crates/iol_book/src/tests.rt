@@ -103,6 +103,60 @@ fn a_waiting_request_is_denied(rt: HostRuntime) -> Result<(), Fail> {
     Ok(())
 }
 
+#[test]
+fn urgent_requests_are_taken_first(rt: HostRuntime) -> Result<(), Fail> {
+    let mut book = Book::open(rt.alloc(), &LIMITS)?;
+    assert_eq!(rt; book.submit(read(16)), Ok(Ticket(1)));
+    assert_eq!(rt; book.submit(read(17)), Ok(Ticket(2)));
+    assert_eq!(rt; book.submit_urgent(read(18)), Ok(Ticket(3)));
+    assert_eq!(rt; book.submit_urgent(read(19)), Ok(Ticket(4)));
+    assert_eq!(rt; book.in_flight(Ticket(3)), Err(BookFault::NotInFlight));
+    assert_eq!(rt; book.withdraw(Ticket(4)), Ok(()));
+    assert_eq!(rt; book.take(), Some((Ticket(3), read(18))));
+    assert_eq!(rt; book.in_flight(Ticket(3)), Ok(()));
+    assert_eq!(rt; book.withdraw(Ticket(3)), Err(BookFault::TakenAlready));
+    assert_eq!(rt; book.submit_urgent(read(20)), Ok(Ticket(5)));
+    assert_eq!(rt; book.take(), None);
+    book.post(Outcome::Unknown(Cause::Cancelled));
+    assert_eq!(rt; book.in_flight(Ticket(3)), Err(BookFault::NotInFlight));
+    assert_eq!(rt; book.in_flight(Ticket(6)), Err(BookFault::UnknownTicket));
+    assert_eq!(rt; BookFault::NotInFlight.code(), 36);
+    assert_eq!(rt; book.take(), Some((Ticket(5), read(20))));
+    book.post(Outcome::Done(Answer::Written));
+    assert_eq!(rt; book.take(), Some((Ticket(1), read(16))));
+    Ok(())
+}
+
+#[test]
+fn an_urgent_request_is_denied_first(rt: HostRuntime) -> Result<(), Fail> {
+    let mut book = Book::open(rt.alloc(), &LIMITS)?;
+    assert_eq!(rt; book.submit(read(16)), Ok(Ticket(1)));
+    assert_eq!(rt; book.submit_urgent(read(17)), Ok(Ticket(2)));
+    assert_eq!(rt; book.submit_urgent(read(18)), Ok(Ticket(3)));
+    assert_eq!(rt; book.deny(), Some(Ticket(2)));
+    assert_eq!(rt; book.in_flight(Ticket(2)), Err(BookFault::NotInFlight));
+    assert_eq!(rt; book.take(), Some((Ticket(3), read(18))));
+    assert_eq!(rt; book.deny(), None);
+    book.post(Outcome::Done(Answer::Written));
+    assert_eq!(rt; book.deny(), Some(Ticket(1)));
+    assert_eq!(rt; book.collect(Ticket(2)), Ok(Outcome::NoIsdu));
+    assert_eq!(rt;
+        book.journal(),
+        [
+            Entry::Submitted(Ticket(1), read(16)),
+            Entry::Urgent(Ticket(2), read(17)),
+            Entry::Urgent(Ticket(3), read(18)),
+            Entry::Answered(Ticket(2), Outcome::NoIsdu),
+            Entry::Taken(Ticket(3)),
+            Entry::Answered(Ticket(3), Outcome::Done(Answer::Written)),
+            Entry::Answered(Ticket(1), Outcome::NoIsdu),
+            Entry::Collected(Ticket(2)),
+        ]
+        .as_slice()
+    );
+    Ok(())
+}
+
 /// A book whose only request was cut off and collected, whether it may be archived then, and whether after a reset.
 fn archives_after(alloc: Global, cause: Cause) -> Result<(bool, bool), BookFault> {
     let mut book = Book::open(alloc, &LIMITS)?;
@@ -128,6 +182,7 @@ fn a_cut_off_request_keeps_the_journal(rt: HostRuntime) -> Result<(), Fail> {
         (true, true)
     );
     assert_eq!(rt; archives_after(rt.alloc(), Cause::Protocol)?, (true, true));
+    assert_eq!(rt; archives_after(rt.alloc(), Cause::Cancelled)?, (true, true));
     Ok(())
 }
 
@@ -146,42 +201,96 @@ fn tickets_end(rt: HostRuntime) -> Result<(), Fail> {
     Ok(())
 }
 
-/// Submits eight requests. Whether each one refused left the book as it was and went through once memory was there.
-fn eight_go_through(scarce: &Scarce<Global>, book: &mut Book<&Scarce<Global>>) -> (bool, bool) {
-    let mut is_refused = false;
-    let mut is_right = true;
-    for number in 1..9u64 {
-        let entries = book.journal().len();
-        if book.submit(read(16)) == Err(BookFault::OutOfMemory) {
-            is_refused = true;
-            is_right &= scarce.has_refused() && book.journal().len() == entries;
-            scarce.order(Refusal::Never);
-            is_right &= book.submit(read(16)) == Ok(Ticket(number));
+#[derive(Clone, Copy, Drop)]
+enum Kind {
+    Ordinary,
+    Urgent,
+}
+
+impl Kind {
+    fn submit(self, book: &mut Book<&Scarce<Global>>, index: u16) -> Result<Ticket, BookFault> {
+        match self {
+            Kind::Ordinary => book.submit(read(index)),
+            Kind::Urgent => book.submit_urgent(read(index)),
         }
     }
-    is_right &= book.journal().len() == 8 && book.take() == Some((Ticket(1), read(16)));
+
+    fn entry(self, ticket: Ticket, index: u16) -> Entry {
+        match self {
+            Kind::Ordinary => Entry::Submitted(ticket, read(index)),
+            Kind::Urgent => Entry::Urgent(ticket, read(index)),
+        }
+    }
+}
+
+/// Whether the journal has these submits of one kind and nothing else, from the first ticket on.
+fn has_submits(book: &Book<&Scarce<Global>>, kind: Kind, count: usize) -> bool {
+    let mut number = 0u64;
+    let mut is_right = book.journal().len() == count;
+    for entry in book.journal() {
+        number = number.saturating_add(1);
+        is_right &= *entry == kind.entry(Ticket(number), 16);
+    }
+    is_right
+}
+
+/// Submits eight requests of one kind. Whether one was refused, and whether each one refused left the book as it was and
+/// went through once memory was there.
+fn eight_go_through(
+    scarce: &Scarce<Global>,
+    book: &mut Book<&Scarce<Global>>,
+    kind: Kind,
+) -> (bool, bool) {
+    let mut is_refused = false;
+    let mut is_right = true;
+    for number in 0..8u32 {
+        let ticket = Ticket(u64::from(number).saturating_add(1));
+        let submitted = kind.submit(book, 16);
+        if submitted == Err(BookFault::OutOfMemory) {
+            is_refused = true;
+            is_right &= scarce.has_refused() && has_submits(book, kind, number as usize);
+            scarce.order(Refusal::Never);
+            is_right &= kind.submit(book, 16) == Ok(ticket);
+        } else {
+            is_right &= submitted == Ok(ticket);
+        }
+    }
+    is_right &= has_submits(book, kind, 8) && book.take() == Some((Ticket(1), read(16)));
     (is_refused, is_right)
+}
+
+/// Refuses each request for memory in turn. How many orders `open` met and how many a submit did, and whether all that
+/// was refused was as it was.
+fn refusals_met(scarce: &Scarce<Global>, kind: Kind) -> (u64, u64, bool) {
+    let mut at_open = 0u64;
+    let mut at_submit = 0u64;
+    let mut all_right = true;
+    for number in 0..64u64 {
+        for refusal in [Refusal::Only(number), Refusal::From(number)] {
+            scarce.order(refusal);
+            let Ok(mut book) = Book::open(scarce, &LIMITS) else {
+                all_right &= scarce.has_refused();
+                at_open = at_open.saturating_add(1);
+                continue;
+            };
+            all_right &= !scarce.has_refused();
+            let (is_refused, is_right) = eight_go_through(scarce, &mut book, kind);
+            all_right &= is_right;
+            at_submit = at_submit.saturating_add(u64::from(is_refused));
+        }
+    }
+    (at_open, at_submit, all_right)
 }
 
 #[test]
 fn each_request_for_memory_is_refused(rt: HostRuntime) -> Result<(), Fail> {
     let scarce = Scarce::new(rt.alloc());
-    let mut at_open = 0u64;
-    let mut at_submit = 0u64;
-    for number in 0..64u64 {
-        for refusal in [Refusal::Only(number), Refusal::From(number)] {
-            scarce.order(refusal);
-            let Ok(mut book) = Book::open(&scarce, &LIMITS) else {
-                assert!(rt; scarce.has_refused());
-                at_open = at_open.saturating_add(1);
-                continue;
-            };
-            assert!(rt; !scarce.has_refused());
-            let (is_refused, is_right) = eight_go_through(&scarce, &mut book);
-            assert!(rt; is_right);
-            at_submit = at_submit.saturating_add(u64::from(is_refused));
-        }
+    for kind in [Kind::Ordinary, Kind::Urgent] {
+        let (at_open, at_submit, all_right) = refusals_met(&scarce, kind);
+        assert!(rt; all_right);
+        // The room of both queues is refused by each of two orders.
+        assert_eq!(rt; at_open, 4);
+        assert!(rt; at_submit > at_open);
     }
-    assert!(rt; at_open > 0 && at_submit > at_open);
     Ok(())
 }

@@ -7,6 +7,8 @@ use std::test::Fail;
 #[derive(Drop)]
 enum Call {
     Submit(u16),
+    Urgent(u16),
+    InFlight(Ticket),
     Take,
     Deny,
     Post(Outcome),
@@ -30,12 +32,13 @@ impl Random {
     }
 
     fn outcome(&mut self) -> Outcome {
-        match self.number() % 6 {
+        match self.number() % 7 {
             0 => Outcome::Done(Answer::Refused(0x80, 0x11)),
             1 => Outcome::Unknown(Cause::LinkLost),
             2 => Outcome::Unknown(Cause::Restarted),
             3 => Outcome::Unknown(Cause::BusyTooLong),
             4 => Outcome::Unknown(Cause::Protocol),
+            5 => Outcome::Unknown(Cause::Cancelled),
             _ => Outcome::Done(Answer::Written),
         }
     }
@@ -44,19 +47,21 @@ impl Random {
     fn call(&mut self, last: u64, is_quiet: bool) -> Call {
         let ticket = Ticket(last.saturating_sub(self.number() % 8));
         let kind = if is_quiet {
-            self.number() % 13 + 4
+            self.number() % 15 + 4
         } else {
-            self.number() % 17
+            self.number() % 19
         };
         match kind {
-            0..=4 => Call::Submit(16),
+            0..=2 => Call::Submit(16),
+            3 | 4 => Call::Urgent(18),
             5 => Call::Submit(17),
             6 | 7 => Call::Take,
             8 | 9 => Call::Post(self.outcome()),
             10..=12 => Call::Collect(ticket),
             13 => Call::Withdraw(ticket),
-            14 => Call::Reset,
+            14 => Call::InFlight(ticket),
             15 => Call::Deny,
+            16 => Call::Reset,
             _ => Call::Archive,
         }
     }
@@ -74,9 +79,19 @@ fn same_post(book: &mut Book, plain: &mut PlainBook, outcome: Outcome) -> bool {
     true
 }
 
+fn same_next(book: &Book, plain: &PlainBook) -> bool {
+    match (book.next(), plain.next()) {
+        (Some(request), Some(expected)) => *request == expected,
+        (None, None) => true,
+        _ => false,
+    }
+}
+
 fn same_reply(book: &mut Book, plain: &mut PlainBook, call: Call) -> Result<bool, AllocError> {
     Ok(match call {
-        Call::Submit(index) => book.submit(read(index)) == plain.submit(index)?,
+        Call::Submit(index) => book.submit(read(index)) == plain.submit(index, false)?,
+        Call::Urgent(index) => book.submit_urgent(read(index)) == plain.submit(index, true)?,
+        Call::InFlight(ticket) => book.in_flight(ticket) == plain.in_flight(ticket),
         Call::Take => book.take() == plain.take(),
         Call::Deny => book.deny() == plain.deny(),
         Call::Post(outcome) => same_post(book, plain, outcome),
@@ -106,6 +121,7 @@ fn a_thousand_lists_of_calls(rt: HostRuntime) -> Result<(), Fail> {
         for _ in 0..300u32 {
             let call = random.call(plain.last, is_quiet);
             assert!(rt; same_reply(&mut book, &mut plain, call)?);
+            assert!(rt; same_next(&book, &plain));
         }
         assert_eq!(rt; book.journal().len(), plain.entries);
     }

@@ -20,6 +20,7 @@ enum Stage {
 struct Row {
     ticket: Ticket,
     index: u16,
+    is_urgent: bool,
     stage: Stage,
 }
 
@@ -62,7 +63,11 @@ impl PlainBook {
         }
     }
 
-    pub fn submit(&mut self, index: u16) -> Result<Result<Ticket, BookFault>, AllocError> {
+    pub fn submit(
+        &mut self,
+        index: u16,
+        is_urgent: bool,
+    ) -> Result<Result<Ticket, BookFault>, AllocError> {
         if self.rows.len() >= 64 {
             return Ok(Err(BookFault::Full));
         }
@@ -78,6 +83,7 @@ impl PlainBook {
         self.rows.push(Row {
             ticket,
             index,
+            is_urgent,
             stage,
         })?;
         self.last = ticket.0;
@@ -85,11 +91,13 @@ impl PlainBook {
         Ok(Ok(ticket))
     }
 
+    pub fn next(&self) -> Option<Request> {
+        let place = self.next_row()?;
+        Some(read(self.rows[place].index))
+    }
+
     pub fn take(&mut self) -> Option<(Ticket, Request)> {
-        if self.taken().is_some() {
-            return None;
-        }
-        let place = self.rows.iter().position(|row| row.waits())?;
+        let place = self.next_row()?;
         let row = &mut self.rows[place];
         row.stage = Stage::Taken;
         let taken = (row.ticket, read(row.index));
@@ -98,10 +106,7 @@ impl PlainBook {
     }
 
     pub fn deny(&mut self) -> Option<Ticket> {
-        if self.taken().is_some() {
-            return None;
-        }
-        let place = self.rows.iter().position(|row| row.waits())?;
+        let place = self.next_row()?;
         let row = &mut self.rows[place];
         row.stage = Stage::Ended(Outcome::NoIsdu);
         let ticket = row.ticket;
@@ -153,6 +158,17 @@ impl PlainBook {
         Ok(())
     }
 
+    pub fn in_flight(&self, ticket: Ticket) -> Result<(), BookFault> {
+        let Some(place) = self.row_of(ticket) else {
+            return Err(BookFault::UnknownTicket);
+        };
+        if self.rows[place].is_taken() {
+            Ok(())
+        } else {
+            Err(BookFault::NotInFlight)
+        }
+    }
+
     pub fn reset(&mut self) {
         self.unsure = false;
     }
@@ -170,6 +186,22 @@ impl PlainBook {
         ensures { vec_len self.new.rows ≡ vec_len self.old.rows }
     {
         self.entries = self.entries.saturating_add(1);
+    }
+
+    fn next_row(&self) -> Option<usize>
+        ensures { IfSome result (λ i. i < vec_len self.now.rows) }
+    {
+        if self.taken().is_some() {
+            return None;
+        }
+        let urgent = self
+            .rows
+            .iter()
+            .position(|row| row.waits() && row.is_urgent);
+        match urgent {
+            Some(place) => Some(place),
+            None => self.rows.iter().position(|row| row.waits()),
+        }
     }
 
     fn taken_row(&self) -> Option<usize>
