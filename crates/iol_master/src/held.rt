@@ -10,11 +10,12 @@ ghost use Rattle.iol_port.specs.declared.call.Answered.TheVariants as answered;
 ghost use Rattle.iol_port.specs.View.{Does, IsRun, OpensWell, KeepsRecord, shown_in, status_of};
 ghost use Rattle.iol_port.specs.Asks.{asks_of};
 ghost use Rattle.iol_port.specs.WireCalls.{ComesFrom};
-ghost use Rattle.iol_port.specs.EveryWire.{CollectGives, WithdrawGives, ArchiveGives, TakeEventGives, SetOutputGives};
+ghost use Rattle.iol_port.specs.EveryWire.{CollectGives, WithdrawGives, CancelGives, ArchiveGives};
+ghost use Rattle.iol_port.specs.EveryWire.{TakeEventGives, SetOutputGives};
 ghost use Rattle.iol_port.specs.EveryWire.{ClearOutputGives, RestartGives, TurnGives};
 ghost use Rattle.iol_port.specs.Clean.{CleanTurn, IsLevelBetween};
 ghost use Rattle.iol_port.specs.Replies.{outcome_reply, nothing_reply, event_reply, reply_of};
-ghost use Rattle.iol_master.specs.Tickets.{HasGiven, Enters};
+ghost use Rattle.iol_master.specs.Tickets.{HasGiven, Submits, Enters};
 
 use crate::accounts::{Accounts, Desk};
 use crate::fault::MasterFault;
@@ -29,6 +30,29 @@ use std::alloc::Global;
 use std::marker::Model;
 use std::sync::Wait;
 use std::sync::ledger::{Ledger, Share};
+
+/// Before which requests one waits.
+#[derive(Clone, Copy, PartialEq, Eq, Debug)]
+pub(crate) enum Urgency {
+    /// Behind all others.
+    Ordinary,
+    /// Before all but the urgent ones.
+    Urgent,
+}
+
+/// The port's submit, or its urgent one.
+fn submit_as<W: Wire, A: Handle>(
+    port: &mut Port<W, A>,
+    urgency: Urgency,
+    request: Request,
+) -> Result<Ticket, PortFault>
+    ensures { Submits W.honest W.far W.silence port.old urgency request result port.new }
+{
+    match urgency {
+        Urgency::Ordinary => port.submit(request),
+        Urgency::Urgent => port.submit_urgent(request),
+    }
+}
 
 /// A port of a master, as it lies under its lock, with its share of the tickets that the master's
 /// ports gave.
@@ -76,14 +100,15 @@ impl<W: Wire, K: Ledger, A: Handle> Held<W, K, A> {
     ///
     /// This has the exact clause: which request is entered, which ticket is answered, and who
     /// counts it. Outside, a lock hides the port and the tally, and [`crate::Master::submit`] can
-    /// say what the desk did alone.
+    /// say what the desk did alone, as can [`crate::Master::submit_urgent`].
     pub(crate) fn submit<L: Ledger>(
         &mut self,
         accounts: &mut Accounts<L, K>,
         desk: &mut Desk<L>,
+        urgency: Urgency,
         request: Request,
     ) -> Result<Ticket, MasterFault>
-        ensures { Enters W.honest W.far W.silence self.old accounts.old desk.old request result
+        ensures { Enters W.honest W.far W.silence self.old accounts.old desk.old urgency request result
             self.new accounts.new desk.new }
     {
         if accounts.is_spent() {
@@ -94,7 +119,7 @@ impl<W: Wire, K: Ledger, A: Handle> Held<W, K, A> {
             tickets,
             share,
         } = self;
-        match port.submit(request) {
+        match submit_as(port, urgency, request) {
             Ok(ticket) => {
                 accounts.count(desk, share);
                 *tickets += 1;
@@ -128,6 +153,22 @@ impl<W: Wire, K: Ledger, A: Handle> Held<W, K, A> {
         ensures rest { self.new ≡ record self.old { parts = self.new.parts } }
     {
         self.port.withdraw(ticket)
+    }
+
+    /// Asks to cut off the request of a ticket, which is under way.
+    ///
+    /// An ABORT waits then, unless one waits already; a message that is out comes before it. The
+    /// outcome follows in a later turn: that it was cancelled, with the good reply to the ABORT; its
+    /// answer, where that is whole before the ABORT is sent; or that it was cut off for another
+    /// cause. Refused, with nothing changed, by 25 where no such ticket is outstanding, and by 36
+    /// where it waits, or has an outcome.
+    pub fn cancel(&mut self, ticket: Ticket) -> Result<(), PortFault>
+        ensures does { Does W.honest W.far W.silence self.old.parts
+            (call.Cancel ticket) (nothing_reply result) self.new.parts }
+        ensures gives { CancelGives self.old.parts ticket result self.new.parts }
+        ensures rest { self.new ≡ record self.old { parts = self.new.parts } }
+    {
+        self.port.cancel(ticket)
     }
 
     /// Cuts off the request under way, if any, and leaves the link in down, without an image; then
@@ -217,8 +258,9 @@ impl<W: Wire, K: Ledger, A: Handle> Held<W, K, A> {
     /// One turn: one wake-up request where the link is down, else one exchange with the device.
     /// Then the image is published, once, where the port was given a writer.
     ///
-    /// In OPERATE, where nothing else is to be sent, the request that waits longest is taken, and
-    /// its first segment goes out in this turn. At most 64 events are kept, and a list of events is
+    /// In OPERATE, where nothing else is to be sent, the next request is taken: the urgent one that
+    /// waits longest, or where none waits the other one that does. Its first segment goes out in this
+    /// turn; where the device has no ISDU it is denied, never taken, and IDLE 1 goes out. At most 64 events are kept, and a list of events is
     /// read only where there is room for it.
     pub fn turn<R: Wait>(&mut self, rt: &R)
         ensures does { Does W.honest W.far W.silence self.old.parts call.Turn answered.Nothing self.new.parts }
@@ -235,12 +277,13 @@ impl<W: Wire, K: Ledger, A: Handle> Held<W, K, A> {
 
     /// A law of each port under its lock, without code: whenever the lock is got, the journal says where each ticket
     /// stands; the port is what a run of the one that was opened has made of it, and its wire what the one at the
-    /// opening became by the calls of turns; and, if the wire was honest and the device had been handed no request when
-    /// the port was opened, the device's record fits the journal, and both ends are level between requests.
+    /// opening became by the calls of turns, and by what it was told from outside; and, if the wire was honest and the
+    /// device had been handed no request when the port was opened, the device's record fits the journal, and both ends
+    /// are level between requests.
     pub fn keeps_record(&self)
         ensures replayed { IsReplayed self.now.parts.book.state }
         ensures run { IsRun W.honest W.far W.silence self.now.opening self.now.parts }
-        ensures wire { ComesFrom W.wake_gives W.exchange_gives
+        ensures wire { ComesFrom W.wake_gives W.exchange_gives W.tells
             self.now.opening.wire (wire_of self.now.parts.station.link) }
         ensures record_fits { OpensWell self.now.opening → KeepsRecord W.honest W.far W.silence self.now.parts }
         ensures level { OpensWell self.now.opening → IsLevelBetween W.far self.now.parts }

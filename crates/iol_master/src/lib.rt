@@ -18,6 +18,3 @@ pub use fault::MasterFault;
 pub use held::Held;
 pub use master::Master;
 pub use serve::Gate;
-
-#[cfg(test)]
-mod tests;

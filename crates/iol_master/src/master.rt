@@ -7,7 +7,7 @@ ghost use Rattle.iol_master.specs.Counts.{IsClosed};
 
 use crate::accounts::{Accounts, Desk, Settled, Tally};
 use crate::fault::MasterFault;
-use crate::held::Held;
+use crate::held::{Held, Urgency};
 use iol_book::Ticket;
 use iol_image::Handle;
 use iol_isdu::Request;
@@ -23,14 +23,14 @@ use std::sync::{Mutex, MutexGuard, Wait};
 /// Ports are numbered from 1. L and K name two ledgers: of the submits that were accepted, by desk,
 /// and of the tickets that were given, by port.
 ///
-/// A port's lock is taken first, then the tally's: [`Master::submit`] takes both in this order,
+/// A port's lock is taken first, then the tally's: both submits take both in this order,
 /// [`Master::lock`] and each worker's turn a port's only, [`Master::desk`] and [`Master::settle`]
 /// the tally's only. No call takes the locks of two ports. So a thread that holds a port's guard
 /// may open and settle desks, and must let go of the guard before it submits at that port, takes
 /// its lock again or waits for `serve`. What a port publishes is read at a seat of crate iol_image,
 /// without any lock.
 ///
-/// No call but `open`, `submit` and `serve` asks for memory.
+/// No call but `open`, both submits and `serve` asks for memory.
 ///
 /// Contracts see the number of the ports. What lies under a lock no clause of a call that takes it
 /// can name, so they say what the caller holds before and after: its desk, the answer. The exact
@@ -132,12 +132,39 @@ impl<W: Wire, L: Ledger, K: Ledger, A: Handle> Master<W, L, K, A> {
     ) -> Result<Ticket, MasterFault>
         ensures { Submitted self.now desk.old result desk.new }
     {
+        self.enter(rt, desk, Urgency::Ordinary, request)
+    }
+
+    /// Submits an urgent request at a desk's port, where it waits before all others but the urgent
+    /// ones. A request that is under way isn't stopped by it.
+    ///
+    /// Refused, with nothing changed, as `submit` is.
+    pub fn submit_urgent<R: Wait>(
+        &self,
+        rt: &R,
+        desk: &mut Desk<L>,
+        request: Request,
+    ) -> Result<Ticket, MasterFault>
+        ensures { Submitted self.now desk.old result desk.new }
+    {
+        self.enter(rt, desk, Urgency::Urgent, request)
+    }
+
+    fn enter<R: Wait>(
+        &self,
+        rt: &R,
+        desk: &mut Desk<L>,
+        urgency: Urgency,
+        request: Request,
+    ) -> Result<Ticket, MasterFault>
+        ensures { Submitted self.now desk.old result desk.new }
+    {
         let Some(port) = self.port(desk.port()) else {
             return Err(MasterFault::NoSuchPort);
         };
         let mut held = port.lock(rt);
         let mut accounts = self.accounts.lock(rt);
-        held.submit(&mut accounts, desk, request)
+        held.submit(&mut accounts, desk, urgency, request)
     }
 
     /// Takes a port's lock, which is let go when the guard is dropped. Refused by 31 where there is

@@ -58,20 +58,6 @@ impl<W: Wire + Send, L: Ledger, K: Ledger + Sync> Master<W, L, K> {
     ) -> Result<(), MasterFault>
         ensures { IfErr result (λ e. e ≡ fault.NoThread) }
     {
-        self.serve_on(rt, gate, turns, None)
-    }
-
-    /// The same, by workers with stacks of this size, none for the usual one. A test asks for more
-    /// than there is.
-    pub(crate) fn serve_on<G: Gate + Sync, R: Threads + Wait + Sync>(
-        &self,
-        rt: &R,
-        gate: &G,
-        turns: u64,
-        stack: Option<usize>,
-    ) -> Result<(), MasterFault>
-        ensures { IfErr result (λ e. e ≡ fault.NoThread) }
-    {
         let ports = self.ports.as_slice();
         thread::scope(
             thread::scope_env(),
@@ -79,16 +65,8 @@ impl<W: Wire + Send, L: Ledger, K: Ledger + Sync> Master<W, L, K> {
             |scope| -> Result<(), MasterFault>
                 requires { length ports.now ≤ 32 }
                 ensures { IfErr result (λ e. e ≡ fault.NoThread) }
-            { start(scope, rt, ports, gate, turns, stack) },
+            { start(scope, rt, ports, gate, turns) },
         )
-    }
-}
-
-/// What starts a thread with this size of its stack, in octets.
-fn builder(stack: Option<usize>) -> Builder {
-    match stack {
-        Some(size) => Builder::new().stack_size(size),
-        None => Builder::new(),
     }
 }
 
@@ -99,14 +77,13 @@ fn start<'s, E, W: Wire + Send, K: Ledger + Sync, G: Gate + Sync, R: Threads + W
     ports: &'s [Mutex<Held<W, K>>],
     gate: &'s G,
     turns: u64,
-    stack: Option<usize>,
 ) -> Result<(), MasterFault>
     requires { length ports.now ≤ 32 }
     ensures { IfErr result (λ e. e ≡ fault.NoThread) }
 {
     for (index, port) in ports.iter().enumerate() {
         let number = index as u32 + 1;
-        if builder(stack)
+        if Builder::new()
             .spawn_scoped(scope, move || work(rt, port, number, gate, turns))
             .is_err()
         {

@@ -19,14 +19,6 @@ module _ {W : Type 0} where
       → IsCall wakes gives (asked_of (prepared next old room) room) (wire_of old.link) (wire_of new.link)
   call_asked wakes gives old mid new next room e call = subst (λ (s : StationState W). IsCall wakes gives (asked_of s room) (wire_of s.link) (wire_of new.link)) e call
 
-  -- the station's turn began with the next request begun
-  pub turn_begun : (honest : W → Bool) (far : W → Far) (silence : W → ℕ) (wakes : W → Option Rate → W → Type 0) (gives : W → List ℕ → Option (ArrayVec ℕ) → W → Type 0)
-      (old mid new : StationState W) (next : Option Request) (room has : Bool) (said : Said)
-      → room ≡ has → mid ≡ prepared next old room → IsTurn honest far silence wakes gives room mid said new → IsTurn honest far silence wakes gives has (prepared next old has) said new
-  turn_begun honest far silence wakes gives old mid new next room has said same begun turn =
-      subst (λ (r : Bool). IsTurn honest far silence wakes gives r (prepared next old r) said new) same
-      (subst (λ (s : StationState W). IsTurn honest far silence wakes gives room s said new) begun turn)
-
   -- a wake had success where the mode says so
   pub book_told : (old mid new : StationState W) (next : Option Request) (room woke : Bool) (began ended : Mode) (said : Said) (b : BookState)
       → mid ≡ prepared next old room → began ≡ mode_of mid.link → ended ≡ mode_of new.link → woke ≡ (is_down began && not (is_down ended))

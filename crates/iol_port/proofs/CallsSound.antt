@@ -10,21 +10,21 @@ use Rattle.iol_book.specs.declared.entries.Ticket.{Ticket}
 use Rattle.iol_book.specs.declared.entries.Limits.{Limits}
 use Rattle.iol_book.specs.declared.entries.Outcome.{Outcome}
 use Rattle.iol_book.specs.declared.entries.Outcome.TheVariants as outcome
-use Rattle.iol_book.specs.declared.entries.Entry.TheVariants.{Submitted, Collected, Withdrawn}
+use Rattle.iol_book.specs.declared.entries.Entry.TheVariants.{Submitted, Collected, Withdrawn, Urgent}
 use Rattle.iol_book.specs.declared.fault.BookFault.{BookFault}
-use Rattle.iol_book.specs.BookModel.{BookState, IsReplayed, entered, submitted, next_ticket, collected, collect_answer, withdrawn, withdraw_refusal, may_archive, posted}
+use Rattle.iol_book.specs.BookModel.{BookState, IsReplayed, entered, submitted, next_ticket, collected, collect_answer, withdrawn, withdraw_refusal, may_archive, posted, submitted_urgent}
 use Rattle.iol_book.specs.Takings.{FitsTakings, FitsEnded, FitsJournal}
 use Rattle.iol_steps.specs.Step.{Image}
-use Rattle.iol_steps.specs.Session.{Job, Session, cut_for}
+use Rattle.iol_steps.specs.Session.{Job, Session, cut_for, cancelling}
 use Rattle.iol_steps.specs.declared.mode.Mode.TheVariants.{Down}
 use Rattle.iol_app.specs.declared.output.OutputFault.{OutputFault}
 use Rattle.iol_port.specs.declared.call.Call.{Call}
 use Rattle.iol_port.specs.declared.call.Call.TheVariants as call
 use Rattle.iol_port.specs.declared.call.Answered.{Answered}
-use Rattle.iol_port.specs.Run.{PortState, CallOf, Run, Is, opened, moment_in, request_of, submit_of, collect_of, withdraw_of, archive_of, take_event_of, set_output_of, restarted}
+use Rattle.iol_port.specs.Run.{PortState, CallOf, Run, Is, opened, moment_in, request_of, submit_of, collect_of, withdraw_of, cancel_of, archive_of, take_event_of, set_output_of, restarted}
 use Rattle.iol_port.specs.Sound.{Sound, IsSound, RecordFits, FitsOpen, pairs_from, request_taken, written}
 use Rattle.iol_port.proofs.Replaying.{entered_replayed, free_archive}
-use Rattle.iol_port.proofs.SoundLemmas.{BookLaws, taken_is, sound_book, sound_cut, sound_moved, sound_through}
+use Rattle.iol_port.proofs.SoundLemmas.{BookLaws, taken_is, sound_book, sound_cut, sound_cancelling, sound_moved, sound_through}
 
 by_is : (a b : PortState) → b ≡ a → IsSound a → IsSound b
 by_is a b is sound = subst IsSound (sym is) sound
@@ -40,11 +40,15 @@ withdrawn_kept : (b : BookState) (t : Ticket) → withdraw_refusal b.standing t 
 withdrawn_kept b t is = rw is refl
 
 module _ (laws : BookLaws) where
-  submit_keeps : (a b : PortState) (q : Request) (reply : Answered) (why : Option BookFault) → Is reply b (submit_of a q why) → IsSound a → IsSound b
-  submit_keeps a b q reply (Some why) is sound = by_is a b is.1 sound
-  submit_keeps a b q reply None is sound =
-      by_is (record a { book = submitted a.book q }) b is.1
-      (sound_book a.book (submitted a.book q) a.session a.base (entered_replayed a.book (Submitted (next_ticket a.book) q) sound.replayed) refl refl (laws.submit a.book q).0 sound)
+  enters_keeps : (a b : PortState) (next : BookState) (reply : Answered) (why : Option BookFault) → Is reply b (submit_of a next why) → Sound next a.session a.base → IsSound a → IsSound b
+  enters_keeps a b next reply (Some why) is entered sound = by_is a b is.1 sound
+  enters_keeps a b next reply None is entered sound = by_is (record a { book = next }) b is.1 entered
+
+  submit_sound : (a : PortState) (q : Request) → IsSound a → Sound (submitted a.book q) a.session a.base
+  submit_sound a q sound = sound_book a.book (submitted a.book q) a.session a.base (entered_replayed a.book (Submitted (next_ticket a.book) q) sound.replayed) refl refl (laws.submit a.book q).0 sound
+
+  urgent_sound : (a : PortState) (q : Request) → IsSound a → Sound (submitted_urgent a.book q) a.session a.base
+  urgent_sound a q sound = sound_book a.book (submitted_urgent a.book q) a.session a.base (entered_replayed a.book (Urgent (next_ticket a.book) q) sound.replayed) refl refl (laws.submit_urgent a.book q).0 sound
 
   collect_keeps : (a b : PortState) (t : Ticket) (reply : Answered) (answer : Result Outcome BookFault) → collect_answer a.book.standing t ≡ answer → Is reply b (collect_of a t answer) → IsSound a → IsSound b
   collect_keeps a b t reply (Err why) e is sound = by_is a b is.1 sound
@@ -61,6 +65,10 @@ module _ (laws : BookLaws) where
       by_is (record a { book = withdrawn a.book t }) b is.1
       (sound_book a.book (withdrawn a.book t) a.session a.base
       (subst IsReplayed (sym kept) (entered_replayed a.book (Withdrawn t) sound.replayed)) (ap (λ x. x.standing.taken) kept) (ap (λ x. x.unsure) kept) (laws.withdraw a.book t).0 sound)
+
+  cancel_keeps : (a b : PortState) (reply : Answered) (why : Option BookFault) → Is reply b (cancel_of a why) → IsSound a → IsSound b
+  cancel_keeps a b reply (Some why) is sound = by_is a b is.1 sound
+  cancel_keeps a b reply None is sound = by_is (record a { session = cancelling a.session }) b is.1 (sound_cancelling laws a.book a.session a.base a.session.job refl sound)
 
   archived_sound : (b : BookState) (s : Session) (base : ℕ) → may_archive b ≡ true → Sound b s base → Sound (record b { journal = [] }) s (length s.carried)
   archived_sound b s base may sound =
@@ -101,10 +109,13 @@ module _ (laws : BookLaws) where
       by_is (restarted a) b is (rw e (let moved : Sound (posted a.book (outcome.Unknown Restarted)) (record (cut_for Restarted a.session) { mode = Down; why = None }) a.base = sound_moved laws _ (cut_for Restarted a.session) a.base Down None (sound_cut laws Restarted a.book a.session a.base job e sound) in rw e at moved))
 
   pub call_sound : (a b : PortState) (c : Call) (reply : Answered) → CallOf a c reply b → IsSound a → IsSound b
-  call_sound a b (call.Submit q) reply (inl is) sound = submit_keeps a b q reply _ is sound
+  call_sound a b (call.Submit q) reply (inl is) sound = enters_keeps a b _ reply _ is (submit_sound a q sound) sound
   call_sound a b (call.Submit q) reply (inr lacks) sound = by_is a b lacks.2 sound
+  call_sound a b (call.SubmitUrgent q) reply (inl is) sound = enters_keeps a b _ reply _ is (urgent_sound a q sound) sound
+  call_sound a b (call.SubmitUrgent q) reply (inr lacks) sound = by_is a b lacks.2 sound
   call_sound a b (call.Collect t) reply is sound = collect_keeps a b t reply _ refl is sound
   call_sound a b (call.Withdraw t) reply is sound = withdraw_keeps a b t reply _ refl is sound
+  call_sound a b (call.Cancel t) reply is sound = cancel_keeps a b reply _ is sound
   call_sound a b call.Restart reply is sound = restart_keeps a b a.session.job refl is.1 sound
   call_sound a b (call.SetOutput image) reply is sound = output_keeps a b image reply _ is sound
   call_sound a b call.ClearOutput reply is sound = by_is (record a { images = record a.images { wanted = None } }) b is.1 sound

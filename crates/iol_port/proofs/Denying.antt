@@ -1,6 +1,5 @@
 -- What a turn denies: a request that waited, and only where the device has no ISDU.
-use Rattle.std.proofs.Common.{◌≡◌, ◌⊎◌, ◌∷◌, ◌++◌, [], List, Bool, true, false, cond, if◌then◌else◌, IsTrue, IsSome, Option, Some, None, refl, ap, sym, ◌∙◌, subst, inl, inr, arith}
-use Rattle.std.proofs.lemmas.Bool.{eq-eqb}
+use Rattle.std.proofs.Common.{◌≡◌, ◌⊎◌, ◌∷◌, ◌++◌, [], List, Bool, true, false, cond, if◌then◌else◌, IsSome, Option, Some, None, refl, ap, sym, ◌∙◌, subst, inl, inr, arith}
 use Rattle.std.proofs.lemmas.Bool.Decides.{nat_tests}
 use Rattle.std.specs.Map.{lookup}
 use Rattle.indexmap.specs.IndexMap.{insert_entry}
@@ -9,7 +8,7 @@ use Rattle.iol_book.specs.declared.entries.Ticket.{Ticket}
 use Rattle.iol_book.specs.declared.entries.Outcome.{Outcome}
 use Rattle.iol_book.specs.declared.entries.Outcome.TheVariants as outcome
 use Rattle.iol_book.specs.declared.entries.Outcome.TheVariants.{NoIsdu}
-use Rattle.iol_book.specs.Replay.{Standing, same_ticket}
+use Rattle.iol_book.specs.Replay.{same_ticket}
 use Rattle.iol_book.specs.BookModel.{BookState, next_taken, denied, posted, ended_with, waits}
 use Rattle.iol_steps.specs.declared.said.Said.{Said}
 use Rattle.iol_steps.specs.declared.said.Said.TheVariants.{Idle, Busy, Answered as SaidAnswered, Cut, Reported}
@@ -98,9 +97,6 @@ quiet_said (SaidAnswered answer) b asks = absurd (let e : IsSome {T = Ticket × 
 quiet_said (Cut cause) b asks = absurd (let e : IsSome {T = Ticket × Request} None = asks in cc)
 quiet_said (Reported events) b asks = refl
 
-head_waits : (s : Standing) (t : Ticket) (q : Request) (rest : List (Ticket × Request)) → s.waiting ≡ (t, q) ∷ rest → IsTrue (waits s t)
-head_waits s t q rest h = rw h (rw (eq-eqb t.0 t.0 refl) refl)
-
 module _ {W : Type 0} (old next : Parts W) (mid : BookState) (woke : Bool) (said : Said) (asks : Asks said mid.standing.taken)
     (book : next.book.state ≡ book_through (cond woke (Reset ∷ []) [] ++ book_said said) mid) (k : Ticket) (has : HasNoIsdu next.book.state k) where
   abbrev b : BookState
@@ -115,13 +111,13 @@ module _ {W : Type 0} (old next : Parts W) (mid : BookState) (woke : Bool) (said
   -- this turn's denial
   denial : (t : Ticket) (q : Request) → next_taken b.standing ≡ Some (t, q) → old.station.session.isdu ≡ Some false → woke ≡ false → mid ≡ denied b t → IsDenied old next t
   denial t q head told asleep is =
-      let (free, (rest, waiting)) = next_is b.standing t q head in
-      let none : mid.standing.taken ≡ None = ap (λ (x : BookState). x.standing.taken) is ∙ free in
+      let first = next_is b.standing t q head in
+      let none : mid.standing.taken ≡ None = ap (λ (x : BookState). x.standing.taken) is ∙ first.free in
       let quiet : book_through (book_said said) mid ≡ mid = quiet_said said mid (subst (λ (o : Option (Ticket × Request)). Asks said o) none asks) in
       record {
         told = told;
-        waited = head_waits b.standing t q rest waiting;
-        free = free;
+        waited = first.waits;
+        free = first.free;
         book = book ∙ ap (λ (w : Bool). book_through (cond w (Reset ∷ []) [] ++ book_said said) mid) asleep ∙ quiet ∙ is;
       }
 

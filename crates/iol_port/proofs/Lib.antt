@@ -8,6 +8,7 @@ pub mod RunLemmas
 pub mod WireLemmas
 pub mod TurnsRuleOut
 pub mod TieLemmas
+pub mod AskedLemmas
 pub mod AskLemmas
 pub mod Denying
 pub mod CleanHearing
@@ -20,4 +21,7 @@ pub mod CleanLevel
 pub mod Crosses
 pub mod OwnedLists
 pub mod Owning
+pub mod OwnedRuns
 pub mod WithoutIsdu
+pub mod RewireLemmas
+pub mod AskedTurns

@@ -5,7 +5,7 @@ use Rattle.std.specs.Option.{option_map}
 use Rattle.iol_isdu.specs.declared.values.Request.{Request}
 use Rattle.iol_isdu.specs.declared.values.Answer.{Answer}
 use Rattle.iol_isdu.specs.declared.values.Cause.{Cause}
-use Rattle.iol_isdu.specs.declared.values.Cause.TheVariants.{LinkLost, Restarted, BusyTooLong, Protocol}
+use Rattle.iol_isdu.specs.declared.values.Cause.TheVariants.{LinkLost, Restarted, BusyTooLong, Protocol, Cancelled}
 use Rattle.iol_device.specs.declared.app.Carried.{Carried}
 use Rattle.iol_book.specs.declared.entries.Ticket.{Ticket}
 use Rattle.iol_book.specs.declared.entries.Outcome.{Outcome}
@@ -13,11 +13,11 @@ use Rattle.iol_book.specs.declared.entries.Outcome.TheVariants as outcome
 use Rattle.iol_book.specs.declared.entries.Entry.{Entry}
 use Rattle.iol_book.specs.BookModel.{BookState, IsReplayed, next_taken, took, denied, posted, leaves_unsure, reset}
 use Rattle.iol_book.specs.Takings.{ended, FitsTakings, FitsEnded}
-use Rattle.iol_book.specs.TakingLaws.{SubmitTakesNone, CollectTakesNone, WithdrawTakesNone, DenyTakesNone, TakeEndsNone, PostEndsTaken, FitsWithout, FitsWith, DoneFits, CutOffFits, TakenFits, ArchivedFits}
+use Rattle.iol_book.specs.TakingLaws.{SubmitTakesNone, CollectTakesNone, WithdrawTakesNone, DenyTakesNone, TakeEndsNone, PostEndsTaken, FitsWithout, FitsWith, DoneFits, CutOffFits, TakenFits, ArchivedFits, UrgentTakesNone}
 use Rattle.iol_steps.specs.declared.mode.Mode.{Mode}
 use Rattle.iol_mode.specs.declared.why.Why.{Why}
 use Rattle.iol_steps.specs.Step.{Step, Take, Deny, Carry, Done, Unknown, LateCarry, Reset, Busy, Move, Moment}
-use Rattle.iol_steps.specs.Session.{Job, Session, MaySession, MaySessionAll, MayCut, session_after, session_through, carried_out, carried_late, unanswered, left_of, cut_for, busy_once_more}
+use Rattle.iol_steps.specs.Session.{Job, Session, MaySession, MaySessionAll, MayCut, session_after, session_through, carried_out, carried_late, unanswered, left_of, cut_for, busy_once_more, marked}
 use Rattle.iol_port.specs.Steps.{ticket_of, MayBook, MayBookAll, book_after, book_through}
 use Rattle.iol_port.specs.Run.{request_of}
 use Rattle.iol_port.specs.Sound.{pairs_from, written, FitsOpen, request_taken, Sound}
@@ -26,6 +26,7 @@ use Rattle.iol_port.proofs.Replaying.{LeavesWaiting, next_is, next_ticket_is, to
 -- the laws of a book
 pub record BookLaws : Type 0 where
   pub submit : SubmitTakesNone
+  pub submit_urgent : UrgentTakesNone
   pub collect : CollectTakesNone
   pub withdraw : WithdrawTakesNone
   pub deny : DenyTakesNone
@@ -97,10 +98,10 @@ module _ (laws : BookLaws) where
   sound_deny : (t : Ticket) (b : BookState) (s : Session) (base : ℕ) → option_map (λ p. p.0) (next_taken b.standing) ≡ Some t → Sound b s base → Sound (denied b t) s base
   sound_deny t b s base head sound =
       let (q, next) = next_ticket_is (next_taken b.standing) t head in
-      let (none, _) = next_is b.standing t q next in
+      let none : b.standing.taken ≡ None = (next_is b.standing t q next).free in
       sound_book b (denied b t) s base (denied_replayed b t q next sound.replayed) refl refl (laws.deny b t sound.replayed none).0 sound
 
-  sound_take : (t : Ticket) (q : Request) (b : BookState) (s : Session) (base : ℕ) → next_taken b.standing ≡ Some (t, q) → s.job ≡ None → s.late ≡ None → Sound b s base → Sound (took b (t, q)) (record s { job = Some (record { request = q; answer = None; busy = 0 }) }) base
+  sound_take : (t : Ticket) (q : Request) (b : BookState) (s : Session) (base : ℕ) → next_taken b.standing ≡ Some (t, q) → s.job ≡ None → s.late ≡ None → Sound b s base → Sound (took b (t, q)) (record s { job = Some (record { request = q; answer = None; busy = 0; asked = false }) }) base
   sound_take t q b s base next free none sound =
       let fits : FitsOpen None None b.journal (pairs_from base s.carried) = subst (λ l. FitsOpen None l b.journal (pairs_from base s.carried)) none (subst (λ o. FitsOpen o s.late b.journal (pairs_from base s.carried)) free sound.fits) in
       record {
@@ -152,7 +153,7 @@ module _ (laws : BookLaws) where
       let pairs : pairs_from base s.carried ≡ earlier = pairs_are ∙ unanswered_pairs job.request job.answer earlier none in
       let (t, taken) = taken_is b.standing.taken job.request (sound.same ∙ ap request_of is) in
       record {
-        replayed = posted_replayed b _ (λ t waiting. refl) sound.replayed;
+        replayed = posted_replayed b _ (λ t standing. refl) sound.replayed;
         same = posted_free b t job.request taken;
         sure = λ h. absurd (let u = either b.unsure _ unsure in let v : false ≡ true = sym h ∙ u in cc);
         alone = inl refl;
@@ -184,13 +185,14 @@ module _ (laws : BookLaws) where
   sound_cut_off cause job (Some a) b s base is e unsure sound =
       subst (λ l. Sound (posted b (outcome.Unknown cause)) (record s { job = None; late = l }) base)
       (alone_late s job is sound.alone ∙ sym (ap left_of is ∙ ap (λ o. unanswered o job.request) e))
-      (sound_post (outcome.Unknown cause) job b s base is (leaves_unknown cause job.answer b sound.replayed) (λ t waiting. refl) sound)
+      (sound_post (outcome.Unknown cause) job b s base is (leaves_unknown cause job.answer b sound.replayed) (λ t standing. refl) sound)
 
   pub sound_cut : (cause : Cause) (b : BookState) (s : Session) (base : ℕ) (job : Job) → s.job ≡ Some job → Sound b s base → Sound (posted b (outcome.Unknown cause)) (cut_for cause s) base
   sound_cut LinkLost b s base job is sound = sound_cut_off LinkLost job job.answer b s base is refl refl sound
   sound_cut Restarted b s base job is sound = sound_cut_off Restarted job job.answer b s base is refl refl sound
-  sound_cut BusyTooLong b s base job is sound = sound_post (outcome.Unknown BusyTooLong) job b s base is (leaves_unknown BusyTooLong job.answer b sound.replayed) (λ t waiting. refl) sound
-  sound_cut Protocol b s base job is sound = sound_post (outcome.Unknown Protocol) job b s base is (leaves_unknown Protocol job.answer b sound.replayed) (λ t waiting. refl) sound
+  sound_cut BusyTooLong b s base job is sound = sound_post (outcome.Unknown BusyTooLong) job b s base is (leaves_unknown BusyTooLong job.answer b sound.replayed) (λ t standing. refl) sound
+  sound_cut Protocol b s base job is sound = sound_post (outcome.Unknown Protocol) job b s base is (leaves_unknown Protocol job.answer b sound.replayed) (λ t standing. refl) sound
+  sound_cut Cancelled b s base job is sound = sound_post (outcome.Unknown Cancelled) job b s base is (leaves_unknown Cancelled job.answer b sound.replayed) (λ t standing. refl) sound
 
   -- a late request is in the record
   sound_late : (a : Answer) (late : Option Request) (b : BookState) (s : Session) (base : ℕ) → s.late ≡ late → Sound b s base → Sound b (carried_late a late s) base
@@ -240,7 +242,19 @@ module _ (laws : BookLaws) where
     fits = fits_job s job b.journal _ is sound.fits;
   }
 
-  -- the mode is no business of the record
+  -- the mark is no business of the record
+  pub sound_cancelling : (b : BookState) (s : Session) (base : ℕ) (job : Option Job) → s.job ≡ job → Sound b s base → Sound b (record s { job = marked job }) base
+  sound_cancelling b s base None is sound = subst (λ o. Sound b (record s { job = o }) base) is sound
+  sound_cancelling b s base (Some job) is sound = record {
+    replayed = sound.replayed;
+    same = sound.same ∙ ap request_of is;
+    sure = sound.sure;
+    alone = inr (alone_late s job is sound.alone);
+    within = sound.within;
+    fits = fits_job s job b.journal _ is sound.fits;
+  }
+
+  -- nor is the mode
   pub sound_moved : (b : BookState) (s : Session) (base : ℕ) (mode : Mode) (why : Option Why) → Sound b s base → Sound b (record s { mode = mode; why = why }) base
   sound_moved b s base mode why sound = record {
     replayed = sound.replayed;
@@ -258,7 +272,7 @@ module _ (laws : BookLaws) where
       let (job, is, none) = some_of (λ job. job.answer ≡ None) s.job may in sound_carry a job b s base is none sound
   sound_after m (Done a) b s base next may sound =
       let (job, is, answered) = some_of (λ job. job.answer ≡ Some a) s.job may in
-      sound_post (outcome.Done a) job b s base is (leaves_done a job.answer b answered sound.replayed) (λ t waiting. refl) sound
+      sound_post (outcome.Done a) job b s base is (leaves_done a job.answer b answered sound.replayed) (λ t standing. refl) sound
   sound_after m (Unknown cause) b s base next may sound =
       let (job, is, cut) = some_of (λ job. MayCut m cause job) s.job may in sound_cut cause b s base job is sound
   sound_after m (LateCarry a) b s base next may sound = sound_late a s.late b s base refl sound

@@ -30,7 +30,7 @@ use Rattle.iol_port.proofs.CallLemmas.{does_by_choice}
 no_job_down : (s : Station) (u : Unseen) → Stands s u → s.seen.mode ≡ Down → (session_in s u).job ≡ None
 no_job_down s u stands down =
     let apart : s.seen.mode ≢ Operate = λ operate. absurd (let e : Down ≡ Operate = sym down ∙ operate in cc) in
-    ap (λ request. job_of request u.hidden.answer s.seen.busy) (stands.request apart)
+    ap (λ request. job_of request u.hidden.answer s.seen.busy s.seen.asked) (stands.request apart)
 
 -- a turn of the station, with what its words leave in the book and in the kept events
 pub record Settles (b : BookState) (kept : List Event) (s next : Station) (said : Said) (after : BookState) (later : List Event) : Type 0 where

@@ -16,9 +16,9 @@ use Rattle.iol_book.specs.declared.entries.Outcome.TheVariants.{NoIsdu}
 use Rattle.iol_book.specs.declared.fault.BookFault.{BookFault}
 use Rattle.iol_book.specs.declared.fault.BookFault.TheVariants.{NotYet, UnknownTicket}
 use Rattle.iol_book.specs.Replay.{same_ticket}
-use Rattle.iol_book.specs.BookModel.{BookState, posted, ended_with, submitted, collected, outcome_or, waits, is_taken, withdrawn, withdraw_refusal, may_archive}
+use Rattle.iol_book.specs.BookModel.{BookState, posted, ended_with, submitted, submitted_urgent, collected, outcome_or, waits, is_taken, withdrawn, withdraw_refusal, may_archive}
 use Rattle.iol_steps.specs.Step.{Step, Take, Deny, Carry, Done, Unknown, LateCarry, Reset, Busy, Move, Moment, Image}
-use Rattle.iol_steps.specs.Session.{Job, Session, MayCut, MaySession, MaySessionAll, session_after, session_through, busy_once_more}
+use Rattle.iol_steps.specs.Session.{Job, Session, MayCut, MaySession, MaySessionAll, session_after, session_through, busy_once_more, cancelling, marked}
 use Rattle.iol_steps.specs.Kinds.{restart_steps}
 use Rattle.iol_app.specs.declared.output.OutputFault.{OutputFault}
 use Rattle.iol_port.specs.declared.call.Call.{Call}
@@ -26,7 +26,7 @@ use Rattle.iol_port.specs.declared.call.Call.TheVariants as call
 use Rattle.iol_port.specs.declared.call.Answered.{Answered}
 use Rattle.iol_port.specs.declared.call.Answered.TheVariants as answered
 use Rattle.iol_port.specs.Steps.{book_after, book_through}
-use Rattle.iol_port.specs.Run.{PortState, CallOf, Run, Is, opened, moment_in, request_of, submit_of, collect_of, withdraw_of, archive_of, take_event_of, set_output_of, restarted}
+use Rattle.iol_port.specs.Run.{PortState, CallOf, Run, Is, opened, moment_in, request_of, submit_of, collect_of, withdraw_of, cancel_of, archive_of, take_event_of, set_output_of, restarted}
 use Rattle.iol_port.specs.Owned.{Happens}
 use Rattle.iol_port.specs.Denials.{CarriesNone, IsDeniedWithoutIsdu}
 use Rattle.iol_port.proofs.SoundLemmas.{some_of}
@@ -121,13 +121,24 @@ module _ (page : List ℕ) (carried : List Carried) where
   same_book : (a : PortState) (book : BookState) → (Each IsOther a.book.standing.outcomes → Each IsOther book.standing.outcomes) → AllHold page carried a → AllHold page carried (record a { book = book })
   same_book a book keeps h = record { page_is = h.page_is; holds = record { bare = h.holds.bare; other = λ knows. keeps (h.holds.other knows) } }
 
-  submit_holds : (a b : PortState) (q : Request) (reply : Answered) (why : Option BookFault) → Is reply b (submit_of a q why) → AllHold page carried a → AllHold page carried b
-  submit_holds a b q reply (Some why) is h = as_is a b is.1 h
-  submit_holds a b q reply None is h = as_is (record a { book = submitted a.book q }) b is.1 (same_book a (submitted a.book q) (λ each. each) h)
+  submit_holds : (a b : PortState) (next : BookState) (reply : Answered) (why : Option BookFault) → next.standing.outcomes ≡ a.book.standing.outcomes → Is reply b (submit_of a next why) → AllHold page carried a
+      → AllHold page carried b
+  submit_holds a b next reply (Some why) same is h = as_is a b is.1 h
+  submit_holds a b next reply None same is h = as_is (record a { book = next }) b is.1 (same_book a next (λ each. rw same each) h)
 
   withdraw_holds : (a b : PortState) (t : Ticket) (reply : Answered) (why : Option BookFault) → withdraw_refusal a.book.standing t ≡ why → Is reply b (withdraw_of a t why) → AllHold page carried a → AllHold page carried b
   withdraw_holds a b t reply (Some why) e is h = as_is a b is.1 h
   withdraw_holds a b t reply None e is h = as_is (record a { book = withdrawn a.book t }) b is.1 (same_book a (withdrawn a.book t) (withdrawn_other a.book t e) h)
+
+  cancel_holds : (a b : PortState) (reply : Answered) (why : Option BookFault) → Is reply b (cancel_of a why) → AllHold page carried a → AllHold page carried b
+  cancel_holds a b reply (Some why) is h = as_is a b is.1 h
+  cancel_holds a b reply None is h = as_is (record a { session = cancelling a.session }) b is.1 (record {
+    page_is = h.page_is;
+    holds = record {
+      bare = λ none. let bare = h.holds.bare none in record { job = ap marked bare.job; late = bare.late; record_is = bare.record_is };
+      other = h.holds.other;
+    };
+  })
 
   archive_holds : (a b : PortState) (reply : Answered) (may : Bool) → may_archive a.book ≡ may → Is reply b (archive_of a) → AllHold page carried a → AllHold page carried b
   archive_holds a b reply true e is h =
@@ -178,10 +189,13 @@ module _ (page : List ℕ) (carried : List Carried) where
   no_collect c reply b differs after = record { after = after; told = λ t e r knows. differs t e }
 
   call_holds : (a b : PortState) (c : Call) (reply : Answered) → CallOf a c reply b → AllHold page carried a → CallHolds c reply b
-  call_holds a b (call.Submit q) reply (inl is) h = no_collect _ reply b (λ t e. cc) (submit_holds a b q reply _ is h)
+  call_holds a b (call.Submit q) reply (inl is) h = no_collect _ reply b (λ t e. cc) (submit_holds a b (submitted a.book q) reply _ refl is h)
   call_holds a b (call.Submit q) reply (inr lacks) h = no_collect _ reply b (λ t e. cc) (as_is a b lacks.2 h)
+  call_holds a b (call.SubmitUrgent q) reply (inl is) h = no_collect _ reply b (λ t e. cc) (submit_holds a b (submitted_urgent a.book q) reply _ refl is h)
+  call_holds a b (call.SubmitUrgent q) reply (inr lacks) h = no_collect _ reply b (λ t e. cc) (as_is a b lacks.2 h)
   call_holds a b (call.Collect t) reply is h = collect_holds a t (lookup (same_ticket t) a.book.standing.outcomes) refl b reply is h
   call_holds a b (call.Withdraw t) reply is h = no_collect _ reply b (λ u e. cc) (withdraw_holds a b t reply _ refl is h)
+  call_holds a b (call.Cancel t) reply is h = no_collect _ reply b (λ u e. cc) (cancel_holds a b reply _ is h)
   call_holds a b call.Restart reply is h = no_collect _ reply b (λ t e. cc) (as_is (restarted a) b is.1 (restart_holds a h))
   call_holds a b (call.SetOutput image) reply is h = no_collect _ reply b (λ t e. cc) (output_holds a b image reply _ is h)
   call_holds a b call.ClearOutput reply is h =

@@ -22,7 +22,7 @@ abbrev pub lacks_isdu : Option Bool → Bool
 lacks_isdu None = false
 lacks_isdu (Some has) = not has
 
--- of the request that waits longest, the one that a turn may begin: none where the device has no ISDU
+-- of the request that is next, the one that a turn may begin: none where the device has no ISDU
 abbrev pub to_begin : Bool → Option (Ticket × Request) → Option Request
 to_begin lacks next = if lacks then None else option_map (λ t. t.1) next
 

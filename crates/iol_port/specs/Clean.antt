@@ -107,7 +107,7 @@ module _ {W : Type 0} (honest : W → Bool) (far : W → Far) (clean : W → Boo
 
   -- From here a request takes an exact number of turns: the port is in OPERATE over a clean wire, and its next turn would send IDLE 1, with
   -- room for events; both ends are level, the device awake; it has ISDU, as the port was told, and no events, and its record has room; the request
-  -- waits longest
+  -- is the next to be taken: no urgent one waits, or it is the first of them
   pub record MayStart (layouts : Layouts) (ticket : Ticket) (request : Request) (p : Parts W) : Type 0 where
     pub wire : W
     pub link_is : p.station.link ≡ InOperate (record { wire = wire; state = record { out = None; layouts = layouts } })
@@ -140,7 +140,7 @@ module _ {W : Type 0} (honest : W → Bool) (far : W → Far) (clean : W → Boo
     pub is_at : IsAt layouts ticket request base book stage p
     pub turns_are : turns_at layouts.run.od request stage ≡ turns
 
-  -- one turn: the request that waits longest begins, or goes one stage on; on an honest wire the record only grows
+  -- one turn: the next request begins, or goes one stage on; on an honest wire the record only grows
   pub record CleanTurn (p next : Parts W) : Type 0 where
     pub starts : (layouts : Layouts) (ticket : Ticket) (request : Request) → MayStart layouts ticket request p
         → IsAfter layouts ticket request (record_of far p) p.book.state 1 next

@@ -5,6 +5,7 @@ use Rattle.std.specs.Result.{result_err}
 use Rattle.std.specs.Map.{lookup}
 use Rattle.arrayvec.specs.ArrayVec.{ArrayVec}
 use Rattle.iol_isdu.specs.declared.values.Request.{Request}
+use Rattle.iol_isdu.specs.declared.values.Cause.TheVariants.{Cancelled}
 use Rattle.iol_event.specs.declared.event.Event.{Event}
 use Rattle.iol_device.specs.Far.{Far}
 use Rattle.iol_link.specs.declared.wire.Rate.{Rate}
@@ -14,7 +15,7 @@ use Rattle.iol_book.specs.declared.entries.Ticket.{Ticket}
 use Rattle.iol_book.specs.declared.fault.BookFault.TheVariants.{Outstanding}
 use Rattle.iol_book.specs.declared.entries.Outcome.TheVariants.{NoIsdu}
 use Rattle.iol_book.specs.Replay.{same_ticket}
-use Rattle.iol_book.specs.BookModel.{BookState, BookValue, RefusesFor, submit_refusal, submitted, next_ticket, next_taken, took, denied, waits, collect_answer, collected, withdraw_refusal, withdrawn, may_archive, archived}
+use Rattle.iol_book.specs.BookModel.{BookState, BookValue, RefusesFor, submit_refusal, submitted, submitted_urgent, next_ticket, next_taken, took, denied, waits, collect_answer, collected, withdraw_refusal, withdrawn, flight_refusal, may_archive, archived}
 use Rattle.iol_steps.specs.declared.mode.Mode.TheVariants.{Down}
 use Rattle.iol_steps.specs.declared.said.Said.{Said}
 use Rattle.iol_steps.specs.Step.{Image, woke_up, book_said, reports_said}
@@ -22,6 +23,7 @@ use Rattle.iol_steps.specs.Kinds.{restart_steps}
 use Rattle.iol_app.specs.State as session
 use Rattle.iol_app.specs.Due.{is_ready}
 use Rattle.iol_app.specs.Asking.{prepared, IsCall}
+use Rattle.iol_app.specs.AskedCalls.{AskedWakes, AskedGives}
 use Rattle.iol_app.specs.StationState.{StationState, wire_of, mode_of, why_of, is_operating, IsTurn}
 use Rattle.iol_port.specs.declared.fault.PortFault.{PortFault}
 use Rattle.iol_port.specs.declared.fault.PortFault.TheVariants as fault
@@ -54,10 +56,11 @@ module _ {W : Type 0} where
   abbrev pub IsBookCall : Parts W → Parts W → Type 0
   IsBookCall old new = new ≡ record old { book = new.book }
 
-  pub record SubmitGives (old : Parts W) (request : Request) (result : Result Ticket PortFault) (new : Parts W) : Type 0 where
+  -- a request is entered, which leaves this book
+  pub record SubmitGives (old : Parts W) (book : BookState) (result : Result Ticket PortFault) (new : Parts W) : Type 0 where
     pub allowed : OnOk result (submit_refusal old.book.state ≡ None)
     pub ticket : IfOk result (λ t. t ≡ next_ticket old.book.state)
-    pub entered : OnOk result (new.book.state ≡ submitted old.book.state request)
+    pub entered : OnOk result (new.book.state ≡ book)
     pub refused : IfErr result (λ why. RefusesSubmit old.book why)
     pub unchanged : OnErr result (new.book.state ≡ old.book.state)
     pub rest : IsBookCall old new
@@ -72,6 +75,12 @@ module _ {W : Type 0} where
     pub answer : result_err result ≡ option_map (λ why. fault.Book why) (withdraw_refusal old.book.state.standing ticket)
     pub book : new.book.state ≡ withdrawn old.book.state ticket
     pub rest : IsBookCall old new
+
+  -- refused as long as it isn't the request under way; else an abort waits, for this cause unless one waits already
+  pub record CancelGives (old : Parts W) (ticket : Ticket) (result : Result (Unit {0}) PortFault) (new : Parts W) : Type 0 where
+    pub answer : result_err result ≡ option_map (λ why. fault.Book why) (flight_refusal old.book.state.standing ticket)
+    pub waits : OnOk result (new ≡ record old { station = record old.station { session = session.aborted_in Cancelled old.station.session } })
+    pub unchanged : OnErr result (new ≡ old)
 
   -- these entries are the journal as it was, and the new one is empty
   pub record ArchiveGives (old : Parts W) (result : Result (List Entry) PortFault) (new : Parts W) : Type 0 where
@@ -104,7 +113,7 @@ module _ {W : Type 0} where
     pub book : new.book.state ≡ book_through (restart_steps (request_taken old.book.state.standing.taken)) old.book.state
     pub kept : new.kept ≡ old.kept
 
-  -- whether the next turn would send IDLE 1, so that it takes or denies the request that waits longest
+  -- whether the next turn would send IDLE 1, so that it takes or denies the next request
   abbrev pub takes_next : Parts W → Bool
   takes_next p = is_operating p.station.link && is_ready p.station.session (has_room p.kept)
 
@@ -128,7 +137,8 @@ module _ {W : Type 0} where
     -- kept events; a wake that had success ends what a request that was cut off may still do
     pub record TurnGives (old new : Parts W) : Type 0 where
       pub said : Said
-      pub turn : IsTurn honest far silence wakes gives (has_room old.kept) (station_begun old) said new.station
+      -- its one call of the wire is the one that the port asks for
+      pub turn : IsTurn honest far silence (AskedWakes wakes (asks_of old)) (AskedGives gives (asks_of old)) (has_room old.kept) (station_begun old) said new.station
       pub book : new.book.state ≡ book_through (woke_up (mode_of old.station.link) (mode_of new.station.link) ++ book_said said) (book_begun old)
       pub kept : new.kept ≡ kept_through (reports_said said) old.kept
       -- each new outcome NoIsdu is that of a request which this turn denied
@@ -137,11 +147,15 @@ module _ {W : Type 0} where
     -- One call, with the answer that a list of calls has for it
     abbrev pub CallGives : Parts W → Call → Answered → Parts W → Type 0
     CallGives old (call.Submit request) reply new =
-        (result : Result Ticket PortFault) × (reply ≡ ticket_reply result) × SubmitGives old request result new
+        (result : Result Ticket PortFault) × (reply ≡ ticket_reply result) × SubmitGives old (submitted old.book.state request) result new
+    CallGives old (call.SubmitUrgent request) reply new =
+        (result : Result Ticket PortFault) × (reply ≡ ticket_reply result) × SubmitGives old (submitted_urgent old.book.state request) result new
     CallGives old (call.Collect ticket) reply new =
         (result : Result Outcome PortFault) × (reply ≡ outcome_reply result) × CollectGives old ticket result new
     CallGives old (call.Withdraw ticket) reply new =
         (result : Result (Unit {0}) PortFault) × (reply ≡ nothing_reply result) × WithdrawGives old ticket result new
+    CallGives old (call.Cancel ticket) reply new =
+        (result : Result (Unit {0}) PortFault) × (reply ≡ nothing_reply result) × CancelGives old ticket result new
     CallGives old call.Restart reply new = (reply ≡ answered.Nothing) × RestartGives old new
     CallGives old (call.SetOutput image) reply new =
         (result : Result (Unit {0}) PortFault) × (reply ≡ nothing_reply result) × SetOutputGives old image result new

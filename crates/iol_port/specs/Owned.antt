@@ -1,5 +1,5 @@
 -- What a client may conclude of a whole run: which requests the device carried out in it, each once.
-use Rattle.std.specs.Prelude.{◌≡◌, ◌⊎◌, ◌<◌, ℕ, List, [], ◌∷◌, ◌++◌, map, Some}
+use Rattle.std.specs.Prelude.{◌≡◌, ◌⊎◌, ◌<◌, ℕ, false, List, [], ◌∷◌, ◌++◌, map, Some}
 use Rattle.std.specs.Map.{lookup}
 use Rattle.iol_isdu.specs.declared.values.Request.{Request}
 use Rattle.iol_isdu.specs.declared.values.Answer.{Answer}
@@ -9,6 +9,7 @@ use Rattle.iol_device.specs.Far.{Far}
 use Rattle.iol_book.specs.declared.entries.Limits.{Limits}
 use Rattle.iol_book.specs.declared.entries.Outcome.TheVariants.{Done, Unknown}
 use Rattle.iol_book.specs.declared.entries.Ticket.{Ticket}
+use Rattle.iol_book.specs.BookModel.{leaves_unsure}
 use Rattle.iol_book.specs.Replay.{same_ticket}
 use Rattle.iol_steps.specs.declared.mode.Mode.TheVariants.{Down}
 use Rattle.iol_port.specs.declared.call.Call.{Call}
@@ -27,14 +28,14 @@ pub record Owned : Type 0 where
 abbrev pub pairs_of : List Owned → List Carried
 pairs_of owned = map (λ o. record { request = o.request; answer = o.answer }) owned
 
--- the tickets rise from above `low` on: none stands there twice
-abbrev pub Rise : ℕ → List Owned → Type 0
-Rise low [] = Unit {0}
-Rise low (o ∷ owned) = (low < o.ticket.0) × Rise o.ticket.0 owned
-
 abbrev pub IsOneOf : Owned → List Owned → Type 0
 IsOneOf o [] = ⊥
 IsOneOf o (p ∷ ps) = (p ≡ o) ⊎ IsOneOf o ps
+
+-- each ticket is above `low`, and no two are the same
+abbrev pub AreApart : ℕ → List Owned → Type 0
+AreApart low [] = Unit {0}
+AreApart low (o ∷ owned) = (low < o.ticket.0) × ((p : Owned) → IsOneOf p owned → p.ticket ≡ o.ticket → ⊥) × AreApart low owned
 
 -- the run has this call, with this reply
 abbrev pub Happens : List Call → List Answered → Call → Answered → Type 0
@@ -42,12 +43,17 @@ Happens [] replies call reply = ⊥
 Happens (c ∷ calls) [] call reply = ⊥
 Happens (c ∷ calls) (r ∷ replies) call reply = ((c ≡ call) × (r ≡ reply)) ⊎ Happens calls replies call reply
 
+-- a request was submitted under this ticket, as an urgent one or as one of the others
+abbrev pub IsSubmitted : List Call → List Answered → Ticket → Request → Type 0
+IsSubmitted calls replies ticket request =
+    Happens calls replies (call.Submit request) (answered.Ticket ticket) ⊎ Happens calls replies (call.SubmitUrgent request) (answered.Ticket ticket)
+
 -- The record grew by the pairs of these, in this order. Each was submitted in the run under its ticket, and no two have one ticket; each outcome
 -- Done that was collected is that of one of them
 pub record CarriesOut (given : ℕ) (before : List Carried) (calls : List Call) (replies : List Answered) (carried : List Carried) (owned : List Owned) : Type 0 where
   pub record_is : carried ≡ before ++ pairs_of owned
-  pub rise : Rise given owned
-  pub asked : (o : Owned) → IsOneOf o owned → Happens calls replies (call.Submit o.request) (answered.Ticket o.ticket)
+  pub apart : AreApart given owned
+  pub asked : (o : Owned) → IsOneOf o owned → IsSubmitted calls replies o.ticket o.request
   pub done : (ticket : Ticket) (answer : Answer) → Happens calls replies (call.Collect ticket) (answered.Outcome (Done answer))
       → (o : Owned) × IsOneOf o owned × (o.ticket ≡ ticket) × (o.answer ≡ answer)
 
@@ -61,6 +67,21 @@ EachDoneHasItsPair =
 abbrev pub IsCutOff : List Call → List Answered → PortState → Ticket → Type 0
 IsCutOff calls replies a ticket =
     (cause : Cause) × (Happens calls replies (call.Collect ticket) (answered.Outcome (Unknown cause)) ⊎ (lookup (same_ticket ticket) a.book.standing.outcomes ≡ Some (Unknown cause)))
+
+-- and it was so, with the device's word that it has the request no more: for any cause but the loss of the link and a restart
+abbrev pub IsCutForGood : List Call → List Answered → PortState → Ticket → Type 0
+IsCutForGood calls replies a ticket =
+    (cause : Cause) × (leaves_unsure (Unknown cause) ≡ false)
+    × (Happens calls replies (call.Collect ticket) (answered.Outcome (Unknown cause)) ⊎ (lookup (same_ticket ticket) a.book.standing.outcomes ≡ Some (Unknown cause)))
+
+-- A run comes to `a`, and goes on to `c`: of what is carried out from `a` on, nothing was cut off for good before
+abbrev pub CutForGoodStaysOut : Type 0
+CutForGoodStaysOut =
+    (limits : Limits) (far : Far) (silence : ℕ) (calls more : List Call) (replies others : List Answered) (a c : PortState)
+    → Run (opened limits far silence) calls replies a → Run a more others c
+    → (owned later : List Owned) × (a.session.carried ≡ far.carried ++ pairs_of owned)
+    × CarriesOut limits.given far.carried (calls ++ more) (replies ++ others) c.session.carried (owned ++ later)
+    × ((o : Owned) → IsOneOf o later → IsCutForGood calls replies a o.ticket → ⊥)
 
 -- a turn whose wake had success: it leads out of down
 pub record Wakes (a b : PortState) : Type 0 where

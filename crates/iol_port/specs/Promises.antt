@@ -1,11 +1,18 @@
 -- The laws of the abstract port, over whole runs.
-use Rattle.std.specs.Prelude.{◌≡◌, ◌++◌, ℕ, List}
+use Rattle.std.specs.Prelude.{◌≡◌, ◌⊎◌, ℕ, Bool, true, false, List, [], ◌∷◌, ◌++◌, Option, Some, None, ⊤}
 use Rattle.iol_device.specs.Far.{Far}
 use Rattle.iol_book.specs.declared.entries.Limits.{Limits}
+use Rattle.iol_book.specs.declared.entries.Ticket.{Ticket}
+use Rattle.iol_book.specs.BookModel.{is_taken}
+use Rattle.iol_isdu.specs.declared.values.Cause.TheVariants.{Cancelled}
+use Rattle.iol_steps.specs.Step.{Step, Unknown, Moment}
+use Rattle.iol_steps.specs.Session.{Job, Session, MaySessionAll}
 use Rattle.iol_steps.specs.declared.mode.Mode.TheVariants.{Operate}
 use Rattle.iol_port.specs.declared.call.Call.{Call}
+use Rattle.iol_port.specs.declared.call.Call.TheVariants as call
 use Rattle.iol_port.specs.declared.call.Answered.{Answered}
-use Rattle.iol_port.specs.Run.{PortState, TurnOf, Run, opened}
+use Rattle.iol_port.specs.declared.call.Answered.TheVariants as answered
+use Rattle.iol_port.specs.Run.{PortState, TurnOf, CallOf, Run, opened}
 use Rattle.iol_port.specs.Sound.{IsSound, RecordFits}
 
 -- a port that is opened is sound
@@ -33,3 +40,24 @@ abbrev pub RunsJoin : Type 0
 RunsJoin =
     (a b c : PortState) (calls more : List Call) (replies others : List Answered) → Run a calls replies b → Run b more others c
     → Run a (calls ++ more) (replies ++ others) c
+
+-- whether the program asked to cut off the request under way
+abbrev pub is_asked : Option Job → Bool
+is_asked None = false
+is_asked (Some job) = job.asked
+
+-- steps of which one says that a request was cancelled
+abbrev pub Cancels : List Step → Type 0
+Cancels [] = ⊥
+Cancels (Unknown Cancelled ∷ steps) = ⊤
+Cancels (step ∷ steps) = Cancels steps
+
+-- a request is cancelled only where the program had asked for it before the turn
+abbrev pub CancelledWasAsked : Type 0
+CancelledWasAsked = (moment : Moment) (steps : List Step) (s : Session) → MaySessionAll moment steps s → Cancels steps → is_asked s.job ≡ true
+
+-- and a request has that mark only by a cancel of its ticket, which was answered
+abbrev pub AskedByCancel : Type 0
+AskedByCancel =
+    (a b : PortState) (c : Call) (reply : Answered) → CallOf a c reply b → is_asked b.session.job ≡ true
+    → (is_asked a.session.job ≡ true) ⊎ ((ticket : Ticket) × (c ≡ call.Cancel ticket) × (reply ≡ answered.Nothing) × (is_taken a.book.standing ticket ≡ true))

@@ -1,17 +1,22 @@
--- What a wire becomes by calls, one after another.
-use Rattle.std.specs.Prelude.{◌≡◌, ℕ, List, [], ◌∷◌, Option}
+-- What a wire becomes by calls, one after another, and by what it is told between them.
+use Rattle.std.specs.Prelude.{◌≡◌, ℕ, List, [], ◌∷◌, Option, Some, None}
 use Rattle.arrayvec.specs.ArrayVec.{ArrayVec}
 use Rattle.iol_link.specs.declared.wire.Rate.{Rate}
 use Rattle.iol_app.specs.declared.asked.Asked.{Asked}
 use Rattle.iol_app.specs.Asking.{IsCall}
 
-module _ {W : Type 0} (wakes : W → Option Rate → W → Type 0) (gives : W → List ℕ → Option (ArrayVec ℕ) → W → Type 0) where
-  -- these calls, in order
-  abbrev pub AreCalls : List Asked → W → W → Type 0
-  AreCalls [] old new = new ≡ old
-  AreCalls (asked ∷ more) old new = (mid : W) × IsCall wakes gives asked old mid × AreCalls more mid new
+module _ {W : Type 0} (wakes : W → Option Rate → W → Type 0) (gives : W → List ℕ → Option (ArrayVec ℕ) → W → Type 0) (tells : W → W → Type 0) where
+  -- one call; or, between two calls, the wire is told from outside what comes, where it is one that may be told
+  abbrev pub IsChange : Option Asked → W → W → Type 0
+  IsChange None old new = tells old new
+  IsChange (Some asked) old new = IsCall wakes gives asked old new
 
-  -- The wire is what the first one became by wakes and exchanges, and by nothing else: so what holds of a wire and itself, and is kept by each
-  -- wake and each exchange, holds of these two
+  -- these, in order
+  abbrev pub AreChanges : List (Option Asked) → W → W → Type 0
+  AreChanges [] old new = new ≡ old
+  AreChanges (change ∷ more) old new = (mid : W) × IsChange change old mid × AreChanges more mid new
+
+  -- The wire is what the first one became by wakes, exchanges and what it was told, and by nothing else: so what holds of a wire and itself, and
+  -- is kept by each of these, holds of these two
   abbrev pub ComesFrom : W → W → Type 0
-  ComesFrom first now = (calls : List Asked) × AreCalls calls first now
+  ComesFrom first now = (changes : List (Option Asked)) × AreChanges changes first now

@@ -1,7 +1,8 @@
 ghost use Rattle.iol_port.specs.Promises.{OpensSound, RunsSound, SoundFits, GoodLinkStays, NothingIsNoTurn, RunsJoin};
+ghost use Rattle.iol_port.specs.Promises.{CancelledWasAsked, AskedByCancel};
 ghost use Rattle.iol_port.specs.Clean.{CleanLaws};
 ghost use Rattle.iol_port.specs.Denials.{CarriesNone, IsDeniedWithoutIsdu};
-ghost use Rattle.iol_port.specs.Owned.{EachDoneHasItsPair, LateEnds};
+ghost use Rattle.iol_port.specs.Owned.{EachDoneHasItsPair, LateEnds, CutForGoodStaysOut};
 
 use iol_book::{records_fit, takings_of_calls};
 use iol_device::{modes_have_layouts, page_and_room_stay, replies_are_read, requests_are_received};
@@ -42,9 +43,9 @@ pub fn runs_join()
 /// that of a request which was submitted under a ticket of its own, and each outcome Done that was collected has its
 /// pair there, with that answer.
 ///
-/// The pairs stand behind what the record had at the opening, and their tickets rise, across losses, restarts and
+/// The pairs stand behind what the record had at the opening, and no two have one ticket, across losses, restarts and
 /// archives: so each request is carried out once at most, one that was cut off as well.
-#[tactic(auto, using(crate::proofs::Owning::each_done_has_its_pair))]
+#[tactic(auto, using(crate::proofs::OwnedRuns::each_done_has_its_pair))]
 pub fn each_done_has_its_pair()
     ensures { EachDoneHasItsPair }
 {}
@@ -53,10 +54,12 @@ pub fn each_done_has_its_pair()
 /// at most, and not after a wake that had success.
 ///
 /// The run has a turn that leads out of down. Over the whole of it each request that the device carries out has a
-/// ticket of its own; and none that it carries out after that turn had been cut off before it.
-#[tactic(auto, using(crate::proofs::Owning::late_ends))]
+/// ticket of its own; and none that it carries out after that turn had been cut off before it. One that was cut off for
+/// another cause than a lost link or a restart, as a cancelled one, isn't carried out after that at all.
+#[tactic(auto, using(crate::proofs::OwnedRuns::late_ends, crate::proofs::OwnedRuns::cut_for_good_stays_out))]
 pub fn late_requests_end()
-    ensures { LateEnds }
+    ensures wakes { LateEnds }
+    ensures for_good { CutForGoodStaysOut }
 {}
 
 /// A law of the definitions, over whole runs of a port that is opened: a device without ISDU carries nothing out, and
@@ -65,6 +68,15 @@ pub fn late_requests_end()
 pub fn denied_requests_stay_out()
     ensures carries { CarriesNone }
     ensures denied { IsDeniedWithoutIsdu }
+{}
+
+/// A law of the definitions: a request is said to be cancelled only where the program asked for it.
+///
+/// The turn that says so began with the request marked, and only a cancel of its ticket sets the mark.
+#[tactic(auto, using(crate::proofs::AskedLemmas::cancelled_was_asked, crate::proofs::AskedLemmas::asked_by_cancel))]
+pub fn cancelled_requests_were_asked()
+    ensures turns { CancelledWasAsked }
+    ensures marks { AskedByCancel }
 {}
 
 /// What the number of turns on a clean wire rests on.

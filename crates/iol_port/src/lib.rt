@@ -1,8 +1,9 @@
 //! One port of an IO-Link master: its queue of requests, its events and its process data.
 //!
-//! A port has its device carry out the requests that were submitted, in order and each at most once, over whatever the
-//! wire loses. Each gets one outcome: the device's answer to that very request; or that it was cut off, so that nobody
-//! knows whether it was carried out; or that it was withdrawn.
+//! A port has its device carry out the requests that were submitted, the urgent ones first, each kind in order, and
+//! each at most once, over whatever the wire loses. Each gets one outcome: the device's answer to that very request; or
+//! that it was cut off, also where a client cancels it, so that nobody knows whether it was carried out; or that it was
+//! withdrawn; or that the device has no ISDU.
 //!
 //! What a port does is said by an abstract port, which knows no octets, segments or repeats (`specs/Run`). Over an
 //! honest wire each call of a [`Port`] is one call of the abstract port that it stands for, and a list of calls is a
@@ -21,10 +22,7 @@ mod settle;
 pub use call::{Answered, Call};
 pub use fault::PortFault;
 pub use laws::{
-    denied_requests_stay_out, each_done_has_its_pair, late_requests_end, record_fits_journal,
-    runs_join, turns_rule_out,
+    cancelled_requests_were_asked, denied_requests_stay_out, each_done_has_its_pair,
+    late_requests_end, record_fits_journal, runs_join, turns_rule_out,
 };
 pub use port::Port;
-
-#[cfg(test)]
-mod tests;

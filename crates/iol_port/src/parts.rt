@@ -1,9 +1,9 @@
 //! What carries a port's requests out: a station, a book, and the events that are kept.
-ghost use Rattle.std.specs.Prelude.{◌≡◌, ◌<◌, ◌≤◌, ◌^◌, None, IsTrue, IfOk, IfErr, length};
+ghost use Rattle.std.specs.Prelude.{◌≡◌, ◌<◌, ◌≤◌, None, IfOk, IfErr, length, OnOk, OnErr};
 ghost use Rattle.std.specs.Option.{option_copied};
 ghost use Rattle.std.specs.Result.{result_map_both};
 ghost use Rattle.iol_book.specs.declared.fault.BookFault.TheVariants.{OutOfMemory};
-ghost use Rattle.iol_book.specs.BookModel.{AreLimits, IsReplayed};
+ghost use Rattle.iol_book.specs.BookModel.{AreLimits, IsReplayed, submitted, submitted_urgent};
 ghost use Rattle.iol_app.specs.StationState.{wire_of};
 ghost use Rattle.iol_port.specs.declared.fault.PortFault.TheVariants as fault;
 ghost use Rattle.iol_port.specs.declared.call.Call.TheVariants as call;
@@ -12,7 +12,8 @@ ghost use Rattle.iol_port.specs.Run.{opened};
 ghost use Rattle.iol_app.specs.Asking.{IsCall};
 ghost use Rattle.iol_port.specs.View.{Does, Runs, StandsFor, OpensWell, IsOpened, opening_of, status_of};
 ghost use Rattle.iol_port.specs.Asks.{asks_of, has_room, IsWireCall};
-ghost use Rattle.iol_port.specs.EveryWire.{SubmitGives, CollectGives, WithdrawGives, ArchiveGives};
+ghost use Rattle.iol_port.specs.EveryWire.{SubmitGives, CollectGives, WithdrawGives, CancelGives, ArchiveGives};
+ghost use Rattle.iol_port.specs.Rewire.{rewired_parts, StandsStill};
 ghost use Rattle.iol_port.specs.EveryWire.{TakeEventGives, SetOutputGives, ClearOutputGives, RestartGives};
 ghost use Rattle.iol_port.specs.EveryWire.{TurnGives, CallGives, RunGives};
 ghost use Rattle.iol_port.specs.Clean.{CleanTurn, CleanRuns};
@@ -72,11 +73,22 @@ impl<W: Wire, A: Allocator + Copy> Parts<W, A> {
     pub(crate) fn submit(&mut self, request: Request) -> Result<Ticket, PortFault>
         ensures does { Does W.honest W.far W.silence self.old (call.Submit request) (ticket_reply result) self.new }
         ensures lacks { IfErr result (λ e. e ≡ fault.Book OutOfMemory → self.old.book.room ≡ 0) }
-        ensures gives { SubmitGives self.old request result self.new }
+        ensures gives { SubmitGives self.old (submitted self.old.book.state request) result self.new }
         ensures called { CallGives W.honest W.far W.silence W.wake_gives W.exchange_gives
             self.old (call.Submit request) (ticket_reply result) self.new }
     {
         by_book(self.book.submit(request))
+    }
+
+    pub(crate) fn submit_urgent(&mut self, request: Request) -> Result<Ticket, PortFault>
+        ensures does { Does W.honest W.far W.silence
+            self.old (call.SubmitUrgent request) (ticket_reply result) self.new }
+        ensures lacks { IfErr result (λ e. e ≡ fault.Book OutOfMemory → self.old.book.room ≡ 0) }
+        ensures gives { SubmitGives self.old (submitted_urgent self.old.book.state request) result self.new }
+        ensures called { CallGives W.honest W.far W.silence W.wake_gives W.exchange_gives
+            self.old (call.SubmitUrgent request) (ticket_reply result) self.new }
+    {
+        by_book(self.book.submit_urgent(request))
     }
 
     pub(crate) fn collect(&mut self, ticket: Ticket) -> Result<Outcome, PortFault>
@@ -95,6 +107,21 @@ impl<W: Wire, A: Allocator + Copy> Parts<W, A> {
             self.old (call.Withdraw ticket) (nothing_reply result) self.new }
     {
         by_book(self.book.withdraw(ticket))
+    }
+
+    pub(crate) fn cancel(&mut self, ticket: Ticket) -> Result<(), PortFault>
+        ensures does { Does W.honest W.far W.silence self.old (call.Cancel ticket) (nothing_reply result) self.new }
+        ensures gives { CancelGives self.old ticket result self.new }
+        ensures called { CallGives W.honest W.far W.silence W.wake_gives W.exchange_gives
+            self.old (call.Cancel ticket) (nothing_reply result) self.new }
+    {
+        match self.book.in_flight(ticket) {
+            Ok(()) => {
+                self.station.abort(Cause::Cancelled);
+                Ok(())
+            }
+            Err(fault) => Err(PortFault::Book(fault)),
+        }
     }
 
     pub(crate) fn restart(&mut self)
@@ -209,15 +236,16 @@ impl<W: Wire, A: Allocator + Copy> Parts<W, A> {
         ensures clean { asked.now ≡ call.Turn → CleanTurn W.honest W.far W.clean self.old self.new }
     {
         match asked {
-            Call::Submit(request) => match self.submit(copy_of_request(request)) {
-                Ok(ticket) => Answered::Ticket(ticket),
-                Err(fault) => Answered::Refused(fault),
-            },
+            Call::Submit(request) => ticket_or(self.submit(copy_of_request(request))),
+            Call::SubmitUrgent(request) => {
+                ticket_or(self.submit_urgent(copy_of_request(request)))
+            }
             Call::Collect(ticket) => match self.collect(*ticket) {
                 Ok(outcome) => Answered::Outcome(outcome),
                 Err(fault) => Answered::Refused(fault),
             },
             Call::Withdraw(ticket) => nothing_or(self.withdraw(*ticket)),
+            Call::Cancel(ticket) => nothing_or(self.cancel(*ticket)),
             Call::Restart => {
                 self.restart();
                 Answered::Nothing
@@ -292,6 +320,28 @@ impl<W: Wire, A: Allocator + Copy> Parts<W, A> {
             kept: _,
         } = self;
         station.into_wire()
+    }
+
+    pub(crate) fn rewire(&mut self, wire: W) -> W
+        requires honest { W.honest wire ≡ W.honest (wire_of self.old.station.link) }
+        requires far { W.far wire ≡ W.far (wire_of self.old.station.link) }
+        requires silence { W.silence wire ≡ W.silence (wire_of self.old.station.link) }
+        ensures parts { self.new ≡ rewired_parts wire self.old }
+        ensures before { result ≡ wire_of self.old.station.link }
+        ensures wire { wire_of self.new.station.link ≡ wire }
+        ensures asks { asks_of self.new ≡ asks_of self.old }
+        ensures stands { StandsStill W.honest W.far W.silence self.old self.new }
+    {
+        self.station.rewire(wire)
+    }
+}
+
+fn ticket_or(given: Result<Ticket, PortFault>) -> Answered
+    ensures { result ≡ ticket_reply given }
+{
+    match given {
+        Ok(ticket) => Answered::Ticket(ticket),
+        Err(fault) => Answered::Refused(fault),
     }
 }
 

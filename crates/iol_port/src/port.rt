@@ -1,9 +1,9 @@
 //! One port.
 ghost use Rattle.std.specs.Prelude.{◌≡◌, ◌≤◌, None, Some, IsTrue, IfOk, IfErr, length};
-ghost use Rattle.std.specs.Option.{option_copied, option_map};
+ghost use Rattle.std.specs.Option.{option_copied};
 ghost use Rattle.std.specs.Result.{result_map_both};
 ghost use Rattle.iol_book.specs.declared.fault.BookFault.TheVariants.{OutOfMemory};
-ghost use Rattle.iol_book.specs.BookModel.{AreLimits, IsReplayed};
+ghost use Rattle.iol_book.specs.BookModel.{AreLimits, IsReplayed, submitted, submitted_urgent};
 ghost use Rattle.iol_port.specs.declared.fault.PortFault.TheVariants as fault;
 ghost use Rattle.iol_port.specs.declared.call.Call.TheVariants as call;
 ghost use Rattle.iol_port.specs.declared.call.Answered.TheVariants as answered;
@@ -11,7 +11,8 @@ ghost use Rattle.iol_port.specs.Run.{opened};
 ghost use Rattle.iol_app.specs.StationState.{wire_of};
 ghost use Rattle.iol_app.specs.Asking.{IsCall};
 ghost use Rattle.iol_port.specs.Asks.{asks_of, IsWireCall};
-ghost use Rattle.iol_port.specs.EveryWire.{SubmitGives, CollectGives, WithdrawGives, ArchiveGives};
+ghost use Rattle.iol_port.specs.EveryWire.{SubmitGives, CollectGives, WithdrawGives, CancelGives, ArchiveGives};
+ghost use Rattle.iol_port.specs.Rewire.{rewired_parts, StandsStill};
 ghost use Rattle.iol_port.specs.EveryWire.{TakeEventGives, SetOutputGives, ClearOutputGives, RestartGives};
 ghost use Rattle.iol_port.specs.EveryWire.{TurnGives, CallGives, RunGives};
 ghost use Rattle.iol_port.specs.WireCalls.{ComesFrom};
@@ -34,12 +35,13 @@ use std::marker::Model;
 use std::snapshot::Snapshot;
 use std::sync::Wait;
 
-/// A port of an IO-Link master: a queue of requests, and the link to one device that carries them out.
+/// A port of an IO-Link master: two queues of requests, the urgent ones and the others, and the link to one device that
+/// carries them out.
 ///
 /// Contracts see what the port stands for: an abstract port, of which each call is one call. Over an honest wire they
 /// say which. On every wire no call is unsafe, the journal alone says where each ticket stands, each call answers and
 /// leaves what its clause `gives` says of the port's own parts, and the wire is what the one at the opening became by
-/// the calls of turns. Beside that they see with what the port was opened, and what it published.
+/// the calls of turns, and by what it was told from outside. Beside that they see with what the port was opened, and what it published.
 #[derive(Drop)]
 pub struct Port<W: Wire, A: Handle = Global> {
     parts: Parts<W, A>,
@@ -59,7 +61,7 @@ impl<W: Wire, A: Handle> Model for Port<W, A> {
       writer = p.writer;
     } };
 
-    ghost invariant = { λ p. IsPort W.honest W.far W.silence W.wake_gives W.exchange_gives
+    ghost invariant = { λ p. IsPort W.honest W.far W.silence W.wake_gives W.exchange_gives W.tells
         (opening_of W.honest W.far W.silence p.limits.value p.wire_then.value) p.parts };
 }
 
@@ -87,7 +89,8 @@ impl<W: Wire, A: Handle> Port<W, A> {
         })
     }
 
-    /// Enters a request, which then waits behind the others, and answers its ticket.
+    /// Enters a request and answers its ticket. The request then waits behind all that wait already; an urgent one that
+    /// is submitted later goes before it.
     ///
     /// Refused, with nothing changed, by the first of 21 where 64 tickets are outstanding, 22 where the journal has no
     /// room for the request's entries, 23 where the last ticket was 2^64 - 1, and 24 where a growth was refused.
@@ -95,10 +98,26 @@ impl<W: Wire, A: Handle> Port<W, A> {
         ensures does { Does W.honest W.far W.silence
             self.old.parts (call.Submit request) (ticket_reply result) self.new.parts }
         ensures lacks { IfErr result (λ e. e ≡ fault.Book OutOfMemory → self.old.parts.book.room ≡ 0) }
-        ensures gives { SubmitGives self.old.parts request result self.new.parts }
+        ensures gives { SubmitGives
+            self.old.parts (submitted self.old.parts.book.state request) result self.new.parts }
         ensures rest { self.new ≡ record self.old { parts = self.new.parts } }
     {
         self.parts.submit(request)
+    }
+
+    /// Enters an urgent request, which then waits behind the other urgent ones and before all others, and answers its
+    /// ticket. A request that is under way isn't stopped by it.
+    ///
+    /// Refused, with nothing changed, as `submit` is: 21, 22 and 23 count both kinds.
+    pub fn submit_urgent(&mut self, request: Request) -> Result<Ticket, PortFault>
+        ensures does { Does W.honest W.far W.silence
+            self.old.parts (call.SubmitUrgent request) (ticket_reply result) self.new.parts }
+        ensures lacks { IfErr result (λ e. e ≡ fault.Book OutOfMemory → self.old.parts.book.room ≡ 0) }
+        ensures gives { SubmitGives
+            self.old.parts (submitted_urgent self.old.parts.book.state request) result self.new.parts }
+        ensures rest { self.new ≡ record self.old { parts = self.new.parts } }
+    {
+        self.parts.submit_urgent(request)
     }
 
     /// Hands out the outcome of a ticket, which is outstanding no more.
@@ -113,7 +132,7 @@ impl<W: Wire, A: Handle> Port<W, A> {
         self.parts.collect(ticket)
     }
 
-    /// Takes back a request that waits. Its outcome is then that it was withdrawn.
+    /// Takes back a request that waits, urgent or not. Its outcome is then that it was withdrawn.
     ///
     /// Refused, with nothing changed, by 25 where no such ticket is outstanding, and by 27 where it waits no longer.
     pub fn withdraw(&mut self, ticket: Ticket) -> Result<(), PortFault>
@@ -123,6 +142,23 @@ impl<W: Wire, A: Handle> Port<W, A> {
         ensures rest { self.new ≡ record self.old { parts = self.new.parts } }
     {
         self.parts.withdraw(ticket)
+    }
+
+    /// Asks to cut off the request of a ticket, which is under way.
+    ///
+    /// An ABORT waits then, unless one waits already; a message that is out comes before it. The outcome follows in a
+    /// later turn: that it was cancelled, with the good reply to the ABORT; its answer, where that is whole before the
+    /// ABORT is sent; or that it was cut off for another cause. Takes no memory, and writes nothing into the journal.
+    ///
+    /// Refused, with nothing changed, by 25 where no such ticket is outstanding, and by 36 where it waits, or has an
+    /// outcome.
+    pub fn cancel(&mut self, ticket: Ticket) -> Result<(), PortFault>
+        ensures does { Does W.honest W.far W.silence
+            self.old.parts (call.Cancel ticket) (nothing_reply result) self.new.parts }
+        ensures gives { CancelGives self.old.parts ticket result self.new.parts }
+        ensures rest { self.new ≡ record self.old { parts = self.new.parts } }
+    {
+        self.parts.cancel(ticket)
     }
 
     /// Cuts off the request under way, if any, and leaves the link in down, without an image.
@@ -214,9 +250,10 @@ impl<W: Wire, A: Handle> Port<W, A> {
 
     /// One turn: one wake-up request where the link is down, else one exchange with the device.
     ///
-    /// In OPERATE, where nothing else is to be sent, the request that waits longest is taken, and its first segment
-    /// goes out in this turn; where the device has no ISDU it is denied, never taken, and IDLE 1 goes out. At most 64
-    /// events are kept, and a list of events is read only where there is room for it.
+    /// In OPERATE, where nothing else is to be sent, the next request is taken: the urgent one that waits longest, or
+    /// where none is urgent the other one that does. Its first segment goes out in this turn; where the device has no
+    /// ISDU it is denied, never taken, and IDLE 1 goes out. At most 64 events are kept, and a list of events is read
+    /// only where there is room for it.
     pub fn turn(&mut self)
         ensures does { Does W.honest W.far W.silence self.old.parts call.Turn answered.Nothing self.new.parts }
         ensures clean { CleanTurn W.honest W.far W.clean self.old.parts self.new.parts }
@@ -328,12 +365,13 @@ impl<W: Wire, A: Handle> Port<W, A> {
     }
 
     /// A law of each port, without code: at every moment the journal says where each ticket stands, and the wire is
-    /// what the one at the opening became by wakes and exchanges, and by nothing else; and the device's record fits the
-    /// journal, if the wire was honest and the device had been handed no request when the port was opened.
+    /// what the one at the opening became by wakes and exchanges, and, where it is one that is told its answers from
+    /// outside, by being told, and by nothing else; and the device's record fits the journal, if the wire was honest and
+    /// the device had been handed no request when the port was opened.
     pub fn keeps_record(&self)
         ensures replayed { IsReplayed self.now.parts.book.state }
         ensures run { IsRun W.honest W.far W.silence self.now.opening self.now.parts }
-        ensures wire { ComesFrom W.wake_gives W.exchange_gives
+        ensures wire { ComesFrom W.wake_gives W.exchange_gives W.tells
             self.now.opening.wire (wire_of self.now.parts.station.link) }
         ensures record_fits { OpensWell self.now.opening → KeepsRecord W.honest W.far W.silence self.now.parts }
         ensures level { OpensWell self.now.opening → IsLevelBetween W.far self.now.parts }
@@ -342,5 +380,24 @@ impl<W: Wire, A: Handle> Port<W, A> {
         ends_stay_level();
         modes_have_layouts();
         let _ = self.parts.journal();
+    }
+
+    /// Goes on over this wire, which is the one before, told from outside what its next call brings; that one is handed
+    /// back.
+    ///
+    /// It is no call of the abstract port: the port stands for the same ones as before, and asks for the same.
+    pub fn rewire(&mut self, wire: W) -> W
+        requires told { W.tells (wire_of self.old.parts.station.link) wire }
+        requires honest { W.honest wire ≡ W.honest (wire_of self.old.parts.station.link) }
+        requires far { W.far wire ≡ W.far (wire_of self.old.parts.station.link) }
+        requires silence { W.silence wire ≡ W.silence (wire_of self.old.parts.station.link) }
+        ensures parts { self.new.parts ≡ rewired_parts wire self.old.parts }
+        ensures rest { self.new ≡ record self.old { parts = self.new.parts } }
+        ensures before { result ≡ wire_of self.old.parts.station.link }
+        ensures wire { wire_of self.new.parts.station.link ≡ wire }
+        ensures asks { asks_of self.new.parts ≡ asks_of self.old.parts }
+        ensures stands { StandsStill W.honest W.far W.silence self.old.parts self.new.parts }
+    {
+        self.parts.rewire(wire)
     }
 }

@@ -72,8 +72,8 @@ pub(crate) fn lacks_isdu(told: Option<bool>) -> bool
     }
 }
 
-/// The request that waits longest is taken and begun, or denied where the device has no ISDU, where the turn would have
-/// nothing else to send.
+/// The next request is taken and begun, or denied where the device has no ISDU, where the turn would have nothing else
+/// to send.
 pub(crate) fn begin_next<W: Wire, A: Allocator + Copy>(
     station: &mut Station<W>,
     book: &mut Book<A>,

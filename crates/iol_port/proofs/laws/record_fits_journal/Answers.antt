@@ -6,6 +6,7 @@ pub returns : goal.returns
 returns c =
     let laws : BookLaws = record {
       submit = c.takings_of_calls.ensures.submit;
+      submit_urgent = c.takings_of_calls.ensures.submit_urgent;
       collect = c.takings_of_calls.ensures.collect;
       withdraw = c.takings_of_calls.ensures.withdraw;
       deny = c.takings_of_calls.ensures.deny;

@@ -10,7 +10,8 @@ use Rattle.iol_port.specs.Asks.{has_room, lacks_isdu, to_begin}
 use Rattle.iol_port.specs.View.{Parts}
 use Rattle.iol_port.specs.EveryWire.{taken_where}
 use Rattle.iol_port.specs.Steps.{book_through}
-use Rattle.iol_port.proofs.AskLemmas.{call_asked, turn_begun, book_told}
+use Rattle.iol_port.proofs.AskLemmas.{call_asked, book_told}
+use Rattle.iol_port.proofs.AskedTurns.{turn_begun_asked}
 use Rattle.iol_port.proofs.Denying.{turn_denies}
 use Rattle.iol_port.proofs.TieLemmas.{begun_same, ends_ask, turn_tied, turn_limit}
 use Rattle.iol_port.proofs.TurnLemmas.{turn_does, turn_gives_none}
@@ -65,8 +66,8 @@ returns-clause-gives g c =
     rw (← c.self.view_is)
     (record {
       said = c.turn-said.result;
-      turn = turn_begun wire.honest wire.far wire.silence wire.wake_gives wire.exchange_gives c.self.inside.station c.begin_next.new.station c.turn-said.new.self next c.has_room-room.result _ c.turn-said.result
-          room c.begin_next.ensures.exact c.turn-said.ensures.turn;
+      turn = turn_begun_asked wire.honest wire.far wire.silence wire.wake_gives wire.exchange_gives c.self.inside.station c.begin_next.new.station c.turn-said.new.self next c.has_room-room.result _ c.turn-said.result
+          room c.begin_next.ensures.exact c.turn-said.ensures.exact;
       book = c.settle.ensures.book
           ∙ book_told c.self.inside.station c.begin_next.new.station c.turn-said.new.self next c.has_room-room.result c.woke_up-woke.result c.status-began.result.mode c.status.result.mode c.turn-said.result c.begin_next.new.book.state
           c.begin_next.ensures.exact c.status-began.ensures.mode c.status.ensures.mode c.woke_up-woke.ensures

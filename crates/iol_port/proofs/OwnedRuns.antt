@@ -1,0 +1,463 @@
+-- what is carried out in a run is each request once, and none that was cut off before a wake that had success, or for good
+use Rattle.std.proofs.Common.{◌≡◌, ◌⊎◌, ◌∷◌, ◌++◌, [], List, ℕ, ◌+◌, Bool, true, false, if◌then◌else◌, ◌||◌, ◌≤◌, Option, Some, None, length, append-nil, refl, ap, sym, ◌∙◌, inl, inr, subst, arith}
+use Rattle.std.specs.Map.{lookup, remove_entry}
+use Rattle.indexmap.specs.IndexMap.{insert_entry}
+use Rattle.iol_isdu.specs.declared.values.Request.{Request}
+use Rattle.iol_isdu.specs.declared.values.Answer.{Answer}
+use Rattle.iol_isdu.specs.declared.values.Cause.{Cause}
+use Rattle.iol_isdu.specs.declared.values.Cause.TheVariants.{LinkLost, Restarted, BusyTooLong, Protocol, Cancelled}
+use Rattle.iol_device.specs.declared.app.Carried.{Carried}
+use Rattle.iol_device.specs.Far.{Far}
+use Rattle.iol_event.specs.declared.event.Event.{Event}
+use Rattle.iol_mode.specs.declared.why.Why.{Why}
+use Rattle.iol_book.specs.declared.entries.Limits.{Limits}
+use Rattle.iol_book.specs.declared.entries.Ticket.{Ticket}
+use Rattle.iol_book.specs.declared.entries.Outcome.{Outcome}
+use Rattle.iol_book.specs.declared.entries.Outcome.TheVariants as outcome
+use Rattle.iol_book.specs.declared.entries.Entry.TheVariants.{Withdrawn as WithdrawnEntry, Collected as CollectedEntry}
+use Rattle.iol_book.specs.declared.fault.BookFault.{BookFault}
+use Rattle.iol_book.specs.declared.fault.BookFault.TheVariants.{NotYet, UnknownTicket}
+use Rattle.iol_book.specs.Replay.{same_ticket, without, others_without}
+use Rattle.iol_book.specs.BookModel.{BookState, submitted, submitted_urgent, next_ticket, collected, entered, outcome_or, waits, is_taken, withdrawn, withdraw_refusal, may_archive}
+use Rattle.iol_steps.specs.declared.mode.Mode.{Mode}
+use Rattle.iol_steps.specs.declared.mode.Mode.TheVariants.{Down, Startup, Preoperate, Operate}
+use Rattle.iol_steps.specs.Step.{Step, Take, Carry, Done, Unknown, LateCarry, Reset, Busy, Move, Moment, Image}
+use Rattle.iol_steps.specs.Session.{Job, Session, MayMove, MaySession, MaySessionAll, session_after, session_through, carried_out, carried_late, cut_for, cancelling, marked}
+use Rattle.iol_steps.specs.Kinds.{restart_steps}
+use Rattle.iol_app.specs.declared.output.OutputFault.{OutputFault}
+use Rattle.iol_port.specs.declared.call.Call.{Call}
+use Rattle.iol_port.specs.declared.call.Call.TheVariants as call
+use Rattle.iol_port.specs.declared.call.Answered.{Answered}
+use Rattle.iol_port.specs.declared.call.Answered.TheVariants as answered
+use Rattle.iol_port.specs.Steps.{MayBookAll, book_after, book_through, ticket_of}
+use Rattle.iol_port.specs.Run.{PortState, CallOf, Run, Is, opened, moment_in, request_of, submit_of, collect_of, withdraw_of, cancel_of, archive_of, take_event_of, set_output_of, restarted}
+use Rattle.iol_port.specs.Owned.{Owned, IsOneOf, CarriesOut, IsCutOff, IsCutForGood, Happens, EachDoneHasItsPair, LateEnds, CutForGoodStaysOut}
+use Rattle.iol_port.proofs.OwnedLists.{ahead_once, ahead_given, ahead_next, waiting_push, waiting_without, waiting_others, each_removed, each_without, each_others, each_push, one_counts, apart_of}
+use Rattle.iol_port.proofs.Owning.{Tally, Grows, HasAnswer, OutcomeStands, outcome_then, inserted, found, marked_sent, tally_in, OwnsAll, GoesTo, still, goes_then, waits_owns, same_sent, cut_owns, step_owns, steps_own}
+
+-- Where the mode is down, it stays so until a wake has success
+
+carry_mode : (a : Answer) (job : Option Job) (s : Session) → s.mode ≡ Down → (carried_out a job s).mode ≡ Down
+carry_mode a None s down = down
+carry_mode a (Some job) s down = down
+
+late_mode : (a : Answer) (late : Option Request) (s : Session) → s.mode ≡ Down → (carried_late a late s).mode ≡ Down
+late_mode a None s down = down
+late_mode a (Some q) s down = down
+
+cut_mode : (cause : Cause) (s : Session) → s.mode ≡ Down → (cut_for cause s).mode ≡ Down
+cut_mode LinkLost s down = down
+cut_mode Restarted s down = down
+cut_mode BusyTooLong s down = down
+cut_mode Protocol s down = down
+cut_mode Cancelled s down = down
+
+down_move : (m : Moment) (mode : Mode) (why : Option Why) → MayMove m Down mode why → mode ≡ Down
+down_move m Down why may = refl
+down_move m Startup why may = absurd may
+down_move m Preoperate why may = absurd may
+down_move m Operate why may = absurd may
+
+down_stays : (m : Moment) (step : Step) (s : Session) → s.mode ≡ Down → MaySession m step s → (step ≡ Reset) ⊎ ((session_after step s).mode ≡ Down)
+down_stays m Reset s down may = inl refl
+down_stays m (Take t q) s down may = inr down
+down_stays m (Carry a) s down may = inr (carry_mode a s.job s down)
+down_stays m (Done a) s down may = inr down
+down_stays m (Unknown cause) s down may = inr (cut_mode cause s down)
+down_stays m (LateCarry a) s down may = inr (late_mode a s.late s down)
+down_stays m Busy s down may = inr down
+down_stays m (Move mode why) s down may = inr (down_move m mode why (rw down at may))
+down_stays m _ s down may = inr down
+
+module _ (given : ℕ) (before : List Carried) (Whole : Call → Answered → Type 0) where
+  abbrev Asked : Ticket → Request → Type 0
+  Asked t q = Whole (call.Submit q) (answered.Ticket t) ⊎ Whole (call.SubmitUrgent q) (answered.Ticket t)
+
+  -- a wake that had success: from then on only what was to come by now is carried out
+  record GoesWoken (x : Tally) (b : BookState) (s : Session) : Type 0 where
+    pub goes : GoesTo given before Asked x b s
+    pub woken : (n : ℕ) → (tally_in goes.owned goes.ticket b s).late n + (tally_in goes.owned goes.ticket b s).coming n ≤ x.coming n
+
+  wake_owns : (m : Moment) (steps : List Step) (b : BookState) (s : Session) (owned : List Owned) (u : Ticket) → s.mode ≡ Down → ((session_through steps s).mode ≡ Down → ⊥)
+      → MayBookAll steps b → MaySessionAll m steps s → OwnsAll given before Asked owned u b s → GoesWoken (tally_in owned u b s) (book_through steps b) (session_through steps s)
+  unfolding goes_then
+  wake_owns m [] b s owned u down left next may owns = absurd (left down)
+  wake_owns m (step ∷ steps) b s owned u down left next may owns =
+      by (down_stays m step s down may.0)
+      (λ still_down. wake_owns m steps (book_after step b) (session_after step s) one.owned one.ticket still_down left next.1 may.1 one.owns)
+    where
+      last_book : BookState
+      last_book = book_through steps (book_after step b)
+
+      last_session : Session
+      last_session = session_through steps (session_after step s)
+
+      one : GoesTo given before Asked (tally_in owned u b s) (book_after step b) (session_after step s)
+      one = step_owns given before Asked m step b s owned u next.0 may.0 owns
+
+      mid : Tally
+      mid = tally_in one.owned one.ticket (book_after step b) (session_after step s)
+
+      joined : GoesTo given before Asked mid last_book last_session → GoesTo given before Asked (tally_in owned u b s) last_book last_session
+      joined more = goes_then given before Asked (tally_in owned u b s) (book_after step b) (session_after step s) last_book last_session one more
+
+      by : (step ≡ Reset) ⊎ ((session_after step s).mode ≡ Down) → ((session_after step s).mode ≡ Down → GoesWoken mid last_book last_session) → GoesWoken (tally_in owned u b s) last_book last_session
+      by (inl is) later =
+          let more = steps_own given before Asked m steps (book_after step b) (session_after step s) one.owned one.ticket next.1 may.1 one.owns in
+          let sure : (session_after step s).late ≡ None = ap (λ (x : Step). (session_after x s).late) is in
+          record {
+            goes = joined more;
+            woken = λ n.
+                let none : mid.late n ≡ 0 = rw sure refl in
+                let less = one.grows.less n in
+                let spent = more.grows.spent n in
+                omega (arith, none, less, spent);
+          }
+      by (inr still_down) later =
+          let more = later still_down in
+          record {
+            goes = joined more.goes;
+            woken = λ n. let less = one.grows.less n in let woken = more.woken n in omega (arith, less, woken);
+          }
+
+  -- The calls
+
+  abbrev OwnsPort : List Owned → Ticket → PortState → Type 0
+  OwnsPort owned u a = OwnsAll given before Asked owned u a.book a.session
+
+  abbrev GoesPort : Tally → PortState → Type 0
+  GoesPort x b = GoesTo given before Asked x b.book b.session
+
+  abbrev tally_at : List Owned → Ticket → PortState → Tally
+  tally_at owned u a = tally_in owned u a.book a.session
+
+  goes_as : (x : Tally) (b c : PortState) → b ≡ c → GoesPort x c → GoesPort x b
+  goes_as x b c is goes = subst (λ (p : PortState). GoesPort x p) (sym is) goes
+
+  unchanged : (a b : PortState) (owned : List Owned) (u : Ticket) → b ≡ a → OwnsPort owned u a → GoesPort (tally_at owned u a) b
+  unchanged a b owned u is owns = goes_as (tally_at owned u a) b a is (still given before Asked owned u a.book a.session owns)
+
+  -- the next ticket comes, as it did before
+  submitted_owns : (a : PortState) (q : Request) (owned : List Owned) (u : Ticket) → Whole (call.Submit q) (answered.Ticket (next_ticket a.book)) → OwnsPort owned u a
+      → GoesPort (tally_at owned u a) (record a { book = submitted a.book q })
+  submitted_owns a q owned u happened owns =
+      waits_owns given before Asked a.book.standing.urgent (a.book.standing.waiting ++ (next_ticket a.book, q) ∷ []) a.book.standing.outcomes (a.book.last + 1) a.book a.session owned u
+      (λ n. let push = waiting_push n a.book.standing.waiting (next_ticket a.book, q) in let next = ahead_next a.book.last n in omega (arith, push, next))
+      owns.urgent
+      (each_push Asked a.book.standing.waiting (next_ticket a.book) q (inl happened) owns.waiting)
+      owns.outcomes
+      owns
+
+  urgent_owns : (a : PortState) (q : Request) (owned : List Owned) (u : Ticket) → Whole (call.SubmitUrgent q) (answered.Ticket (next_ticket a.book)) → OwnsPort owned u a
+      → GoesPort (tally_at owned u a) (record a { book = submitted_urgent a.book q })
+  urgent_owns a q owned u happened owns =
+      waits_owns given before Asked (a.book.standing.urgent ++ (next_ticket a.book, q) ∷ []) a.book.standing.waiting a.book.standing.outcomes (a.book.last + 1) a.book a.session owned u
+      (λ n. let push = waiting_push n a.book.standing.urgent (next_ticket a.book, q) in let next = ahead_next a.book.last n in omega (arith, push, next))
+      (each_push Asked a.book.standing.urgent (next_ticket a.book) q (inr happened) owns.urgent)
+      owns.waiting
+      owns.outcomes
+      owns
+
+  submit_owns : (a b : PortState) (c : Call) (next : BookState) (reply : Answered) (why : Option BookFault) (owned : List Owned) (u : Ticket) → Is reply b (submit_of a next why) → Whole c reply
+      → (Whole c (answered.Ticket (next_ticket a.book)) → GoesPort (tally_at owned u a) (record a { book = next })) → OwnsPort owned u a → GoesPort (tally_at owned u a) b
+  submit_owns a b c next reply (Some why) owned u is happened goes owns = unchanged a b owned u is.1 owns
+  submit_owns a b c next reply None owned u is happened goes owns =
+      goes_as (tally_at owned u a) b (record a { book = next }) is.1 (goes (subst (λ (r : Answered). Whole c r) is.0 happened))
+
+  withdrawn_owns : (a : PortState) (t : Ticket) (owned : List Owned) (u : Ticket) → OwnsPort owned u a → GoesTo given before Asked (tally_at owned u a) (entered a.book (WithdrawnEntry t)) a.session
+  withdrawn_owns a t owned u owns =
+      waits_owns given before Asked (without t urgent) (others_without t urgent waiting) (insert_entry same_ticket a.book.standing.outcomes t outcome.Withdrawn) a.book.last a.book a.session owned u
+      (λ n. let fewer = waiting_without n t urgent in let others = waiting_others n t urgent waiting in omega (arith, fewer, others))
+      (each_without Asked t urgent owns.urgent)
+      (each_others Asked t urgent waiting owns.waiting)
+      (inserted (tally_at owned u a) a.book.standing.outcomes t outcome.Withdrawn tt owns.outcomes)
+      owns
+    where
+      urgent : List (Ticket × Request)
+      urgent = a.book.standing.urgent
+
+      waiting : List (Ticket × Request)
+      waiting = a.book.standing.waiting
+
+  withdraw_owns : (a b : PortState) (t : Ticket) (reply : Answered) (why : Option BookFault) (owned : List Owned) (u : Ticket) → withdraw_refusal a.book.standing t ≡ why → Is reply b (withdraw_of a t why) → OwnsPort owned u a
+      → GoesPort (tally_at owned u a) b
+  withdraw_owns a b t reply (Some why) owned u e is owns = unchanged a b owned u is.1 owns
+  withdraw_owns a b t reply None owned u e is owns =
+      goes_as (tally_at owned u a) b (record a { book = withdrawn a.book t }) is.1 (rw e (withdrawn_owns a t owned u owns))
+
+  cancel_owns : (a b : PortState) (reply : Answered) (why : Option BookFault) (owned : List Owned) (u : Ticket) → Is reply b (cancel_of a why) → OwnsPort owned u a → GoesPort (tally_at owned u a) b
+  cancel_owns a b reply (Some why) owned u is owns = unchanged a b owned u is.1 owns
+  cancel_owns a b reply None owned u is owns =
+      goes_as (tally_at owned u a) b (record a { session = cancelling a.session }) is.1
+      (same_sent given before Asked (marked a.session.job) a.book a.session owned u (marked_sent a.session.job) owns)
+
+  archive_owns : (a b : PortState) (reply : Answered) (may : Bool) (owned : List Owned) (u : Ticket) → may_archive a.book ≡ may → Is reply b (archive_of a) → OwnsPort owned u a → GoesPort (tally_at owned u a) b
+  archive_owns a b reply true owned u e is owns =
+      let done : b ≡ record a { book = record a.book { journal = [] }; base = length a.session.carried } = rw e at is.1 in
+      goes_as (tally_at owned u a) b (record a { book = record a.book { journal = [] }; base = length a.session.carried }) done
+      (still given before Asked owned u (record a.book { journal = [] }) a.session owns)
+  archive_owns a b reply false owned u e is owns = unchanged a b owned u (rw e at is.1) owns
+
+  take_event_owns : (a b : PortState) (reply : Answered) (events : List Event) (owned : List Owned) (u : Ticket) → Is reply b (take_event_of a events) → OwnsPort owned u a → GoesPort (tally_at owned u a) b
+  take_event_owns a b reply [] owned u is owns = unchanged a b owned u is.1 owns
+  take_event_owns a b reply (event ∷ events) owned u is owns = goes_as (tally_at owned u a) b (record a { kept = events }) is.1 (still given before Asked owned u a.book a.session owns)
+
+  output_owns : (a b : PortState) (image : Image) (reply : Answered) (why : Option OutputFault) (owned : List Owned) (u : Ticket) → Is reply b (set_output_of a image why) → OwnsPort owned u a → GoesPort (tally_at owned u a) b
+  output_owns a b image reply (Some why) owned u is owns = unchanged a b owned u is.1 owns
+  output_owns a b image reply None owned u is owns =
+      goes_as (tally_at owned u a) b (record a { images = record a.images { wanted = Some image } }) is.1 (still given before Asked owned u a.book a.session owns)
+
+  restart_owns : (a : PortState) (job : Option Job) (owned : List Owned) (u : Ticket) → a.session.job ≡ job → OwnsPort owned u a
+      → GoesTo given before Asked (tally_at owned u a) (book_through (restart_steps (request_of job)) a.book) (session_through (restart_steps (request_of job)) a.session)
+  restart_owns a None owned u is owns = still given before Asked owned u a.book (record a.session { mode = Down; why = None }) owns
+  restart_owns a (Some job) owned u is owns = cut_owns given before Asked Restarted job a.book a.session owned u is owns
+
+  -- what a call leaves, and what a collect tells
+  record CallOwns (x : Tally) (c : Call) (reply : Answered) (b : PortState) : Type 0 where
+    pub goes : GoesPort x b
+    pub got : (t : Ticket) (out : Outcome) → c ≡ call.Collect t → reply ≡ answered.Outcome out → OutcomeStands (tally_at goes.owned goes.ticket b) t out
+
+  collect_owns : (a : PortState) (t : Ticket) (owned : List Owned) (u : Ticket) (out : Option Outcome) → lookup (same_ticket t) a.book.standing.outcomes ≡ out → (b : PortState) (reply : Answered)
+      → Is reply b (collect_of a t (outcome_or out (if waits a.book.standing t || is_taken a.book.standing t then NotYet else UnknownTicket))) → OwnsPort owned u a
+      → CallOwns (tally_at owned u a) (call.Collect t) reply b
+  collect_owns a t owned u None e b reply is owns = record {
+    goes = unchanged a b owned u is.1 owns;
+    got = λ v other c r. absurd (let k : answered.Refused _ ≡ answered.Outcome other = sym is.0 ∙ r in cc);
+  }
+  collect_owns a t owned u (Some out) e b reply is owns = record {
+    goes = goes;
+    got = λ v other c r.
+        let same : t ≡ v = (let k : call.Collect t ≡ call.Collect v = c in cc) in
+        let those : out ≡ other = (let k : answered.Outcome out ≡ answered.Outcome other = sym is.0 ∙ r in cc) in
+        outcome_then x (tally_at goes.owned goes.ticket b) goes.grows v other
+        (subst (λ (o : Outcome). OutcomeStands x v o) those
+        (subst (λ (k : Ticket). OutcomeStands x k out) same (found x a.book.standing.outcomes t out e owns.outcomes)));
+  }
+    where
+      x : Tally
+      x = tally_at owned u a
+
+      without : GoesTo given before Asked x (entered a.book (CollectedEntry t)) a.session
+      without =
+          waits_owns given before Asked a.book.standing.urgent a.book.standing.waiting (remove_entry (same_ticket t) a.book.standing.outcomes) a.book.last a.book a.session owned u
+          (λ n. omega arith) owns.urgent owns.waiting (each_removed (OutcomeStands x) (same_ticket t) a.book.standing.outcomes owns.outcomes) owns
+
+      goes : GoesPort x b
+      goes = goes_as x b (record a { book = collected a.book t }) is.1 (rw e without)
+
+  other : (x : Tally) (c : Call) (reply : Answered) (b : PortState) → ((t : Ticket) → c ≡ call.Collect t → ⊥) → GoesPort x b → CallOwns x c reply b
+  other x c reply b differs goes = record { goes = goes; got = λ t out e f. absurd (differs t e) }
+
+  call_owns : (a b : PortState) (c : Call) (reply : Answered) (owned : List Owned) (u : Ticket) → CallOf a c reply b → Whole c reply → OwnsPort owned u a → CallOwns (tally_at owned u a) c reply b
+  call_owns a b (call.Submit q) reply owned u (inl is) happened owns =
+      other _ _ reply b (λ t e. cc) (submit_owns a b (call.Submit q) (submitted a.book q) reply _ owned u is happened (λ asked. submitted_owns a q owned u asked owns) owns)
+  call_owns a b (call.Submit q) reply owned u (inr lacks) happened owns = other _ _ reply b (λ t e. cc) (unchanged a b owned u lacks.2 owns)
+  call_owns a b (call.SubmitUrgent q) reply owned u (inl is) happened owns =
+      other _ _ reply b (λ t e. cc) (submit_owns a b (call.SubmitUrgent q) (submitted_urgent a.book q) reply _ owned u is happened (λ asked. urgent_owns a q owned u asked owns) owns)
+  call_owns a b (call.SubmitUrgent q) reply owned u (inr lacks) happened owns = other _ _ reply b (λ t e. cc) (unchanged a b owned u lacks.2 owns)
+  call_owns a b (call.Collect t) reply owned u is happened owns = collect_owns a t owned u (lookup (same_ticket t) a.book.standing.outcomes) refl b reply is owns
+  call_owns a b (call.Withdraw t) reply owned u is happened owns = other _ _ reply b (λ v e. cc) (withdraw_owns a b t reply _ owned u refl is owns)
+  call_owns a b (call.Cancel t) reply owned u is happened owns = other _ _ reply b (λ v e. cc) (cancel_owns a b reply _ owned u is owns)
+  call_owns a b call.Restart reply owned u is happened owns =
+      other _ _ reply b (λ t e. cc) (goes_as (tally_at owned u a) b (restarted a) is.1 (restart_owns a a.session.job owned u refl owns))
+  call_owns a b (call.SetOutput image) reply owned u is happened owns = other _ _ reply b (λ t e. cc) (output_owns a b image reply _ owned u is owns)
+  call_owns a b call.ClearOutput reply owned u is happened owns =
+      other _ _ reply b (λ t e. cc) (goes_as (tally_at owned u a) b (record a { images = record a.images { wanted = None } }) is.1 (still given before Asked owned u a.book a.session owns))
+  call_owns a b call.Look reply owned u is happened owns = other _ _ reply b (λ t e. cc) (unchanged a b owned u is.1 owns)
+  call_owns a b call.TakeEvent reply owned u is happened owns = other _ _ reply b (λ t e. cc) (take_event_owns a b reply _ owned u is owns)
+  call_owns a b call.Status reply owned u is happened owns = other _ _ reply b (λ t e. cc) (unchanged a b owned u is.1 owns)
+  call_owns a b call.Archive reply owned u is happened owns = other _ _ reply b (λ t e. cc) (archive_owns a b reply _ owned u refl is owns)
+  call_owns a b call.Turn reply owned u (_, (t, _, work, _, _)) happened owns =
+      other _ _ reply b (λ v e. cc)
+      (rw (work.book, work.session) (steps_own given before Asked (moment_in a t) t.steps a.book a.session owned u work.may_book work.may_session owns))
+
+  -- Whole runs
+
+  record RunOwns (x : Tally) (calls : List Call) (replies : List Answered) (b : PortState) : Type 0 where
+    pub goes : GoesPort x b
+    pub got : (t : Ticket) (out : Outcome) → Happens calls replies (call.Collect t) (answered.Outcome out) → OutcomeStands (tally_at goes.owned goes.ticket b) t out
+
+  run_then : (x : Tally) (mid b : PortState) (c : Call) (r : Answered) (calls : List Call) (replies : List Answered) (one : CallOwns x c r mid)
+      → RunOwns (tally_at one.goes.owned one.goes.ticket mid) calls replies b → RunOwns x (c ∷ calls) (r ∷ replies) b
+  unfolding goes_then
+  run_then x mid b c r calls replies one later = record { goes = goes_then given before Asked x mid.book mid.session b.book b.session one.goes later.goes; got = by }
+    where
+      by : (t : Ticket) (out : Outcome) → Happens (c ∷ calls) (r ∷ replies) (call.Collect t) (answered.Outcome out) → OutcomeStands (tally_at later.goes.owned later.goes.ticket b) t out
+      by t out (inl (e, f)) = outcome_then (tally_at one.goes.owned one.goes.ticket mid) (tally_at later.goes.owned later.goes.ticket b) later.goes.grows t out (one.got t out e f)
+      by t out (inr i) = later.got t out i
+
+  run_owns : (a b : PortState) (calls : List Call) (replies : List Answered) (owned : List Owned) (u : Ticket) → Run a calls replies b
+      → ((c : Call) (r : Answered) → Happens calls replies c r → Whole c r) → OwnsPort owned u a → RunOwns (tally_at owned u a) calls replies b
+  run_owns a b [] [] owned u run all owns = record { goes = unchanged a b owned u run owns; got = λ t out no. absurd no }
+  run_owns a b (c ∷ calls) (r ∷ replies) owned u (mid, first, rest) all owns =
+      let one : CallOwns (tally_at owned u a) c r mid = call_owns a mid c r owned u first (all c r (inl (refl, refl))) owns in
+      run_then (tally_at owned u a) mid b c r calls replies one (run_owns mid b calls replies one.goes.owned one.goes.ticket rest (λ x y i. all x y (inr i)) one.goes.owns)
+  run_owns a b [] (r ∷ replies) owned u run all owns = absurd run
+  run_owns a b (c ∷ calls) [] owned u run all owns = absurd run
+
+-- What happens in a run and in one that goes on
+
+happens_first : (a b : PortState) (calls more : List Call) (replies others : List Answered) → Run a calls replies b → (c : Call) (r : Answered) → Happens calls replies c r → Happens (calls ++ more) (replies ++ others) c r
+happens_first a b [] more [] others run c r i = absurd i
+happens_first a b (d ∷ calls) more (s ∷ replies) others (mid, one, rest) c r (inl is) = inl is
+happens_first a b (d ∷ calls) more (s ∷ replies) others (mid, one, rest) c r (inr i) = inr (happens_first mid b calls more replies others rest c r i)
+happens_first a b [] more (s ∷ replies) others run c r i = absurd run
+happens_first a b (d ∷ calls) more [] others run c r i = absurd run
+
+happens_last : (a b : PortState) (calls more : List Call) (replies others : List Answered) → Run a calls replies b → (c : Call) (r : Answered) → Happens more others c r → Happens (calls ++ more) (replies ++ others) c r
+happens_last a b [] more [] others run c r i = i
+happens_last a b (d ∷ calls) more (s ∷ replies) others (mid, one, rest) c r i = inr (happens_last mid b calls more replies others rest c r i)
+happens_last a b [] more (s ∷ replies) others run c r i = absurd run
+happens_last a b (d ∷ calls) more [] others run c r i = absurd run
+
+happens_where : (a b : PortState) (calls more : List Call) (replies others : List Answered) → Run a calls replies b → (c : Call) (r : Answered) → Happens (calls ++ more) (replies ++ others) c r
+    → Happens calls replies c r ⊎ Happens more others c r
+happens_where a b [] more [] others run c r i = inr i
+happens_where a b (d ∷ calls) more (s ∷ replies) others (mid, one, rest) c r (inl is) = inl (inl is)
+happens_where a b (d ∷ calls) more (s ∷ replies) others (mid, one, rest) c r (inr i) = by (happens_where mid b calls more replies others rest c r i)
+  where
+    by : Happens calls replies c r ⊎ Happens more others c r → Happens (d ∷ calls) (s ∷ replies) c r ⊎ Happens more others c r
+    by (inl there) = inl (inr there)
+    by (inr there) = inr there
+happens_where a b [] more (s ∷ replies) others run c r i = absurd run
+happens_where a b (d ∷ calls) more [] others run c r i = absurd run
+
+-- the ledger of a run says what the device carried out in it
+carries_out : (given : ℕ) (before : List Carried) (calls : List Call) (replies : List Answered) (b : PortState) (owned : List Owned) (u : Ticket) → OwnsPort given before (Happens calls replies) owned u b
+    → ((t : Ticket) (a : Answer) → Happens calls replies (call.Collect t) (answered.Outcome (outcome.Done a)) → HasAnswer owned t a) → CarriesOut given before calls replies b.session.carried owned
+carries_out given before calls replies b owned u owns done = record {
+  record_is = owns.record_is;
+  apart = apart_of given owned (λ n. let most = owns.once.once n in omega (arith, most)) (λ n low. let none = owns.once.above n low in omega (arith, none));
+  asked = owns.asked;
+  done = done;
+}
+
+-- a port that is opened
+module _ (limits : Limits) (far : Far) (silence : ℕ) (Whole : Call → Answered → Type 0) where
+  start : OwnsPort limits.given far.carried Whole [] (ticket_of 0) (opened limits far silence)
+  start = record {
+    record_is = sym (append-nil far.carried);
+    once = record {
+      once = λ n. let most = ahead_once limits.given n in omega (arith, most);
+      above = λ n low. let none = ahead_given limits.given n low in omega (arith, none);
+    };
+    asked = λ o i. absurd i;
+    urgent = tt;
+    waiting = tt;
+    under_way = tt;
+    late_asked = tt;
+    outcomes = tt;
+  }
+
+pub each_done_has_its_pair : EachDoneHasItsPair
+each_done_has_its_pair limits far silence calls replies b run =
+    let end = run_owns limits.given far.carried (Happens calls replies) (opened limits far silence) b calls replies [] (ticket_of 0) run (λ c r i. i) (start limits far silence (Happens calls replies)) in
+    (end.goes.owned, carries_out limits.given far.carried calls replies b end.goes.owned end.goes.ticket end.goes.owns (λ t a i. end.got t (outcome.Done a) i))
+
+-- what is carried out from a ledger on was to come there
+added_comes : (x y : Tally) (grows : Grows x y) (o : Owned) → IsOneOf o grows.added → 1 ≤ x.late o.ticket.0 + x.coming o.ticket.0
+added_comes x y grows o i = let there = one_counts o grows.added i in let spent = grows.spent o.ticket.0 in omega (arith, there, spent)
+
+-- a run, and one that goes on from where it led
+module _ (limits : Limits) (far : Far) (silence : ℕ) (calls more : List Call) (replies others : List Answered) (a c : PortState) (run : Run (opened limits far silence) calls replies a) where
+  abbrev Both : Call → Answered → Type 0
+  Both d r = Happens (calls ++ more) (replies ++ others) d r
+
+  first : RunOwns limits.given far.carried Both (tally_at limits.given far.carried Both [] (ticket_of 0) (opened limits far silence)) calls replies a
+  first = run_owns limits.given far.carried Both (opened limits far silence) a calls replies [] (ticket_of 0) run (λ d r i. happens_first _ a calls more replies others run d r i) (start limits far silence Both)
+
+  abbrev then_tally : Tally
+  then_tally = tally_at limits.given far.carried Both first.goes.owned first.goes.ticket a
+
+  -- both together
+  both_carry : (all : RunOwns limits.given far.carried Both then_tally more others c) → CarriesOut limits.given far.carried (calls ++ more) (replies ++ others) c.session.carried all.goes.owned
+  both_carry all =
+      carries_out limits.given far.carried (calls ++ more) (replies ++ others) c all.goes.owned all.goes.ticket all.goes.owns
+      (λ t x i. by t x (happens_where _ a calls more replies others run _ _ i))
+    where
+      by : (t : Ticket) (x : Answer) → Happens calls replies (call.Collect t) (answered.Outcome (outcome.Done x)) ⊎ Happens more others (call.Collect t) (answered.Outcome (outcome.Done x)) → HasAnswer all.goes.owned t x
+      by t x (inl i) = outcome_then then_tally (tally_at limits.given far.carried Both all.goes.owned all.goes.ticket c) all.goes.grows t (outcome.Done x) (first.got t (outcome.Done x) i)
+      by t x (inr i) = all.got t (outcome.Done x) i
+
+  -- what was cut off by the end of the first
+  cut_then : (t : Ticket) (cause : Cause)
+      → Happens calls replies (call.Collect t) (answered.Outcome (outcome.Unknown cause)) ⊎ (lookup (same_ticket t) a.book.standing.outcomes ≡ Some (outcome.Unknown cause))
+      → OutcomeStands then_tally t (outcome.Unknown cause)
+  cut_then t cause (inl i) = first.got t (outcome.Unknown cause) i
+  cut_then t cause (inr e) = found then_tally a.book.standing.outcomes t (outcome.Unknown cause) e first.goes.owns.outcomes
+
+pub cut_for_good_stays_out : CutForGoodStaysOut
+cut_for_good_stays_out limits far silence calls more replies others a c run rest = (
+  before_it.goes.owned,
+  later.goes.grows.added,
+  before_it.goes.owns.record_is,
+  subst (λ (os : List Owned). CarriesOut limits.given far.carried (calls ++ more) (replies ++ others) c.session.carried os) later.goes.grows.owned_is
+      (both_carry limits far silence calls more replies others a c run later),
+  λ o i cut. never o i cut,
+)
+  where
+    Whole : Call → Answered → Type 0
+    Whole d r = Happens (calls ++ more) (replies ++ others) d r
+
+    before_it : RunOwns limits.given far.carried Whole (tally_at limits.given far.carried Whole [] (ticket_of 0) (opened limits far silence)) calls replies a
+    before_it = first limits far silence calls more replies others a c run
+
+    tally : Tally
+    tally = tally_at limits.given far.carried Whole before_it.goes.owned before_it.goes.ticket a
+
+    later : RunOwns limits.given far.carried Whole tally more others c
+    later = run_owns limits.given far.carried Whole a c more others before_it.goes.owned before_it.goes.ticket rest (λ d r i. happens_last _ a calls more replies others run d r i) before_it.goes.owns
+
+    never : (o : Owned) → IsOneOf o later.goes.grows.added → IsCutForGood calls replies a o.ticket → ⊥
+    never o i (cause, sure, cut) =
+        let (none, late) = cut_then limits far silence calls more replies others a c run o.ticket cause cut in
+        let not_late = late sure in
+        let comes = added_comes tally (tally_at limits.given far.carried Whole later.goes.owned later.goes.ticket c) later.goes.grows o i in
+        omega (arith, none, not_late, comes)
+
+pub late_ends : LateEnds
+unfolding run_then goes_then
+late_ends limits far silence calls more replies others a b c run wakes rest = (
+  woken.goes.owned,
+  later.goes.grows.added,
+  woken.goes.owns.record_is,
+  subst (λ (os : List Owned). CarriesOut limits.given far.carried (calls ++ call.Turn ∷ more) (replies ++ answered.Nothing ∷ others) c.session.carried os) later.goes.grows.owned_is
+      (both_carry limits far silence calls (call.Turn ∷ more) replies (answered.Nothing ∷ others) a c run all),
+  λ o i cut. never o i cut,
+)
+  where
+    Whole : Call → Answered → Type 0
+    Whole d r = Happens (calls ++ call.Turn ∷ more) (replies ++ answered.Nothing ∷ others) d r
+
+    before_it : RunOwns limits.given far.carried Whole (tally_at limits.given far.carried Whole [] (ticket_of 0) (opened limits far silence)) calls replies a
+    before_it = first limits far silence calls (call.Turn ∷ more) replies (answered.Nothing ∷ others) a c run
+
+    tally : Tally
+    tally = tally_at limits.given far.carried Whole before_it.goes.owned before_it.goes.ticket a
+
+    woken : GoesWoken limits.given far.carried Whole tally b.book b.session
+    woken =
+        let (t, _, work, _, _) = wakes.turn in
+        let left : (session_through t.steps a.session).mode ≡ Down → ⊥ = rw work.session at wakes.up in
+        rw (work.book, work.session)
+        (wake_owns limits.given far.carried Whole (moment_in a t) t.steps a.book a.session before_it.goes.owned before_it.goes.ticket wakes.down left work.may_book work.may_session before_it.goes.owns)
+
+    mid : Tally
+    mid = tally_at limits.given far.carried Whole woken.goes.owned woken.goes.ticket b
+
+    turn : CallOwns limits.given far.carried Whole tally call.Turn answered.Nothing b
+    turn = record { goes = woken.goes; got = λ t out e f. absurd (let k : call.Turn ≡ call.Collect t = e in cc) }
+
+    later : RunOwns limits.given far.carried Whole mid more others c
+    later = run_owns limits.given far.carried Whole b c more others woken.goes.owned woken.goes.ticket rest
+        (λ d r i. happens_last _ a calls (call.Turn ∷ more) replies (answered.Nothing ∷ others) run d r (inr i)) woken.goes.owns
+
+    all : RunOwns limits.given far.carried Whole tally (call.Turn ∷ more) (answered.Nothing ∷ others) c
+    all = run_then limits.given far.carried Whole tally b c call.Turn answered.Nothing more others turn later
+
+    never : (o : Owned) → IsOneOf o later.goes.grows.added → IsCutOff calls replies a o.ticket → ⊥
+    never o i (cause, cut) =
+        let (none, _) = cut_then limits far silence calls (call.Turn ∷ more) replies (answered.Nothing ∷ others) a c run o.ticket cause cut in
+        let comes = added_comes mid (tally_at limits.given far.carried Whole later.goes.owned later.goes.ticket c) later.goes.grows o i in
+        let woke = woken.woken o.ticket.0 in
+        omega (arith, none, comes, woke)

@@ -1,0 +1,16 @@
+-- A port that goes on over another wire.
+use Rattle.std.specs.Prelude.{ℕ, Bool}
+use Rattle.iol_device.specs.Far.{Far}
+use Rattle.iol_app.specs.Rewire.{rewired}
+use Rattle.iol_port.specs.Run.{PortState}
+use Rattle.iol_port.specs.View.{Parts, StandsFor}
+
+module _ {W : Type 0} where
+  -- the same port over this wire
+  abbrev pub rewired_parts : W → Parts W → Parts W
+  rewired_parts wire p = record p { station = record p.station { link = rewired wire p.station.link } }
+
+  -- each abstract port that it stood for, it stands for
+  module _ (honest : W → Bool) (far : W → Far) (silence : W → ℕ) where
+    unfoldable pub StandsStill : Parts W → Parts W → Type 0
+    StandsStill p next = (a : PortState) → StandsFor honest far silence p a → StandsFor honest far silence next a
