@@ -1,0 +1,6 @@
+pub mod HonestLemmas
+pub mod ToldTurns
+pub mod DriveLemmas
+pub mod PlainTurns
+pub mod HonestTurns
+pub mod MeetLemmas

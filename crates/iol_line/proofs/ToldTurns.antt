@@ -1,0 +1,155 @@
+-- The exact turn of a port over a line that was told is the exact turn over a line that brings just that.
+use Rattle.std.proofs.Common.{◌≡◌, ◌∙◌, refl, sym, subst, ap, ℕ, Bool, List, Option, Some, None, is_some, IsTrue, ⊎_elim, inl, inr}
+use Rattle.std.specs.Prelude.{◌&&◌}
+use Rattle.arrayvec.specs.ArrayVec.{ArrayVec}
+use Rattle.iol_event.specs.declared.event.Event.{Event}
+use Rattle.iol_mseq.specs.Shape.{Shape}
+use Rattle.iol_mseq.specs.Texts.{master_text}
+use Rattle.iol_mseq.specs.declared.master.MasterMsg.{MasterMsg}
+use Rattle.iol_mseq.specs.declared.reply.Reply.{Reply}
+use Rattle.iol_device.specs.Device.{octets_in}
+use Rattle.iol_device.specs.Far.{Far}
+use Rattle.iol_device.specs.Level.{Link as FarLink}
+use Rattle.iol_link.specs.Honest.{HonestExchange, HonestWake}
+use Rattle.iol_link.specs.declared.wire.Rate.{Rate}
+use Rattle.iol_mode.specs.declared.states.Outcome.{Outcome}
+use Rattle.iol_mode.specs.Stands.{OperateStands, IsOperating, IsAccepted}
+use Rattle.iol_mode.specs.States.{sending_of}
+use Rattle.iol_steps.specs.declared.said.Said.{Said}
+use Rattle.iol_app.specs.declared.asked.Asked.{Asked}
+use Rattle.iol_app.specs.declared.asked.Asked.TheVariants.{Wake, Exchange}
+use Rattle.iol_app.specs.declared.station.AnyLink.{AnyLink}
+use Rattle.iol_app.specs.declared.station.AnyLink.TheVariants.{Down as InDown, Startup as InStartup, Preoperate as InPreoperate, Operate as InOperate}
+use Rattle.iol_app.specs.State.{SessionState}
+use Rattle.iol_app.specs.StationState.{StationState, wire_of, IsLinkTurn, IsTurn, IsWake, IsExchange}
+use Rattle.iol_app.specs.AskedCalls.{AskedWakes, AskedGives}
+use Rattle.iol_app.specs.Rewire.{rewired}
+use Rattle.iol_book.specs.BookModel.{BookValue}
+use Rattle.iol_port.specs.View.{Parts}
+use Rattle.iol_port.specs.Asks.{asks_of, has_room}
+use Rattle.iol_port.specs.EveryWire.{TurnGives}
+use Rattle.iol_port.specs.Rewire.{rewired_parts}
+
+module _ {W : Type 0} (honest : W → Bool) (far : W → Far) (silence : W → ℕ) (wakes : W → Option Rate → W → Type 0) (gives : W → List ℕ → Option (ArrayVec ℕ) → W → Type 0)
+    (wakes' : W → Option Rate → W → Type 0) (gives' : W → List ℕ → Option (ArrayVec ℕ) → W → Type 0) where
+  -- a line that stands to the same device as this wire, and whose calls are calls of this wire under other relations
+  record Stands (line wire : W) : Type 0 where
+    honesty : honest line ≡ honest wire
+    device : far line ≡ far wire
+    quiet : silence line ≡ silence wire
+    woken : (came : Option Rate) (new : W) → wakes line came new → wakes' wire came new
+    answered : (octets : List ℕ) (came : Option (ArrayVec ℕ)) (new : W) → gives line octets came new → gives' wire octets came new
+
+  module _ (line wire : W) (same : Stands line wire) where
+    claims : IsTrue (honest wire) → IsTrue (honest line)
+    claims t = subst IsTrue (sym same.honesty) t
+
+    wake_over : (s : SessionState) (said : Said) (new : StationState W) → IsWake honest far silence wakes gives line s said new → IsWake honest far silence wakes' gives' wire s said new
+    wake_over s said new t = record {
+      answer = t.answer;
+      called = same.woken _ _ t.called;
+      passes = λ c. subst (λ (f : Far). HonestWake f (is_some t.answer) (far (wire_of new.link))) same.device (t.passes (claims c));
+      honesty = t.honesty ∙ same.honesty;
+      quiet = t.quiet ∙ same.quiet;
+      stands = λ c. t.stands (claims c);
+      settled = t.settled;
+    }
+
+    abbrev exchange_over : (layout : Shape) (message : MasterMsg) (turned : Option Reply → Outcome) (s : SessionState) (said : Said) (new : StationState W)
+        → IsExchange honest far silence wakes gives line layout message turned s said new → IsExchange honest far silence wakes' gives' wire layout message turned s said new
+    exchange_over layout message turned s said new x = record {
+      answer = x.answer;
+      called = same.answered _ _ _ x.called;
+      passes = λ c. subst (λ (q : ℕ). HonestExchange (far wire) q (master_text layout message) (octets_in x.answer) (far (wire_of new.link)) (silence (wire_of new.link))) same.quiet
+          (subst (λ (f : Far). HonestExchange f (silence line) (master_text layout message) (octets_in x.answer) (far (wire_of new.link)) (silence (wire_of new.link))) same.device
+          (x.passes (claims c)));
+      settled = x.settled;
+      both = record {
+        honesty = x.both.honesty ∙ same.honesty;
+        stands = λ c. x.both.stands (claims c);
+        met = λ c. x.both.met (claims c);
+        lost = λ c. x.both.lost (claims c);
+        fits = x.both.fits;
+      };
+    }
+
+  link_over : (line : W) (link : AnyLink W) → Stands line (wire_of link) → (s : SessionState) (room : Bool) (said : Said) (new : StationState W)
+      → IsLinkTurn honest far silence wakes gives (rewired line link) s room said new → IsLinkTurn honest far silence wakes' gives' link s room said new
+  link_over line (InDown link) same s room said new t = wake_over line link.wire same s said new t
+  link_over line (InStartup link) same s room said new t = record {
+    exchange = exchange_over line link.wire same _ _ _ _ _ _ t.exchange;
+    fault = λ c. t.fault (claims line link.wire same c);
+  }
+  link_over line (InPreoperate link) same s room said new t = exchange_over line link.wire same _ _ _ _ _ _ t
+  link_over line (InOperate link) same s room said new t = record {
+    message = t.message;
+    is_for = t.is_for;
+    parts = t.parts;
+    carries = t.carries;
+    exchange = exchange_over line link.wire same _ _ _ _ _ _ t.exchange;
+    fits = t.fits;
+    stood = λ c. subst (λ (q : ℕ). OperateStands link.state q (far link.wire)) same.quiet
+        (subst (λ (f : Far). OperateStands link.state (silence line) f) same.device (t.stood (claims line link.wire same c)));
+    few = t.few;
+    accepted = λ c. subst (λ (f : Far). (there : FarLink) → IsOperating link.state.layouts there → IsAccepted link.state.layouts f.page there (sending_of link.state.out t.message).message) same.device
+        (t.accepted (claims line link.wire same c));
+  }
+
+module _ {W : Type 0} (honest : W → Bool) (far : W → Far) (silence : W → ℕ) (wakes : W → Option Rate → W → Type 0) (gives : W → List ℕ → Option (ArrayVec ℕ) → W → Type 0)
+    (wakes' : W → Option Rate → W → Type 0) (gives' : W → List ℕ → Option (ArrayVec ℕ) → W → Type 0) where
+  -- what the line gives of what the port asks for is what the other wire gives
+  pub record Brings (asked : Asked) (line wire : W) : Type 0 where
+    pub honesty : honest line ≡ honest wire
+    pub device : far line ≡ far wire
+    pub quiet : silence line ≡ silence wire
+    pub woken : (came : Option Rate) (new : W) → asked ≡ Wake → wakes line came new → wakes' wire came new
+    pub answered : (octets : List ℕ) (came : Option (ArrayVec ℕ)) (new : W) → asked ≡ Exchange (record { items = octets }) → gives line octets came new → gives' wire octets came new
+
+  stands : (asked : Asked) (line wire : W) → Brings asked line wire
+      → Stands honest far silence (AskedWakes wakes asked) (AskedGives gives asked) (AskedWakes wakes' asked) (AskedGives gives' asked) line wire
+  stands asked line wire b = record {
+    honesty = b.honesty;
+    device = b.device;
+    quiet = b.quiet;
+    woken = λ came new w. (w.0, b.woken came new w.0 w.1);
+    answered = λ octets came new x. (x.0, b.answered octets came new x.0 x.1);
+  }
+
+  turn_by : (line : W) (link : AnyLink W) (s : SessionState) (book : BookValue) (kept : List Event) (next : Parts W)
+      → Brings (asks_of (record { station = record { link = link; session = s }; book = book; kept = kept })) line (wire_of link)
+      → TurnGives honest far silence wakes gives (record { station = record { link = rewired line link; session = s }; book = book; kept = kept }) next
+      → TurnGives honest far silence wakes' gives' (record { station = record { link = link; session = s }; book = book; kept = kept }) next
+  turn_by line (InDown link) s book kept next b t = record {
+    said = t.said;
+    turn = link_over honest far silence _ _ _ _ line (InDown link) (stands _ line link.wire b) _ (has_room kept) _ _ t.turn;
+    book = t.book;
+    kept = t.kept;
+    denies = λ ticket has. ⊎_elim inl (λ d. inr (record { told = d.told; waited = d.waited; free = d.free; book = d.book })) (t.denies ticket has);
+  }
+  turn_by line (InStartup link) s book kept next b t = record {
+    said = t.said;
+    turn = link_over honest far silence _ _ _ _ line (InStartup link) (stands _ line link.wire b) _ (has_room kept) _ _ t.turn;
+    book = t.book;
+    kept = t.kept;
+    denies = λ ticket has. ⊎_elim inl (λ d. inr (record { told = d.told; waited = d.waited; free = d.free; book = d.book })) (t.denies ticket has);
+  }
+  turn_by line (InPreoperate link) s book kept next b t = record {
+    said = t.said;
+    turn = link_over honest far silence _ _ _ _ line (InPreoperate link) (stands _ line link.wire b) _ (has_room kept) _ _ t.turn;
+    book = t.book;
+    kept = t.kept;
+    denies = λ ticket has. ⊎_elim inl (λ d. inr (record { told = d.told; waited = d.waited; free = d.free; book = d.book })) (t.denies ticket has);
+  }
+  turn_by line (InOperate link) s book kept next b t = record {
+    said = t.said;
+    turn = link_over honest far silence _ _ _ _ line (InOperate link) (stands _ line link.wire b) _ (has_room kept) _ _ t.turn;
+    book = t.book;
+    kept = t.kept;
+    denies = λ ticket has. ⊎_elim inl (λ d. inr (record { told = d.told; waited = d.waited; free = d.free; book = d.book })) (t.denies ticket has);
+  }
+
+  -- the turn of a port, once its wire is that line
+  pub told_turn : (line : W) (p mid next : Parts W) → mid ≡ rewired_parts line p → Brings (asks_of p) line (wire_of p.station.link)
+      → TurnGives honest far silence wakes gives mid next → TurnGives honest far silence wakes' gives' p next
+  told_turn line p mid next e b t =
+      turn_by line p.station.link p.station.session p.book p.kept next b (subst (λ (q : Parts W). TurnGives honest far silence wakes gives q next) e t)

@@ -1,0 +1,4 @@
+pub mod Standing
+pub mod Told
+pub mod HonestTold
+pub mod Driving
