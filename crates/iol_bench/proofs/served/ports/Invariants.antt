@@ -1,0 +1,8 @@
+use Rattle.iol_bench.proofs.served.ports.Given as goal
+
+-- the blanks name the ledgers of this master
+abbrev pub ghosts-with_ledgers-L-Ledger : goal.ghosts-with_ledgers-L-Ledger
+ghosts-with_ledgers-L-Ledger g a = record { name = a.clients.name; parts = a.clients.parts }
+
+abbrev pub ghosts-with_ledgers-K-Ledger : goal.ghosts-with_ledgers-K-Ledger
+ghosts-with_ledgers-K-Ledger g a = record { name = a.tickets.name; parts = a.tickets.parts }

@@ -1,0 +1,97 @@
+//! Requests of one client at one port.
+use crate::check_word::CheckWord;
+use crate::devices::{PLAIN, ROOM, add_port, opened, start};
+use crate::fault::BenchFault;
+use iol_book::{BookFault, Outcome};
+use iol_isdu::{Answer, Place, Request};
+use iol_link::Wire;
+use iol_page::Page;
+use iol_port::{Port, PortFault};
+use iol_sim::Params;
+use std::alloc::Global;
+
+/// The device's one parameter.
+const PLACE: Place = Place { index: 16, sub: 0 };
+
+/// More turns than any of these requests takes.
+const TURNS: u32 = 1_000;
+
+/// Reads of 14 octets.
+pub(crate) fn read(alloc: Global, count: u64) -> Result<CheckWord, BenchFault> {
+    repeat(alloc, &Request::read(PLACE), &[0x41; 14], count)
+}
+
+/// Writes of 232 octets.
+pub(crate) fn write(alloc: Global, count: u64) -> Result<CheckWord, BenchFault> {
+    repeat(
+        alloc,
+        &Request::write(PLACE, &[0x5A; 232])?,
+        &[0; 232],
+        count,
+    )
+}
+
+/// A request so many times, of a device whose parameter has this value at first. The port and its device are new
+/// whenever the device's record is full.
+fn repeat(
+    alloc: Global,
+    request: &Request,
+    value: &[u8],
+    count: u64,
+) -> Result<CheckWord, BenchFault> {
+    let mut word = CheckWord::new();
+    let room = u64::from(ROOM);
+    for _ in 0..count / room {
+        repeat_once_opened(alloc, &mut word, request, value, room)?;
+    }
+    repeat_once_opened(alloc, &mut word, request, value, count % room)?;
+    Ok(word)
+}
+
+/// A request so many times, of a new device.
+fn repeat_once_opened(
+    alloc: Global,
+    word: &mut CheckWord,
+    request: &Request,
+    value: &[u8],
+    count: u64,
+) -> Result<(), BenchFault> {
+    let mut params = Params::new();
+    params.add(PLACE, true, value)?;
+    let page = Page::from_octets(&PLAIN);
+    let mut port = opened(alloc, page, params, Vec::new(alloc))?;
+    start(&mut port)?;
+    for _ in 0..count {
+        carry(word, &mut port, request)?;
+    }
+    add_port(word, &port);
+    Ok(())
+}
+
+/// A client submits a request, and asks for its outcome after each turn until it is there.
+fn carry<W: Wire>(
+    word: &mut CheckWord,
+    port: &mut Port<W>,
+    request: &Request,
+) -> Result<(), BenchFault> {
+    let ticket = port.submit(request.clone()?)?;
+    for _ in 0..TURNS {
+        port.turn();
+        match port.collect(ticket) {
+            Ok(outcome) => return add_outcome(word, &outcome),
+            Err(PortFault::Book(BookFault::NotYet)) => {}
+            Err(fault) => return Err(fault.into()),
+        }
+    }
+    Err(BenchFault::Unexpected)
+}
+
+/// A request that is done.
+fn add_outcome(word: &mut CheckWord, outcome: &Outcome) -> Result<(), BenchFault> {
+    match outcome {
+        Outcome::Done(Answer::Read(octets)) => word.add_octets(octets.as_slice()),
+        Outcome::Done(Answer::Written) => word.add(1),
+        _ => return Err(BenchFault::Unexpected),
+    }
+    Ok(())
+}

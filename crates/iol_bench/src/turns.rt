@@ -1,0 +1,64 @@
+//! Turns of one port.
+use crate::check_word::CheckWord;
+use crate::devices::{PLAIN, STARTUP, WIDE, add_port, opened, start, turn};
+use crate::fault::BenchFault;
+use iol_image::Image;
+use iol_page::Page;
+use iol_sim::{Fate, Params, Step};
+use std::alloc::Global;
+
+/// The octets of the process data, each way.
+const DATA: [u8; 32] = [0x5A; 32];
+
+/// Turns in OPERATE without process data, in which there is nothing to do.
+pub(crate) fn idle(alloc: Global, count: u64) -> Result<CheckWord, BenchFault> {
+    let page = Page::from_octets(&PLAIN);
+    let mut port = opened(alloc, page, Params::new(), Vec::new(alloc))?;
+    start(&mut port)?;
+    turn(&mut port, count);
+    let mut word = CheckWord::new();
+    add_port(&mut word, &port);
+    Ok(word)
+}
+
+/// The same with 32 octets of process data each way.
+pub(crate) fn idle_data(alloc: Global, count: u64) -> Result<CheckWord, BenchFault> {
+    let image = Image::new(&DATA)?;
+    let mut steps = Vec::with_capacity(alloc, 1)?;
+    steps.push_reserved(Step::Input(image));
+    let page = Page::from_octets(&WIDE);
+    let mut port = opened(alloc, page, Params::new(), steps)?;
+    start(&mut port)?;
+    port.set_output(&Image::new(&DATA)?)?;
+    // The device is told that there is an output.
+    port.turn();
+    turn(&mut port, count);
+    let mut word = CheckWord::new();
+    add_port(&mut word, &port);
+    Ok(word)
+}
+
+/// Turns in which a wake-up request goes out, and nothing comes back.
+pub(crate) fn down(alloc: Global, count: u64) -> Result<CheckWord, BenchFault> {
+    let mut steps = Vec::with_capacity(alloc, 1)?;
+    steps.push_reserved(Step::Fate(Fate::Silent));
+    let page = Page::from_octets(&PLAIN);
+    let mut port = opened(alloc, page, Params::new(), steps)?;
+    turn(&mut port, count);
+    let mut word = CheckWord::new();
+    add_port(&mut word, &port);
+    Ok(word)
+}
+
+/// Restarts, each with all turns of the start-up that follows it.
+pub(crate) fn startup(alloc: Global, count: u64) -> Result<CheckWord, BenchFault> {
+    let page = Page::from_octets(&PLAIN);
+    let mut port = opened(alloc, page, Params::new(), Vec::new(alloc))?;
+    for _ in 0..count {
+        port.restart();
+        turn(&mut port, u64::from(STARTUP));
+    }
+    let mut word = CheckWord::new();
+    add_port(&mut word, &port);
+    Ok(word)
+}
