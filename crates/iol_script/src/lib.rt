@@ -32,6 +32,3 @@ pub use run_line::RunLine;
 pub use script::Script;
 pub use setting::Setting;
 pub use wire_line::WireLine;
-
-#[cfg(test)]
-mod tests;

@@ -11,13 +11,21 @@ pub use laws::{first_app_follows_record, record_is_answered_by_the_first_params}
 #[cfg(test)]
 mod answers;
 #[cfg(test)]
+mod bare_ports;
+#[cfg(test)]
 mod bench;
 #[cfg(test)]
 mod clients;
 #[cfg(test)]
+mod commands;
+#[cfg(test)]
+mod desks;
+#[cfg(test)]
 mod far;
 #[cfg(test)]
 mod liar;
+#[cfg(test)]
+mod lines;
 #[cfg(test)]
 mod masters;
 #[cfg(test)]

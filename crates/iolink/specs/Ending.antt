@@ -3,24 +3,9 @@ use Rattle.std.specs.Prelude.{◌≡◌, ◌≢◌, ℕ, Result, Ok, Err}
 use Rattle.clap.specs.Values.{kind_of}
 use Rattle.clap.specs.declared.error.Error.{Error}
 use Rattle.clap.specs.declared.error.ErrorKind.TheVariants as kind
-use Rattle.iol_clients.specs.declared.fault.ClientsFault.{ClientsFault}
-use Rattle.iol_clients.specs.declared.fault.ClientsFault.TheVariants as clients
-use Rattle.iol_script.specs.declared.fault.ScriptFault.{ScriptFault}
-use Rattle.iol_script.specs.declared.fault.ScriptFault.TheVariants as script
-use Rattle.iolink.specs.declared.fault.ProgramFault.{ProgramFault}
-use Rattle.iolink.specs.declared.fault.ProgramFault.TheVariants as fault
+use Rattle.iol_commands.specs.declared.fault.ProgramFault.TheVariants as fault
 use Rattle.iolink.specs.declared.ending.Ending.{Ending}
 use Rattle.iolink.specs.declared.ending.Ending.TheVariants.{Failed, Refused, NoText}
-
--- how the command fails whose script can't be read
-abbrev pub fault_of : ScriptFault → ProgramFault
-fault_of (script.Line number) = fault.Line number
-fault_of script.OutOfMemory = fault.OutOfMemory
-
--- how the command fails whose clients can't be served
-abbrev pub clients_fault_of : ClientsFault → ProgramFault
-clients_fault_of clients.OutOfMemory = fault.OutOfMemory
-clients_fault_of clients.NoThread = fault.NoThread
 
 -- the status of an ending: 1 where the command failed, 2 where the command line is refused
 abbrev pub status_of : Ending → ℕ

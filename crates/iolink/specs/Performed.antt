@@ -4,10 +4,10 @@ use Rattle.iol_mseq.specs.Shape.{startup_shape}
 use Rattle.iol_script.specs.CheckLines.{first_bad}
 use Rattle.iol_script.specs.Script.{first_bad_run}
 use Rattle.iol_script.specs.Plan.{plan_of}
-use Rattle.iolink.specs.Checked.{PrintsAll}
-use Rattle.iolink.specs.RunPlayed.{PrintsRun}
-use Rattle.iolink.specs.TracePrinted.{PrintsTrace}
-use Rattle.iolink.specs.ManyPrinted.{PrintsCounts}
+use Rattle.iol_commands.specs.Checked.{PrintsAll}
+use Rattle.iol_commands.specs.RunPlayed.{PrintsRun}
+use Rattle.iol_commands.specs.TracePrinted.{PrintsTrace}
+use Rattle.iol_commands.specs.ManyPrinted.{PrintsCounts}
 use Rattle.iolink.specs.declared.command.Mode.{Mode}
 use Rattle.iolink.specs.declared.command.Mode.TheVariants.{Check, Run, Trace, Many}
 

@@ -3,9 +3,9 @@ ghost use Rattle.std.specs.Prelude.{◌≡◌};
 ghost use Rattle.std.specs.Process.{exit_status};
 ghost use Rattle.iolink.specs.Ending.{status_after};
 
-use crate::fault::ProgramFault;
 use clap::Error;
 use clap::error::ErrorKind;
+use iol_commands::ProgramFault;
 use std::fmt;
 use std::process::ExitCode;
 

@@ -44,7 +44,9 @@ Then what happens on the wire, and the calls of the port, in any order:
   wire input H | wire input none          the device's process data
   wire power                              a power cycle of the device
   read INDEX SUB | write INDEX SUB H      submits a request, and prints its ticket
-  collect T | withdraw T                  the outcome of a ticket; takes a request back
+  urgent read .. | urgent write ..        the same, before all that are not urgent
+  collect T | withdraw T                  the outcome of a ticket; takes a request back that waits
+  cancel T                                asks to cut off a request that is under way
   output H | output none | image          process data out; in
   event | status | archive | restart      as the port's calls of these names
   turn N                                  N turns of the port, each one call of the wire

@@ -4,29 +4,17 @@
 //! and the text of `clap` on standard error where the command line is refused, or asks for help or the version.
 #![tactic(auto)]
 
-mod check;
 mod command;
 mod ending;
-mod fault;
 mod help;
-mod many;
-mod many_printing;
-mod passing;
 mod performing;
-mod playing;
-mod printing;
-mod run;
-mod run_printing;
-mod streams;
 #[cfg(test)]
 mod tests;
-mod trace;
-mod tracing;
 
 use crate::command::mode_of;
 use crate::ending::{Ending, exit_of};
-use crate::fault::ProgramFault;
 use crate::performing::perform;
+use iol_commands::ProgramFault;
 use std::alloc::Global;
 use std::process::ExitCode;
 use std::rt::Runtime;

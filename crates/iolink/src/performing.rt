@@ -1,18 +1,13 @@
 //! A command, carried out over a reader and a writer.
-ghost use Rattle.std.specs.Prelude.{◌≡◌, ◌≢◌, ◌≤◌, ◌<◌, length, List, ℕ, Err, IfSome, OnErr, OnOk};
-ghost use Rattle.std.specs.Io.KnownBytes.{Appends, Keeps};
-ghost use Rattle.iol_script.specs.Text.{numbered_lines};
+ghost use Rattle.std.specs.Prelude.{◌≡◌, ◌≢◌, ◌<◌, ℕ, Err, OnErr, OnOk};
+ghost use Rattle.std.specs.Io.KnownBytes.{Keeps};
 ghost use Rattle.iolink.specs.declared.command.Mode.TheVariants.{Many, Trace};
-ghost use Rattle.iolink.specs.declared.fault.ProgramFault.TheVariants.{Line, NoThread, OutOfMemory, TooLong, WriteFailed};
-ghost use Rattle.iolink.specs.declared.streams.TheConstants.{LIMIT};
+ghost use Rattle.iol_commands.specs.declared.fault.ProgramFault.TheVariants.{Line, NoThread, OutOfMemory, TooLong, WriteFailed};
 ghost use Rattle.iolink.specs.Performed.{IsBadAt, Prints};
+ghost use Rattle.iol_commands.specs.Input.{IsTooLong, OfLines, Writes};
 
-use crate::check::check;
 use crate::command::Mode;
-use crate::fault::ProgramFault;
-use crate::many::many;
-use crate::run::run;
-use crate::trace::trace;
+use iol_commands::{ProgramFault, check, many, run, trace};
 use std::alloc::Global;
 use std::io::{Read, Write};
 use std::sync::Wait;
@@ -27,12 +22,14 @@ pub(crate) fn perform<T: Threads + Wait + Sync, R: Read, W: Write>(
     writer: &mut W,
 ) -> Result<(), ProgramFault>
     // What is read.
-    ensures too_long { result ≡ Err TooLong → IfSome (R.remaining reader.old) (λ input. LIMIT < length input) }
-    ensures bad_line { (n : ℕ) → result ≡ Err (Line n) → IfSome (R.remaining reader.old) (λ input. (length input ≤ LIMIT) × IsBadAt mode (numbered_lines input) n) }
+    ensures too_long { result ≡ Err TooLong → IsTooLong (R.remaining reader.old) }
+    ensures bad_line { (n : ℕ) → result ≡ Err (Line n)
+        → OfLines (R.remaining reader.old) (λ lines. IsBadAt mode lines n) }
     ensures threads { mode ≢ Many → result ≢ Err NoThread }
 
     // What is written.
-    ensures printed { OnOk result ((text : List ℕ) × Appends (W.contents writer.old) (W.contents writer.new) text × IfSome (R.remaining reader.old) (λ input. Prints mode (numbered_lines input) text)) }
+    ensures printed { OnOk result (Writes (R.remaining reader.old)
+        (W.contents writer.old) (W.contents writer.new) (Prints mode)) }
     ensures nothing { OnErr result (result ≢ Err WriteFailed → (mode ≡ Trace → result ≢ Err OutOfMemory)
         → Keeps (W.contents writer.old) (W.contents writer.new)) }
 {

@@ -1,0 +1,236 @@
+-- Calls that are traced one after the other.
+use Rattle.std.proofs.Common.{◌≡◌, ℕ, ◌+◌, ◌<◌, ◌≤◌, Bool, true, false, IsOkAnd, IsSomeAnd, IfSome, Some, None, Option, Result, Ok, Err, OnOk, List, [], ◌∷◌, ◌++◌, length, replicate, refl, sym, ap, subst, ◌∙◌, arith, append_assoc, append-nil, length-append}
+use Rattle.std.proofs.lemmas.List.{length-replicate}
+use Rattle.std.proofs.KnownBytes.{Appends-nil, Appends-trans}
+use Rattle.std.specs.Io.KnownBytes.{Appends}
+use Rattle.arrayvec.specs.ArrayVec.{ArrayVec}
+use Rattle.iol_mseq.specs.Shape.{Shape}
+use Rattle.iol_page.specs.declared.page.Layouts.{Layouts}
+use Rattle.iol_device.specs.Far.{Far}
+use Rattle.iol_link.specs.declared.wire.Rate.{Rate}
+use Rattle.iol_tap.specs.Tapped.{Tapped, through, wake_noted, exchange_noted, TapWakes, TapGives, IsNoteOf}
+use Rattle.iol_tap.specs.declared.tap.Passed.{Passed}
+use Rattle.iol_tap.specs.declared.tap.Passed.TheVariants as passed
+use Rattle.iol_steps.specs.declared.mode.Mode.{Mode}
+use Rattle.iol_app.specs.declared.asked.Asked.{Asked}
+use Rattle.iol_app.specs.declared.asked.Asked.TheVariants.{Wake, Exchange}
+use Rattle.iol_app.specs.declared.station.Status.{Status}
+use Rattle.iol_app.specs.Asking.{IsCall}
+use Rattle.iol_app.specs.StationState.{wire_of}
+use Rattle.iol_port.specs.declared.call.Call.{Call}
+use Rattle.iol_port.specs.declared.call.Call.TheVariants as call
+use Rattle.iol_port.specs.declared.call.Answered.{Answered}
+use Rattle.iol_port.specs.declared.call.Answered.TheVariants as answered
+use Rattle.iol_port.specs.Asks.{IsWireCall}
+use Rattle.iol_port.specs.Run.{PortState, CallOf}
+use Rattle.iol_port.specs.View.{Parts, Follows, StandsFor}
+use Rattle.iol_commands.specs.Passing.{PrintsPassed}
+use Rattle.iol_device.specs.declared.app.Carried.{Carried}
+use Rattle.iol_sim.specs.Params.{Stores}
+use Rattle.iol_sim.specs.Sim.{Simulated, IsWake, IsExchange}
+use Rattle.iol_sim.specs.declared.params.Entry.{Entry}
+use Rattle.iol_page.specs.Page.{layouts_of}
+use Rattle.iol_script.specs.Script.{ScriptValue, script_in, calls_in}
+use Rattle.iol_script.specs.Text.{numbered_lines}
+use Rattle.iol_commands.proofs.RunLemmas.{carried_is}
+use Rattle.iol_commands.specs.RunPlayed.{first_port, lacks_memory}
+use Rattle.iol_commands.specs.RunPrinted.{answer_text, record_text}
+use Rattle.iol_commands.specs.TracePrinted.{layout_in, first_wire, first_stage, TracesOut, PrintsTrace, Stage, Passes, TracesCall, Traces, stage_of, PortTraces, Flows, PrintsNote, PrintsNoteOf}
+
+-- Text that is written in pieces
+
+pub flows_none : (at : Option (List ℕ)) (waits : List ℕ) → Flows at at waits waits []
+flows_none at waits = record { written = []; appends = Appends-nil at; rest = append-nil waits }
+
+pub flows_printed : (at : Option (List ℕ)) (waits left text : List ℕ) → left ≡ waits ++ text → Flows at at waits left text
+flows_printed at waits left text is = record { written = []; appends = Appends-nil at; rest = sym is }
+
+pub flows_written : (old new : Option (List ℕ)) (waits left : List ℕ) → Appends old new waits → left ≡ [] → Flows old new waits left []
+flows_written old new waits left all none = record { written = waits; appends = all; rest = ap (λ (l : List ℕ). waits ++ l) (sym none) }
+
+pub flows_join : (a b c : Option (List ℕ)) (x y z text later : List ℕ) → Flows a b x y text → Flows b c y z later → Flows a c x z (text ++ later)
+flows_join a b c x y z text later p q = record {
+  written = p.written ++ q.written;
+  appends = Appends-trans a b c p.written q.written p.appends q.appends;
+  rest = sym (append_assoc x text later) ∙ ap (λ (l : List ℕ). l ++ later) p.rest ∙ append_assoc p.written y later
+      ∙ ap (λ (l : List ℕ). p.written ++ l) q.rest ∙ sym (append_assoc p.written q.written z);
+}
+
+module _ {W : Type 0} (wakes : W → Option Rate → W → Type 0) (gives : W → List ℕ → Option (ArrayVec ℕ) → W → Type 0) where
+  -- a call of the wire, and the note of it
+  noted : (asked : Asked) (old new : Tapped W) → IsCall (TapWakes wakes gives) (TapGives wakes gives) asked old new → (note : Passed) × (new.last ≡ Some note) × IsNoteOf wakes gives note old.wire new.wire
+  noted Wake old new (answer, called) = (wake_noted answer, called.1, called.0)
+  noted (Exchange octets) old new (answer, called) = (exchange_noted octets.items answer, called.1, (octets.items, refl, called.0))
+
+  module _ (layouts : Layouts) where
+    -- what passes in a call is what is noted of it
+    passes_of : (call : Call) (asked : Asked) (old new : Tapped W) (s : Stage W) (t : Stage W) (layout : Shape) (text : List ℕ)
+        → s.wire ≡ old.wire → t.wire ≡ new.wire → layout ≡ layout_in s.port.session.mode layouts
+        → IsWireCall (TapWakes wakes gives) (TapGives wakes gives) call asked old new → PrintsNoteOf call s.number layout new.last t.number text
+        → Passes wakes gives layouts s call t text
+    passes_of call.Turn asked old new s t layout text before after shape called printed =
+        let (note, last, is) = noted asked old new called in
+        let shown : PrintsNote s.number (layout_in s.port.session.mode layouts) (Some note) t.number text =
+        subst (λ (l : Shape). PrintsNote s.number l (Some note) t.number text) shape (subst (λ (o : Option Passed). PrintsNote s.number layout o t.number text) last printed) in
+        (note, subst (λ (w : W). IsNoteOf wakes gives note w t.wire) (sym before) (subst (λ (w : W). IsNoteOf wakes gives note old.wire w) (sym after) is), shown.0, shown.1)
+    passes_of (call.Submit request) asked old new s t layout text before after shape called printed = (printed.0, after ∙ ap (λ (w : Tapped W). w.wire) called ∙ sym before, printed.1)
+    passes_of (call.SubmitUrgent request) asked old new s t layout text before after shape called printed = (printed.0, after ∙ ap (λ (w : Tapped W). w.wire) called ∙ sym before, printed.1)
+    passes_of (call.Collect ticket) asked old new s t layout text before after shape called printed = (printed.0, after ∙ ap (λ (w : Tapped W). w.wire) called ∙ sym before, printed.1)
+    passes_of (call.Withdraw ticket) asked old new s t layout text before after shape called printed = (printed.0, after ∙ ap (λ (w : Tapped W). w.wire) called ∙ sym before, printed.1)
+    passes_of (call.Cancel ticket) asked old new s t layout text before after shape called printed = (printed.0, after ∙ ap (λ (w : Tapped W). w.wire) called ∙ sym before, printed.1)
+    passes_of call.Restart asked old new s t layout text before after shape called printed = (printed.0, after ∙ ap (λ (w : Tapped W). w.wire) called ∙ sym before, printed.1)
+    passes_of (call.SetOutput image) asked old new s t layout text before after shape called printed = (printed.0, after ∙ ap (λ (w : Tapped W). w.wire) called ∙ sym before, printed.1)
+    passes_of call.ClearOutput asked old new s t layout text before after shape called printed = (printed.0, after ∙ ap (λ (w : Tapped W). w.wire) called ∙ sym before, printed.1)
+    passes_of call.Look asked old new s t layout text before after shape called printed = (printed.0, after ∙ ap (λ (w : Tapped W). w.wire) called ∙ sym before, printed.1)
+    passes_of call.TakeEvent asked old new s t layout text before after shape called printed = (printed.0, after ∙ ap (λ (w : Tapped W). w.wire) called ∙ sym before, printed.1)
+    passes_of call.Status asked old new s t layout text before after shape called printed = (printed.0, after ∙ ap (λ (w : Tapped W). w.wire) called ∙ sym before, printed.1)
+    passes_of call.Archive asked old new s t layout text before after shape called printed = (printed.0, after ∙ ap (λ (w : Tapped W). w.wire) called ∙ sym before, printed.1)
+
+    traces_join : (s m t : Stage W) (calls more : List Call) (text later : List ℕ) → Traces wakes gives layouts s calls m text → Traces wakes gives layouts m more t later → Traces wakes gives layouts s (calls ++ more) t (text ++ later)
+    traces_join s m t [] more text later (same, none) second =
+        subst (λ (l : List ℕ). Traces wakes gives layouts s more t (l ++ later)) (sym none) (subst (λ (x : Stage W). Traces wakes gives layouts x more t later) same second)
+    traces_join s m t (call ∷ calls) more text later (mid, first, rest, is, one, others) second =
+        (mid, first, rest ++ later, ap (λ (l : List ℕ). l ++ later) is ∙ append_assoc first rest later, one, traces_join mid m t calls more rest later others second)
+
+module _ {W : Type 0} (honest : W → Bool) (far : W → Far) (silence : W → ℕ) (wakes : W → Option Rate → W → Type 0) (gives : W → List ℕ → Option (ArrayVec ℕ) → W → Type 0) (layouts : Layouts) where
+  -- no call is made
+  pub port_traces_none : (n : ℕ) (p : Parts (Tapped W)) → PortTraces honest far silence wakes gives layouts n p [] n p []
+  unfolding PortTraces
+  port_traces_none n p a stands = (a, (refl, refl), stands)
+
+  -- more calls are made
+  pub port_traces_join : (n m k : ℕ) (p q r : Parts (Tapped W)) (calls more : List Call) (text later : List ℕ)
+      → PortTraces honest far silence wakes gives layouts n p calls m q text → PortTraces honest far silence wakes gives layouts m q more k r later
+      → PortTraces honest far silence wakes gives layouts n p (calls ++ more) k r (text ++ later)
+  unfolding PortTraces
+  port_traces_join n m k p q r calls more text later first second a stands =
+      let (b, traces, there) = first a stands in
+      let (c, goes_on, last) = second b there in
+      (c, traces_join wakes gives layouts (stage_of n a p) (stage_of m b q) (stage_of k c r) calls more text later traces goes_on, last)
+
+  -- one call, by what its port says of itself, of the call and of the wire
+  pub call_traced : (n m : ℕ) (p q : Parts (Tapped W)) (made : Call) (reply : Answered) (status : Status) (asked : Asked) (text passed : List ℕ)
+      → Follows (through honest) (through far) (through silence) p call.Status (answered.Status status) p
+      → Follows (through honest) (through far) (through silence) p made reply q
+      → IsWireCall (TapWakes wakes gives) (TapGives wakes gives) made asked (wire_of p.station.link) (wire_of q.station.link)
+      → lacks_memory reply ≡ false → PrintsNoteOf made n (layout_in status.mode layouts) (wire_of q.station.link).last m passed
+      → text ≡ passed ++ answer_text made reply → PortTraces honest far silence wakes gives layouts n p (made ∷ []) m q text
+  unfolding PortTraces Follows
+  call_traced n m p q made reply status asked text passed says goes called granted printed is a stands =
+      let (same, said, still) = says a stands in
+      let (b, call_is, there) = goes a stands in
+      let inner : status ≡ record { mode = a.session.mode; why = a.session.why; event_form = false } = cc (said.0) in
+      let mode : status.mode ≡ a.session.mode = ap (λ (s : Status). s.mode) inner in
+      let passes : Passes wakes gives layouts (stage_of n a p) made (stage_of m b q) passed =
+      passes_of wakes gives layouts made asked (wire_of p.station.link) (wire_of q.station.link) (stage_of n a p) (stage_of m b q) (layout_in status.mode layouts) passed
+      refl refl (ap (λ (x : Mode). layout_in x layouts) mode) called printed in
+      let one : TracesCall wakes gives layouts (stage_of n a p) made (stage_of m b q) text = record { reply = reply; passed = passed; call_is = call_is; granted = granted; passes = passes; text_is = is } in
+      (b, (stage_of m b q, text, [], sym (append-nil text), one, (refl, refl)), there)
+
+  -- the same as it is printed
+  pub call_printed : {T E : Type 0} (r : Result T E) (old mid new : List ℕ) (n m : ℕ) (p q : Parts (Tapped W)) (made : Call) (reply : Answered) (status : Status) (asked : Asked) (layout : Shape) (wire : Tapped W) (passed : List ℕ)
+      → Follows (through honest) (through far) (through silence) p call.Status (answered.Status status) p
+      → Follows (through honest) (through far) (through silence) p made reply q
+      → IsWireCall (TapWakes wakes gives) (TapGives wakes gives) made asked (wire_of p.station.link) (wire_of q.station.link)
+      → false ≡ lacks_memory reply → layout ≡ layout_in status.mode layouts → wire ≡ wire_of q.station.link → PrintsNoteOf made n layout wire.last m passed
+      → mid ≡ old ++ passed → OnOk r (new ≡ mid ++ answer_text made reply)
+      → OnOk r ((text : List ℕ) × (new ≡ old ++ text) × PortTraces honest far silence wakes gives layouts n p (made ∷ []) m q text)
+  call_printed (Ok x) old mid new n m p q made reply status asked layout wire passed says goes called granted shape same printed before wrote =
+      let text : List ℕ = passed ++ answer_text made reply in
+      let noted_by : PrintsNoteOf made n (layout_in status.mode layouts) (wire_of q.station.link).last m passed =
+      subst (λ (w : Tapped W). PrintsNoteOf made n (layout_in status.mode layouts) w.last m passed) same (subst (λ (l : Shape). PrintsNoteOf made n l wire.last m passed) shape printed) in (
+        text,
+        wrote ∙ ap (λ (l : List ℕ). l ++ answer_text made reply) before ∙ append_assoc old passed (answer_text made reply),
+        call_traced n m p q made reply status asked text passed says goes called (sym granted) noted_by refl,
+      )
+  call_printed (Err x) old mid new n m p q made reply status asked layout wire passed says goes called granted shape same printed before wrote = tt
+
+  -- some calls are traced, and what is printed is written or waits
+  abbrev pub Goes : Layouts → Option (List ℕ) → Option (List ℕ) → List ℕ → List ℕ → ℕ → Parts (Tapped W) → List Call → ℕ → Parts (Tapped W) → Type 0
+  Goes of a b x y n p calls m q = (text : List ℕ) × Flows a b x y text × PortTraces honest far silence wakes gives of n p calls m q text
+
+  pub goes_none : (a : Option (List ℕ)) (x : List ℕ) (n : ℕ) (p : Parts (Tapped W)) → Goes layouts a a x x n p [] n p
+  goes_none a x n p = ([], flows_none a x, port_traces_none n p)
+
+  pub goes_join : (same : Layouts) (a b c : Option (List ℕ)) (x y z : List ℕ) (n m k : ℕ) (p q r : Parts (Tapped W)) (calls more all : List Call)
+      → same ≡ layouts → calls ++ more ≡ all → Goes layouts a b x y n p calls m q → Goes same b c y z m q more k r → Goes layouts a c x z n p all k r
+  goes_join same a b c x y z n m k p q r calls more all is whole (text, flows, traces) (later, flows_on, traces_on) =
+      let traced : PortTraces honest far silence wakes gives layouts m q more k r later = subst (λ (l : Layouts). PortTraces honest far silence wakes gives l m q more k r later) is traces_on in (
+        text ++ later,
+        flows_join a b c x y z text later flows flows_on,
+        subst (λ (l : List Call). PortTraces honest far silence wakes gives layouts n p l k r (text ++ later)) whole (port_traces_join n m k p q r calls more text later traces traced),
+      )
+
+-- a text is printed, and some of what waits is written
+pub flows_after : {T E : Type 0} (r : Result T E) (a b : Option (List ℕ)) (x y z text : List ℕ) (P : List ℕ → Type 0)
+    → y ≡ x ++ text → P text → OnOk r (Flows a b y z []) → OnOk r ((t : List ℕ) × Flows a b x z t × P t)
+flows_after (Ok v) a b x y z text P is holds flows =
+    (text, subst (λ (t : List ℕ). Flows a b x z t) (append-nil text) (flows_join a a b x y z text [] (flows_printed a x y text is) flows), holds)
+flows_after (Err v) a b x y z text P is holds flows = tt
+
+-- so many turns are so many calls
+pub turns_length : (n : ℕ) → length (replicate n call.Turn) ≡ n
+turns_length n = length-replicate n call.Turn
+
+-- there are numbers for the calls of a line
+pub room_left : (n m limit : ℕ) (all done rest line later : List Call) → n + length all < limit → all ≡ done ++ rest → rest ≡ line ++ later → m ≤ n + length done → m + length line < limit
+room_left n m limit all done rest line later room is more so_far =
+    let whole : length all ≡ length done + length rest = ap length is ∙ length-append done rest in
+    let left : length rest ≡ length line + length later = ap length more ∙ length-append line later in
+    omega arith
+
+-- what waits at the end is written, the record with it
+pub whole_written : {T E : Type 0} (r : Result T E) (a b d : Option (List ℕ)) (empty waits out shown text record_is : List ℕ) (P : List ℕ → Type 0)
+    → empty ≡ [] → Flows a b empty waits text → out ≡ waits ++ record_is → shown ≡ out → P (text ++ record_is) → OnOk r (Appends b d shown)
+    → OnOk r ((all : List ℕ) × Appends a d all × P all)
+whole_written (Ok v) a b d empty waits out shown text record_is P none flows is same holds wrote =
+    let texts : text ≡ flows.written ++ waits = ap (λ (l : List ℕ). l ++ text) (sym none) ∙ flows.rest in
+    let all : flows.written ++ shown ≡ text ++ record_is =
+    ap (λ (l : List ℕ). flows.written ++ l) (same ∙ is) ∙ sym (append_assoc flows.written waits record_is) ∙ ap (λ (l : List ℕ). l ++ record_is) (sym texts) in
+    (flows.written ++ shown, Appends-trans a b d flows.written shown flows.appends wrote, subst P (sym all) holds)
+whole_written (Err v) a b d empty waits out shown text record_is P none flows is same holds wrote = tt
+
+-- a port over a tap on the first wire of a script, and its calls traced to the end
+pub traced_out : (script : ScriptValue) (layouts : Layouts) (p q : Parts (Tapped (Simulated (List Entry)))) (a : PortState) (wire : Simulated (List Entry)) (of : Layouts) (n m : ℕ) (calls : List Call) (text : List ℕ) (entries : List Carried)
+    → of ≡ layouts → n ≡ 1 → StandsFor (through (λ (sim : Simulated (List Entry)). true)) (through (λ (sim : Simulated (List Entry)). sim.device.far)) (through (λ (sim : Simulated (List Entry)). sim.silence)) p a
+    → a ≡ first_port script.limits script.page → wire_of p.station.link ≡ record { wire = wire; last = None } → wire ≡ first_wire script
+    → PortTraces (λ (sim : Simulated (List Entry)). true) (λ (sim : Simulated (List Entry)). sim.device.far) (λ (sim : Simulated (List Entry)). sim.silence) (IsWake Stores) (IsExchange Stores) of n p calls m q text
+    → entries ≡ (wire_of q.station.link).wire.device.far.carried → TracesOut script layouts calls (text ++ record_text entries)
+unfolding PortTraces
+traced_out script layouts p q a wire of n m calls text entries told from_one stands first opened is goes those =
+    let (b, traces, there) = goes a stands in
+    let begun : Stage (Simulated (List Entry)) = stage_of n a p in
+    let wires : begun.wire ≡ first_wire script = ap (λ (t : Tapped (Simulated (List Entry))). t.wire) opened ∙ is in
+    let stage : begun ≡ first_stage script =
+    ap (λ (k : ℕ). record { number = k; port = a; wire = begun.wire }) from_one ∙ ap (λ (x : PortState). record { number = 1; port = x; wire = begun.wire }) first ∙ ap (λ (w : Simulated (List Entry)). record { number = 1; port = first_port script.limits script.page; wire = w }) wires in
+    record {
+      last = stage_of m b q;
+      calls_text = text;
+      traces = subst (λ (s : Stage (Simulated (List Entry))). Traces (IsWake Stores) (IsExchange Stores) layouts s calls (stage_of m b q) text) stage
+          (subst (λ (l : Layouts). Traces (IsWake Stores) (IsExchange Stores) l begun calls (stage_of m b q) text) told traces);
+      text_is = ap (λ (l : List Carried). text ++ record_text l)
+          (those ∙ carried_is (through (λ (sim : Simulated (List Entry)). true)) (through (λ (sim : Simulated (List Entry)). sim.device.far)) (through (λ (sim : Simulated (List Entry)). sim.silence)) q b there);
+    }
+
+-- the layouts of a page that has some
+pub with_layouts : {E : Type 0} (r s : Result Layouts E) (layouts : Layouts) (P : Layouts → Type 0) → s ≡ r → s ≡ Ok layouts → P layouts → IsOkAnd r P
+with_layouts r s layouts P is good holds = subst (λ (o : Result Layouts _). IsOkAnd o P) (sym good ∙ is) holds
+
+-- what holds of what was read holds of all that was there
+if_some_of : (had : Option (List ℕ)) (items : List ℕ) (P : List ℕ → Type 0) → IfSome had (λ xs. items ≡ xs) → P items → IfSome had P
+if_some_of None items P is holds = tt
+if_some_of (Some xs) items P is holds = subst P is holds
+
+-- a script that was read is traced
+pub script_traced : {T E : Type 0} (r : Result T E) (a b had : Option (List ℕ)) (items one two : List ℕ) (script : ScriptValue)
+    → IfSome had (λ xs. items ≡ xs) → one ≡ items → two ≡ items → script_in (numbered_lines one) ≡ Some script
+    → OnOk r ((text : List ℕ) × Appends a b text × IsOkAnd (layouts_of script.page) (λ layouts. TracesOut script layouts (calls_in (numbered_lines two)) text))
+    → OnOk r ((text : List ℕ) × Appends a b text × IfSome had (λ input. PrintsTrace (numbered_lines input) text))
+script_traced (Ok x) a b had items one two script all first second is (text, wrote, says) =
+    let read : script_in (numbered_lines items) ≡ Some script = ap (λ (l : List ℕ). script_in (numbered_lines l)) (sym first) ∙ is in
+    let said : IsOkAnd (layouts_of script.page) (λ layouts. TracesOut script layouts (calls_in (numbered_lines items)) text) =
+    subst (λ (l : List ℕ). IsOkAnd (layouts_of script.page) (λ layouts. TracesOut script layouts (calls_in (numbered_lines l)) text)) second says in
+    let prints : PrintsTrace (numbered_lines items) text =
+    subst (λ (o : Option ScriptValue). IsSomeAnd o (λ s. IsOkAnd (layouts_of s.page) (λ layouts. TracesOut s layouts (calls_in (numbered_lines items)) text))) (sym read) said in
+    (text, wrote, if_some_of had items (λ (input : List ℕ). PrintsTrace (numbered_lines input) text) all prints)
+script_traced (Err x) a b had items one two script all first second is says = tt

@@ -1,0 +1,14 @@
+use Rattle.std.proofs.Common.{◌≡◌, ◌-◌, ◌≤◌, ◌++◌, ℕ, List, replicate}
+use Rattle.std.specs.String.{string_bytes}
+use Rattle.iol_port.specs.declared.call.Call.TheVariants.{Turn}
+use Rattle.iol_commands.specs.RunPlayed.{PortPlays}
+use Rattle.iol_commands.proofs.playing.play_turns.Given as goal
+
+abbrev pub invariant-loop-made : goal.invariant-loop-made
+invariant-loop-made g l = record {
+  within : l.made ≤ l.count;
+  played : (text : List ℕ) × (string_bytes l.output ≡ string_bytes l.fn.output ++ text) × PortPlays g.W.Wire.honest g.W.Wire.far g.W.Wire.silence l.fn.port.parts (replicate l.made Turn) l.port.parts text;
+}
+
+abbrev pub decreases-loop-made : goal.decreases-loop-made
+decreases-loop-made g l = l.count - l.made

@@ -1,0 +1,21 @@
+-- What a command reads: of a reader whose bytes are known, the whole input, up to its limit.
+use Rattle.std.specs.Prelude.{ℕ, ◌+◌, ◌<◌, ◌≤◌, List, Option, IfSome, length}
+use Rattle.std.specs.Io.KnownBytes.{Appends, Consumes}
+use Rattle.iol_script.specs.Text.{numbered_lines}
+use Rattle.iol_commands.specs.declared.streams.TheConstants.{LIMIT}
+
+-- the input is longer than the limit
+abbrev pub IsTooLong : Option (List ℕ) → Type 0
+IsTooLong remaining = IfSome remaining (λ input. LIMIT < length input)
+
+-- it is within the limit, and this holds of its lines
+abbrev pub OfLines : Option (List ℕ) → (List (ℕ × List ℕ) → Type 0) → Type 0
+OfLines remaining holds = IfSome remaining (λ input. (length input ≤ LIMIT) × holds (numbered_lines input))
+
+-- at most one byte past the limit is taken
+abbrev pub TakesInput : Option (List ℕ) → Option (List ℕ) → Type 0
+TakesInput before after = (bytes : List ℕ) × Consumes before after bytes × (length bytes ≤ LIMIT + 1)
+
+-- a text is written behind what was written, and this holds of the lines of the input and of it
+abbrev pub Writes : Option (List ℕ) → Option (List ℕ) → Option (List ℕ) → (List (ℕ × List ℕ) → List ℕ → Type 0) → Type 0
+Writes remaining before after prints = (text : List ℕ) × Appends before after text × IfSome remaining (λ input. prints (numbered_lines input) text)

@@ -1,0 +1,9 @@
+pub mod Faults
+pub mod Input
+pub mod Printed
+pub mod Checked
+pub mod RunPrinted
+pub mod RunPlayed
+pub mod ManyPrinted
+pub mod Passing
+pub mod TracePrinted

@@ -1,0 +1,186 @@
+-- What `run` prints for the answers to its calls, and for the device's record.
+use Rattle.std.specs.Prelude.{ℕ, ◌/◌, ◌%◌, if◌then◌else◌, Option, Some, None, List, [], ◌∷◌, ◌++◌, length, flat_map, codes}
+use Rattle.std.specs.Fmt.{decimal}
+use Rattle.iol_isdu.specs.declared.values.Place.{Place}
+use Rattle.iol_isdu.specs.declared.values.Request.{Request}
+use Rattle.iol_isdu.specs.declared.values.Request.TheVariants as request
+use Rattle.iol_isdu.specs.declared.values.Answer.{Answer}
+use Rattle.iol_isdu.specs.declared.values.Answer.TheVariants as answer
+use Rattle.iol_isdu.specs.declared.values.Cause.{Cause}
+use Rattle.iol_isdu.specs.declared.values.Cause.TheVariants.{LinkLost, Restarted, BusyTooLong, Protocol, Cancelled}
+use Rattle.iol_event.specs.declared.event.Event.{Event}
+use Rattle.iol_device.specs.declared.app.Carried.{Carried}
+use Rattle.iol_mode.specs.declared.why.Why.{Why}
+use Rattle.iol_mode.specs.declared.why.Why.TheVariants.{NoWake, Lost, Revision, PdLength, Code}
+use Rattle.iol_steps.specs.declared.mode.Mode.{Mode}
+use Rattle.iol_steps.specs.declared.mode.Mode.TheVariants.{Down, Startup, Preoperate, Operate}
+use Rattle.iol_app.specs.declared.station.Status.{Status}
+use Rattle.iol_app.specs.declared.output.OutputFault.{OutputFault}
+use Rattle.iol_app.specs.declared.output.OutputFault.TheVariants.{WrongImageLength, NoLayout}
+use Rattle.iol_book.specs.declared.entries.Outcome.{Outcome}
+use Rattle.iol_book.specs.declared.entries.Outcome.TheVariants.{Done, Unknown, Withdrawn, NoIsdu}
+use Rattle.iol_book.specs.declared.entries.Ticket.{Ticket}
+use Rattle.iol_book.specs.declared.fault.BookFault.{BookFault}
+use Rattle.iol_book.specs.declared.fault.BookFault.TheVariants.{Full, JournalFull, TicketsSpent, OutOfMemory, UnknownTicket, NotYet, TakenAlready, Outstanding, NotInFlight}
+use Rattle.iol_port.specs.Faults.{fault_number}
+use Rattle.iol_port.specs.declared.call.Call.{Call}
+use Rattle.iol_port.specs.declared.call.Call.TheVariants as call
+use Rattle.iol_port.specs.declared.call.Answered.{Answered}
+use Rattle.iol_port.specs.declared.call.Answered.TheVariants as answered
+use Rattle.iol_port.specs.declared.fault.PortFault.{PortFault}
+use Rattle.iol_port.specs.declared.fault.PortFault.TheVariants.{Book, Output, NoEvent}
+use Rattle.iol_commands.specs.Printed.{hexadecimal, octets_text, number_text}
+
+-- Requests and answers
+
+-- octets, each behind a space; a dash where there is none
+abbrev pub listed_text : List ℕ → List ℕ
+listed_text [] = codes " -"
+listed_text (octet ∷ octets) = octets_text (octet ∷ octets)
+
+-- an index and a subindex
+abbrev pub place_text : Place → List ℕ
+place_text place = decimal place.index ++ codes " " ++ decimal place.sub
+
+-- a request, with the octets of a write
+abbrev pub request_text : Request → List ℕ
+request_text (request.Read place) = codes "read " ++ place_text place
+request_text (request.Write place octets) = codes "write " ++ place_text place ++ listed_text octets.items
+
+-- what the device answered to it
+abbrev pub device_text : Answer → List ℕ
+device_text (answer.Read octets) = codes "read" ++ listed_text octets.items
+device_text answer.Written = codes "written"
+device_text (answer.Refused error additional) = codes "refused" ++ octets_text (error ∷ additional ∷ [])
+
+-- Tickets and outcomes
+
+-- why a request was cut off
+abbrev pub cause_name : Cause → List ℕ
+cause_name LinkLost = codes "LinkLost"
+cause_name Restarted = codes "Restarted"
+cause_name BusyTooLong = codes "BusyTooLong"
+cause_name Protocol = codes "Protocol"
+cause_name Cancelled = codes "Cancelled"
+
+-- how a request ended
+abbrev pub outcome_text : Outcome → List ℕ
+outcome_text (Done given) = codes " done " ++ device_text given
+outcome_text (Unknown cause) = codes " unknown " ++ cause_name cause
+outcome_text Withdrawn = codes " withdrawn"
+outcome_text NoIsdu = codes " noisdu"
+
+abbrev pub ticket_text : Ticket → List ℕ
+ticket_text ticket = number_text (codes "ticket ") ticket.0
+
+-- the line of an outcome, with the ticket that was collected; no other call hands one out
+abbrev pub collected_text : Call → Outcome → List ℕ
+collected_text (call.Collect ticket) outcome = ticket_text ticket ++ outcome_text outcome ++ codes "\n"
+collected_text other outcome = []
+
+-- Process data and events
+
+-- the line of an image
+abbrev pub image_text : Option (List ℕ) → List ℕ
+image_text None = codes "image none\n"
+image_text (Some octets) = codes "image" ++ octets_text octets ++ codes "\n"
+
+-- a code in four hexadecimal digits
+abbrev pub code_text : ℕ → List ℕ
+code_text code = hexadecimal (code / 256) ++ hexadecimal (code % 256)
+
+-- an event: its qualifier and its code
+abbrev pub event_text : Event → List ℕ
+event_text event = codes "event " ++ hexadecimal event.qualifier ++ codes " " ++ code_text event.code
+
+-- The link
+
+abbrev pub mode_name : Mode → List ℕ
+mode_name Down = codes "down"
+mode_name Startup = codes "startup"
+mode_name Preoperate = codes "preoperate"
+mode_name Operate = codes "operate"
+
+-- the name of the fault for which a link is down
+abbrev pub why_name : Why → List ℕ
+why_name NoWake = codes "NoWake"
+why_name Lost = codes "Lost"
+why_name (Revision octet) = codes "Revision"
+why_name PdLength = codes "BadPdLength"
+why_name Code = codes "UnsupportedCode"
+
+abbrev pub why_text : Option Why → List ℕ
+why_text None = []
+why_text (Some why) = codes " " ++ why_name why
+
+-- the mode of a link, and the fault for which it is down
+abbrev pub link_text : Mode → Option Why → List ℕ
+link_text mode why = codes "status " ++ mode_name mode ++ why_text why
+
+-- the line of a status
+abbrev pub state_text : Status → List ℕ
+state_text status = link_text status.mode status.why ++ (if status.event_form then codes " eventform" else []) ++ codes "\n"
+
+-- Refusals
+
+abbrev pub book_fault_name : BookFault → List ℕ
+book_fault_name Full = codes "Full"
+book_fault_name JournalFull = codes "JournalFull"
+book_fault_name TicketsSpent = codes "TicketsSpent"
+book_fault_name OutOfMemory = codes "OutOfMemory"
+book_fault_name UnknownTicket = codes "UnknownTicket"
+book_fault_name NotYet = codes "NotYet"
+book_fault_name TakenAlready = codes "TakenAlready"
+book_fault_name Outstanding = codes "Outstanding"
+book_fault_name NotInFlight = codes "NotInFlight"
+
+abbrev pub output_fault_name : OutputFault → List ℕ
+output_fault_name WrongImageLength = codes "WrongImageLength"
+output_fault_name NoLayout = codes "NoLayout"
+
+-- the name of a refusal
+abbrev pub port_fault_name : PortFault → List ℕ
+port_fault_name (Book fault) = book_fault_name fault
+port_fault_name (Output fault) = output_fault_name fault
+port_fault_name NoEvent = codes "NoEvent"
+
+-- the line of a refusal: its number and its name
+abbrev pub refused_text : PortFault → List ℕ
+refused_text fault = codes "refused " ++ decimal (fault_number fault) ++ codes " " ++ port_fault_name fault ++ codes "\n"
+
+-- Answers
+
+-- a call without an answer: a turn prints nothing
+abbrev pub nothing_text : Call → List ℕ
+nothing_text call.Turn = []
+nothing_text other = codes "ok\n"
+
+-- what is printed for a call that was answered so
+abbrev pub answer_text : Call → Answered → List ℕ
+answer_text call (answered.Ticket ticket) = ticket_text ticket ++ codes "\n"
+answer_text call (answered.Refused fault) = refused_text fault
+answer_text call (answered.Outcome outcome) = collected_text call outcome
+answer_text call (answered.Image image) = image_text image
+answer_text call (answered.Event event) = event_text event ++ codes "\n"
+answer_text call (answered.Status status) = state_text status
+answer_text call (answered.Archived count) = number_text (codes "archived ") count ++ codes "\n"
+answer_text call answered.Nothing = nothing_text call
+
+-- what is printed for calls, each with its answer
+abbrev pub answers_text : List Call → List Answered → List ℕ
+answers_text (call ∷ calls) (answer ∷ answers) = answer_text call answer ++ answers_text calls answers
+answers_text calls answers = []
+
+-- The record
+
+-- the line of a request that the device carried out, and its answer
+abbrev pub carried_text : Carried → List ℕ
+carried_text entry = codes "carried " ++ request_text entry.request ++ codes ": " ++ device_text entry.answer ++ codes "\n"
+
+-- the lines of a record
+abbrev pub entries_text : List Carried → List ℕ
+entries_text entries = flat_map carried_text entries
+
+-- how many there are, and each
+abbrev pub record_text : List Carried → List ℕ
+record_text entries = number_text (codes "record ") (length entries) ++ codes "\n" ++ entries_text entries

@@ -1,0 +1,131 @@
+-- What `trace` carries out, and what it prints of it.
+use Rattle.std.specs.Prelude.{◌≡◌, ℕ, ◌+◌, Bool, true, false, Option, Some, None, List, [], ◌∷◌, ◌++◌, IsSomeAnd, IsOkAnd, unwrap_or}
+use Rattle.std.specs.Io.KnownBytes.{Appends}
+use Rattle.arrayvec.specs.ArrayVec.{ArrayVec}
+use Rattle.iol_mseq.specs.Shape.{Shape, startup_shape}
+use Rattle.iol_page.specs.Page.{layouts_of}
+use Rattle.iol_page.specs.declared.page.Layouts.{Layouts}
+use Rattle.iol_device.specs.Far.{Far}
+use Rattle.iol_device.specs.Far as device
+use Rattle.iol_link.specs.declared.wire.Rate.{Rate}
+use Rattle.iol_tap.specs.Tapped.{Tapped, through, IsNoteOf}
+use Rattle.iol_tap.specs.declared.tap.Passed.{Passed}
+use Rattle.iol_sim.specs.Params.{Stores}
+use Rattle.iol_sim.specs.declared.params.Entry.{Entry}
+use Rattle.iol_sim.specs.Sim.{Simulated, IsWake, IsExchange}
+use Rattle.iol_steps.specs.declared.mode.Mode.{Mode}
+use Rattle.iol_steps.specs.declared.mode.Mode.TheVariants.{Down, Startup, Preoperate, Operate}
+use Rattle.iol_app.specs.StationState.{wire_of}
+use Rattle.iol_port.specs.declared.call.Call.{Call}
+use Rattle.iol_port.specs.declared.call.Call.TheVariants.{Turn}
+use Rattle.iol_port.specs.declared.call.Answered.{Answered}
+use Rattle.iol_port.specs.Run.{PortState, CallOf}
+use Rattle.iol_port.specs.View.{Parts, StandsFor}
+use Rattle.iol_script.specs.Script.{ScriptValue, script_in, calls_in}
+use Rattle.iol_commands.specs.Passing.{PrintsPassed}
+use Rattle.iol_commands.specs.RunPlayed.{first_port, lacks_memory}
+use Rattle.iol_commands.specs.RunPrinted.{answer_text, record_text}
+
+-- the layout of a mode, where these are the device's; in down no message is sent
+abbrev pub layout_in : Mode → Layouts → Shape
+layout_in Down layouts = startup_shape
+layout_in Startup layouts = startup_shape
+layout_in Preoperate layouts = unwrap_or layouts.pre startup_shape
+layout_in Operate layouts = layouts.run
+
+-- where a trace is: the number of the next call of the wire, the abstract port, and the wire
+pub record Stage (W : Type 0) : Type 0 where
+  pub number : ℕ
+  pub port : PortState
+  pub wire : W
+
+module _ {W : Type 0} (wakes : W → Option Rate → W → Type 0) (gives : W → List ℕ → Option (ArrayVec ℕ) → W → Type 0) (layouts : Layouts) where
+  -- what passes in a call: a turn makes one call of the wire, whose octets are shown in the layout of the mode before it; no
+  -- other call touches the wire
+  abbrev pub Passes : Stage W → Call → Stage W → List ℕ → Type 0
+  Passes s Turn t text =
+      (note : Passed) × IsNoteOf wakes gives note s.wire t.wire × PrintsPassed s.number (layout_in s.port.session.mode layouts) note text
+      × (t.number ≡ s.number + 1)
+  Passes s other t text = (text ≡ []) × (t.wire ≡ s.wire) × (t.number ≡ s.number)
+
+  -- one call, which doesn't lack memory: what passes, and then what it answers
+  pub record TracesCall (s : Stage W) (call : Call) (t : Stage W) (text : List ℕ) : Type 0 where
+    pub reply : Answered
+    pub passed : List ℕ
+    pub call_is : CallOf s.port call reply t.port
+    pub granted : lacks_memory reply ≡ false
+    pub passes : Passes s call t passed
+    pub text_is : text ≡ passed ++ answer_text call reply
+
+  -- calls, one after the other
+  abbrev pub Traces : Stage W → List Call → Stage W → List ℕ → Type 0
+  Traces s [] t text = (t ≡ s) × (text ≡ [])
+  Traces s (call ∷ calls) t text =
+      (mid : Stage W) × (first : List ℕ) × (later : List ℕ) × (text ≡ first ++ later) × TracesCall s call mid first × Traces mid calls t later
+
+-- the wire of a script at first: a new device of its page and its parameters, and its steps
+abbrev pub first_wire : ScriptValue → Simulated (List Entry)
+first_wire script = record {
+  device = record { far = device.opened script.page 1000; app = script.params; first = script.params };
+  steps = script.steps;
+  auto = true;
+  silent = false;
+  silence = 0;
+}
+
+abbrev pub first_stage : ScriptValue → Stage (Simulated (List Entry))
+first_stage script = record { number = 1; port = first_port script.limits script.page; wire = first_wire script }
+
+-- what is printed for calls: what passes and what they answer, and then the device's record
+pub record TracesOut (script : ScriptValue) (layouts : Layouts) (calls : List Call) (text : List ℕ) : Type 0 where
+  pub last : Stage (Simulated (List Entry))
+  pub calls_text : List ℕ
+  pub traces : Traces (IsWake Stores) (IsExchange Stores) layouts (first_stage script) calls last calls_text
+  pub text_is : text ≡ calls_text ++ record_text last.port.session.carried
+
+-- what `trace` prints for lines, which are a script
+abbrev pub PrintsTrace : List (ℕ × List ℕ) → List ℕ → Type 0
+PrintsTrace lines text =
+    IsSomeAnd (script_in lines) (λ script. IsOkAnd (layouts_of script.page) (λ layouts. TracesOut script layouts (calls_in lines) text))
+
+-- the stage of a port over a tap, where it stands for this abstract port
+abbrev pub stage_of : {W : Type 0} → ℕ → PortState → Parts (Tapped W) → Stage W
+stage_of number a p = record { number = number; port = a; wire = (wire_of p.station.link).wire }
+
+-- a text is printed behind what waits to be written: of both, the first part is written, and the rest waits
+pub record Flows (old new : Option (List ℕ)) (waits left text : List ℕ) : Type 0 where
+  pub written : List ℕ
+  pub appends : Appends old new written
+  pub rest : waits ++ text ≡ written ++ left
+
+-- how far a trace is: the number of the next call of the wire, what waits to be written, what is written, and the port
+pub record Place (W : Type 0) : Type 0 where
+  pub number : ℕ
+  pub waits : List ℕ
+  pub written : Option (List ℕ)
+  pub port : Parts (Tapped W)
+
+abbrev pub place : {W : Type 0} → ℕ → List ℕ → Option (List ℕ) → Parts (Tapped W) → Place W
+place number waits written port = record { number = number; waits = waits; written = written; port = port }
+
+-- Whatever abstract port a port over a tap stands for: the calls are traced, and the port stands for the one that they lead to.
+module _ {W : Type 0} (honest : W → Bool) (far : W → Far) (silence : W → ℕ) (wakes : W → Option Rate → W → Type 0) (gives : W → List ℕ → Option (ArrayVec ℕ) → W → Type 0) (layouts : Layouts) where
+  unfoldable pub PortTraces : ℕ → Parts (Tapped W) → List Call → ℕ → Parts (Tapped W) → List ℕ → Type 0
+  PortTraces number p calls after next text =
+      (a : PortState) → StandsFor (through honest) (through far) (through silence) p a
+      → (b : PortState) × Traces wakes gives layouts (stage_of number a p) calls (stage_of after b next) text
+      × StandsFor (through honest) (through far) (through silence) next b
+
+  -- from one place to the next: these calls are traced, and their text is printed behind what waits
+  abbrev pub TracesFrom : Place W → List Call → Place W → Type 0
+  TracesFrom old calls new =
+      (text : List ℕ) × Flows old.written new.written old.waits new.waits text × PortTraces old.number old.port calls new.number new.port text
+
+-- what is printed of the note of a wire, once a call was made: of a turn the note is that of its call of the wire
+abbrev pub PrintsNote : ℕ → Shape → Option Passed → ℕ → List ℕ → Type 0
+PrintsNote number layout None after text = (text ≡ []) × (after ≡ number)
+PrintsNote number layout (Some note) after text = PrintsPassed number layout note text × (after ≡ number + 1)
+
+abbrev pub PrintsNoteOf : Call → ℕ → Shape → Option Passed → ℕ → List ℕ → Type 0
+PrintsNoteOf Turn number layout last after text = PrintsNote number layout last after text
+PrintsNoteOf other number layout last after text = (text ≡ []) × (after ≡ number)

@@ -1,0 +1,25 @@
+//! The commands of the program `iolink`, each from a reader to a writer: [`check`], [`run`], [`trace`] and [`many`].
+//!
+//! Each reads its input whole, up to 1,048,576 bytes, judges its lines from first to last (crate iol_script), and prints
+//! what it makes of them; the clauses of each say which input is refused, by which fault, and what text is printed.
+#![tactic(auto)]
+
+mod check_command;
+mod fault;
+mod many_command;
+mod many_printing;
+mod passing;
+mod playing;
+mod printing;
+mod run_command;
+mod run_printing;
+mod streams;
+mod trace_command;
+mod tracing;
+
+pub use check_command::check;
+pub use fault::ProgramFault;
+pub use many_command::many;
+pub use run_command::run;
+pub use streams::LIMIT;
+pub use trace_command::trace;

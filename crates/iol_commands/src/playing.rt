@@ -1,0 +1,137 @@
+//! The calls of a script, made on a port, with what each of them answers.
+ghost use Rattle.std.specs.Prelude.{◌≡◌, ◌++◌, ℕ, List, OnOk, IfOk, replicate};
+ghost use Rattle.std.specs.List.{list_any};
+ghost use Rattle.std.specs.String.{string_bytes};
+ghost use Rattle.iol_port.specs.declared.call.Call.TheVariants.{Turn};
+ghost use Rattle.iol_script.specs.Script.{calls_in, line_calls};
+ghost use Rattle.iol_script.specs.Text.{numbered_lines};
+ghost use Rattle.iol_commands.specs.RunPlayed.{lacks_memory, PortPlays};
+ghost use Rattle.iol_commands.specs.RunPrinted.{answers_text};
+
+use crate::run_printing::print_answer;
+use iol_book::BookFault;
+use iol_image::Handle;
+use iol_link::Wire;
+use iol_port::{Answered, Call, Port, PortFault, runs_join};
+use iol_script::{CallLine, Lines, RunLine};
+use std::alloc::{AllocError, Allocator};
+use std::slice;
+
+/// How many turns are made at once.
+const PIECE: usize = 256;
+
+/// Makes the calls of a script's lines, and prints what each of them answers.
+pub(crate) fn play_lines<W: Wire, A: Handle>(
+    alloc: A,
+    output: &mut String<A>,
+    port: &mut Port<W, A>,
+    input: &[u8],
+) -> Result<(), AllocError>
+    ensures { OnOk result ((text : List ℕ) × (string_bytes output.new ≡ string_bytes output.old ++ text) × PortPlays W.honest W.far W.silence port.old.parts (calls_in (numbered_lines input.now)) port.new.parts text) }
+{
+    runs_join();
+    let turns = turns_of(alloc)?;
+    for (_, line) in Lines::of(input) {
+        if let Some(RunLine::Call(call)) = RunLine::parse(line) {
+            play_line(alloc, output, port, turns.as_slice(), &call)?;
+        }
+    }
+    Ok(())
+}
+
+/// A piece of turns.
+fn turns_of<A: Handle>(alloc: A) -> Result<Vec<Call, A>, AllocError>
+    ensures { IfOk result (λ turns. turns.items ≡ replicate PIECE Turn) }
+{
+    let mut turns = Vec::new(alloc);
+    for _ in 0..PIECE {
+        turns.push(Call::Turn)?;
+    }
+    Ok(turns)
+}
+
+/// Makes the calls of one line. The turns that are passed are a piece of those that it may ask for.
+fn play_line<W: Wire, A: Handle>(
+    alloc: A,
+    output: &mut String<A>,
+    port: &mut Port<W, A>,
+    turns: &[Call],
+    line: &CallLine,
+) -> Result<(), AllocError>
+    requires { turns.now ≡ replicate PIECE Turn }
+    ensures { OnOk result ((text : List ℕ) × (string_bytes output.new ≡ string_bytes output.old ++ text) × PortPlays W.honest W.far W.silence port.old.parts (line_calls line.now) port.new.parts text) }
+{
+    match line {
+        CallLine::Once(call) => play(alloc, output, port, slice::from_ref(call)),
+        CallLine::Turns(count) => play_turns(alloc, output, port, turns, *count as usize),
+    }
+}
+
+/// Makes so many turns, in pieces, so that the list of their answers stays short.
+fn play_turns<W: Wire, A: Handle>(
+    alloc: A,
+    output: &mut String<A>,
+    port: &mut Port<W, A>,
+    turns: &[Call],
+    count: usize,
+) -> Result<(), AllocError>
+    requires { turns.now ≡ replicate PIECE Turn }
+    ensures { OnOk result ((text : List ℕ) × (string_bytes output.new ≡ string_bytes output.old ++ text) × PortPlays W.honest W.far W.silence port.old.parts (replicate count Turn) port.new.parts text) }
+{
+    runs_join();
+    let mut made = 0;
+    while made < count {
+        let piece = PIECE.min(count - made);
+        play(alloc, output, port, &turns[..piece])?;
+        made += piece;
+    }
+    Ok(())
+}
+
+/// Makes calls, and prints what each of them answers.
+fn play<W: Wire, A: Handle>(
+    alloc: A,
+    output: &mut String<A>,
+    port: &mut Port<W, A>,
+    calls: &[Call],
+) -> Result<(), AllocError>
+    ensures { OnOk result ((text : List ℕ) × (string_bytes output.new ≡ string_bytes output.old ++ text) × PortPlays W.honest W.far W.silence port.old.parts calls.now port.new.parts text) }
+{
+    let Ok(answers) = port.run(alloc, calls) else {
+        return Err(AllocError);
+    };
+    if any_lacks_memory(answers.as_slice()) {
+        return Err(AllocError);
+    }
+    print_answers(output, calls, answers.as_slice())
+}
+
+/// Whether a call was refused for want of memory.
+pub(crate) fn lacks_memory(answer: &Answered) -> bool
+    ensures { result ≡ lacks_memory answer.now }
+{
+    matches!(
+        answer,
+        Answered::Refused(PortFault::Book(BookFault::OutOfMemory))
+    )
+}
+
+fn any_lacks_memory(answers: &[Answered]) -> bool
+    ensures { result ≡ list_any lacks_memory answers.now }
+{
+    answers.iter().any(|answer| lacks_memory(answer))
+}
+
+/// What calls answered, one after the other.
+fn print_answers<A: Allocator>(
+    output: &mut String<A>,
+    calls: &[Call],
+    answers: &[Answered],
+) -> Result<(), AllocError>
+    ensures { OnOk result (string_bytes output.new ≡ string_bytes output.old ++ answers_text calls.now answers.now) }
+{
+    for (call, answer) in calls.iter().zip(answers) {
+        print_answer(output, call, answer)?;
+    }
+    Ok(())
+}

@@ -1,0 +1,94 @@
+//! `run`: a port over a simulated wire, as a script says.
+ghost use Rattle.std.specs.Prelude.{◌≡◌, ◌≢◌, ◌<◌, ◌⊎◌, ℕ, Err, OnErr, OnOk, IfOk, IfErr, IsOk, None};
+ghost use Rattle.std.specs.Io.KnownBytes.{Keeps};
+ghost use Rattle.std.specs.String.{string_bytes};
+ghost use Rattle.iol_device.specs.Far.{opened};
+ghost use Rattle.iol_page.specs.Page.{layouts_of};
+ghost use Rattle.iol_script.specs.Script.{first_bad_run};
+ghost use Rattle.iol_script.specs.Text.{numbered_lines};
+ghost use Rattle.iol_commands.specs.declared.fault.ProgramFault.TheVariants.{Line, NoThread, OutOfMemory, TooLong, WriteFailed};
+ghost use Rattle.iol_commands.specs.RunPlayed.{PrintsRun};
+ghost use Rattle.iol_commands.specs.TracePrinted.{first_wire};
+ghost use Rattle.iol_commands.specs.Input.{IsTooLong, OfLines, TakesInput, Writes};
+
+use crate::fault::ProgramFault;
+use crate::playing::play_lines;
+use crate::run_printing::print_record;
+use crate::streams::{read_input, write_output};
+use iol_device::Device;
+use iol_image::Handle;
+use iol_port::Port;
+use iol_script::Script;
+use iol_sim::{Params, Sim};
+use std::alloc::{AllocError, Allocator};
+use std::io::{Read, Write};
+
+/// How many requests the device's record has room for.
+const ROOM: u32 = 1000;
+
+/// Reads a script, and makes its calls on a port over a simulated wire, which the script describes too.
+///
+/// The input is read whole, up to 1,048,576 bytes. Its lines are then read from first to last. The calls are made from
+/// first to last, and a line is printed for each but a turn; then the record of the device is printed. The output
+/// is written at the end. The first fault that is met ends the call: nothing is written then, but where it is a
+/// write that fails part of the output may be.
+pub fn run<A: Handle, R: Read, W: Write>(
+    alloc: A,
+    reader: &mut R,
+    writer: &mut W,
+) -> Result<(), ProgramFault>
+    // What is read.
+    ensures too_long { result ≡ Err TooLong → IsTooLong (R.remaining reader.old) }
+    ensures bad_line { (n : ℕ) → result ≡ Err (Line n)
+        → OfLines (R.remaining reader.old) (λ lines. first_bad_run lines ≡ Some n) }
+    ensures good { OnOk result (OfLines (R.remaining reader.old) (λ lines. first_bad_run lines ≡ None)) }
+    ensures taken { TakesInput (R.remaining reader.old) (R.remaining reader.new) }
+
+    // What is written.
+    ensures printed { OnOk result (Writes (R.remaining reader.old)
+        (W.contents writer.old) (W.contents writer.new) PrintsRun) }
+    ensures nothing { OnErr result (result ≢ Err WriteFailed
+        → Keeps (W.contents writer.old) (W.contents writer.new)) }
+    ensures threads { result ≢ Err NoThread }
+{
+    let input = read_input(alloc, reader)?;
+    let output = played(alloc, input.as_slice())?;
+    write_output(writer, output.as_str())
+}
+
+/// What is printed for the whole input.
+fn played<A: Handle>(alloc: A, input: &[u8]) -> Result<String<A>, ProgramFault>
+    ensures good { OnOk result (first_bad_run (numbered_lines input.now) ≡ None) }
+    ensures printed { IfOk result (λ output. PrintsRun (numbered_lines input.now) (string_bytes output)) }
+    ensures line { (n : ℕ) → result ≡ Err (Line n) → first_bad_run (numbered_lines input.now) ≡ Some n }
+    ensures faults { IfErr result (λ e. (e ≡ OutOfMemory) ⊎ ((n : ℕ) × (e ≡ Line n))) }
+{
+    let script = Script::read(alloc, input)?;
+    let limits = script.limits;
+    let wire = wire_of(alloc, script)?;
+    let Ok(mut port) = Port::open(alloc, wire, &limits) else {
+        return Err(ProgramFault::OutOfMemory);
+    };
+    let mut output = String::new(alloc);
+    play_lines(alloc, &mut output, &mut port, input)?;
+    print_record(&mut output, port.wire().device().carried())?;
+    Ok(output)
+}
+
+/// The wire of a script, with its device.
+pub(crate) fn wire_of<A: Handle>(alloc: A, script: Script<A>) -> Result<Sim<Params, A>, AllocError>
+    requires { IsOk (layouts_of script.page) }
+    ensures far { IfOk result (λ sim. sim.device.far ≡ opened script.page ROOM) }
+    ensures app { IfOk result (λ sim. sim.device.app ≡ script.params) }
+    ensures steps { IfOk result (λ sim. sim.steps ≡ script.steps.items) }
+    ensures silence { IfOk result (λ sim. sim.silence ≡ 0) }
+    ensures whole { IfOk result (λ sim. sim ≡ first_wire (record {
+      page = script.page;
+      params = script.params;
+      limits = script.limits;
+      steps = script.steps.items;
+    })) }
+{
+    let device = Device::open(alloc, script.params, script.page, ROOM).map_err(|_| AllocError)?;
+    Sim::new(alloc, device, script.steps).map_err(|_| AllocError)
+}

@@ -1,0 +1,87 @@
+//! `trace`: what `run` prints, and what goes over the wire.
+ghost use Rattle.std.specs.Prelude.{◌≡◌, ◌≢◌, ◌<◌, ◌≤◌, ◌⊎◌, length, List, ℕ, Err, OnErr, OnOk, IfErr, IsOk, IsOkAnd, None};
+ghost use Rattle.std.specs.Io.KnownBytes.{Appends, Keeps};
+ghost use Rattle.iol_book.specs.BookModel.{AreLimits};
+ghost use Rattle.iol_page.specs.Page.{layouts_of};
+ghost use Rattle.iol_script.specs.Script.{calls_in, first_bad_run};
+ghost use Rattle.iol_script.specs.Text.{numbered_lines};
+ghost use Rattle.iol_commands.specs.declared.fault.ProgramFault.TheVariants.{Line, NoThread, OutOfMemory, TooLong, WriteFailed};
+ghost use Rattle.iol_commands.specs.TracePrinted.{PrintsTrace, TracesOut};
+ghost use Rattle.iol_commands.specs.Input.{IsTooLong, OfLines, TakesInput, Writes};
+
+use crate::fault::ProgramFault;
+use crate::run_command::wire_of;
+use crate::run_printing::print_record;
+use crate::streams::{read_input, write_output};
+use crate::tracing::Tracer;
+use iol_image::Handle;
+use iol_port::Port;
+use iol_script::Script;
+use iol_tap::Tap;
+use std::alloc::Allocator;
+use std::io::{Read, Write};
+
+/// Reads a script as `run` does, makes its calls, and prints what `run` prints; and for each call of the wire what went
+/// over it, before the line of the call that made it.
+///
+/// The input is read whole, up to 1,048,576 bytes, and its lines are read from first to last, before the first call is
+/// made. What is printed is written as it comes, in pieces, so that a trace of any length takes little memory: where
+/// memory is short or a write fails, part of the output may be written. Where any other fault is met, nothing is.
+pub fn trace<A: Handle, R: Read, W: Write>(
+    alloc: A,
+    reader: &mut R,
+    writer: &mut W,
+) -> Result<(), ProgramFault>
+    // What is read.
+    ensures too_long { result ≡ Err TooLong → IsTooLong (R.remaining reader.old) }
+    ensures bad_line { (n : ℕ) → result ≡ Err (Line n)
+        → OfLines (R.remaining reader.old) (λ lines. first_bad_run lines ≡ Some n) }
+    ensures good { OnOk result (OfLines (R.remaining reader.old) (λ lines. first_bad_run lines ≡ None)) }
+    ensures taken { TakesInput (R.remaining reader.old) (R.remaining reader.new) }
+
+    // What is written.
+    ensures printed { OnOk result (Writes (R.remaining reader.old)
+        (W.contents writer.old) (W.contents writer.new) PrintsTrace) }
+    ensures nothing { OnErr result (result ≢ Err WriteFailed → result ≢ Err OutOfMemory
+        → Keeps (W.contents writer.old) (W.contents writer.new)) }
+    ensures threads { result ≢ Err NoThread }
+{
+    let input = read_input(alloc, reader)?;
+    let script = Script::read(alloc, input.as_slice())?;
+    traced(alloc, script, input.as_slice(), writer)
+}
+
+/// Makes the calls of the lines of this script.
+fn traced<A: Handle, W: Write>(
+    alloc: A,
+    script: Script<A>,
+    input: &[u8],
+    writer: &mut W,
+) -> Result<(), ProgramFault>
+    requires page { IsOk (layouts_of script.page) }
+    requires limits { AreLimits script.limits }
+    requires given { script.limits.given ≡ 0 }
+    requires calls { length (calls_in (numbered_lines input.now)) ≤ 1000000 }
+    ensures printed { OnOk result ((text : List ℕ) × Appends (W.contents writer.old) (W.contents writer.new) text
+        × IsOkAnd (layouts_of script.page) (λ layouts. TracesOut (record {
+          page = script.page;
+          params = script.params;
+          limits = script.limits;
+          steps = script.steps.items;
+        })
+        layouts (calls_in (numbered_lines input.now)) text)) }
+    ensures faults { IfErr result (λ e. (e ≡ OutOfMemory) ⊎ (e ≡ WriteFailed)) }
+{
+    let limits = script.limits;
+    let Ok(layouts) = script.page.layouts() else {
+        unreachable!()
+    };
+    let wire = Tap::new(wire_of(alloc, script)?);
+    let Ok(mut port) = Port::open(alloc, wire, &limits) else {
+        return Err(ProgramFault::OutOfMemory);
+    };
+    let mut tracer = Tracer::new(alloc, layouts);
+    tracer.follow(&mut port, writer, input)?;
+    print_record(&mut tracer.output, port.wire().wire().device().carried())?;
+    write_output(writer, tracer.output.as_str())
+}

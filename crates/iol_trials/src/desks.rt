@@ -1,0 +1,252 @@
+//! Desks and memory of a master run out.
+ghost use Rattle.std.proofs.Common.{rules};
+ghost use Rattle.std.specs.Prelude.{◌≡◌, [], false, ⊤, All, IfOk, vec_len};
+ghost use Rattle.iol_device.specs.Far.{opened};
+ghost use Rattle.iol_master.specs.Tickets.{HasGiven};
+
+use iol_book::{BookFault, Limits, Ticket};
+use iol_image::Handle;
+use iol_isdu::{Place, Request};
+use iol_link::{Rate, Wire};
+use iol_master::{Desk, Gate, Master, MasterFault, Settled, Tally};
+use iol_mseq::Message;
+use iol_port::{Port, PortFault};
+use scarce::{Refusal, Scarce};
+use std::alloc::Global;
+use std::marker::Brand;
+use std::process::Abort;
+use std::sync::Wait;
+use std::sync::ledger::{Blank, Ledger};
+use std::test::Fail;
+use std::thread::Threads;
+
+/// A wire at whose far end is nothing.
+#[derive(Debug, PartialEq, Eq, Drop)]
+struct Bare;
+
+impl Wire for Bare {
+    ghost far = { λ w. opened [] 0 };
+
+    ghost honest = { λ w. false };
+
+    ghost silence = { λ w. 0 };
+
+    ghost clean = { λ w. false };
+
+    ghost wake_gives = { λ w answer v. ⊤ };
+
+    ghost exchange_gives = { λ w sent answer v. ⊤ };
+
+    ghost clean_exchanges = { λ old sent answer new never. Prim.search rules };
+
+    ghost clean_wakes = { λ old answer new never. Prim.search rules };
+
+    fn wake(&mut self) -> Option<Rate> {
+        None
+    }
+
+    fn exchange(&mut self, _sent: &[u8]) -> Option<Message> {
+        None
+    }
+}
+
+/// A gate that is open.
+struct Open;
+
+impl Gate for Open {
+    fn pass(&self, _port: u32, _turn: u64) -> bool {
+        true
+    }
+}
+
+fn opened_port<A: Handle>(alloc: A) -> Result<Port<Bare, A>, Fail>
+    ensures { IfOk result (λ p. HasGiven p 0) }
+{
+    let limits = Limits {
+        journal: 1_000,
+        busy: 100,
+        given: 7,
+    };
+    match Port::open(alloc, Bare, &limits) {
+        Ok(port) => Ok(port),
+        Err((fault, _)) => Err(Fail::from(fault)),
+    }
+}
+
+fn one_port<A: Handle>(alloc: A) -> Result<Vec<Port<Bare, A>, A>, Fail>
+    ensures { IfOk result (λ v. (vec_len v ≡ 1) × All (λ p. HasGiven p 0) v.items) }
+{
+    let mut ports = Vec::with_capacity(alloc, 1)?;
+    let port = opened_port(alloc)?;
+    ports.push_reserved(port);
+    Ok(ports)
+}
+
+fn run_out<L: Ledger, K: Ledger + Sync, R: Threads + Wait + Abort + Sync>(
+    rt: &R,
+    alloc: Global,
+    clients: Blank,
+    tickets: Blank,
+) -> Result<(), Fail>
+    requires clients { (clients.name ≡ L.name) × (clients.parts ≡ L.parts) × (clients.parts ≡ 1025) }
+    requires tickets { (tickets.name ≡ K.name) × (tickets.parts ≡ K.parts) × (tickets.parts ≡ 1) }
+{
+    let opened: Result<Master<Bare, L, K>, _> = Master::open(
+        alloc,
+        one_port(alloc)?,
+        clients,
+        tickets,
+    );
+    let master = opened.ok().expect(rt, "memory");
+    let mut desks = Vec::with_capacity(alloc, 1024)?;
+    for _ in 0..1024u32 {
+        let desk = master.desk(rt, 1)?;
+        assert!(rt; desks.push(desk).is_ok());
+    }
+    assert!(rt; master.desk(rt, 1).err() == Some(MasterFault::DesksFull));
+    let first = desks.pop().expect(rt, "1,024 desks");
+    assert!(rt; master.settle(rt, first) == Settled::Part(0));
+    assert!(rt; master.desk(rt, 1).is_ok());
+    assert!(rt; master.serve(rt, &Open, 1) == Ok(()));
+    Ok(())
+}
+
+#[test]
+fn desks_run_out(rt: HostRuntime) -> Result<(), Fail> {
+    run_out::<Brand, Brand, HostRuntime>(&rt, rt.alloc(), Blank::new(1025), Blank::new(1))
+}
+
+/// Opens a master while this request for memory is refused, and says whether there was one.
+fn open_is_refused<A: Handle, L: Ledger, K: Ledger, R: Abort>(
+    rt: &R,
+    alloc: A,
+    scarce: &Scarce,
+    number: u64,
+    clients: Blank,
+    tickets: Blank,
+) -> Result<bool, Fail>
+    requires clients { (clients.name ≡ L.name) × (clients.parts ≡ L.parts) × (clients.parts ≡ 1025) }
+    requires tickets { (tickets.name ≡ K.name) × (tickets.parts ≡ K.parts) × (tickets.parts ≡ 1) }
+{
+    scarce.order(Refusal::Never);
+    let ports = one_port(alloc)?;
+    scarce.order(Refusal::Only(number));
+    match Master::<Bare, L, K, A>::open(alloc, ports, clients, tickets) {
+        Ok(_master) => {
+            assert!(rt; !scarce.has_refused());
+            Ok(false)
+        }
+        Err((fault, ports)) => {
+            assert!(rt; scarce.has_refused());
+            assert!(rt; fault == MasterFault::OutOfMemory);
+            assert!(rt; ports.len() == 1);
+            Ok(true)
+        }
+    }
+}
+
+/// A turn and a look for an outcome, under the port's lock.
+fn turn_and_collect<W: Wire, L: Ledger, K: Ledger, A: Handle, R: Wait>(
+    rt: &R,
+    master: &Master<W, L, K, A>,
+) -> Result<Option<PortFault>, MasterFault> {
+    let mut held = master.lock(rt, 1)?;
+    held.turn(rt);
+    Ok(held.collect(Ticket(8)).err())
+}
+
+/// Submits at a desk without submits while this request for memory is refused, and says whether
+/// there was one.
+fn submit_refusing<L: Ledger, K: Ledger, R: Wait + Abort>(
+    rt: &R,
+    scarce: &Scarce,
+    number: u64,
+    master: &Master<Bare, L, K, &Scarce>,
+    desk: &mut Desk<L>,
+) -> bool {
+    scarce.order(Refusal::Only(number));
+    let read = Request::read(Place { index: 16, sub: 0 });
+    let answer = master.submit(rt, desk, read);
+    let refused = scarce.has_refused();
+    let wanted = if refused {
+        Err(MasterFault::Port(PortFault::Book(BookFault::OutOfMemory)))
+    } else {
+        Ok(Ticket(8))
+    };
+    assert!(rt; answer == wanted);
+    assert!(rt; desk.accepted() == u64::from(!refused));
+    refused
+}
+
+/// Submits while each request for memory is refused in turn; no other call makes one.
+fn submit_is_refused<L: Ledger, K: Ledger, R: Wait + Abort>(
+    rt: &R,
+    scarce: &Scarce,
+    clients: Blank,
+    tickets: Blank,
+) -> Result<(), Fail>
+    requires clients { (clients.name ≡ L.name) × (clients.parts ≡ L.parts) × (clients.parts ≡ 1025) }
+    requires tickets { (tickets.name ≡ K.name) × (tickets.parts ≡ K.parts) × (tickets.parts ≡ 1) }
+{
+    scarce.order(Refusal::Never);
+    let opened: Result<Master<Bare, L, K, &Scarce>, _> = Master::open(
+        scarce,
+        one_port(scarce)?,
+        clients,
+        tickets,
+    );
+    let master = opened.ok().expect(rt, "memory");
+    scarce.order(Refusal::Only(0));
+    let mut desk = master.desk(rt, 1)?;
+    assert!(rt; submit_refusing(rt, scarce, 0, &master, &mut desk));
+    for number in 1..64u64 {
+        if !submit_refusing(rt, scarce, number, &master, &mut desk) {
+            break;
+        }
+    }
+    assert!(rt; desk.accepted() == 1);
+    scarce.order(Refusal::Never);
+    assert!(rt; turn_and_collect(rt, &master)? == Some(PortFault::Book(BookFault::NotYet)));
+    assert!(rt; master.settle(rt, desk) == Settled::Last(1, 1));
+    assert!(rt; scarce.requests() == 0);
+    let tally = Tally {
+        desks: 0,
+        settled: 1,
+        tickets: 1,
+    };
+    assert!(rt; master.close() == tally);
+    Ok(())
+}
+
+#[test]
+fn refused_memory_changes_nothing(rt: HostRuntime) -> Result<(), Fail> {
+    let scarce = Scarce::new(rt.alloc());
+    for (number, wanted) in [(0u64, true), (1, false)] {
+        let refused = open_is_refused::<&Scarce, Brand, Brand, HostRuntime>(
+            &rt,
+            &scarce,
+            &scarce,
+            number,
+            Blank::new(1025),
+            Blank::new(1),
+        )?;
+        assert_eq!(rt; refused, wanted);
+    }
+    submit_is_refused::<Brand, Brand, HostRuntime>(&rt, &scarce, Blank::new(1025), Blank::new(1))
+}
+
+#[test]
+fn faults_of_a_master_have_names(rt: HostRuntime) -> Result<(), Fail> {
+    let table = [
+        (MasterFault::Port(PortFault::NoEvent), 30u8, "NoEvent"),
+        (MasterFault::OutOfMemory, 24, "OutOfMemory"),
+        (MasterFault::NoSuchPort, 31, "NoSuchPort"),
+        (MasterFault::NoThread, 32, "NoThread"),
+        (MasterFault::DesksFull, 33, "DesksFull"),
+    ];
+    for (fault, number, name) in table {
+        assert_eq!(rt; fault.code(), number);
+        assert_eq!(rt; format!(in rt.alloc(); "{fault}")?.as_str(), name);
+    }
+    Ok(())
+}

@@ -1,7 +1,0 @@
-use Rattle.std.proofs.Common.{◌≡◌, ◌++◌, take}
-use Rattle.std.specs.String.{string_bytes}
-use Rattle.iolink.specs.ManyPrinted.{ports_text}
-use Rattle.iolink.proofs.many_printing.print_ports.Given as goal
-
-abbrev pub invariant-loop-place : goal.invariant-loop-place
-invariant-loop-place g l = string_bytes l.output ≡ string_bytes l.fn.output ++ ports_text (take l.place l.ports)

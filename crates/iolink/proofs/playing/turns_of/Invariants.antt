@@ -1,6 +1,0 @@
-use Rattle.std.proofs.Common.{◌≡◌, replicate}
-use Rattle.iol_port.specs.declared.call.Call.TheVariants.{Turn}
-use Rattle.iolink.proofs.playing.turns_of.Given as goal
-
-abbrev pub invariant-loop : goal.invariant-loop
-invariant-loop g l = l.turns.items ≡ replicate l.counter Turn

@@ -1,7 +1,0 @@
-use Rattle.std.proofs.Common.{◌≡◌, ◌++◌, take}
-use Rattle.std.specs.String.{string_bytes}
-use Rattle.iolink.specs.RunPrinted.{entries_text}
-use Rattle.iolink.proofs.run_printing.print_entries.Given as goal
-
-abbrev pub invariant-loop-entry : goal.invariant-loop-entry
-invariant-loop-entry g l = string_bytes l.output ≡ string_bytes l.fn.output ++ entries_text (take l.entry-index l.entries)
