@@ -368,11 +368,13 @@ fn ports(ports: u32, count: u64) -> Result<CheckWord, Fault> {
 fn seat(count: u64) -> Result<CheckWord, Fault> {
     let (mut writer, mut seats) = image_cell(1);
     let mut seat = seats.pop().ok_or(Fault::Unexpected)?;
-    writer.publish(Some(&Image::new(&DATA)?));
+    writer.publish(Some(&Image::new(b"0123456789ABCDEFGHIJKLMNOPQRSTUV")?));
     let mut word = CheckWord::new();
-    for _ in 0..count {
+    for number in 0..count {
         let image = seat.read().ok_or(Fault::Unexpected)?;
-        word.add(image.octets().len() as u64);
+        // One octet, and each time another one, so that all of the image is made.
+        let octet = image.octets().get((number % 32) as usize);
+        word.add(u64::from(*octet.ok_or(Fault::Unexpected)?));
     }
     Ok(word)
 }

@@ -2,4 +2,3 @@ pub mod ReplayLemmas
 pub mod QueueLemmas
 pub mod NumberLemmas
 pub mod TakingLemmas
-pub mod SoundLemmas
