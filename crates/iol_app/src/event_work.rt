@@ -69,7 +69,8 @@ impl Events {
 
     /// Takes an octet of the event memory.
     fn take(&mut self, octet: u8) -> Option<EventList>
-        ensures events { self.new ≡ record self.old { reading = reading_after self.old.reading octet } }
+        ensures events { self.new
+            ≡ record self.old { reading = reading_after self.old.reading octet } }
         ensures list { result ≡ list_after self.old.reading octet }
     {
         let mut reader = match replace(&mut self.reading, Reading::Resting) {

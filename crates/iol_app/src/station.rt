@@ -140,7 +140,8 @@ impl<W: Wire> Station<W> {
     /// Whether the next turn sends IDLE 1, where there is room for events or not: then a request may be begun.
     pub fn ready(&self, room: bool) -> bool
         ensures value { result ≡ (is_operating self.now.link && is_ready self.now.session room) }
-        ensures free { IsTrue result → (mode_of self.now.link ≡ Mode.Operate) × (self.now.session.current ≡ None) }
+        ensures free { IsTrue result → (mode_of self.now.link ≡ Mode.Operate)
+            × (self.now.session.current ≡ None) }
     {
         matches!(self.link, AnyLink::Operate(_)) && self.session.ready(room)
     }
@@ -182,7 +183,8 @@ impl<W: Wire> Station<W> {
         requires operate { mode_of self.old.link ≡ Mode.Operate }
         requires free { self.old.session.current ≡ None }
         requires isdu { self.old.session.isdu ≢ Some false }
-        ensures station { self.new ≡ record self.old { session = begun_in request self.old.session } }
+        ensures station { self.new
+            ≡ record self.old { session = begun_in request self.old.session } }
         ensures steps { BeginSteps W.honest W.far W.silence request self.old self.new }
     {
         begin_takes_the_request();
@@ -199,7 +201,8 @@ impl<W: Wire> Station<W> {
     /// what becomes of an abort for another cause there.
     pub fn abort(&mut self, cause: Cause)
         requires { IsSome self.old.session.current }
-        ensures station { self.new ≡ record self.old { session = aborted_in cause self.old.session } }
+        ensures station { self.new
+            ≡ record self.old { session = aborted_in cause self.old.session } }
         ensures steps { AbortSteps W.honest W.far W.silence cause self.old self.new }
         ensures cancel { CancelSteps W.honest W.far W.silence cause self.old self.new }
     {
@@ -212,9 +215,11 @@ impl<W: Wire> Station<W> {
     /// - 29 `WrongImageLength`: the image has not the length that was told last.
     pub fn set_output(&mut self, image: &Image) -> Result<(), OutputFault>
         ensures refused { result_err result ≡ output_refusal image.now self.old.session.layout }
-        ensures ok { OnOk result (self.new ≡ record self.old { session = wanting (Some image.now) self.old.session }) }
+        ensures ok { OnOk result (self.new
+            ≡ record self.old { session = wanting (Some image.now) self.old.session }) }
         ensures err { OnErr result (self.new ≡ self.old) }
-        ensures steps { OnOk result (WantSteps W.honest W.far W.silence (Some image.now) self.old self.new) }
+        ensures steps { OnOk result (WantSteps W.honest W.far W.silence (Some image.now) self.old
+            self.new) }
     {
         wanted_output_stands();
         self.session.set_output(image)
@@ -249,12 +254,16 @@ impl<W: Wire> Station<W> {
     /// an earlier turn began; `room` says whether this turn may begin one. Over an honest wire the turn is one call of the
     /// wire and one list of steps, each allowed where it is taken.
     pub fn turn(&mut self, room: bool) -> Said
-        ensures request { request_in self.new.session.current ≡ request_after (request_in self.old.session.current) result }
-        ensures turn { IsTurn W.honest W.far W.silence W.wake_gives W.exchange_gives room self.old result self.new }
+        ensures request { request_in self.new.session.current
+            ≡ request_after (request_in self.old.session.current) result }
+        ensures turn { IsTurn W.honest W.far W.silence W.wake_gives W.exchange_gives room self.old
+            result self.new }
         ensures ends { EndsRequest result (request_in self.old.session.current) }
-        ensures reading { ReadingAfter room (is_reading self.old.session) result (is_reading self.new.session) }
+        ensures reading { ReadingAfter room (is_reading self.old.session) result
+            (is_reading self.new.session) }
         ensures steps { TurnSteps W.honest W.far W.silence self.old result self.new }
-        ensures asked { IsCall W.wake_gives W.exchange_gives (asked_of self.old room) (wire_of self.old.link) (wire_of self.new.link) }
+        ensures asked { IsCall W.wake_gives W.exchange_gives (asked_of self.old room)
+            (wire_of self.old.link) (wire_of self.new.link) }
         ensures exact { IsTurn W.honest W.far W.silence (AskedWakes W.wake_gives (asked_of self.old room))
             (AskedGives W.exchange_gives (asked_of self.old room)) room self.old result self.new }
     {
@@ -282,8 +291,10 @@ impl<W: Wire> Station<W> {
     }
 
     fn turned(&mut self, room: bool) -> Said
-        ensures request { request_in self.new.session.current ≡ request_after (request_in self.old.session.current) result }
-        ensures turn { IsTurn W.honest W.far W.silence W.wake_gives W.exchange_gives room self.old result self.new }
+        ensures request { request_in self.new.session.current
+            ≡ request_after (request_in self.old.session.current) result }
+        ensures turn { IsTurn W.honest W.far W.silence W.wake_gives W.exchange_gives room self.old
+            result self.new }
         ensures fits { LinkFits self.old.link self.old.session }
         ensures valid { IsSession self.old.session }
     {
@@ -298,8 +309,10 @@ impl<W: Wire> Station<W> {
     /// A turn outside OPERATE.
     fn risen(self, room: bool) -> (Station<W>, Said)
         requires { is_operating self.link ≡ false }
-        ensures request { request_in result.0.session.current ≡ request_after (request_in self.session.current) result.1 }
-        ensures turn { IsTurn W.honest W.far W.silence W.wake_gives W.exchange_gives room self result.1 result.0 }
+        ensures request { request_in result.0.session.current
+            ≡ request_after (request_in self.session.current) result.1 }
+        ensures turn { IsTurn W.honest W.far W.silence W.wake_gives W.exchange_gives room self
+            result.1 result.0 }
     {
         let Station { link, mut session } = self;
         let (link, said) = rise(link, &mut session, room);
@@ -338,7 +351,8 @@ impl<W: Wire> Station<W> {
 fn rise<W: Wire>(link: AnyLink<W>, session: &mut Session, room: bool) -> (AnyLink<W>, Said)
     requires mode { is_operating link ≡ false }
     requires fits { LinkFits link session.old }
-    ensures request { request_in session.new.current ≡ request_after (request_in session.old.current) result.1 }
+    ensures request { request_in session.new.current
+        ≡ request_after (request_in session.old.current) result.1 }
     ensures turn { IsTurn W.honest W.far W.silence W.wake_gives W.exchange_gives room
         (record { link = link; session = session.old }) result.1 (record { link = result.0; session = session.new }) }
     ensures fits { LinkFits result.0 session.new }
@@ -354,7 +368,8 @@ fn rise<W: Wire>(link: AnyLink<W>, session: &mut Session, room: bool) -> (AnyLin
 /// A turn in Down: a wake, and where it is answered a start-up begins.
 fn waked<W: Wire>(link: Link<W, Down>, session: &mut Session) -> (AnyLink<W>, Said)
     requires { LinkFits (AnyLink.Down link) session.old }
-    ensures request { request_in session.new.current ≡ request_after (request_in session.old.current) result.1 }
+    ensures request { request_in session.new.current
+        ≡ request_after (request_in session.old.current) result.1 }
     ensures turn { IsTurn W.honest W.far W.silence W.wake_gives W.exchange_gives false
         (record { link = AnyLink.Down link; session = session.old }) result.1 (record { link = result.0; session = session.new }) }
     ensures fits { LinkFits result.0 session.new }
@@ -377,7 +392,8 @@ fn follow_wake<W: Wire>(next: &Next<W>, session: &mut Session)
 fn operated<W: Wire>(link: &mut AnyLink<W>, session: &mut Session, room: bool) -> Said
     requires mode { is_operating link.old ≡ true }
     requires fits { LinkFits link.old session.old }
-    ensures request { request_in session.new.current ≡ request_after (request_in session.old.current) result }
+    ensures request { request_in session.new.current
+        ≡ request_after (request_in session.old.current) result }
     ensures turn { IsTurn W.honest W.far W.silence W.wake_gives W.exchange_gives room
         (record { link = link.old; session = session.old }) result (record { link = link.new; session = session.new }) }
     ensures fits { LinkFits link.new session.new }
@@ -416,7 +432,8 @@ fn taken_up(session: &mut Session, attempt: &Attempt) -> Said
     requires { IsReplyHearable attempt.now session.old }
     ensures session { session.new ≡ attempt_session attempt.now session.old }
     ensures said { IsAttemptSaid attempt.now session.old result }
-    ensures request { request_in session.new.current ≡ request_after (request_in session.old.current) result }
+    ensures request { request_in session.new.current
+        ≡ request_after (request_in session.old.current) result }
 {
     match attempt {
         Attempt::Got(reply) => session.hear(reply),
@@ -431,7 +448,8 @@ fn settled<W: Wire>(next: Next<W>, session: &mut Session) -> (AnyLink<W>, Said)
     ensures link { result.0 ≡ linked (wire_in next) (outcome_of next) }
     ensures session { session.new ≡ settled_session (outcome_of next) session.old }
     ensures said { IsSettledSaid (outcome_of next) session.old result.1 }
-    ensures request { request_in session.new.current ≡ request_after (request_in session.old.current) result.1 }
+    ensures request { request_in session.new.current
+        ≡ request_after (request_in session.old.current) result.1 }
     ensures fits { LinkFits result.0 session.new }
 {
     match next {
@@ -458,7 +476,8 @@ fn heard(session: &mut Session, reply: Option<Reply>) -> Said
     requires { IfSome reply (λ r. IsHearable session.old r) }
     ensures session { session.new ≡ reply_session reply session.old }
     ensures said { IsReplySaid reply session.old result }
-    ensures request { request_in session.new.current ≡ request_after (request_in session.old.current) result }
+    ensures request { request_in session.new.current
+        ≡ request_after (request_in session.old.current) result }
 {
     match reply {
         Some(reply) => session.hear(&reply),

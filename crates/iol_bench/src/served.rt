@@ -48,8 +48,10 @@ fn with_ledgers<L: Ledger + Sync, K: Ledger + Sync, R: Threads + Wait + Sync>(
     tickets: Blank,
 ) -> Result<CheckWord, BenchFault>
     requires count { (1 ≤ ports) × (ports ≤ 32) }
-    requires clients { (clients.name ≡ L.name) × (clients.parts ≡ L.parts) × (clients.parts ≡ 1025) }
-    requires tickets { (tickets.name ≡ K.name) × (tickets.parts ≡ K.parts) × (tickets.parts ≡ ports) }
+    requires clients { (clients.name ≡ L.name) × (clients.parts ≡ L.parts)
+        × (clients.parts ≡ 1025) }
+    requires tickets { (tickets.name ≡ K.name) × (tickets.parts ≡ K.parts)
+        × (tickets.parts ≡ ports) }
 {
     let opened = opened_ports(alloc, ports)?;
     let master: Result<Master<Sim<Params>, L, K>, _> = Master::open(

@@ -85,7 +85,8 @@ impl<L: Ledger> Client<L> {
         requires up { AddsUp counted.old }
         requires room { counted.old.tickets ≤ 64 * 512 }
         ensures up { AddsUp counted.new }
-        ensures tickets { counted.new.tickets ≡ counted.old.tickets + accepted_at port self.now.desk }
+        ensures tickets { counted.new.tickets
+            ≡ counted.old.tickets + accepted_at port self.now.desk }
         ensures few { accepted_at port self.now.desk ≤ 64 }
     {
         if self.desk.port() != port {

@@ -44,8 +44,10 @@ fn with_ledgers<L: Ledger + Sync, K: Ledger + Sync, R: Threads + Wait + Sync>(
     clients: Blank,
     tickets: Blank,
 ) -> Result<Counts, ClientsFault>
-    requires clients { (clients.name ≡ L.name) × (clients.parts ≡ L.parts) × (clients.parts ≡ 1025) }
-    requires tickets { (tickets.name ≡ K.name) × (tickets.parts ≡ K.parts) × (tickets.parts ≡ plan.now.ports) }
+    requires clients { (clients.name ≡ L.name) × (clients.parts ≡ L.parts)
+        × (clients.parts ≡ 1025) }
+    requires tickets { (tickets.name ≡ K.name) × (tickets.parts ≡ K.parts)
+        × (tickets.parts ≡ plan.now.ports) }
     ensures ports { IfOk result (λ counts. vec_len counts.ports ≡ plan.now.ports) }
     ensures up { IfOk result (λ counts. All AddsUp counts.ports.items) }
 {

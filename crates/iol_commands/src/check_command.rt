@@ -31,7 +31,8 @@ pub fn check<A: Allocator + Copy, R: Read, W: Write>(
     ensures too_long { result ≡ Err TooLong → IsTooLong (R.remaining reader.old) }
     ensures bad_line { (n : ℕ) → result ≡ Err (Line n)
         → OfLines (R.remaining reader.old) (λ lines. first_bad lines ≡ Some n) }
-    ensures good { OnOk result (OfLines (R.remaining reader.old) (λ lines. first_bad lines ≡ None)) }
+    ensures good { OnOk result (OfLines (R.remaining reader.old) (λ lines. first_bad lines
+        ≡ None)) }
     ensures taken { TakesInput (R.remaining reader.old) (R.remaining reader.new) }
 
     // What is written.
@@ -49,7 +50,8 @@ pub fn check<A: Allocator + Copy, R: Read, W: Write>(
 /// What is printed for the whole input.
 fn checked<A: Allocator>(alloc: A, input: &[u8]) -> Result<String<A>, ProgramFault>
     ensures good { OnOk result (first_bad (numbered_lines input.now) ≡ None) }
-    ensures printed { IfOk result (λ output. PrintsAll startup_shape (numbered_lines input.now) (string_bytes output)) }
+    ensures printed { IfOk result (λ output. PrintsAll startup_shape (numbered_lines input.now)
+        (string_bytes output)) }
     ensures line { (n : ℕ) → result ≡ Err (Line n) → first_bad (numbered_lines input.now) ≡ Some n }
     ensures faults { IfErr result (λ e. (e ≡ OutOfMemory) ⊎ ((n : ℕ) × (e ≡ Line n))) }
 {
@@ -70,7 +72,9 @@ fn answer<A: Allocator>(
     layout: &mut Layout,
     line: &CheckLine,
 ) -> Result<(), AllocError>
-    ensures printed { OnOk result ((text : List ℕ) × (string_bytes output.new ≡ string_bytes output.old ++ text) × Prints layout.old (parsed_form line.now) text) }
+    ensures printed { OnOk result ((text : List ℕ)
+        × (string_bytes output.new ≡ string_bytes output.old ++ text)
+        × Prints layout.old (parsed_form line.now) text) }
     ensures layout { layout.new ≡ layout_after layout.old (parsed_form line.now) }
 {
     match line {
@@ -104,7 +108,9 @@ pub(crate) fn answer_message<A: Allocator>(
     layout: &Layout,
     octets: &[u8],
 ) -> Result<(), AllocError>
-    ensures { OnOk result ((text : List ℕ) × (string_bytes output.new ≡ string_bytes output.old ++ text) × PrintsMessage layout.now octets.now text) }
+    ensures { OnOk result ((text : List ℕ)
+        × (string_bytes output.new ≡ string_bytes output.old ++ text)
+        × PrintsMessage layout.now octets.now text) }
 {
     match read_master(layout, octets) {
         Ok(message) => print_message(output, &message),
@@ -119,7 +125,9 @@ pub(crate) fn answer_reply<A: Allocator>(
     read: bool,
     octets: &[u8],
 ) -> Result<(), AllocError>
-    ensures { OnOk result ((text : List ℕ) × (string_bytes output.new ≡ string_bytes output.old ++ text) × PrintsReply layout.now read octets.now text) }
+    ensures { OnOk result ((text : List ℕ)
+        × (string_bytes output.new ≡ string_bytes output.old ++ text)
+        × PrintsReply layout.now read octets.now text) }
 {
     match read_reply(layout, read, octets) {
         Ok(reply) => print_reply(output, read, &reply),

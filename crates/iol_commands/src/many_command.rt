@@ -58,10 +58,12 @@ fn served<T: Threads + Wait + Sync>(
 ) -> Result<String, ProgramFault>
     requires { length input.now ≤ LIMIT }
     ensures good { OnOk result (IsOk (plan_of (numbered_lines input.now))) }
-    ensures printed { IfOk result (λ output. PrintsCounts (numbered_lines input.now) (string_bytes output)) }
+    ensures printed { IfOk result (λ output. PrintsCounts (numbered_lines input.now)
+        (string_bytes output)) }
     ensures line { (n : ℕ) → result ≡ Err (Line n) → plan_of (numbered_lines input.now) ≡ Err n }
     ensures no_thread { result ≡ Err NoThread → IsOk (plan_of (numbered_lines input.now)) }
-    ensures faults { IfErr result (λ e. (e ≡ OutOfMemory) ⊎ (e ≡ NoThread) ⊎ ((n : ℕ) × (e ≡ Line n))) }
+    ensures faults { IfErr result (λ e. (e ≡ OutOfMemory) ⊎ (e ≡ NoThread)
+        ⊎ ((n : ℕ) × (e ≡ Line n))) }
 {
     let plan = Plan::read(input)?;
     let counts = serve_clients(rt, alloc, &plan)?;

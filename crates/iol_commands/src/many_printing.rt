@@ -12,7 +12,8 @@ fn print_port<A: Allocator>(
     port: usize,
     counted: &Counted,
 ) -> Result<(), AllocError>
-    ensures { OnOk result (string_bytes output.new ≡ string_bytes output.old ++ port_text port counted.now) }
+    ensures { OnOk result (string_bytes output.new
+        ≡ string_bytes output.old ++ port_text port counted.now) }
 {
     let Counted {
         tickets,
@@ -28,7 +29,8 @@ fn print_port<A: Allocator>(
 
 /// A line for each port, from port 1.
 fn print_ports<A: Allocator>(output: &mut String<A>, ports: &[Counted]) -> Result<(), AllocError>
-    ensures { OnOk result (string_bytes output.new ≡ string_bytes output.old ++ ports_text ports.now) }
+    ensures { OnOk result (string_bytes output.new
+        ≡ string_bytes output.old ++ ports_text ports.now) }
 {
     for (place, counted) in ports.iter().enumerate() {
         print_port(output, place + 1, counted)?;
@@ -41,7 +43,8 @@ pub(crate) fn print_counts<A: Allocator>(
     output: &mut String<A>,
     counts: &Counts,
 ) -> Result<(), AllocError>
-    ensures { OnOk result (string_bytes output.new ≡ string_bytes output.old ++ counts_text counts.now) }
+    ensures { OnOk result (string_bytes output.new
+        ≡ string_bytes output.old ++ counts_text counts.now) }
 {
     print_ports(output, counts.ports.as_slice())?;
     let total = counts.total;

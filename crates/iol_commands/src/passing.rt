@@ -1,6 +1,5 @@
 //! What is printed for one call of the wire.
-ghost use Rattle.std.specs.Prelude.{◌≡◌, ◌++◌, ℕ, List, OnOk, codes};
-ghost use Rattle.std.specs.Option.{option_copied};
+ghost use Rattle.std.specs.Prelude.{◌≡◌, ◌++◌, ℕ, List, OnOk};
 ghost use Rattle.std.specs.String.{string_bytes};
 ghost use Rattle.iol_device.specs.Device.{octets_in};
 ghost use Rattle.iol_commands.specs.Passing.{rate_name, wake_text, line_front, asks_read, PrintsSent, PrintsCame, PrintsPassed};
@@ -53,7 +52,8 @@ fn print_wake<A: Allocator>(
     number: u64,
     rate: Option<Rate>,
 ) -> Result<(), AllocError>
-    ensures { OnOk result (string_bytes output.new ≡ string_bytes output.old ++ wake_text number rate) }
+    ensures { OnOk result (string_bytes output.new
+        ≡ string_bytes output.old ++ wake_text number rate) }
 {
     let name = rate_name(rate);
     writeln!(output, "{number} wake {name}")

@@ -27,7 +27,10 @@ pub(crate) fn play_lines<W: Wire, A: Handle>(
     port: &mut Port<W, A>,
     input: &[u8],
 ) -> Result<(), AllocError>
-    ensures { OnOk result ((text : List ℕ) × (string_bytes output.new ≡ string_bytes output.old ++ text) × PortPlays W.honest W.far W.silence port.old.parts (calls_in (numbered_lines input.now)) port.new.parts text) }
+    ensures { OnOk result ((text : List ℕ)
+        × (string_bytes output.new ≡ string_bytes output.old ++ text)
+        × PortPlays W.honest W.far W.silence port.old.parts (calls_in (numbered_lines input.now))
+        port.new.parts text) }
 {
     runs_join();
     let turns = turns_of(alloc)?;
@@ -59,7 +62,10 @@ fn play_line<W: Wire, A: Handle>(
     line: &CallLine,
 ) -> Result<(), AllocError>
     requires { turns.now ≡ replicate PIECE Turn }
-    ensures { OnOk result ((text : List ℕ) × (string_bytes output.new ≡ string_bytes output.old ++ text) × PortPlays W.honest W.far W.silence port.old.parts (line_calls line.now) port.new.parts text) }
+    ensures { OnOk result ((text : List ℕ)
+        × (string_bytes output.new ≡ string_bytes output.old ++ text)
+        × PortPlays W.honest W.far W.silence port.old.parts (line_calls line.now) port.new.parts
+        text) }
 {
     match line {
         CallLine::Once(call) => play(alloc, output, port, slice::from_ref(call)),
@@ -76,7 +82,10 @@ fn play_turns<W: Wire, A: Handle>(
     count: usize,
 ) -> Result<(), AllocError>
     requires { turns.now ≡ replicate PIECE Turn }
-    ensures { OnOk result ((text : List ℕ) × (string_bytes output.new ≡ string_bytes output.old ++ text) × PortPlays W.honest W.far W.silence port.old.parts (replicate count Turn) port.new.parts text) }
+    ensures { OnOk result ((text : List ℕ)
+        × (string_bytes output.new ≡ string_bytes output.old ++ text)
+        × PortPlays W.honest W.far W.silence port.old.parts (replicate count Turn) port.new.parts
+        text) }
 {
     runs_join();
     let mut made = 0;
@@ -95,7 +104,9 @@ fn play<W: Wire, A: Handle>(
     port: &mut Port<W, A>,
     calls: &[Call],
 ) -> Result<(), AllocError>
-    ensures { OnOk result ((text : List ℕ) × (string_bytes output.new ≡ string_bytes output.old ++ text) × PortPlays W.honest W.far W.silence port.old.parts calls.now port.new.parts text) }
+    ensures { OnOk result ((text : List ℕ)
+        × (string_bytes output.new ≡ string_bytes output.old ++ text)
+        × PortPlays W.honest W.far W.silence port.old.parts calls.now port.new.parts text) }
 {
     let Ok(answers) = port.run(alloc, calls) else {
         return Err(AllocError);
@@ -128,7 +139,8 @@ fn print_answers<A: Allocator>(
     calls: &[Call],
     answers: &[Answered],
 ) -> Result<(), AllocError>
-    ensures { OnOk result (string_bytes output.new ≡ string_bytes output.old ++ answers_text calls.now answers.now) }
+    ensures { OnOk result (string_bytes output.new
+        ≡ string_bytes output.old ++ answers_text calls.now answers.now) }
 {
     for (call, answer) in calls.iter().zip(answers) {
         print_answer(output, call, answer)?;

@@ -22,7 +22,8 @@ pub(crate) fn print_octets<A: Allocator>(
     output: &mut String<A>,
     octets: &[u8],
 ) -> Result<(), AllocError>
-    ensures { OnOk result (string_bytes output.new ≡ string_bytes output.old ++ octets_text octets.now) }
+    ensures { OnOk result (string_bytes output.new
+        ≡ string_bytes output.old ++ octets_text octets.now) }
 {
     for octet in octets {
         output.push_str(" ")?;
@@ -37,7 +38,8 @@ fn print_part<A: Allocator>(
     name: &str,
     octets: &[u8],
 ) -> Result<(), AllocError>
-    ensures { OnOk result (string_bytes output.new ≡ string_bytes output.old ++ part_text name.now octets.now) }
+    ensures { OnOk result (string_bytes output.new
+        ≡ string_bytes output.old ++ part_text name.now octets.now) }
 {
     if octets.is_empty() {
         return Ok(());
@@ -52,14 +54,16 @@ fn print_number<A: Allocator>(
     name: &str,
     number: u8,
 ) -> Result<(), AllocError>
-    ensures { OnOk result (string_bytes output.new ≡ string_bytes output.old ++ number_text name.now number) }
+    ensures { OnOk result (string_bytes output.new
+        ≡ string_bytes output.old ++ number_text name.now number) }
 {
     write!(output, "{name}{number}")
 }
 
 /// The M-sequence type, and how many octets on-request data has.
 fn print_type<A: Allocator>(output: &mut String<A>, layout: &Layout) -> Result<(), AllocError>
-    ensures { OnOk result (string_bytes output.new ≡ string_bytes output.old ++ type_text layout.now) }
+    ensures { OnOk result (string_bytes output.new
+        ≡ string_bytes output.old ++ type_text layout.now) }
 {
     print_number(output, "layout type ", layout.kind())?;
     print_number(output, " od ", layout.od())
@@ -67,7 +71,8 @@ fn print_type<A: Allocator>(output: &mut String<A>, layout: &Layout) -> Result<(
 
 /// How many octets of process data go in and out.
 fn print_process<A: Allocator>(output: &mut String<A>, layout: &Layout) -> Result<(), AllocError>
-    ensures { OnOk result (string_bytes output.new ≡ string_bytes output.old ++ process_text layout.now) }
+    ensures { OnOk result (string_bytes output.new
+        ≡ string_bytes output.old ++ process_text layout.now) }
 {
     print_number(output, " in ", layout.pd_in())?;
     print_number(output, " out ", layout.pd_out())
@@ -78,7 +83,8 @@ pub(crate) fn print_layout<A: Allocator>(
     output: &mut String<A>,
     layout: &Layout,
 ) -> Result<(), AllocError>
-    ensures { OnOk result (string_bytes output.new ≡ string_bytes output.old ++ layout_text layout.now) }
+    ensures { OnOk result (string_bytes output.new
+        ≡ string_bytes output.old ++ layout_text layout.now) }
 {
     print_type(output, layout)?;
     print_process(output, layout)?;
@@ -103,7 +109,8 @@ pub(crate) fn print_refusal<A: Allocator>(
     output: &mut String<A>,
     fault: &MseqFault,
 ) -> Result<(), AllocError>
-    ensures { OnOk result (string_bytes output.new ≡ string_bytes output.old ++ refusal_text fault.now) }
+    ensures { OnOk result (string_bytes output.new
+        ≡ string_bytes output.old ++ refusal_text fault.now) }
 {
     let number = fault.code();
     let name = name_of(fault);
@@ -124,7 +131,8 @@ fn channel_name(channel: Channel) -> &'static str
 
 /// The direction, the channel and the address.
 fn print_control<A: Allocator>(output: &mut String<A>, mc: &Mc) -> Result<(), AllocError>
-    ensures { OnOk result (string_bytes output.new ≡ string_bytes output.old ++ control_text mc.now) }
+    ensures { OnOk result (string_bytes output.new
+        ≡ string_bytes output.old ++ control_text mc.now) }
 {
     output.push_str(if mc.read { "read " } else { "write " })?;
     output.push_str(channel_name(mc.channel))?;
@@ -137,7 +145,8 @@ fn print_written<A: Allocator>(
     output: &mut String<A>,
     message: &MasterMsg,
 ) -> Result<(), AllocError>
-    ensures { OnOk result (string_bytes output.new ≡ string_bytes output.old ++ written_text message.now) }
+    ensures { OnOk result (string_bytes output.new
+        ≡ string_bytes output.old ++ written_text message.now) }
 {
     if message.mc.read {
         return Ok(());
@@ -151,7 +160,8 @@ pub(crate) fn print_message<A: Allocator>(
     output: &mut String<A>,
     message: &MasterMsg,
 ) -> Result<(), AllocError>
-    ensures { OnOk result (string_bytes output.new ≡ string_bytes output.old ++ message_text message.now) }
+    ensures { OnOk result (string_bytes output.new
+        ≡ string_bytes output.old ++ message_text message.now) }
 {
     print_control(output, &message.mc)?;
     print_part(output, " out", message.out.as_slice())?;
@@ -165,7 +175,8 @@ fn print_answered<A: Allocator>(
     read: bool,
     reply: &Reply,
 ) -> Result<(), AllocError>
-    ensures { OnOk result (string_bytes output.new ≡ string_bytes output.old ++ answered_text read reply.now) }
+    ensures { OnOk result (string_bytes output.new
+        ≡ string_bytes output.old ++ answered_text read reply.now) }
 {
     if !read {
         return output.push_str("ack");
@@ -176,7 +187,8 @@ fn print_answered<A: Allocator>(
 
 /// The Event flag and the process data status.
 fn print_status<A: Allocator>(output: &mut String<A>, reply: &Reply) -> Result<(), AllocError>
-    ensures { OnOk result (string_bytes output.new ≡ string_bytes output.old ++ status_text reply.now) }
+    ensures { OnOk result (string_bytes output.new
+        ≡ string_bytes output.old ++ status_text reply.now) }
 {
     output.push_str(if reply.event { " event 1" } else { " event 0" })?;
     output.push_str(if reply.invalid {
@@ -192,7 +204,8 @@ pub(crate) fn print_reply<A: Allocator>(
     read: bool,
     reply: &Reply,
 ) -> Result<(), AllocError>
-    ensures { OnOk result (string_bytes output.new ≡ string_bytes output.old ++ reply_text read reply.now) }
+    ensures { OnOk result (string_bytes output.new
+        ≡ string_bytes output.old ++ reply_text read reply.now) }
 {
     print_answered(output, read, reply)?;
     print_part(output, " in", reply.input.as_slice())?;

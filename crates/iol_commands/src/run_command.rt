@@ -41,7 +41,8 @@ pub fn run<A: Handle, R: Read, W: Write>(
     ensures too_long { result ≡ Err TooLong → IsTooLong (R.remaining reader.old) }
     ensures bad_line { (n : ℕ) → result ≡ Err (Line n)
         → OfLines (R.remaining reader.old) (λ lines. first_bad_run lines ≡ Some n) }
-    ensures good { OnOk result (OfLines (R.remaining reader.old) (λ lines. first_bad_run lines ≡ None)) }
+    ensures good { OnOk result (OfLines (R.remaining reader.old) (λ lines. first_bad_run lines
+        ≡ None)) }
     ensures taken { TakesInput (R.remaining reader.old) (R.remaining reader.new) }
 
     // What is written.
@@ -59,8 +60,10 @@ pub fn run<A: Handle, R: Read, W: Write>(
 /// What is printed for the whole input.
 fn played<A: Handle>(alloc: A, input: &[u8]) -> Result<String<A>, ProgramFault>
     ensures good { OnOk result (first_bad_run (numbered_lines input.now) ≡ None) }
-    ensures printed { IfOk result (λ output. PrintsRun (numbered_lines input.now) (string_bytes output)) }
-    ensures line { (n : ℕ) → result ≡ Err (Line n) → first_bad_run (numbered_lines input.now) ≡ Some n }
+    ensures printed { IfOk result (λ output. PrintsRun (numbered_lines input.now)
+        (string_bytes output)) }
+    ensures line { (n : ℕ) → result ≡ Err (Line n) → first_bad_run (numbered_lines input.now)
+        ≡ Some n }
     ensures faults { IfErr result (λ e. (e ≡ OutOfMemory) ⊎ ((n : ℕ) × (e ≡ Line n))) }
 {
     let script = Script::read(alloc, input)?;

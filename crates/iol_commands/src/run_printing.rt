@@ -18,7 +18,8 @@ use std::alloc::{AllocError, Allocator};
 
 /// The octets, each behind a space, or a dash where there is none.
 fn print_listed<A: Allocator>(output: &mut String<A>, octets: &[u8]) -> Result<(), AllocError>
-    ensures { OnOk result (string_bytes output.new ≡ string_bytes output.old ++ listed_text octets.now) }
+    ensures { OnOk result (string_bytes output.new
+        ≡ string_bytes output.old ++ listed_text octets.now) }
 {
     if octets.is_empty() {
         return output.push_str(" -");
@@ -36,7 +37,8 @@ fn print_place<A: Allocator>(output: &mut String<A>, place: Place) -> Result<(),
 
 /// A request, with the octets of a write.
 fn print_request<A: Allocator>(output: &mut String<A>, request: &Request) -> Result<(), AllocError>
-    ensures { OnOk result (string_bytes output.new ≡ string_bytes output.old ++ request_text request.now) }
+    ensures { OnOk result (string_bytes output.new
+        ≡ string_bytes output.old ++ request_text request.now) }
 {
     match request {
         Request::Read(place) => {
@@ -56,7 +58,8 @@ fn print_device_answer<A: Allocator>(
     output: &mut String<A>,
     answer: &Answer,
 ) -> Result<(), AllocError>
-    ensures { OnOk result (string_bytes output.new ≡ string_bytes output.old ++ device_text answer.now) }
+    ensures { OnOk result (string_bytes output.new
+        ≡ string_bytes output.old ++ device_text answer.now) }
 {
     match answer {
         Answer::Read(octets) => {
@@ -86,7 +89,8 @@ fn cause_name(cause: Cause) -> &'static str
 
 /// How a request ended.
 fn print_outcome<A: Allocator>(output: &mut String<A>, outcome: &Outcome) -> Result<(), AllocError>
-    ensures { OnOk result (string_bytes output.new ≡ string_bytes output.old ++ outcome_text outcome.now) }
+    ensures { OnOk result (string_bytes output.new
+        ≡ string_bytes output.old ++ outcome_text outcome.now) }
 {
     match outcome {
         Outcome::Done(answer) => {
@@ -104,7 +108,8 @@ fn print_outcome<A: Allocator>(output: &mut String<A>, outcome: &Outcome) -> Res
 
 /// A ticket.
 fn print_ticket<A: Allocator>(output: &mut String<A>, ticket: Ticket) -> Result<(), AllocError>
-    ensures { OnOk result (string_bytes output.new ≡ string_bytes output.old ++ ticket_text ticket) }
+    ensures { OnOk result (string_bytes output.new
+        ≡ string_bytes output.old ++ ticket_text ticket) }
 {
     let number = ticket.0;
     write!(output, "ticket {number}")
@@ -116,7 +121,8 @@ fn print_collected<A: Allocator>(
     call: &Call,
     outcome: &Outcome,
 ) -> Result<(), AllocError>
-    ensures { OnOk result (string_bytes output.new ≡ string_bytes output.old ++ collected_text call.now outcome.now) }
+    ensures { OnOk result (string_bytes output.new
+        ≡ string_bytes output.old ++ collected_text call.now outcome.now) }
 {
     if let Call::Collect(ticket) = call {
         print_ticket(output, *ticket)?;
@@ -131,7 +137,8 @@ fn print_image<A: Allocator>(
     output: &mut String<A>,
     image: Option<&Image>,
 ) -> Result<(), AllocError>
-    ensures { OnOk result (string_bytes output.new ≡ string_bytes output.old ++ image_text (option_copied image.entry)) }
+    ensures { OnOk result (string_bytes output.new
+        ≡ string_bytes output.old ++ image_text (option_copied image.entry)) }
 {
     let Some(image) = image else {
         return output.push_str("image none\n");
@@ -200,7 +207,8 @@ fn print_link<A: Allocator>(
     mode: Mode,
     why: Option<Why>,
 ) -> Result<(), AllocError>
-    ensures { OnOk result (string_bytes output.new ≡ string_bytes output.old ++ link_text mode why) }
+    ensures { OnOk result (string_bytes output.new
+        ≡ string_bytes output.old ++ link_text mode why) }
 {
     output.push_str("status ")?;
     output.push_str(mode_name(mode))?;
@@ -254,7 +262,8 @@ fn port_fault_name(fault: PortFault) -> &'static str
 
 /// The number and the name of a refusal.
 fn print_refused<A: Allocator>(output: &mut String<A>, fault: PortFault) -> Result<(), AllocError>
-    ensures { OnOk result (string_bytes output.new ≡ string_bytes output.old ++ refused_text fault) }
+    ensures { OnOk result (string_bytes output.new
+        ≡ string_bytes output.old ++ refused_text fault) }
 {
     let number = fault.code();
     let name = port_fault_name(fault);
@@ -263,7 +272,8 @@ fn print_refused<A: Allocator>(output: &mut String<A>, fault: PortFault) -> Resu
 
 /// A call without an answer: a turn prints nothing.
 fn print_nothing<A: Allocator>(output: &mut String<A>, call: &Call) -> Result<(), AllocError>
-    ensures { OnOk result (string_bytes output.new ≡ string_bytes output.old ++ nothing_text call.now) }
+    ensures { OnOk result (string_bytes output.new
+        ≡ string_bytes output.old ++ nothing_text call.now) }
 {
     match call {
         Call::Turn => Ok(()),
@@ -277,7 +287,8 @@ pub(crate) fn print_answer<A: Allocator>(
     call: &Call,
     answered: &Answered,
 ) -> Result<(), AllocError>
-    ensures { OnOk result (string_bytes output.new ≡ string_bytes output.old ++ answer_text call.now answered.now) }
+    ensures { OnOk result (string_bytes output.new
+        ≡ string_bytes output.old ++ answer_text call.now answered.now) }
 {
     match answered {
         Answered::Ticket(ticket) => {
@@ -299,7 +310,8 @@ pub(crate) fn print_answer<A: Allocator>(
 
 /// A request that the device carried out, and its answer.
 fn print_carried<A: Allocator>(output: &mut String<A>, entry: &Carried) -> Result<(), AllocError>
-    ensures { OnOk result (string_bytes output.new ≡ string_bytes output.old ++ carried_text entry.now) }
+    ensures { OnOk result (string_bytes output.new
+        ≡ string_bytes output.old ++ carried_text entry.now) }
 {
     output.push_str("carried ")?;
     print_request(output, &entry.request)?;
@@ -312,7 +324,8 @@ fn print_entries<A: Allocator>(
     output: &mut String<A>,
     entries: &[Carried],
 ) -> Result<(), AllocError>
-    ensures { OnOk result (string_bytes output.new ≡ string_bytes output.old ++ entries_text entries.now) }
+    ensures { OnOk result (string_bytes output.new
+        ≡ string_bytes output.old ++ entries_text entries.now) }
 {
     for entry in entries {
         print_carried(output, entry)?;
@@ -325,7 +338,8 @@ pub(crate) fn print_record<A: Allocator>(
     output: &mut String<A>,
     entries: &[Carried],
 ) -> Result<(), AllocError>
-    ensures { OnOk result (string_bytes output.new ≡ string_bytes output.old ++ record_text entries.now) }
+    ensures { OnOk result (string_bytes output.new
+        ≡ string_bytes output.old ++ record_text entries.now) }
 {
     let count = entries.len();
     writeln!(output, "record {count}")?;

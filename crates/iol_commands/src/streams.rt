@@ -1,5 +1,5 @@
 //! The input read whole, and the output written at the end.
-ghost use Rattle.std.specs.Prelude.{◌≡◌, ◌≢◌, ◌≤◌, ◌<◌, ◌+◌, ◌⊎◌, ℕ, List, length, vec_len, Err, OnOk, IfOk, IfErr, IfSome};
+ghost use Rattle.std.specs.Prelude.{◌≡◌, ◌≤◌, ◌<◌, ◌+◌, ◌⊎◌, ℕ, List, length, vec_len, Err, OnOk, IfOk, IfErr, IfSome};
 ghost use Rattle.std.specs.Io.KnownBytes.{Appends, Consumes};
 ghost use Rattle.iol_commands.specs.declared.fault.ProgramFault.TheVariants.{TooLong, ReadFailed, WriteFailed, OutOfMemory};
 
@@ -20,9 +20,11 @@ pub(crate) fn read_input<A: Allocator, R: Read>(
 ) -> Result<Vec<u8, A>, ProgramFault>
     ensures all { IfOk result (λ v. IfSome (R.remaining reader.old) (λ xs. v.items ≡ xs)) }
     ensures within { IfOk result (λ v. vec_len v ≤ LIMIT) }
-    ensures too_long { result ≡ Err TooLong → IfSome (R.remaining reader.old) (λ xs. LIMIT < length xs) }
+    ensures too_long { result ≡ Err TooLong
+        → IfSome (R.remaining reader.old) (λ xs. LIMIT < length xs) }
     ensures faults { IfErr result (λ e. (e ≡ TooLong) ⊎ ((e ≡ ReadFailed) ⊎ (e ≡ OutOfMemory))) }
-    ensures taken { (bs : List ℕ) × Consumes (R.remaining reader.old) (R.remaining reader.new) bs × (length bs ≤ LIMIT + 1) }
+    ensures taken { (bs : List ℕ) × Consumes (R.remaining reader.old) (R.remaining reader.new) bs
+        × (length bs ≤ LIMIT + 1) }
 {
     let mut input = Vec::new(alloc);
     let mut piece = [0u8; PIECE];

@@ -36,7 +36,8 @@ pub fn trace<A: Handle, R: Read, W: Write>(
     ensures too_long { result ≡ Err TooLong → IsTooLong (R.remaining reader.old) }
     ensures bad_line { (n : ℕ) → result ≡ Err (Line n)
         → OfLines (R.remaining reader.old) (λ lines. first_bad_run lines ≡ Some n) }
-    ensures good { OnOk result (OfLines (R.remaining reader.old) (λ lines. first_bad_run lines ≡ None)) }
+    ensures good { OnOk result (OfLines (R.remaining reader.old) (λ lines. first_bad_run lines
+        ≡ None)) }
     ensures taken { TakesInput (R.remaining reader.old) (R.remaining reader.new) }
 
     // What is written.

@@ -87,7 +87,8 @@ impl<A: Handle> Tracer<A> {
             (place self.old.number (string_bytes self.old.output) (O.contents writer.old) port.old.parts)
             (line_calls line.now)
             (place self.new.number (string_bytes self.new.output) (O.contents writer.new) port.new.parts)) }
-        ensures number { OnOk result (self.new.number ≤ self.old.number + length (line_calls line.now)) }
+        ensures number { OnOk result (self.new.number ≤ self.old.number + length
+            (line_calls line.now)) }
         ensures layouts { self.new.layouts ≡ self.old.layouts }
         ensures faults { IfErr result (λ e. (e ≡ OutOfMemory) ⊎ (e ≡ WriteFailed)) }
     {

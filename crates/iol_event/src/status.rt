@@ -1,5 +1,5 @@
 //! The StatusCode of the diagnosis channel.
-ghost use Rattle.std.specs.Prelude.{◌≡◌, ℕ, ◌+◌, ◌-◌, ◌^◌, ◌<◌, ◌≤◌, ◌==◌, EachIndex, slice_index};
+ghost use Rattle.std.specs.Prelude.{◌≡◌, ◌+◌, ◌-◌, ◌^◌, ◌<◌, ◌≤◌, ◌==◌, EachIndex, slice_index};
 ghost use Rattle.std.specs.Int.{bit_at};
 ghost use Rattle.iol_event.specs.Reading.{marks, marked_places, is_readable};
 
@@ -28,7 +28,8 @@ pub(crate) fn status_with(count: usize) -> u8
 /// The places that the StatusCode marks.
 pub(crate) fn marked_places(status: u8) -> Places
     ensures value { result.items ≡ marked_places status }
-    ensures range { EachIndex result.items (λ k. (1 ≤ slice_index result.items k) × (slice_index result.items k ≤ 6)) }
+    ensures range { EachIndex result.items (λ k. (1 ≤ slice_index result.items k)
+        × (slice_index result.items k ≤ 6)) }
 {
     let mut places = Places::new();
     for place in &PLACES {

@@ -1,4 +1,3 @@
-ghost use Rattle.std.specs.Prelude.{◌≡◌, ℕ};
 ghost use Rattle.std.proofs.Common.{rules};
 ghost use Rattle.iol_image.specs.Handle.{IsSmall};
 

@@ -52,7 +52,8 @@ fn text_to(request: &Request, answer: &Answer) -> Text
 pub fn read_answer(request: &Request, octets: &[u8]) -> Result<Answer, IsduFault>
     ensures refused { result_err result ≡ answer_fault (is_read request.now) octets.now }
     ensures found { IfOk result (BeginsWithAnswer (is_read request.now) octets.now) }
-    ensures only { (a : Answer) → BeginsWithAnswer (is_read request.now) octets.now a → result ≡ Ok a }
+    ensures only { (a : Answer) → BeginsWithAnswer (is_read request.now) octets.now a → result
+        ≡ Ok a }
 {
     answer_to(is_read(request), octets)
 }

@@ -73,7 +73,8 @@ impl Request {
     pub fn write(place: Place, octets: &[u8]) -> Result<Request, IsduFault>
         ensures long { IsErr result ↔ (232 < length octets.now) }
         ensures refused { IfErr result (λ why. why ≡ IsduFault.DataTooLong) }
-        ensures value { IfOk result (λ request. request ≡ Request.Write place (record { items = octets.now })) }
+        ensures value { IfOk result (λ request. request
+            ≡ Request.Write place (record { items = octets.now })) }
     {
         let octets = Octets::try_from(octets).map_err(|_| IsduFault::DataTooLong)?;
         Ok(Request::Write(place, octets))

@@ -103,7 +103,8 @@ impl<L: Ledger, K: Ledger> Model for Accounts<L, K> {
 impl<L: Ledger, K: Ledger> Accounts<L, K> {
     /// Both ledgers anew, and the share of all ports.
     pub(crate) fn open(clients: Blank, ports: Blank) -> (Accounts<L, K>, Share<K>)
-        requires clients { (clients.name ≡ L.name) × (clients.parts ≡ L.parts) × (clients.parts ≡ 1025) }
+        requires clients { (clients.name ≡ L.name) × (clients.parts ≡ L.parts)
+            × (clients.parts ≡ 1025) }
         requires ports { (ports.name ≡ K.name) × (ports.parts ≡ K.parts) }
         ensures empty { result.0 ≡ record { desks = 0; settled = 0; total = 0 } }
         ensures share { (result.1.parts ≡ K.parts) × (result.1.amount ≡ 0) }

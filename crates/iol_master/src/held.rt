@@ -177,10 +177,12 @@ impl<W: Wire, K: Ledger, A: Handle> Held<W, K, A> {
     /// What waits goes on waiting. The device may still carry the request that was cut off out,
     /// once, until a wake succeeds.
     pub fn restart<R: Wait>(&mut self, rt: &R)
-        ensures does { Does W.honest W.far W.silence self.old.parts call.Restart answered.Nothing self.new.parts }
+        ensures does { Does W.honest W.far W.silence self.old.parts call.Restart answered.Nothing
+            self.new.parts }
         ensures gives { RestartGives self.old.parts self.new.parts }
         ensures opening { self.new.opening ≡ self.old.opening }
-        ensures shown { self.new.writer ≡ shown_in self.new.parts.station.session.image self.old.writer }
+        ensures shown { self.new.writer
+            ≡ shown_in self.new.parts.station.session.image self.old.writer }
     {
         self.port.restart_shown(rt);
     }
@@ -200,7 +202,8 @@ impl<W: Wire, K: Ledger, A: Handle> Held<W, K, A> {
 
     /// Wants no output of the device.
     pub fn clear_output(&mut self)
-        ensures does { Does W.honest W.far W.silence self.old.parts call.ClearOutput answered.Nothing self.new.parts }
+        ensures does { Does W.honest W.far W.silence self.old.parts call.ClearOutput
+            answered.Nothing self.new.parts }
         ensures gives { ClearOutputGives self.old.parts self.new.parts }
         ensures rest { self.new ≡ record self.old { parts = self.new.parts } }
     {
@@ -263,14 +266,16 @@ impl<W: Wire, K: Ledger, A: Handle> Held<W, K, A> {
     /// turn; where the device has no ISDU it is denied, never taken, and IDLE 1 goes out. At most 64 events are kept, and a list of events is
     /// read only where there is room for it.
     pub fn turn<R: Wait>(&mut self, rt: &R)
-        ensures does { Does W.honest W.far W.silence self.old.parts call.Turn answered.Nothing self.new.parts }
+        ensures does { Does W.honest W.far W.silence self.old.parts call.Turn answered.Nothing
+            self.new.parts }
         ensures clean { CleanTurn W.honest W.far W.clean self.old.parts self.new.parts }
         ensures asked { IsCall W.wake_gives W.exchange_gives (asks_of self.old.parts)
             (wire_of self.old.parts.station.link) (wire_of self.new.parts.station.link) }
         ensures gives { TurnGives W.honest W.far W.silence W.wake_gives W.exchange_gives
             self.old.parts self.new.parts }
         ensures opening { self.new.opening ≡ self.old.opening }
-        ensures shown { self.new.writer ≡ shown_in self.new.parts.station.session.image self.old.writer }
+        ensures shown { self.new.writer
+            ≡ shown_in self.new.parts.station.session.image self.old.writer }
     {
         self.port.turn_shown(rt);
     }
@@ -285,7 +290,8 @@ impl<W: Wire, K: Ledger, A: Handle> Held<W, K, A> {
         ensures run { IsRun W.honest W.far W.silence self.now.opening self.now.parts }
         ensures wire { ComesFrom W.wake_gives W.exchange_gives W.tells
             self.now.opening.wire (wire_of self.now.parts.station.link) }
-        ensures record_fits { OpensWell self.now.opening → KeepsRecord W.honest W.far W.silence self.now.parts }
+        ensures record_fits { OpensWell self.now.opening
+            → KeepsRecord W.honest W.far W.silence self.now.parts }
         ensures level { OpensWell self.now.opening → IsLevelBetween W.far self.now.parts }
     {
         self.port.keeps_record();

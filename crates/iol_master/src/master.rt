@@ -67,7 +67,8 @@ impl<W: Wire, L: Ledger, K: Ledger, A: Handle> Master<W, L, K, A> {
     ) -> Result<Master<W, L, K, A>, (MasterFault, Vec<Port<W, A>, A>)>
     where
         W: Drop,
-        requires clients { (clients.name ≡ L.name) × (clients.parts ≡ L.parts) × (clients.parts ≡ 1025) }
+        requires clients { (clients.name ≡ L.name) × (clients.parts ≡ L.parts)
+            × (clients.parts ≡ 1025) }
         requires tickets { (tickets.name ≡ K.name) × (tickets.parts ≡ K.parts)
             × (tickets.parts ≡ vec_len ports) }
         requires count { (1 ≤ vec_len ports) × (vec_len ports ≤ 32) }

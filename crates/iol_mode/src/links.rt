@@ -1,5 +1,5 @@
 //! A link, and what a turn makes of it.
-ghost use Rattle.std.specs.Prelude.{ℕ, Bool, List, [], ◌≡◌, ◌<◌, true, false, Option, Some, None, IsTrue, IfSome, is_some};
+ghost use Rattle.std.specs.Prelude.{ℕ, ◌≡◌, ◌<◌, Option, Some, None, IsTrue, IfSome, is_some};
 ghost use Rattle.std.specs.Option.{option_copied, option_map};
 ghost use Rattle.arrayvec.specs.ArrayVec.{ArrayVec};
 ghost use Rattle.iol_mseq.specs.Shape.{startup_shape};
@@ -225,10 +225,14 @@ impl<W: Wire> Link<W, Startup> {
         // on an honest wire
         ensures stands { IsTrue (W.honest self.wire)
             → OutcomeStands (outcome_of result) (W.silence (wire_of result)) (W.far (wire_of result)) }
-        ensures met { IsTrue (W.honest self.wire) → MetFits (outcome_of result) (W.far (wire_of result)) }
-        ensures lost { IsTrue (W.honest self.wire) → LostFits (outcome_of result) (W.silence (wire_of result)) }
-        ensures still { IsTrue (W.honest self.wire) → (W.far (wire_of result)).carried ≡ (W.far self.wire).carried }
-        ensures fault { IsTrue (W.honest self.wire) → FaultFits (outcome_of result) (W.far (wire_of result)) }
+        ensures met { IsTrue (W.honest self.wire)
+            → MetFits (outcome_of result) (W.far (wire_of result)) }
+        ensures lost { IsTrue (W.honest self.wire)
+            → LostFits (outcome_of result) (W.silence (wire_of result)) }
+        ensures still { IsTrue (W.honest self.wire) → (W.far (wire_of result)).carried
+            ≡ (W.far self.wire).carried }
+        ensures fault { IsTrue (W.honest self.wire)
+            → FaultFits (outcome_of result) (W.far (wire_of result)) }
         ensures entered { IsTrue (W.honest self.wire)
             → EnteredFits (outcome_of result) (W.silence (wire_of result)) (W.far (wire_of result)) }
     {
@@ -249,7 +253,8 @@ impl<W: Wire> Link<W, Startup> {
     /// The layouts that the page asks for, once this start-up has checked it.
     pub fn told(&self) -> Option<&Layouts>
         ensures told { option_copied result ≡ told_by self.now.state.step }
-        ensures page { IsTrue (W.honest self.now.wire) → IfSome result (λ t. IsTold t.now (W.far self.now.wire)) }
+        ensures page { IsTrue (W.honest self.now.wire)
+            → IfSome result (λ t. IsTold t.now (W.far self.now.wire)) }
     {
         match &self.state.step {
             Step::Read(_) => None,
@@ -282,9 +287,12 @@ impl<W: Wire> Link<W, Preoperate> {
         // on an honest wire
         ensures stands { IsTrue (W.honest self.wire)
             → OutcomeStands (outcome_of result) (W.silence (wire_of result)) (W.far (wire_of result)) }
-        ensures met { IsTrue (W.honest self.wire) → MetFits (outcome_of result) (W.far (wire_of result)) }
-        ensures lost { IsTrue (W.honest self.wire) → LostFits (outcome_of result) (W.silence (wire_of result)) }
-        ensures still { IsTrue (W.honest self.wire) → (W.far (wire_of result)).carried ≡ (W.far self.wire).carried }
+        ensures met { IsTrue (W.honest self.wire)
+            → MetFits (outcome_of result) (W.far (wire_of result)) }
+        ensures lost { IsTrue (W.honest self.wire)
+            → LostFits (outcome_of result) (W.silence (wire_of result)) }
+        ensures still { IsTrue (W.honest self.wire) → (W.far (wire_of result)).carried
+            ≡ (W.far self.wire).carried }
         ensures entered { IsTrue (W.honest self.wire)
             → EnteredFits (outcome_of result) (W.silence (wire_of result)) (W.far (wire_of result)) }
     {
@@ -316,7 +324,8 @@ impl<W: Wire> Link<W, Preoperate> {
     /// The layouts that the page asks for.
     pub fn told(&self) -> Option<&Layouts>
         ensures told { option_copied result ≡ Some self.now.state.layouts }
-        ensures page { IsTrue (W.honest self.now.wire) → IfSome result (λ t. IsTold t.now (W.far self.now.wire)) }
+        ensures page { IsTrue (W.honest self.now.wire)
+            → IfSome result (λ t. IsTold t.now (W.far self.now.wire)) }
     {
         Some(&self.state.layouts)
     }
@@ -340,7 +349,8 @@ impl<W: Wire> Link<W, Operate> {
             (master_text self.old.state.layouts.run (sending_of self.old.state.out message.now).message) (octets_in answer) (W.far self.new.wire) (W.silence self.new.wire))
             × (exchanged result self.new.state ≡ operate_turned self.old.state message.now
             (good_reply self.old.state.layouts.run (sending_of self.old.state.out message.now).message (octets_in answer))) }
-        ensures left { result ≡ Attempt.Lost → self.new.state ≡ record { out = None; layouts = self.old.state.layouts } }
+        ensures left { result ≡ Attempt.Lost → self.new.state
+            ≡ record { out = None; layouts = self.old.state.layouts } }
 
         ensures fits { OutcomeFits (exchanged result self.new.state) }
 
@@ -352,8 +362,10 @@ impl<W: Wire> Link<W, Operate> {
             → IsAccepted self.old.state.layouts (W.far self.old.wire).page link (sending_of self.old.state.out message.now).message }
         ensures stands { IsTrue (W.honest self.old.wire)
             → OutcomeStands (exchanged result self.new.state) (W.silence self.new.wire) (W.far self.new.wire) }
-        ensures met { IsTrue (W.honest self.old.wire) → MetFits (exchanged result self.new.state) (W.far self.new.wire) }
-        ensures lost { IsTrue (W.honest self.old.wire) → LostFits (exchanged result self.new.state) (W.silence self.new.wire) }
+        ensures met { IsTrue (W.honest self.old.wire)
+            → MetFits (exchanged result self.new.state) (W.far self.new.wire) }
+        ensures lost { IsTrue (W.honest self.old.wire)
+            → LostFits (exchanged result self.new.state) (W.silence self.new.wire) }
     {
         laws();
         send(
@@ -404,8 +416,10 @@ impl<W: Wire> Link<W, Operate> {
             → IsAccepted self.state.layouts (W.far self.wire).page link (sending_of self.state.out message.now).message }
         ensures stands { IsTrue (W.honest self.wire)
             → OutcomeStands (outcome_of result) (W.silence (wire_of result)) (W.far (wire_of result)) }
-        ensures met { IsTrue (W.honest self.wire) → MetFits (outcome_of result) (W.far (wire_of result)) }
-        ensures lost { IsTrue (W.honest self.wire) → LostFits (outcome_of result) (W.silence (wire_of result)) }
+        ensures met { IsTrue (W.honest self.wire)
+            → MetFits (outcome_of result) (W.far (wire_of result)) }
+        ensures lost { IsTrue (W.honest self.wire)
+            → LostFits (outcome_of result) (W.silence (wire_of result)) }
     {
         let mut link = self;
         match link.exchange(message) {
@@ -418,7 +432,8 @@ impl<W: Wire> Link<W, Operate> {
     /// The message that had no good reply yet.
     pub fn out(&self) -> Option<&MasterMsg>
         ensures out { option_map (λ m. m.now) result ≡ message_out self.now.state.out }
-        ensures fits { IfSome result (λ m. HasMasterParts self.now.state.layouts.run m.now × IsTrue (stays m.now)) }
+        ensures fits { IfSome result (λ m. HasMasterParts self.now.state.layouts.run m.now
+            × IsTrue (stays m.now)) }
     {
         match &self.state.out {
             Some(sent) => Some(sent.message()),
@@ -436,7 +451,8 @@ impl<W: Wire> Link<W, Operate> {
     /// The layouts that the page asks for.
     pub fn told(&self) -> Option<&Layouts>
         ensures told { option_copied result ≡ Some self.now.state.layouts }
-        ensures page { IsTrue (W.honest self.now.wire) → IfSome result (λ t. IsTold t.now (W.far self.now.wire)) }
+        ensures page { IsTrue (W.honest self.now.wire)
+            → IfSome result (λ t. IsTold t.now (W.far self.now.wire)) }
     {
         Some(&self.state.layouts)
     }

@@ -1,9 +1,8 @@
 //! The messages of a start-up, not sent yet (IEC 61131-9, A.1.2 and B.1).
-ghost use Rattle.std.specs.Prelude.{◌≡◌, ◌-◌, ◌∷◌, ◌<◌, ◌≤◌, replicate, length, slice_index, true, false};
-ghost use Rattle.iol_octets.specs.Control.{control_of};
-ghost use Rattle.iol_mseq.specs.Shape.{IsLayout, startup_shape};
+ghost use Rattle.std.specs.Prelude.{◌≡◌, ◌-◌, ◌≤◌, true, false};
+ghost use Rattle.iol_mseq.specs.Shape.{startup_shape};
 ghost use Rattle.iol_mseq.specs.Master.{HasMasterParts};
-ghost use Rattle.iol_mode.specs.Messages.{page_control, page_read, page_write, command_message, cycle_message, unsent, stays};
+ghost use Rattle.iol_mode.specs.Messages.{page_control, page_read, page_write, command_message, cycle_message, unsent};
 
 use iol_link::Handler;
 use iol_mseq::{Layout, MasterMsg, Part, first_of_zeros, part_of};

@@ -44,7 +44,8 @@ pub fn read_reply(layout: &Layout, read: bool, octets: &[u8]) -> Result<Reply, M
 /// to a write if there is none.
 pub fn encode_reply(layout: &Layout, reply: &Reply) -> Message
     requires { FitsReply layout.now reply.now }
-    ensures spelled { (read : Bool) → HasReplyParts layout.now read reply.now → SpellsReply layout.now read reply.now result.items }
+    ensures spelled { (read : Bool) → HasReplyParts layout.now read reply.now
+        → SpellsReply layout.now read reply.now result.items }
     ensures text { result.items ≡ reply_text reply.now }
 {
     let mut octets = Message::new();

@@ -1,4 +1,4 @@
-ghost use Rattle.std.specs.Prelude.{◌≡◌, ◌<◌, ◌≤◌};
+ghost use Rattle.std.specs.Prelude.{◌≡◌, ◌≤◌};
 
 /// What a message speaks to in the device (IEC 61131-9, A.1.2).
 #[derive(Clone, Copy, Debug, PartialEq, Eq)]

@@ -1,4 +1,4 @@
-ghost use Rattle.std.specs.Prelude.{◌≡◌, ◌<◌, ◌≤◌};
+ghost use Rattle.std.specs.Prelude.{◌≡◌, ◌≤◌};
 
 /// FlowCTRL: what the address of a control octet means on the ISDU channel (IEC 61131-9, 7.3.6).
 #[derive(Clone, Copy, Debug, PartialEq, Eq)]

@@ -1,5 +1,5 @@
 //! What carries a port's requests out: a station, a book, and the events that are kept.
-ghost use Rattle.std.specs.Prelude.{◌≡◌, ◌<◌, ◌≤◌, None, IfOk, IfErr, length, OnOk, OnErr};
+ghost use Rattle.std.specs.Prelude.{◌≡◌, ◌<◌, ◌≤◌, None, IfOk, IfErr, length};
 ghost use Rattle.std.specs.Option.{option_copied};
 ghost use Rattle.std.specs.Result.{result_map_both};
 ghost use Rattle.iol_book.specs.declared.fault.BookFault.TheVariants.{OutOfMemory};
@@ -54,7 +54,8 @@ impl<W: Wire, A: Allocator + Copy> Model for Parts<W, A> {
 impl<W: Wire, A: Allocator + Copy> Parts<W, A> {
     pub(crate) fn open(alloc: A, wire: W, limits: &Limits) -> Result<Parts<W, A>, (PortFault, W)>
         requires limits { AreLimits limits.now }
-        ensures parts { IfOk result (λ p. IsOpened (opening_of W.honest W.far W.silence limits.now wire) p) }
+        ensures parts { IfOk result (λ p. IsOpened
+            (opening_of W.honest W.far W.silence limits.now wire) p) }
         ensures stands { IfOk result (λ p. OpensWell (opening_of W.honest W.far W.silence limits.now wire)
             → StandsFor W.honest W.far W.silence p (opened limits.now (W.far wire) (W.silence wire))) }
         ensures refused { IfErr result (λ e. e.0 ≡ fault.Book OutOfMemory) }
@@ -71,9 +72,11 @@ impl<W: Wire, A: Allocator + Copy> Parts<W, A> {
     }
 
     pub(crate) fn submit(&mut self, request: Request) -> Result<Ticket, PortFault>
-        ensures does { Does W.honest W.far W.silence self.old (call.Submit request) (ticket_reply result) self.new }
+        ensures does { Does W.honest W.far W.silence self.old (call.Submit request)
+            (ticket_reply result) self.new }
         ensures lacks { IfErr result (λ e. e ≡ fault.Book OutOfMemory → self.old.book.room ≡ 0) }
-        ensures gives { SubmitGives self.old (submitted self.old.book.state request) result self.new }
+        ensures gives { SubmitGives self.old (submitted self.old.book.state request) result
+            self.new }
         ensures called { CallGives W.honest W.far W.silence W.wake_gives W.exchange_gives
             self.old (call.Submit request) (ticket_reply result) self.new }
     {
@@ -84,7 +87,8 @@ impl<W: Wire, A: Allocator + Copy> Parts<W, A> {
         ensures does { Does W.honest W.far W.silence
             self.old (call.SubmitUrgent request) (ticket_reply result) self.new }
         ensures lacks { IfErr result (λ e. e ≡ fault.Book OutOfMemory → self.old.book.room ≡ 0) }
-        ensures gives { SubmitGives self.old (submitted_urgent self.old.book.state request) result self.new }
+        ensures gives { SubmitGives self.old (submitted_urgent self.old.book.state request) result
+            self.new }
         ensures called { CallGives W.honest W.far W.silence W.wake_gives W.exchange_gives
             self.old (call.SubmitUrgent request) (ticket_reply result) self.new }
     {
@@ -92,7 +96,8 @@ impl<W: Wire, A: Allocator + Copy> Parts<W, A> {
     }
 
     pub(crate) fn collect(&mut self, ticket: Ticket) -> Result<Outcome, PortFault>
-        ensures does { Does W.honest W.far W.silence self.old (call.Collect ticket) (outcome_reply result) self.new }
+        ensures does { Does W.honest W.far W.silence self.old (call.Collect ticket)
+            (outcome_reply result) self.new }
         ensures gives { CollectGives self.old ticket result self.new }
         ensures called { CallGives W.honest W.far W.silence W.wake_gives W.exchange_gives
             self.old (call.Collect ticket) (outcome_reply result) self.new }
@@ -101,7 +106,8 @@ impl<W: Wire, A: Allocator + Copy> Parts<W, A> {
     }
 
     pub(crate) fn withdraw(&mut self, ticket: Ticket) -> Result<(), PortFault>
-        ensures does { Does W.honest W.far W.silence self.old (call.Withdraw ticket) (nothing_reply result) self.new }
+        ensures does { Does W.honest W.far W.silence self.old (call.Withdraw ticket)
+            (nothing_reply result) self.new }
         ensures gives { WithdrawGives self.old ticket result self.new }
         ensures called { CallGives W.honest W.far W.silence W.wake_gives W.exchange_gives
             self.old (call.Withdraw ticket) (nothing_reply result) self.new }
@@ -110,7 +116,8 @@ impl<W: Wire, A: Allocator + Copy> Parts<W, A> {
     }
 
     pub(crate) fn cancel(&mut self, ticket: Ticket) -> Result<(), PortFault>
-        ensures does { Does W.honest W.far W.silence self.old (call.Cancel ticket) (nothing_reply result) self.new }
+        ensures does { Does W.honest W.far W.silence self.old (call.Cancel ticket)
+            (nothing_reply result) self.new }
         ensures gives { CancelGives self.old ticket result self.new }
         ensures called { CallGives W.honest W.far W.silence W.wake_gives W.exchange_gives
             self.old (call.Cancel ticket) (nothing_reply result) self.new }
@@ -125,7 +132,8 @@ impl<W: Wire, A: Allocator + Copy> Parts<W, A> {
     }
 
     pub(crate) fn restart(&mut self)
-        ensures does { Does W.honest W.far W.silence self.old call.Restart answered.Nothing self.new }
+        ensures does { Does W.honest W.far W.silence self.old call.Restart answered.Nothing
+            self.new }
         ensures gives { RestartGives self.old self.new }
         ensures called { CallGives W.honest W.far W.silence W.wake_gives W.exchange_gives
             self.old call.Restart answered.Nothing self.new }
@@ -146,7 +154,8 @@ impl<W: Wire, A: Allocator + Copy> Parts<W, A> {
     }
 
     pub(crate) fn clear_output(&mut self)
-        ensures does { Does W.honest W.far W.silence self.old call.ClearOutput answered.Nothing self.new }
+        ensures does { Does W.honest W.far W.silence self.old call.ClearOutput answered.Nothing
+            self.new }
         ensures gives { ClearOutputGives self.old self.new }
         ensures called { CallGives W.honest W.far W.silence W.wake_gives W.exchange_gives
             self.old call.ClearOutput answered.Nothing self.new }
@@ -163,7 +172,8 @@ impl<W: Wire, A: Allocator + Copy> Parts<W, A> {
     }
 
     pub(crate) fn take_event(&mut self) -> Result<Event, PortFault>
-        ensures does { Does W.honest W.far W.silence self.old call.TakeEvent (event_reply result) self.new }
+        ensures does { Does W.honest W.far W.silence self.old call.TakeEvent (event_reply result)
+            self.new }
         ensures gives { TakeEventGives self.old result self.new }
         ensures called { CallGives W.honest W.far W.silence W.wake_gives W.exchange_gives
             self.old call.TakeEvent (event_reply result) self.new }
@@ -172,7 +182,8 @@ impl<W: Wire, A: Allocator + Copy> Parts<W, A> {
     }
 
     pub(crate) fn status(&self) -> Status
-        ensures does { Does W.honest W.far W.silence self.now call.Status (answered.Status result) self.now }
+        ensures does { Does W.honest W.far W.silence self.now call.Status (answered.Status result)
+            self.now }
         ensures value { result ≡ status_of self.now.station }
     {
         self.station.status()
@@ -213,7 +224,8 @@ impl<W: Wire, A: Allocator + Copy> Parts<W, A> {
         ensures asked { IsCall W.wake_gives W.exchange_gives (asks_of self.old)
             (wire_of self.old.station.link) (wire_of self.new.station.link) }
         ensures clean { CleanTurn W.honest W.far W.clean self.old self.new }
-        ensures gives { TurnGives W.honest W.far W.silence W.wake_gives W.exchange_gives self.old self.new }
+        ensures gives { TurnGives W.honest W.far W.silence W.wake_gives W.exchange_gives self.old
+            self.new }
         ensures called { CallGives W.honest W.far W.silence W.wake_gives W.exchange_gives
             self.old call.Turn answered.Nothing self.new }
     {
@@ -281,7 +293,8 @@ impl<W: Wire, A: Allocator + Copy> Parts<W, A> {
             self.old calls.now replies.items self.new) }
         ensures gives { IfOk result (λ replies. RunGives W.honest W.far W.silence W.wake_gives W.exchange_gives
             self.old calls.now replies.items self.new) }
-        ensures clean { IfOk result (λ _. CleanRuns W.honest W.far W.clean self.old calls.now self.new) }
+        ensures clean { IfOk result (λ _. CleanRuns W.honest W.far W.clean self.old calls.now
+            self.new) }
         ensures refused { IfErr result (λ e. e ≡ fault.Book OutOfMemory) }
         ensures unchanged { IfErr result (λ _. self.new ≡ self.old) }
     {

@@ -1,5 +1,5 @@
 //! One port.
-ghost use Rattle.std.specs.Prelude.{◌≡◌, ◌≤◌, None, Some, IsTrue, IfOk, IfErr, length};
+ghost use Rattle.std.specs.Prelude.{◌≡◌, ◌≤◌, None, Some, IfOk, IfErr, length};
 ghost use Rattle.std.specs.Option.{option_copied};
 ghost use Rattle.std.specs.Result.{result_map_both};
 ghost use Rattle.iol_book.specs.declared.fault.BookFault.TheVariants.{OutOfMemory};
@@ -71,7 +71,8 @@ impl<W: Wire, A: Handle> Port<W, A> {
     /// Refused by 24 where there is no memory for its book; the wire is handed back.
     pub fn open(alloc: A, wire: W, limits: &Limits) -> Result<Port<W, A>, (PortFault, W)>
         requires limits { AreLimits limits.now }
-        ensures opening { IfOk result (λ p. p.opening ≡ opening_of W.honest W.far W.silence limits.now wire) }
+        ensures opening { IfOk result (λ p. p.opening
+            ≡ opening_of W.honest W.far W.silence limits.now wire) }
         ensures parts { IfOk result (λ p. IsOpened p.opening p.parts) }
         ensures stands { IfOk result (λ p. OpensWell p.opening
             → StandsFor W.honest W.far W.silence p.parts (opened limits.now (W.far wire) (W.silence wire))) }
@@ -97,7 +98,8 @@ impl<W: Wire, A: Handle> Port<W, A> {
     pub fn submit(&mut self, request: Request) -> Result<Ticket, PortFault>
         ensures does { Does W.honest W.far W.silence
             self.old.parts (call.Submit request) (ticket_reply result) self.new.parts }
-        ensures lacks { IfErr result (λ e. e ≡ fault.Book OutOfMemory → self.old.parts.book.room ≡ 0) }
+        ensures lacks { IfErr result (λ e. e ≡ fault.Book OutOfMemory → self.old.parts.book.room
+            ≡ 0) }
         ensures gives { SubmitGives
             self.old.parts (submitted self.old.parts.book.state request) result self.new.parts }
         ensures rest { self.new ≡ record self.old { parts = self.new.parts } }
@@ -112,7 +114,8 @@ impl<W: Wire, A: Handle> Port<W, A> {
     pub fn submit_urgent(&mut self, request: Request) -> Result<Ticket, PortFault>
         ensures does { Does W.honest W.far W.silence
             self.old.parts (call.SubmitUrgent request) (ticket_reply result) self.new.parts }
-        ensures lacks { IfErr result (λ e. e ≡ fault.Book OutOfMemory → self.old.parts.book.room ≡ 0) }
+        ensures lacks { IfErr result (λ e. e ≡ fault.Book OutOfMemory → self.old.parts.book.room
+            ≡ 0) }
         ensures gives { SubmitGives
             self.old.parts (submitted_urgent self.old.parts.book.state request) result self.new.parts }
         ensures rest { self.new ≡ record self.old { parts = self.new.parts } }
@@ -166,7 +169,8 @@ impl<W: Wire, A: Handle> Port<W, A> {
     /// What waits goes on waiting. The device may still carry the request that was cut off out, once, until a wake
     /// succeeds.
     pub fn restart(&mut self)
-        ensures does { Does W.honest W.far W.silence self.old.parts call.Restart answered.Nothing self.new.parts }
+        ensures does { Does W.honest W.far W.silence self.old.parts call.Restart answered.Nothing
+            self.new.parts }
         ensures gives { RestartGives self.old.parts self.new.parts }
         ensures rest { self.new ≡ record self.old { parts = self.new.parts } }
     {
@@ -188,7 +192,8 @@ impl<W: Wire, A: Handle> Port<W, A> {
 
     /// Wants no output of the device.
     pub fn clear_output(&mut self)
-        ensures does { Does W.honest W.far W.silence self.old.parts call.ClearOutput answered.Nothing self.new.parts }
+        ensures does { Does W.honest W.far W.silence self.old.parts call.ClearOutput
+            answered.Nothing self.new.parts }
         ensures gives { ClearOutputGives self.old.parts self.new.parts }
         ensures rest { self.new ≡ record self.old { parts = self.new.parts } }
     {
@@ -255,7 +260,8 @@ impl<W: Wire, A: Handle> Port<W, A> {
     /// ISDU it is denied, never taken, and IDLE 1 goes out. At most 64 events are kept, and a list of events is read
     /// only where there is room for it.
     pub fn turn(&mut self)
-        ensures does { Does W.honest W.far W.silence self.old.parts call.Turn answered.Nothing self.new.parts }
+        ensures does { Does W.honest W.far W.silence self.old.parts call.Turn answered.Nothing
+            self.new.parts }
         ensures clean { CleanTurn W.honest W.far W.clean self.old.parts self.new.parts }
         ensures gives { TurnGives W.honest W.far W.silence W.wake_gives W.exchange_gives
             self.old.parts self.new.parts }
@@ -270,12 +276,14 @@ impl<W: Wire, A: Handle> Port<W, A> {
     ///
     /// A turn makes the one call of the wire that the port `asks` for, and no other call touches the wire.
     pub fn call(&mut self, asked: &Call) -> Answered
-        ensures does { Does W.honest W.far W.silence self.old.parts asked.now result self.new.parts }
+        ensures does { Does W.honest W.far W.silence self.old.parts asked.now result
+            self.new.parts }
         ensures gives { CallGives W.honest W.far W.silence W.wake_gives W.exchange_gives
             self.old.parts asked.now result self.new.parts }
         ensures wire { IsWireCall W.wake_gives W.exchange_gives asked.now (asks_of self.old.parts)
             (wire_of self.old.parts.station.link) (wire_of self.new.parts.station.link) }
-        ensures clean { asked.now ≡ call.Turn → CleanTurn W.honest W.far W.clean self.old.parts self.new.parts }
+        ensures clean { asked.now ≡ call.Turn
+            → CleanTurn W.honest W.far W.clean self.old.parts self.new.parts }
         ensures rest { self.new ≡ record self.old { parts = self.new.parts } }
     {
         self.parts.answer(asked)
@@ -293,7 +301,8 @@ impl<W: Wire, A: Handle> Port<W, A> {
             self.old.parts calls.now replies.items self.new.parts) }
         ensures gives { IfOk result (λ replies. RunGives W.honest W.far W.silence W.wake_gives W.exchange_gives
             self.old.parts calls.now replies.items self.new.parts) }
-        ensures clean { IfOk result (λ _. CleanRuns W.honest W.far W.clean self.old.parts calls.now self.new.parts) }
+        ensures clean { IfOk result (λ _. CleanRuns W.honest W.far W.clean self.old.parts calls.now
+            self.new.parts) }
         ensures rest { self.new ≡ record self.old { parts = self.new.parts } }
         ensures refused { IfErr result (λ e. e ≡ fault.Book OutOfMemory) }
         ensures unchanged { IfErr result (λ _. self.new ≡ self.old) }
@@ -310,14 +319,16 @@ impl<W: Wire, A: Handle> Port<W, A> {
 
     /// A turn, after which the image is published, once, where a writer was given.
     pub fn turn_shown<R: Wait>(&mut self, rt: &R)
-        ensures does { Does W.honest W.far W.silence self.old.parts call.Turn answered.Nothing self.new.parts }
+        ensures does { Does W.honest W.far W.silence self.old.parts call.Turn answered.Nothing
+            self.new.parts }
         ensures clean { CleanTurn W.honest W.far W.clean self.old.parts self.new.parts }
         ensures asked { IsCall W.wake_gives W.exchange_gives (asks_of self.old.parts)
             (wire_of self.old.parts.station.link) (wire_of self.new.parts.station.link) }
         ensures gives { TurnGives W.honest W.far W.silence W.wake_gives W.exchange_gives
             self.old.parts self.new.parts }
         ensures opening { self.new.opening ≡ self.old.opening }
-        ensures shown { self.new.writer ≡ shown_in self.new.parts.station.session.image self.old.writer }
+        ensures shown { self.new.writer
+            ≡ shown_in self.new.parts.station.session.image self.old.writer }
     {
         self.turn();
         self.show(rt);
@@ -325,10 +336,12 @@ impl<W: Wire, A: Handle> Port<W, A> {
 
     /// A restart, after which the image, which is none, is published, once, where a writer was given.
     pub fn restart_shown<R: Wait>(&mut self, rt: &R)
-        ensures does { Does W.honest W.far W.silence self.old.parts call.Restart answered.Nothing self.new.parts }
+        ensures does { Does W.honest W.far W.silence self.old.parts call.Restart answered.Nothing
+            self.new.parts }
         ensures gives { RestartGives self.old.parts self.new.parts }
         ensures opening { self.new.opening ≡ self.old.opening }
-        ensures shown { self.new.writer ≡ shown_in self.new.parts.station.session.image self.old.writer }
+        ensures shown { self.new.writer
+            ≡ shown_in self.new.parts.station.session.image self.old.writer }
     {
         self.restart();
         self.show(rt);
@@ -373,7 +386,8 @@ impl<W: Wire, A: Handle> Port<W, A> {
         ensures run { IsRun W.honest W.far W.silence self.now.opening self.now.parts }
         ensures wire { ComesFrom W.wake_gives W.exchange_gives W.tells
             self.now.opening.wire (wire_of self.now.parts.station.link) }
-        ensures record_fits { OpensWell self.now.opening → KeepsRecord W.honest W.far W.silence self.now.parts }
+        ensures record_fits { OpensWell self.now.opening
+            → KeepsRecord W.honest W.far W.silence self.now.parts }
         ensures level { OpensWell self.now.opening → IsLevelBetween W.far self.now.parts }
     {
         record_fits_journal();

@@ -79,14 +79,16 @@ pub(crate) fn begin_next<W: Wire, A: Allocator + Copy>(
     book: &mut Book<A>,
     room: bool,
 )
-    ensures next { BeginsNext W.honest W.far W.silence station.old book.old.state station.new book.new.state }
+    ensures next { BeginsNext W.honest W.far W.silence station.old book.old.state station.new
+        book.new.state }
     ensures exact { station.new ≡ prepared
         (to_begin (lacks_isdu station.old.session.isdu) (next_taken book.old.state.standing))
         station.old room }
     ensures taken { book.new.state ≡ taken_where
         (is_operating station.old.link && is_ready station.old.session room)
         (lacks_isdu station.old.session.isdu) (next_taken book.old.state.standing) book.old.state }
-    ensures takes { TakesNext W.honest W.far W.silence room station.old book.old.state station.new book.new.state }
+    ensures takes { TakesNext W.honest W.far W.silence room station.old book.old.state station.new
+        book.new.state }
 {
     if !station.ready(room) {
         return;
@@ -108,7 +110,8 @@ pub(crate) fn settle<A: Allocator + Copy>(
 )
     requires asked { Asks said book.old.state.standing.taken }
     requires room { HasRoom said kept.old.items }
-    ensures book { book.new.state ≡ book_through (cond woke (Reset ∷ []) [] ++ book_said said) book.old.state }
+    ensures book { book.new.state
+        ≡ book_through (cond woke (Reset ∷ []) [] ++ book_said said) book.old.state }
     ensures kept { kept.new.items ≡ kept_through (reports_said said) kept.old.items }
 {
     if woke {

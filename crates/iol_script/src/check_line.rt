@@ -65,7 +65,8 @@ fn parse_words(mut words: Words) -> Option<CheckLine>
 
 /// Words of two digits each: 1 to 128.
 fn parse_octets(words: Words) -> Option<LineOctets>
-    ensures { option_map (λ octets. octets.items) result ≡ option_and_then (within 1 128) (octets_of (words_left words.entry)) }
+    ensures { option_map (λ octets. octets.items) result
+        ≡ option_and_then (within 1 128) (octets_of (words_left words.entry)) }
 {
     let octets: LineOctets = parted_octets(words)?;
     if octets.is_empty() {

@@ -79,7 +79,8 @@ impl<A: Allocator> Draft<A> {
     /// One more line is read.
     pub(crate) fn take(&mut self, number: u64, line: &[u8]) -> Result<(), ScriptFault>
         ensures good { OnOk result (draft_after (Ok self.old) (number, line.now) ≡ Ok self.new) }
-        ensures bad { (n : ℕ) → result ≡ Err (Line n) → draft_after (Ok self.old) (number, line.now) ≡ Err n }
+        ensures bad { (n : ℕ) → result ≡ Err (Line n) → draft_after (Ok self.old) (number, line.now)
+            ≡ Err n }
     {
         let bad = ScriptFault::Line(number);
         match RunLine::parse(line).ok_or(bad)? {
@@ -94,7 +95,8 @@ impl<A: Allocator> Draft<A> {
     /// where the device takes one more.
     fn set(&mut self, setting: Setting) -> Option<()>
         requires { IsGoodSetting setting }
-        ensures { option_map (λ _. self.new) result ≡ script_after self.old (RunLine.Setting setting) }
+        ensures { option_map (λ _. self.new) result
+            ≡ script_after self.old (RunLine.Setting setting) }
     {
         if self.begun {
             return None;
@@ -124,7 +126,8 @@ impl<A: Allocator> Draft<A> {
     /// Steps are taken up to 1,000,000. The memory for all of them is taken before the first.
     fn add_steps(&mut self, number: u64, line: WireLine) -> Result<(), ScriptFault>
         ensures good { OnOk result (script_after self.old (RunLine.Wire line) ≡ Some self.new) }
-        ensures bad { (n : ℕ) → result ≡ Err (Line n) → (n ≡ number) × (script_after self.old (RunLine.Wire line) ≡ None) }
+        ensures bad { (n : ℕ) → result ≡ Err (Line n) → (n ≡ number)
+            × (script_after self.old (RunLine.Wire line) ≡ None) }
     {
         if self.steps.len() + line.count() as usize > STEPS {
             return Err(ScriptFault::Line(number));
@@ -139,7 +142,8 @@ impl<A: Allocator> Draft<A> {
 
     /// Calls are counted up to 1,000,000.
     fn add_calls(&mut self, line: &CallLine) -> Option<()>
-        ensures { option_map (λ _. self.new) result ≡ script_after self.old (RunLine.Call line.now) }
+        ensures { option_map (λ _. self.new) result
+            ≡ script_after self.old (RunLine.Call line.now) }
     {
         let calls = self.calls + line.count() as usize;
         if calls > CALLS {
@@ -152,7 +156,14 @@ impl<A: Allocator> Draft<A> {
 
     /// What the lines set up.
     pub(crate) fn finish(self) -> Script<A>
-        ensures value { script_of self ≡ record { page = result.page; params = result.params; limits = result.limits; steps = result.steps.items } }
+        ensures value { script_of self
+            ≡ record {
+              page = result.page;
+              params = result.params;
+              limits = result.limits;
+              steps =
+                  result.steps.items;
+            } }
         ensures page { IsOk (layouts_of result.page) }
         ensures limits { AreLimits result.limits }
         ensures given { result.limits.given ≡ 0 }
@@ -174,7 +185,8 @@ fn push_fates<A: Allocator>(
     fate: Fate,
     count: u32,
 ) -> Result<(), AllocError>
-    ensures pushed { OnOk result (steps.new.items ≡ steps.old.items ++ replicate count (Step.Fate fate)) }
+    ensures pushed { OnOk result (steps.new.items
+        ≡ steps.old.items ++ replicate count (Step.Fate fate)) }
     ensures err { OnErr result (steps.new.items ≡ steps.old.items) }
 {
     steps.reserve(count as usize)?;

@@ -1,5 +1,5 @@
 //! What several lines of `run` have.
-ghost use Rattle.std.specs.Prelude.{◌≡◌, ◌≤◌, ◌∷◌, ℕ, List, [], option_map, option_and_then, IfSome, MatchOption};
+ghost use Rattle.std.specs.Prelude.{◌≡◌, ◌∷◌, ℕ, List, [], option_map, option_and_then, MatchOption};
 ghost use Rattle.std.specs.Str.{bytes_eq};
 ghost use Rattle.iol_script.specs.Numerals.{within, word_octets};
 ghost use Rattle.iol_script.specs.RunLines.{count_of, image_form, place_of, value_of};
@@ -20,7 +20,8 @@ pub(crate) fn is(word: &[u8], name: &[u8]) -> bool
 
 /// No word is left.
 pub(crate) fn end_of(mut words: Words) -> Option<()>
-    ensures { MatchOption result ((word : List ℕ) × (rest : List (List ℕ)) × (words_left words.entry ≡ word ∷ rest)) (λ _. words_left words.entry ≡ []) }
+    ensures { MatchOption result ((word : List ℕ) × (rest : List (List ℕ))
+        × (words_left words.entry ≡ word ∷ rest)) (λ _. words_left words.entry ≡ []) }
 {
     match words.next() {
         None => Some(()),

@@ -50,7 +50,8 @@ pub fn hexadecimal_code(word: &[u8]) -> Option<u16>
 
 /// The octets of pairs of hexadecimal digits, up to `N`.
 fn pairs_of<const N: usize>(word: &[u8]) -> Option<ArrayVec<u8, N>>
-    ensures { option_map (λ octets. octets.items) result ≡ option_and_then (within 0 N) (pairs_of word.now) }
+    ensures { option_map (λ octets. octets.items) result
+        ≡ option_and_then (within 0 N) (pairs_of word.now) }
 {
     let mut octets = ArrayVec::new();
     let mut left = word;
@@ -66,7 +67,8 @@ fn pairs_of<const N: usize>(word: &[u8]) -> Option<ArrayVec<u8, N>>
 
 /// The octets of one word of pairs of hexadecimal digits, in both cases, up to `N`; `-` stands for none.
 pub fn hexadecimal_octets<const N: usize>(word: &[u8]) -> Option<ArrayVec<u8, N>>
-    ensures { option_map (λ octets. octets.items) result ≡ option_and_then (within 0 N) (word_octets word.now) }
+    ensures { option_map (λ octets. octets.items) result
+        ≡ option_and_then (within 0 N) (word_octets word.now) }
 {
     match word {
         [] => None,
@@ -77,7 +79,8 @@ pub fn hexadecimal_octets<const N: usize>(word: &[u8]) -> Option<ArrayVec<u8, N>
 
 /// The octets of words of two hexadecimal digits each, up to `N`.
 pub fn parted_octets<const N: usize>(words: Words) -> Option<ArrayVec<u8, N>>
-    ensures { option_map (λ octets. octets.items) result ≡ option_and_then (within 0 N) (octets_of (words_left words.entry)) }
+    ensures { option_map (λ octets. octets.items) result
+        ≡ option_and_then (within 0 N) (octets_of (words_left words.entry)) }
 {
     let mut octets = ArrayVec::new();
     for word in words {

@@ -18,7 +18,8 @@ fn cut(text: &[u8], mark: u8) -> (&[u8], Option<&[u8]>)
     ensures parts { slice_split (λ b. b == mark) text.now
         ≡ result.0.now ∷ option_map_or (λ later. slice_split (λ b. b == mark) later.now) result.1 [] }
     ensures whole { IfNone result.1 (result.0.now ≡ text.now) }
-    ensures shorter { IfSome result.1 (λ later. length result.0.now + length later.now + 1 ≡ length text.now) }
+    ensures shorter { IfSome result.1 (λ later. length result.0.now + length later.now + 1
+        ≡ length text.now) }
 {
     match place_of(text, mark) {
         Some(place) => (&text[..place], Some(&text[place + 1..])),

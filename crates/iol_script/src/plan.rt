@@ -32,8 +32,10 @@ impl Plan {
     /// of a port submit more than 64 requests. Where the input ends before its `turns`, the line behind its last is bad.
     pub fn read(input: &[u8]) -> Result<Plan, ScriptFault>
         requires { length input.now < usize.MAX }
-        ensures plan { IfOk result (λ plan. plan_of (numbered_lines input.now) ≡ Ok (numbers_of plan)) }
-        ensures bad_line { IfErr result (λ fault. (n : ℕ) × (fault ≡ Line n) × (plan_of (numbered_lines input.now) ≡ Err n)) }
+        ensures plan { IfOk result (λ plan. plan_of (numbered_lines input.now)
+            ≡ Ok (numbers_of plan)) }
+        ensures bad_line { IfErr result (λ fault. (n : ℕ) × (fault ≡ Line n)
+            × (plan_of (numbered_lines input.now) ≡ Err n)) }
     {
         let mut draft = PlanDraft::Empty;
         for (number, line) in Lines::of(input) {

@@ -41,8 +41,16 @@ impl<A: Allocator> Script<A> {
     pub fn read(alloc: A, input: &[u8]) -> Result<Script<A>, ScriptFault>
         // What is read.
         ensures good { OnOk result (first_bad_run (numbered_lines input.now) ≡ None) }
-        ensures script { IfOk result (λ s. script_in (numbered_lines input.now) ≡ Some (record { page = s.page; params = s.params; limits = s.limits; steps = s.steps.items })) }
-        ensures bad_line { (n : ℕ) → result ≡ Err (Line n) → first_bad_run (numbered_lines input.now) ≡ Some n }
+        ensures script { IfOk result (λ s. script_in (numbered_lines input.now)
+            ≡ Some (record {
+              page = s.page;
+              params = s.params;
+              limits = s.limits;
+              steps =
+                  s.steps.items;
+            })) }
+        ensures bad_line { (n : ℕ) → result ≡ Err (Line n)
+            → first_bad_run (numbered_lines input.now) ≡ Some n }
 
         // What holds of it.
         ensures page { IfOk result (λ s. IsOk (layouts_of s.page)) }
@@ -50,7 +58,8 @@ impl<A: Allocator> Script<A> {
         ensures given { IfOk result (λ s. s.limits.given ≡ 0) }
         ensures steps { IfOk result (λ s. vec_len s.steps ≤ 1000000) }
         ensures calls { OnOk result (length (calls_in (numbered_lines input.now)) ≤ 1000000) }
-        ensures forms { OnOk result (All (λ line. IsSome (run_form line.1)) (numbered_lines input.now)) }
+        ensures forms { OnOk result (All (λ line. IsSome (run_form line.1))
+            (numbered_lines input.now)) }
     {
         let mut draft = Draft::new(alloc);
         for (number, line) in Lines::of(input) {

@@ -1,4 +1,4 @@
-ghost use Rattle.std.specs.Prelude.{◌≡◌, ◌≤◌, ◌<◌, ◌+◌, ◌++◌, true, false, None, Some, Ok, Err, IfOk, IfSome, IsTrue, List, ℕ, length};
+ghost use Rattle.std.specs.Prelude.{◌≡◌, ◌<◌, ◌+◌, ◌++◌, true, false, None, Some, Ok, Err, IfOk, IfSome, IsTrue, length};
 ghost use Rattle.std.specs.Result.{result_err, result_ok};
 ghost use Rattle.iol_isdu.specs.declared.values.Request.{Request};
 ghost use Rattle.iol_isdu.specs.declared.values.Answer.{Answer};
@@ -117,7 +117,8 @@ impl Joiner {
         requires whole { is_whole self.text ≡ true }
         ensures refused { result_err result ≡ answer_fault (is_read request.now) self.text }
         ensures found { IfOk result (BeginsWithAnswer (is_read request.now) self.text) }
-        ensures only { (a : Answer) → BeginsWithAnswer (is_read request.now) self.text a → result ≡ Ok a }
+        ensures only { (a : Answer) → BeginsWithAnswer (is_read request.now) self.text a → result
+            ≡ Ok a }
     {
         self.parts.into_answer(is_read(request))
     }
@@ -171,8 +172,12 @@ impl Joiner {
     fn add(&mut self, count: Option<u8>, octets: &[u8]) -> Result<Took, JoinFault>
         requires count { IfSome count (λ c. c < 16) }
         requires room { is_whole self.old.text ≡ false }
-        ensures took { result ≡ (staged self.old.requests count (self.old.text ++ octets.now) (stage (self.old.text ++ octets.now))).took }
-        ensures joining { self.new ≡ (staged self.old.requests count (self.old.text ++ octets.now) (stage (self.old.text ++ octets.now))).joining }
+        ensures took { result
+            ≡ (staged self.old.requests count (self.old.text ++ octets.now)
+            (stage (self.old.text ++ octets.now))).took }
+        ensures joining { self.new
+            ≡ (staged self.old.requests count (self.old.text ++ octets.now)
+            (stage (self.old.text ++ octets.now))).joining }
         ensures kind { self.new.requests ≡ self.old.requests }
         ensures whole { result ≡ Ok Whole → IsTrue (is_whole self.new.text) }
     {

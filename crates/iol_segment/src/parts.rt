@@ -1,4 +1,4 @@
-ghost use Rattle.std.specs.Prelude.{if◌then◌else◌, nat_lt, false, ◌≡◌, ◌≤◌, ◌<◌, ◌+◌, ◌++◌, ◌∷◌, [], ◌/◌, true, Ok, None, length, slice_index};
+ghost use Rattle.std.specs.Prelude.{if◌then◌else◌, nat_lt, false, ◌≡◌, ◌<◌, ◌+◌, ◌++◌, ◌∷◌, [], ◌/◌, Ok, None, length, slice_index};
 ghost use Rattle.iol_isdu.specs.Frame.{total_at};
 ghost use Rattle.iol_segment.specs.Join.{stage, is_whole};
 ghost use Rattle.iol_segment.specs.Parts.{text_of, last_octets, border_of, front_at, IsParted, FrontFits, Grown, HasRoom, RoomLeft, wanted, is_complete};
@@ -76,7 +76,8 @@ impl Parts {
         requires room { is_whole (text_of self.old) ≡ false }
         ensures kind { self.new.requests ≡ self.old.requests }
         ensures parted { IsParted self.new.requests self.new }
-        ensures grown { Grown (stage (text_of self.old ++ octets.now)) (text_of self.old ++ octets.now) result (text_of self.new) }
+        ensures grown { Grown (stage (text_of self.old ++ octets.now))
+            (text_of self.old ++ octets.now) result (text_of self.new) }
     {
         let front = self.front_with(octets)?;
         self.front = front;
@@ -103,7 +104,8 @@ impl Parts {
 
     fn push_all(&mut self, octets: &[u8])
         requires parted { IsParted self.old.requests self.old }
-        requires fits { FrontFits self.old.requests self.old.front (text_of self.old ++ octets.now) }
+        requires fits { FrontFits self.old.requests self.old.front
+            (text_of self.old ++ octets.now) }
         ensures kind { self.new.requests ≡ self.old.requests }
         ensures parted { IsParted self.new.requests self.new }
         ensures text { text_of self.new ≡ text_of self.old ++ octets.now }
@@ -116,7 +118,8 @@ impl Parts {
 
     fn push(&mut self, octet: u8)
         requires parted { IsParted self.old.requests self.old }
-        requires fits { FrontFits self.old.requests self.old.front (text_of self.old ++ octet ∷ []) }
+        requires fits { FrontFits self.old.requests self.old.front
+            (text_of self.old ++ octet ∷ []) }
         ensures kind { self.new.requests ≡ self.old.requests }
         ensures parted { IsParted self.new.requests self.new }
         ensures text { text_of self.new ≡ text_of self.old ++ octet ∷ [] }
@@ -133,8 +136,10 @@ impl Parts {
 /// One octet more, in the head up to its border, and then in the body.
 fn keep(head: &mut ArrayVec<u8, HEAD>, body: &mut Octets, border: usize, octet: u8)
     requires { HasRoom border (length head.old.items) (length body.old.items) }
-    ensures items { head.new.items ++ body.new.items ≡ head.old.items ++ body.old.items ++ octet ∷ [] }
-    ensures body { length body.new.items ≡ (if (nat_lt (length head.old.items) border) then 0 else length body.old.items + 1) }
+    ensures items { head.new.items ++ body.new.items
+        ≡ head.old.items ++ body.old.items ++ octet ∷ [] }
+    ensures body { length body.new.items
+        ≡ (if (nat_lt (length head.old.items) border) then 0 else length body.old.items + 1) }
 {
     if head.len() < border {
         head.push(octet);

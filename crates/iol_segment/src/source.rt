@@ -74,8 +74,11 @@ fn index_len(place: &Place) -> usize
 fn request_octet(service: u8, place: &Place, octets: &[u8], i: usize) -> u8
     requires service { service ≤ 9 }
     requires fits { length octets.now ≤ 232 }
-    requires within { i < length (front_of (service + form_number (shortest place.now)) (index_part (shortest place.now) place.now ++ octets.now)) }
-    ensures { result ≡ slice_index (front_of (service + form_number (shortest place.now)) (index_part (shortest place.now) place.now ++ octets.now)) i }
+    requires within { i < length (front_of (service + form_number (shortest place.now))
+        (index_part (shortest place.now) place.now ++ octets.now)) }
+    ensures { result
+        ≡ slice_index (front_of (service + form_number (shortest place.now))
+        (index_part (shortest place.now) place.now ++ octets.now)) i }
 {
     let [high, low] = place.index.to_be_bytes();
     match (high, place.sub) {

@@ -1,4 +1,4 @@
-ghost use Rattle.std.specs.Prelude.{◌≡◌, ◌≤◌, ◌<◌, ◌+◌, ◌++◌, ◌/◌, ◌%◌, true, false, Ok, IfOk, length, slice_index, drop};
+ghost use Rattle.std.specs.Prelude.{◌≡◌, ◌≤◌, ◌<◌, ◌+◌, ◌/◌, true, false, Ok, IfOk, length, slice_index, drop};
 ghost use Rattle.std.specs.Result.{result_err, result_ok};
 ghost use Rattle.iol_isdu.specs.declared.values.Request.{Request};
 ghost use Rattle.iol_isdu.specs.declared.values.Answer.{Answer};

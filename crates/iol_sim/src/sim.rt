@@ -112,7 +112,8 @@ impl<P: App, A: Allocator + Copy> Sim<P, A> {
     /// with which that device was opened becomes by carrying out the requests of its record, in their order, each once
     /// and with the answer that stands beside it, and by nothing else.
     pub fn app_follows_record(&self)
-        ensures { Follows P.carry_out_gives self.now.device.first self.now.device.far.carried self.now.device.app }
+        ensures { Follows P.carry_out_gives self.now.device.first self.now.device.far.carried
+            self.now.device.app }
     {
         self.device.app_follows_record();
     }
@@ -127,7 +128,12 @@ impl<P: App, A: Allocator + Copy> Sim<P, A> {
     /// Does one step that is no fate.
     fn act(&mut self, step: &Step)
         ensures device { IsDone P.carry_out_gives step.now self.old.device self.new.device }
-        ensures rest { self.new ≡ record self.old { device = self.new.device; auto = auto_of self.old.auto (step.now ∷ []) } }
+        ensures rest { self.new
+            ≡ record self.old {
+              device = self.new.device;
+              auto = auto_of self.old.auto
+                  (step.now ∷ []);
+            } }
     {
         match step {
             Step::Fate(_) => {}
@@ -149,7 +155,13 @@ impl<P: App, A: Allocator + Copy> Sim<P, A> {
     fn next_fate(&mut self) -> Fate
         ensures fate { result ≡ fate_of self.old.steps }
         ensures device { AreDone P.carry_out_gives self.old.steps self.old.device self.new.device }
-        ensures rest { self.new ≡ record self.old { device = self.new.device; steps = rest_of self.old.steps; auto = auto_of self.old.auto self.old.steps } }
+        ensures rest { self.new
+            ≡ record self.old {
+              device = self.new.device;
+              steps = rest_of self.old.steps;
+              auto =
+                  auto_of self.old.auto self.old.steps;
+            } }
     {
         while let Some(step) = self.steps.next() {
             if let Step::Fate(fate) = step {
@@ -163,7 +175,9 @@ impl<P: App, A: Allocator + Copy> Sim<P, A> {
     /// Uses the steps before a call, whose fate is answered; none where it is silent.
     fn begin(&mut self) -> Fate
         ensures fate { result ≡ fate_now self.old }
-        ensures device { MatchBool self.old.silent (self.new.device ≡ self.old.device) (AreDone P.carry_out_gives self.old.steps self.old.device self.new.device) }
+        ensures device { MatchBool self.old.silent (self.new.device
+            ≡ self.old.device) (AreDone P.carry_out_gives self.old.steps self.old.device
+            self.new.device) }
         ensures rest { self.new ≡ prepared self.old self.new.device }
     {
         if self.line.silent {
@@ -208,8 +222,13 @@ impl<P: App, A: Allocator + Copy> Sim<P, A> {
     /// The octets are sent, and what comes back is answered.
     fn pass(&mut self, fate: Fate, sent: &[u8]) -> Option<Message>
         ensures answer { octets_in result ≡ (exchanged fate self.old.device.far sent.now).reply }
-        ensures device { self.new ≡ record self.old { device = record self.old.device { far = (exchanged fate self.old.device.far sent.now).far } } }
-        ensures octets { fate ≡ Fate.BackDamaged → IfSome (hear self.old.device.far sent.now).reply AreOctets }
+        ensures device { self.new
+            ≡ record self.old {
+              device =
+                  record self.old.device { far = (exchanged fate self.old.device.far sent.now).far };
+            } }
+        ensures octets { fate ≡ Fate.BackDamaged
+            → IfSome (hear self.old.device.far sent.now).reply AreOctets }
     {
         match fate {
             Fate::Clean => self.device.hear(sent),
@@ -230,7 +249,11 @@ impl<P: App, A: Allocator + Copy> Sim<P, A> {
 
     /// Counts an exchange that ended so.
     fn count(&mut self, fate: Fate, answer: &Option<Message>)
-        ensures { self.new ≡ record self.old { silence = silence_by fate self.old.silence (octets_in answer.now) } }
+        ensures { self.new
+            ≡ record self.old {
+              silence = silence_by fate self.old.silence
+                  (octets_in answer.now);
+            } }
     {
         self.line.silence = match (fate, answer) {
             (Fate::Clean, Some(_)) => 0,

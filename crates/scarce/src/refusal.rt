@@ -24,7 +24,8 @@ impl Numbers {
 
     /// What the refusal says of each number below the largest.
     pub(crate) fn of(refusal: Refusal) -> Numbers
-        ensures { (n : ℕ) → n < u64.MAX → IsRefused refusal n ↔ ((result.first ≤ n) × (n < result.end)) }
+        ensures { (n : ℕ) → n < u64.MAX → IsRefused refusal n
+            ↔ ((result.first ≤ n) × (n < result.end)) }
     {
         let (first, end) = match refusal {
             Refusal::Never => (0, 0),
