@@ -4,7 +4,7 @@ ghost use Rattle.std.specs.Prelude.{[], false, ⊤};
 ghost use Rattle.iol_device.specs.Far.{opened};
 
 use iol_app::{Asked, Mode, OutputFault};
-use iol_book::{BookFault, Limits, Ticket};
+use iol_book::{BookFault, Entry, Limits, Outcome, Ticket};
 use iol_isdu::{Place, Request};
 use iol_link::{Rate, Wire};
 use iol_mode::Why;
@@ -143,6 +143,103 @@ fn a_refused_request_changes_nothing(rt: HostRuntime) -> Result<(), Fail> {
         }
     }
     Err(Fail::from(PortFault::Book(BookFault::OutOfMemory)))
+}
+
+#[test]
+fn a_refused_urgent_request_changes_nothing(rt: HostRuntime) -> Result<(), Fail> {
+    let scarce = Scarce::new(rt.alloc());
+    for number in 0..64 {
+        for refusal in [Refusal::From(number), Refusal::Only(number)] {
+            scarce.order(Refusal::Never);
+            let mut port = opened_port(&scarce)?;
+            scarce.order(refusal);
+            let answer = port.submit_urgent(read());
+            let refused = scarce.has_refused();
+            scarce.order(Refusal::Never);
+            if !refused {
+                assert!(rt; number > 0);
+                assert_eq!(rt; answer, Ok(Ticket(1)));
+                return Ok(());
+            }
+            assert_eq!(rt; answer, Err(PortFault::Book(BookFault::OutOfMemory)));
+            assert!(rt; port.archive()?.is_empty());
+            assert_eq!(rt; port.submit_urgent(read()), Ok(Ticket(1)));
+        }
+    }
+    Err(Fail::from(PortFault::Book(BookFault::OutOfMemory)))
+}
+
+#[test]
+fn only_a_request_under_way_is_cancelled(rt: HostRuntime) -> Result<(), Fail> {
+    let scarce = Scarce::new(rt.alloc());
+    let mut port = opened_port(&scarce)?;
+    let not_in_flight = Err(PortFault::Book(BookFault::NotInFlight));
+    assert_eq!(rt; port.submit(read()), Ok(Ticket(1)));
+    assert_eq!(rt; port.submit_urgent(read()), Ok(Ticket(2)));
+    assert_eq!(rt; port.withdraw(Ticket(2)), Ok(()));
+    scarce.order(Refusal::From(0));
+    for ticket in [Ticket(1), Ticket(2)] {
+        assert_eq!(rt; port.cancel(ticket), not_in_flight);
+    }
+    let unknown = Err(PortFault::Book(BookFault::UnknownTicket));
+    assert_eq!(rt; port.cancel(Ticket(3)), unknown);
+    assert!(rt; !scarce.has_refused());
+    assert_eq!(rt; port.collect(Ticket(2)), Ok(Outcome::Withdrawn));
+    assert_eq!(rt; port.cancel(Ticket(2)), unknown);
+    assert_eq!(rt; port.withdraw(Ticket(1)), Ok(()));
+    Ok(())
+}
+
+#[test]
+fn calls_by_name_submit_urgent_requests_and_cancel(rt: HostRuntime) -> Result<(), Fail> {
+    let scarce = Scarce::new(rt.alloc());
+    let mut port = opened_port(&scarce)?;
+    let not_in_flight = Answered::Refused(PortFault::Book(BookFault::NotInFlight));
+    let unknown = Answered::Refused(PortFault::Book(BookFault::UnknownTicket));
+    assert_eq!(rt;
+        port.call(&Call::SubmitUrgent(read())),
+        Answered::Ticket(Ticket(1))
+    );
+    assert_eq!(rt; port.call(&Call::Cancel(Ticket(1))), not_in_flight);
+    assert_eq!(rt; port.call(&Call::Cancel(Ticket(2))), unknown);
+    let calls = [
+        Call::Cancel(Ticket(1)),
+        Call::SubmitUrgent(read()),
+        Call::Withdraw(Ticket(1)),
+        Call::Collect(Ticket(1)),
+        Call::Cancel(Ticket(1)),
+    ];
+    let wanted = [
+        not_in_flight,
+        Answered::Ticket(Ticket(2)),
+        Answered::Nothing,
+        Answered::Outcome(Outcome::Withdrawn),
+        unknown,
+    ];
+    assert_eq!(rt; port.run(&scarce, &calls)?.as_slice(), wanted.as_slice());
+    Ok(())
+}
+
+#[test]
+fn the_journal_tells_urgent_requests_from_others(rt: HostRuntime) -> Result<(), Fail> {
+    let scarce = Scarce::new(rt.alloc());
+    let mut port = opened_port(&scarce)?;
+    assert_eq!(rt; port.submit(read()), Ok(Ticket(1)));
+    assert_eq!(rt; port.submit_urgent(read()), Ok(Ticket(2)));
+    for ticket in [Ticket(2), Ticket(1)] {
+        assert_eq!(rt; port.withdraw(ticket), Ok(()));
+        assert_eq!(rt; port.collect(ticket), Ok(Outcome::Withdrawn));
+    }
+    let wanted = [
+        Entry::Submitted(Ticket(1), read()),
+        Entry::Urgent(Ticket(2), read()),
+        Entry::Withdrawn(Ticket(2)),
+        Entry::Collected(Ticket(2)),
+        Entry::Withdrawn(Ticket(1)),
+        Entry::Collected(Ticket(1)),
+    ];
+    assert_eq!(rt; port.archive()?.as_slice(), wanted.as_slice());
+    Ok(())
 }
 
 #[test]

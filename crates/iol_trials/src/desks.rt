@@ -1,4 +1,4 @@
-//! Desks and memory of a master run out.
+//! Desks and memory of a master run out, and what a submit counts, urgent or not.
 ghost use Rattle.std.proofs.Common.{rules};
 ghost use Rattle.std.specs.Prelude.{◌≡◌, [], false, ⊤, All, IfOk, vec_len};
 ghost use Rattle.iol_device.specs.Far.{opened};
@@ -155,6 +155,27 @@ fn turn_and_collect<W: Wire, L: Ledger, K: Ledger, A: Handle, R: Wait>(
     Ok(held.collect(Ticket(8)).err())
 }
 
+/// Which of the two submits.
+#[derive(Clone, Copy)]
+enum Kind {
+    Ordinary,
+    Urgent,
+}
+
+/// Submits a read at a desk.
+fn submit<W: Wire, L: Ledger, K: Ledger, A: Handle, R: Wait>(
+    rt: &R,
+    master: &Master<W, L, K, A>,
+    desk: &mut Desk<L>,
+    kind: Kind,
+) -> Result<Ticket, MasterFault> {
+    let read = Request::read(Place { index: 16, sub: 0 });
+    match kind {
+        Kind::Ordinary => master.submit(rt, desk, read),
+        Kind::Urgent => master.submit_urgent(rt, desk, read),
+    }
+}
+
 /// Submits at a desk without submits while this request for memory is refused, and says whether
 /// there was one.
 fn submit_refusing<L: Ledger, K: Ledger, R: Wait + Abort>(
@@ -163,10 +184,10 @@ fn submit_refusing<L: Ledger, K: Ledger, R: Wait + Abort>(
     number: u64,
     master: &Master<Bare, L, K, &Scarce>,
     desk: &mut Desk<L>,
+    kind: Kind,
 ) -> bool {
     scarce.order(Refusal::Only(number));
-    let read = Request::read(Place { index: 16, sub: 0 });
-    let answer = master.submit(rt, desk, read);
+    let answer = submit(rt, master, desk, kind);
     let refused = scarce.has_refused();
     let wanted = if refused {
         Err(MasterFault::Port(PortFault::Book(BookFault::OutOfMemory)))
@@ -182,6 +203,7 @@ fn submit_refusing<L: Ledger, K: Ledger, R: Wait + Abort>(
 fn submit_is_refused<L: Ledger, K: Ledger, R: Wait + Abort>(
     rt: &R,
     scarce: &Scarce,
+    kind: Kind,
     clients: Blank,
     tickets: Blank,
 ) -> Result<(), Fail>
@@ -198,9 +220,9 @@ fn submit_is_refused<L: Ledger, K: Ledger, R: Wait + Abort>(
     let master = opened.ok().expect(rt, "memory");
     scarce.order(Refusal::Only(0));
     let mut desk = master.desk(rt, 1)?;
-    assert!(rt; submit_refusing(rt, scarce, 0, &master, &mut desk));
+    assert!(rt; submit_refusing(rt, scarce, 0, &master, &mut desk, kind));
     for number in 1..64u64 {
-        if !submit_refusing(rt, scarce, number, &master, &mut desk) {
+        if !submit_refusing(rt, scarce, number, &master, &mut desk, kind) {
             break;
         }
     }
@@ -232,7 +254,63 @@ fn refused_memory_changes_nothing(rt: HostRuntime) -> Result<(), Fail> {
         )?;
         assert_eq!(rt; refused, wanted);
     }
-    submit_is_refused::<Brand, Brand, HostRuntime>(&rt, &scarce, Blank::new(1025), Blank::new(1))
+    for kind in [Kind::Ordinary, Kind::Urgent] {
+        submit_is_refused::<Brand, Brand, HostRuntime>(
+            &rt,
+            &scarce,
+            kind,
+            Blank::new(1025),
+            Blank::new(1),
+        )?;
+    }
+    Ok(())
+}
+
+/// Two desks at one port, of which one submits an urgent request.
+fn both_count<L: Ledger, K: Ledger, R: Wait + Abort>(
+    rt: &R,
+    alloc: Global,
+    clients: Blank,
+    tickets: Blank,
+) -> Result<(), Fail>
+    requires clients { (clients.name ≡ L.name) × (clients.parts ≡ L.parts) × (clients.parts ≡ 1025) }
+    requires tickets { (tickets.name ≡ K.name) × (tickets.parts ≡ K.parts) × (tickets.parts ≡ 1) }
+{
+    let opened: Result<Master<Bare, L, K>, _> = Master::open(
+        alloc,
+        one_port(alloc)?,
+        clients,
+        tickets,
+    );
+    let master = opened.ok().expect(rt, "memory");
+    let mut one = master.desk(rt, 1)?;
+    let mut two = master.desk(rt, 1)?;
+    assert!(rt; submit(rt, &master, &mut one, Kind::Ordinary) == Ok(Ticket(8)));
+    assert!(rt; submit(rt, &master, &mut two, Kind::Urgent) == Ok(Ticket(9)));
+    assert!(rt;
+        cancelled(rt, &master, Ticket(9))? == Some(PortFault::Book(BookFault::NotInFlight))
+    );
+    assert!(rt;
+        cancelled(rt, &master, Ticket(7))? == Some(PortFault::Book(BookFault::UnknownTicket))
+    );
+    assert!(rt; master.settle(rt, one) == Settled::Part(1));
+    assert!(rt; master.settle(rt, two) == Settled::Last(1, 2));
+    Ok(())
+}
+
+/// Why a request can't be cut off, under the port's lock.
+fn cancelled<W: Wire, L: Ledger, K: Ledger, R: Wait>(
+    rt: &R,
+    master: &Master<W, L, K>,
+    ticket: Ticket,
+) -> Result<Option<PortFault>, MasterFault> {
+    let mut held = master.lock(rt, 1)?;
+    Ok(held.cancel(ticket).err())
+}
+
+#[test]
+fn both_submits_count(rt: HostRuntime) -> Result<(), Fail> {
+    both_count::<Brand, Brand, HostRuntime>(&rt, rt.alloc(), Blank::new(1025), Blank::new(1))
 }
 
 #[test]

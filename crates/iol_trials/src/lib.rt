@@ -15,6 +15,8 @@ mod bare_ports;
 #[cfg(test)]
 mod bench;
 #[cfg(test)]
+mod cancels;
+#[cfg(test)]
 mod clients;
 #[cfg(test)]
 mod commands;

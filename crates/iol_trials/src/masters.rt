@@ -8,7 +8,7 @@ ghost use Rattle.iol_master.specs.Tickets.{HasGiven};
 
 use iol_book::{BookFault, Limits, Outcome, Ticket};
 use iol_device::Device;
-use iol_isdu::{Answer, Octets, Place, Request};
+use iol_isdu::{Answer, Cause, Octets, Place, Request};
 use iol_link::Wire;
 use iol_master::{Desk, Gate, Held, Master, MasterFault, Settled, Tally};
 use iol_page::Page;
@@ -183,6 +183,61 @@ fn together<W: Wire + Send, L: Ledger + Sync, K: Ledger + Sync, R: Threads + Wai
     })
 }
 
+/// The port at which a request is cancelled.
+const SECOND: u32 = 2;
+
+fn turns<W: Wire, L: Ledger, K: Ledger, R: Wait>(
+    rt: &R,
+    master: &Master<W, L, K>,
+    count: u32,
+) -> Result<(), MasterFault> {
+    let mut held = master.lock(rt, SECOND)?;
+    for _ in 0..count {
+        held.turn(rt);
+    }
+    Ok(())
+}
+
+fn cancelled<W: Wire, L: Ledger, K: Ledger, R: Wait>(
+    rt: &R,
+    master: &Master<W, L, K>,
+    ticket: Ticket,
+) -> Result<(), MasterFault> {
+    let mut held = master.lock(rt, SECOND)?;
+    held.cancel(ticket).map_err(MasterFault::Port)
+}
+
+/// One desk's urgent request goes before the other's, and is cancelled under the port's lock while it is under way.
+fn cancel_row<L: Ledger, K: Ledger, R: Wait + Abort>(
+    rt: &R,
+    alloc: Global,
+    clients: Blank,
+    tickets: Blank,
+) -> Result<(), Fail>
+    requires clients { (clients.name ≡ L.name) × (clients.parts ≡ L.parts) × (clients.parts ≡ 1025) }
+    requires tickets { (tickets.name ≡ K.name) × (tickets.parts ≡ K.parts) × (tickets.parts ≡ 2) }
+{
+    let ports = two_ports(alloc)?;
+    let opened: Result<Master<Sim<Params>, L, K>, _> = Master::open(alloc, ports, clients, tickets);
+    let master = opened.ok().expect(rt, "memory");
+    let mut one = master.desk(rt, SECOND)?;
+    let mut two = master.desk(rt, SECOND)?;
+    assert!(rt; master.submit(rt, &mut one, read()) == Ok(Ticket(1)));
+    assert!(rt; master.submit_urgent(rt, &mut two, read()) == Ok(Ticket(2)));
+    turns(rt, &master, 16)?;
+    let waits = MasterFault::Port(PortFault::Book(BookFault::NotInFlight));
+    assert!(rt; cancelled(rt, &master, Ticket(1)) == Err(waits));
+    assert!(rt; cancelled(rt, &master, Ticket(2)) == Ok(()));
+    turns(rt, &master, 1)?;
+    let cut = Outcome::Unknown(Cause::Cancelled);
+    assert!(rt; collected(rt, &master, SECOND, Ticket(2)) == Ok(cut));
+    turns(rt, &master, 3)?;
+    assert!(rt; collected(rt, &master, SECOND, Ticket(1)) == Ok(answer(&[0x43, 0x44])?));
+    assert_eq!(rt; master.settle(rt, one), Settled::Part(1));
+    assert_eq!(rt; master.settle(rt, two), Settled::Last(1, 2));
+    Ok(())
+}
+
 fn row<L: Ledger + Sync, K: Ledger + Sync, R: Threads + Wait + Abort + Sync>(
     rt: &R,
     alloc: Global,
@@ -237,4 +292,9 @@ fn row<L: Ledger + Sync, K: Ledger + Sync, R: Threads + Wait + Abort + Sync>(
 #[test]
 fn two_ports_are_served(rt: HostRuntime) -> Result<(), Fail> {
     row::<Brand, Brand, HostRuntime>(&rt, rt.alloc(), Blank::new(1025), Blank::new(2))
+}
+
+#[test]
+fn an_urgent_request_is_cancelled(rt: HostRuntime) -> Result<(), Fail> {
+    cancel_row::<Brand, Brand, HostRuntime>(&rt, rt.alloc(), Blank::new(1025), Blank::new(2))
 }

@@ -2,7 +2,7 @@
 use crate::play::device;
 use crate::rows::{Ask, DATA, NO_DATA};
 use iol_book::{Limits, Outcome, Ticket};
-use iol_image::{Image, image_cell};
+use iol_image::{Handle, Image, image_cell};
 use iol_isdu::{Cause, Place, Request};
 use iol_link::Wire;
 use iol_port::{Port, PortFault};
@@ -24,7 +24,7 @@ pub fn read() -> Request {
     Request::read(Place { index: 16, sub: 0 })
 }
 
-pub fn turn<W: Wire>(port: &mut Port<W>, turns: u32) {
+pub fn turn<W: Wire, A: Handle>(port: &mut Port<W, A>, turns: u32) {
     for _ in 0..turns {
         port.turn();
     }
