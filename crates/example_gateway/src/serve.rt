@@ -39,12 +39,15 @@ fn submit<W: Wire, L: Ledger, K: Ledger, R: Wait>(
     ticket
 }
 
-/// Two clients submit, each in a thread of its own, while the workers make their turns.
-fn submit_both<'s, E, W: Wire + Send, L: Ledger + Sync, K: Ledger + Sync, R: Threads + Wait + Sync>(
-    scope: &Scope<'s, E>,
-    rt: &'s R,
-    master: &'s Master<W, L, K>,
-) -> Result<[Ticket; 2]> {
+/// The threads of two clients submit, while the workers make their turns.
+fn submit_beside<
+    's,
+    E,
+    W: Wire + Send,
+    L: Ledger + Sync,
+    K: Ledger + Sync,
+    R: Threads + Wait + Sync,
+>(scope: &Scope<'s, E>, rt: &'s R, master: &'s Master<W, L, K>) -> Result<[Ticket; 2]> {
     let Ok(first) = scope.spawn(move || submit(rt, master, 1)) else {
         bail!("no thread");
     };
@@ -53,6 +56,18 @@ fn submit_both<'s, E, W: Wire + Send, L: Ledger + Sync, K: Ledger + Sync, R: Thr
     };
     master.serve(rt, &Open, TURNS)?;
     Ok([first.join(rt)?, second.join(rt)?])
+}
+
+/// The tickets of two clients, each in a thread of its own.
+fn submit_both<W: Wire + Send, L: Ledger + Sync, K: Ledger + Sync, R: Threads + Wait + Sync>(
+    rt: &R,
+    master: &Master<W, L, K>,
+) -> Result<[Ticket; 2]> {
+    thread::scope(
+        thread::scope_env(),
+        rt,
+        move |scope| -> Result<[Ticket; 2]> { submit_beside(scope, rt, master) },
+    )
 }
 
 /// Serves two clients, and prints what they read, and the process data of the first port. The blanks name the ledgers
@@ -74,11 +89,7 @@ pub fn serve<L: Ledger + Sync, K: Ledger + Sync, R: Print + Threads + Wait + Syn
     let Ok(master) = opened else {
         bail!("no memory");
     };
-    let tickets = thread::scope(
-        thread::scope_env(),
-        rt,
-        |scope| submit_both(scope, rt, &master),
-    )?;
+    let tickets = submit_both(rt, &master)?;
     master.serve(rt, &Open, TURNS)?;
     for (ticket, port) in tickets.into_iter().zip(1..) {
         let outcome = master.lock(rt, port)?.collect(ticket)?;
