@@ -1,16 +1,15 @@
 use denote.Param.Send.{sendable}
 use Rattle.std.proofs.Crossing.{crosses}
-use Rattle.std.proofs.lemmas.List.Elements.{All-nil, All-cons}
 use Rattle.iol_master.specs.Tickets.{HasGiven}
 use Rattle.example_gateway.proofs.Crosses.{sim_send}
+use Rattle.example_gateway.proofs.Pairs.{both}
 use Rattle.example_gateway.proofs.serve.serve.Goals as goal
 
 -- both ports are as they were opened, but for the first one's writer
 pub open-opened-requires-clause-fresh : goal.open-opened-requires-clause-fresh
 open-opened-requires-clause-fresh g c =
-    rw c.in_ok-ports.ensures.items
-      (All-cons (λ p. HasGiven p 0) _ _ (rw c.publish_to.ensures c.in_ok-first.ensures)
-        (All-cons (λ p. HasGiven p 0) _ _ c.in_ok-open_port.ensures (All-nil (λ p. HasGiven p 0))))
+    both (λ p. HasGiven p 0) _ _ _ c.in_ok-ports.ensures.items
+      (rw c.publish_to.ensures c.in_ok-first.ensures) c.in_ok-open_port.ensures
 
 pub submit_both-requires-send-W : goal.submit_both-requires-send-W
 submit_both-requires-send-W g c κs within = search (sim_send, crosses, sendable) depth 60 fits 20000
