@@ -9,7 +9,7 @@ use Rattle.example_gateway.proofs.serve.serve.Goals as goal
 pub open-opened-requires-clause-fresh : goal.open-opened-requires-clause-fresh
 open-opened-requires-clause-fresh g c =
     both (λ p. HasGiven p 0) _ _ _ c.in_ok-ports.ensures.items
-      (rw c.publish_to.ensures c.in_ok-first.ensures) c.in_ok-open_port.ensures
+    (rw c.publish_to.ensures c.in_ok-first.ensures) c.in_ok-open_port.ensures
 
 pub submit_both-requires-send-W : goal.submit_both-requires-send-W
 submit_both-requires-send-W g c κs within = search (sim_send, crosses, sendable) depth 60 fits 20000
