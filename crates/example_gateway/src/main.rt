@@ -1,0 +1,30 @@
+//! A gateway: a master of two ports, a client for each in a thread of its own, and a reader of process data who takes
+//! no port's lock. The lines are simulated.
+#![tactic(auto)]
+
+mod ports;
+mod serve;
+
+use crate::serve::serve;
+use anyhow::Result;
+use std::alloc::Global;
+use std::marker::Brand;
+use std::rt::Runtime;
+use std::sync::Wait;
+use std::sync::ledger::Blank;
+use std::thread::Threads;
+
+/// How many desks a master's ledger has parts for, as `Master::open` wants it.
+const DESK_PARTS: u64 = 1025;
+
+/// How many ports there are, as the ledger of their tickets is told.
+const PORTS: u64 = 2;
+
+/// The same for each kind of machine: it has threads, and may wait.
+fn run<R: Runtime<A = Global> + Threads + Wait + Sync>(rt: &R) -> Result<()> {
+    serve::<Brand, Brand, R>(rt, rt.alloc(), Blank::new(DESK_PARTS), Blank::new(PORTS))
+}
+
+fn main(rt: HostRuntime) -> Result<()> {
+    run(&rt)
+}

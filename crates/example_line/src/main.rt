@@ -1,0 +1,78 @@
+//! A master's port over a line of one's own: a thermometer is read and set, and what it tells is printed.
+//!
+//! In place of a UART the line is this program's input and output, so that whoever stands at the far end, a device in
+//! another process or a list of its replies, is told each message and answers it with a line: a wake-up request with
+//! the rate of the device, a message with the octets of the reply. An empty line is an answer that is lost. What comes
+//! of it is printed on standard error.
+#![tactic(auto)]
+
+mod line;
+
+use crate::line::{exchange, wake};
+use anyhow::Result;
+use iol_app::Asked;
+use iol_book::{Limits, Ticket};
+use iol_isdu::{Place, Request};
+use iol_line::{Line, turn_answered, turn_woken};
+use iol_port::Port;
+
+/// The temperature in tenths of a degree.
+const TEMPERATURE: Place = Place { index: 40, sub: 0 };
+
+/// The temperature above which there is an event, in tenths of a degree.
+const LIMIT: Place = Place { index: 41, sub: 0 };
+
+/// 24 degrees, in tenths.
+const NEW_LIMIT: u16 = 240;
+
+const TURNS: u32 = 60;
+
+const LIMITS: Limits = Limits {
+    journal: 100,
+    busy: 100,
+    given: 0,
+};
+
+/// One turn: what the port asks for is sent, and the port is told what came back.
+fn turn(rt: &(impl Input + Print + AllocGlobal), port: &mut Port<Line>) -> Result<()> {
+    match port.asks() {
+        Asked::Wake => {
+            let rate = wake(rt)?;
+            turn_woken(port, rate);
+        }
+        Asked::Exchange(sent) => {
+            let came = exchange(rt, sent.as_slice())?;
+            turn_answered(port, sent, came);
+        }
+    }
+    Ok(())
+}
+
+/// Prints an event, where the device told one, and each outcome that is there.
+fn report(rt: &impl Eprint, port: &mut Port<Line>, tickets: &[Ticket]) -> Result<()> {
+    if let Ok(event) = port.take_event() {
+        eprintln!(rt; "event {:02X} {:04X}", event.qualifier, event.code)?;
+    }
+    for ticket in tickets {
+        if let Ok(outcome) = port.collect(*ticket) {
+            eprintln!(rt; "{outcome:?}")?;
+        }
+    }
+    Ok(())
+}
+
+fn main(rt: HostRuntime) -> Result<()> {
+    let mut port = Port::open(rt.alloc(), Line::new(), &LIMITS).map_err(|(fault, _)| fault)?;
+    let tickets = [
+        port.submit(Request::read(TEMPERATURE))?,
+        port.submit(Request::write(LIMIT, &NEW_LIMIT.to_be_bytes())?)?,
+        port.submit(Request::read(LIMIT))?,
+    ];
+    for _ in 0..TURNS {
+        turn(&rt, &mut port)?;
+        report(&rt, &mut port, &tickets)?;
+    }
+    let tenths = port.image().map(|image| image.octets());
+    eprintln!(rt; "at the end: {tenths:?}, {:?}", port.status().mode)?;
+    Ok(())
+}
