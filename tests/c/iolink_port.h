@@ -58,7 +58,7 @@ uint8_t iol_port_asks(iol_port *port, iol_message *out);
 uint8_t iol_port_turn_woken(iol_port *port, uint8_t rate);
 
 /* The turn in which the message was sent, and these octets came back in the time of a reply; none did where `count` is
- * 0. Of more than 66 the first 66 are taken. 252, 255 a wake is asked for. */
+ * 0. Of more than 66 give the first 66. 252, 254 more than 66 octets, 255 a wake is asked for. */
 uint8_t iol_port_turn_answered(iol_port *port, const uint8_t *octets, size_t count);
 
 /* ---- requests */

@@ -35,6 +35,6 @@ abbrev pub rate_of : ℕ → Option Rate
 rate_of number =
     if nat_eq number 1 then Some Com1 else if nat_eq number 2 then Some Com2 else if nat_eq number 3 then Some Com3 else None
 
--- what came on the line: nothing where there are no octets, else the first 66 of them
+-- what came on the line: nothing where there are no octets
 abbrev pub answer_of : List ℕ → Option (ArrayVec ℕ)
-answer_of octets = if nat_eq (length octets) 0 then None else Some (record { items = take 66 octets })
+answer_of octets = if nat_eq (length octets) 0 then None else Some (record { items = octets })

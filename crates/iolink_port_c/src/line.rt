@@ -16,8 +16,6 @@ use iol_link::Rate;
 use iol_mseq::Message;
 use std::alloc::Global;
 
-const LONGEST_MESSAGE: usize = 66;
-
 /// What the next turn sends: `length` octets, or a wake-up request where that is 0.
 #[repr(C)]
 pub struct IolMessage {
@@ -32,7 +30,7 @@ pub struct IolMessage {
 pub extern "C" fn iol_port_asks(alloc: Global, handle: &mut IolPort, out: &mut IolMessage) -> u8
     ensures closed { IsFalse handle.old.is_open → IsRefused result handle.old handle.new }
     ensures done { IsTrue handle.old.is_open → result ≡ 0 }
-    ensures same { handle.new ≡ handle.old }
+    ensures same { handle.new.held.value ≡ handle.old.held.value }
     ensures wake { IsTrue handle.old.is_open → asks_of (parts_of handle.old) ≡ Asked.Wake → out.new.length ≡ 0 }
 {
     if !handle.is_open {
@@ -99,8 +97,8 @@ fn rate_named(number: u8) -> Option<Rate>
 }
 
 /// The turn in which the octets that the port asks for were sent, and these came back in the time of a reply; none did
-/// where `octets` is empty. Of more than 66 octets the first 66 are taken: a reply of a wrong length as it is. 0, or 252
-/// where the handle is closed, and 255 where the port asks for a wake; nothing changed then.
+/// where `octets` is empty. Of more than 66 octets give the first 66: a reply of a wrong length as it is. 0, or 252 where
+/// the handle is closed, 254 for more than 66 octets, and 255 where the port asks for a wake; nothing changed then.
 #[unsafe(no_mangle)]
 pub extern "C" fn iol_port_turn_answered(
     alloc: Global,
@@ -108,9 +106,11 @@ pub extern "C" fn iol_port_turn_answered(
     octets: &[u8],
 ) -> u8
     ensures closed { IsFalse handle.old.is_open → IsRefused result handle.old handle.new }
-    ensures refused { IsTrue handle.old.is_open → asks_of (parts_of handle.old) ≡ Asked.Wake →
+    ensures long { IsTrue handle.old.is_open → 66 < length octets.now → (result ≡ 254) × (handle.new ≡ handle.old) }
+    ensures refused { IsTrue handle.old.is_open → length octets.now ≤ 66 →
+        asks_of (parts_of handle.old) ≡ Asked.Wake →
         (result ≡ 255) × (parts_of handle.new ≡ parts_of handle.old) }
-    ensures turn { IsTrue handle.old.is_open →
+    ensures turn { IsTrue handle.old.is_open → length octets.now ≤ 66 →
         (sent : _) → asks_of (parts_of handle.old) ≡ Asked.Exchange sent →
         (result ≡ 0) × TurnAnswered is_honest far_of silence_of
             sent (answer_of octets.now) None (parts_of handle.old) (parts_of handle.new) }
@@ -118,7 +118,10 @@ pub extern "C" fn iol_port_turn_answered(
     if !handle.is_open {
         return CLOSED;
     }
-    let answer = answer_named(octets);
+    let Ok(came) = Message::try_from(octets) else {
+        return OUT_OF_RANGE;
+    };
+    let answer = if came.is_empty() { None } else { Some(came) };
     replace_with(handle, (alloc, answer), |handle, (alloc, answer)| {
         let mut master = handle.into_box(alloc);
         let code = match master.port.asks() {
@@ -130,14 +133,4 @@ pub extern "C" fn iol_port_turn_answered(
         };
         (IolPort::of(master), code)
     })
-}
-
-fn answer_named(octets: &[u8]) -> Option<Message>
-    ensures { result ≡ answer_of octets.now }
-{
-    if octets.is_empty() {
-        return None;
-    }
-    let count = octets.len().min(LONGEST_MESSAGE);
-    Message::try_from(&octets[..count]).ok()
 }

@@ -1,5 +1,6 @@
 //! How a request ended, as C sees it.
 ghost use Rattle.std.specs.Prelude.{◌≡◌};
+ghost use Rattle.iolink_port_c.specs.Shown.{outcome_kind, outcome_cause, answer_kind, cause_number};
 
 use crate::octets::put;
 use iol_book::Outcome;
@@ -31,7 +32,10 @@ pub struct IolOutcome {
     pub octets: [u8; 232],
 }
 
-pub(crate) fn show_outcome(outcome: &Outcome, out: &mut IolOutcome) {
+pub(crate) fn show_outcome(outcome: &Outcome, out: &mut IolOutcome)
+    ensures kind { out.new.kind ≡ outcome_kind outcome.now }
+    ensures cause { out.new.cause ≡ outcome_cause outcome.now }
+{
     out.cause = 0;
     out.length = 0;
     match outcome {
@@ -45,7 +49,10 @@ pub(crate) fn show_outcome(outcome: &Outcome, out: &mut IolOutcome) {
     }
 }
 
-fn show_answer(answer: &Answer, out: &mut IolOutcome) {
+fn show_answer(answer: &Answer, out: &mut IolOutcome)
+    ensures kind { out.new.kind ≡ answer_kind answer.now }
+    ensures cause { out.new.cause ≡ out.old.cause }
+{
     match answer {
         Answer::Read(octets) => {
             out.kind = READ;
@@ -62,7 +69,9 @@ fn show_answer(answer: &Answer, out: &mut IolOutcome) {
     }
 }
 
-fn cause_number(cause: Cause) -> u8 {
+fn cause_number(cause: Cause) -> u8
+    ensures { result ≡ cause_number cause }
+{
     match cause {
         Cause::LinkLost => 1,
         Cause::Restarted => 2,

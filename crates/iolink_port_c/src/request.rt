@@ -1,10 +1,11 @@
 //! Requests: entered, collected, taken back and cut off.
-ghost use Rattle.std.specs.Prelude.{◌≡◌, ◌≤◌, ◌<◌, Result, length, IsTrue, IsFalse};
+ghost use Rattle.std.specs.Prelude.{◌≡◌, ◌≤◌, ◌<◌, Result, length, IsTrue, IsFalse, IfOk};
 ghost use Rattle.iol_isdu.specs.declared.values.Request.{Request};
 ghost use Rattle.iol_book.specs.declared.entries.Ticket.{Ticket};
 ghost use Rattle.iol_book.specs.BookModel.{submitted, submitted_urgent};
 ghost use Rattle.iol_port.specs.declared.fault.PortFault.{PortFault};
 ghost use Rattle.iol_port.specs.EveryWire.{SubmitGives, CollectGives, WithdrawGives, CancelGives};
+ghost use Rattle.iolink_port_c.specs.Shown.{outcome_kind};
 ghost use Rattle.iolink_port_c.specs.Calls.{parts_of, IsRefused, number_of, ticket_out};
 
 use crate::held::IolPort;
@@ -179,7 +180,8 @@ pub extern "C" fn iol_port_collect(
 ) -> u8
     ensures closed { IsFalse handle.old.is_open → IsRefused result handle.old handle.new }
     ensures gives { IsTrue handle.old.is_open → (answer : _) × (result ≡ number_of answer) ×
-        CollectGives (parts_of handle.old) (record { _0 = ticket }) answer (parts_of handle.new) }
+        CollectGives (parts_of handle.old) (record { 0 = ticket }) answer (parts_of handle.new) ×
+        IfOk answer (λ outcome. out.new.kind ≡ outcome_kind outcome) }
 {
     if !handle.is_open {
         return CLOSED;
@@ -204,7 +206,7 @@ pub extern "C" fn iol_port_collect(
 pub extern "C" fn iol_port_withdraw(alloc: Global, handle: &mut IolPort, ticket: u64) -> u8
     ensures closed { IsFalse handle.old.is_open → IsRefused result handle.old handle.new }
     ensures gives { IsTrue handle.old.is_open → (answer : _) × (result ≡ number_of answer) ×
-        WithdrawGives (parts_of handle.old) (record { _0 = ticket }) answer (parts_of handle.new) }
+        WithdrawGives (parts_of handle.old) (record { 0 = ticket }) answer (parts_of handle.new) }
 {
     if !handle.is_open {
         return CLOSED;
@@ -226,7 +228,7 @@ pub extern "C" fn iol_port_withdraw(alloc: Global, handle: &mut IolPort, ticket:
 pub extern "C" fn iol_port_cancel(alloc: Global, handle: &mut IolPort, ticket: u64) -> u8
     ensures closed { IsFalse handle.old.is_open → IsRefused result handle.old handle.new }
     ensures gives { IsTrue handle.old.is_open → (answer : _) × (result ≡ number_of answer) ×
-        CancelGives (parts_of handle.old) (record { _0 = ticket }) answer (parts_of handle.new) }
+        CancelGives (parts_of handle.old) (record { 0 = ticket }) answer (parts_of handle.new) }
 {
     if !handle.is_open {
         return CLOSED;

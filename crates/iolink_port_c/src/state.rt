@@ -1,6 +1,9 @@
 //! The link, process data and events.
 ghost use Rattle.std.specs.Prelude.{◌≡◌, ◌≤◌, ◌<◌, Some, None, take, length, IsTrue, IsFalse};
 ghost use Rattle.iol_port.specs.EveryWire.{TakeEventGives, SetOutputGives, ClearOutputGives, RestartGives};
+ghost use Rattle.iol_image.specs.Image.{IsImage};
+ghost use Rattle.iol_port.specs.View.{status_of};
+ghost use Rattle.iolink_port_c.specs.Shown.{IsShown};
 ghost use Rattle.iolink_port_c.specs.Calls.{parts_of, IsRefused, number_of};
 
 use crate::held::IolPort;
@@ -34,6 +37,9 @@ pub extern "C" fn iol_port_restart(alloc: Global, handle: &mut IolPort) -> u8
 #[unsafe(no_mangle)]
 pub extern "C" fn iol_port_set_output(alloc: Global, handle: &mut IolPort, octets: &[u8]) -> u8
     ensures closed { IsFalse handle.old.is_open → IsRefused result handle.old handle.new }
+    ensures gives { IsTrue handle.old.is_open → IsImage octets.now →
+        (answer : _) × (result ≡ number_of answer) ×
+        SetOutputGives (parts_of handle.old) octets.now answer (parts_of handle.new) }
 {
     if !handle.is_open {
         return CLOSED;
@@ -82,7 +88,7 @@ pub struct IolImage {
 #[unsafe(no_mangle)]
 pub extern "C" fn iol_port_image(alloc: Global, handle: &mut IolPort, out: &mut IolImage) -> u8
     ensures closed { IsFalse handle.old.is_open → IsRefused result handle.old handle.new }
-    ensures same { handle.new ≡ handle.old }
+    ensures same { handle.new.held.value ≡ handle.old.held.value }
 {
     if !handle.is_open {
         return CLOSED;
@@ -152,7 +158,9 @@ pub struct IolStatus {
 #[unsafe(no_mangle)]
 pub extern "C" fn iol_port_status(alloc: Global, handle: &mut IolPort, out: &mut IolStatus) -> u8
     ensures closed { IsFalse handle.old.is_open → IsRefused result handle.old handle.new }
-    ensures same { handle.new ≡ handle.old }
+    ensures same { handle.new.held.value ≡ handle.old.held.value }
+    ensures status { IsTrue handle.old.is_open →
+        (result ≡ 0) × IsShown (status_of (parts_of handle.old).station) out.new }
 {
     if !handle.is_open {
         return CLOSED;
@@ -166,7 +174,9 @@ pub extern "C" fn iol_port_status(alloc: Global, handle: &mut IolPort, out: &mut
     0
 }
 
-fn show_status(status: &Status, out: &mut IolStatus) {
+fn show_status(status: &Status, out: &mut IolStatus)
+    ensures { IsShown status.now out.new }
+{
     out.mode = match status.mode {
         Mode::Down => 1,
         Mode::Startup => 2,
