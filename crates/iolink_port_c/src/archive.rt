@@ -25,6 +25,7 @@ const WITHDRAWN: u8 = 12;
 const COLLECTED: u8 = 16;
 
 const READ: u8 = 1;
+
 const WRITE: u8 = 2;
 
 /// A request: a read, or a write of `length` octets.

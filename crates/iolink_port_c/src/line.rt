@@ -63,7 +63,7 @@ pub extern "C" fn iol_port_turn_woken(alloc: Global, handle: &mut IolPort, rate:
         (result ≡ 255) × (parts_of handle.new ≡ parts_of handle.old) }
     ensures turn { IsTrue handle.old.is_open → rate ≤ 3 → asks_of (parts_of handle.old) ≡ Asked.Wake →
         (result ≡ 0) × TurnWoken is_honest far_of silence_of
-            (rate_of rate) None (parts_of handle.old) (parts_of handle.new) }
+        (rate_of rate) None (parts_of handle.old) (parts_of handle.new) }
 {
     if !handle.is_open {
         return CLOSED;
@@ -100,11 +100,7 @@ fn rate_named(number: u8) -> Option<Rate>
 /// where `octets` is empty. Of more than 66 octets give the first 66: a reply of a wrong length as it is. 0, or 252 where
 /// the handle is closed, 254 for more than 66 octets, and 255 where the port asks for a wake; nothing changed then.
 #[unsafe(no_mangle)]
-pub extern "C" fn iol_port_turn_answered(
-    alloc: Global,
-    handle: &mut IolPort,
-    octets: &[u8],
-) -> u8
+pub extern "C" fn iol_port_turn_answered(alloc: Global, handle: &mut IolPort, octets: &[u8]) -> u8
     ensures closed { IsFalse handle.old.is_open → IsRefused result handle.old handle.new }
     ensures long { IsTrue handle.old.is_open → 66 < length octets.now → (result ≡ 254) × (handle.new ≡ handle.old) }
     ensures refused { IsTrue handle.old.is_open → length octets.now ≤ 66 →
@@ -113,7 +109,7 @@ pub extern "C" fn iol_port_turn_answered(
     ensures turn { IsTrue handle.old.is_open → length octets.now ≤ 66 →
         (sent : _) → asks_of (parts_of handle.old) ≡ Asked.Exchange sent →
         (result ≡ 0) × TurnAnswered is_honest far_of silence_of
-            sent (answer_of octets.now) None (parts_of handle.old) (parts_of handle.new) }
+        sent (answer_of octets.now) None (parts_of handle.old) (parts_of handle.new) }
 {
     if !handle.is_open {
         return CLOSED;

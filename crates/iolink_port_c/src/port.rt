@@ -11,7 +11,9 @@ use iol_port::Port;
 use std::alloc::Global;
 
 const LEAST_JOURNAL: u32 = 4;
+
 const MOST_JOURNAL: u32 = 1000000;
+
 const LEAST_BUSY: u16 = 2;
 
 /// Opens a port, whose link is down: 0, or 24 where there is no memory, 253 where the handle is open already, 254 where

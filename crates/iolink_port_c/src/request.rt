@@ -30,11 +30,7 @@ fn submit(alloc: Global, handle: &mut IolPort, request: Request) -> Result<Ticke
     })
 }
 
-fn submit_urgent(
-    alloc: Global,
-    handle: &mut IolPort,
-    request: Request,
-) -> Result<Ticket, PortFault>
+fn submit_urgent(alloc: Global, handle: &mut IolPort, request: Request) -> Result<Ticket, PortFault>
     requires { IsTrue handle.old.is_open }
     ensures opened { IsTrue handle.new.is_open }
     ensures gives { SubmitGives (parts_of handle.old)
@@ -77,7 +73,7 @@ pub extern "C" fn iol_port_read(
     ensures gives { IsTrue handle.old.is_open → (answer : Result Ticket PortFault) ×
         (result ≡ number_of answer) × (ticket.new ≡ ticket_out answer) ×
         SubmitGives (parts_of handle.old) (submitted (parts_of handle.old).book.state
-            (Request.Read (record { index = index; sub = sub }))) answer (parts_of handle.new) }
+        (Request.Read (record { index = index; sub = sub }))) answer (parts_of handle.new) }
 {
     if !handle.is_open {
         return CLOSED;
@@ -99,7 +95,7 @@ pub extern "C" fn iol_port_read_urgent(
     ensures gives { IsTrue handle.old.is_open → (answer : Result Ticket PortFault) ×
         (result ≡ number_of answer) × (ticket.new ≡ ticket_out answer) ×
         SubmitGives (parts_of handle.old) (submitted_urgent (parts_of handle.old).book.state
-            (Request.Read (record { index = index; sub = sub }))) answer (parts_of handle.new) }
+        (Request.Read (record { index = index; sub = sub }))) answer (parts_of handle.new) }
 {
     if !handle.is_open {
         return CLOSED;
@@ -124,8 +120,8 @@ pub extern "C" fn iol_port_write(
     ensures gives { IsTrue handle.old.is_open → length octets.now ≤ 232 → (answer : Result Ticket PortFault) ×
         (result ≡ number_of answer) × (ticket.new ≡ ticket_out answer) ×
         SubmitGives (parts_of handle.old) (submitted (parts_of handle.old).book.state
-            (Request.Write (record { index = index; sub = sub }) (record { items = octets.now })))
-            answer (parts_of handle.new) }
+        (Request.Write (record { index = index; sub = sub }) (record { items = octets.now })))
+        answer (parts_of handle.new) }
 {
     if !handle.is_open {
         return CLOSED;
@@ -154,8 +150,8 @@ pub extern "C" fn iol_port_write_urgent(
     ensures gives { IsTrue handle.old.is_open → length octets.now ≤ 232 → (answer : Result Ticket PortFault) ×
         (result ≡ number_of answer) × (ticket.new ≡ ticket_out answer) ×
         SubmitGives (parts_of handle.old) (submitted_urgent (parts_of handle.old).book.state
-            (Request.Write (record { index = index; sub = sub }) (record { items = octets.now })))
-            answer (parts_of handle.new) }
+        (Request.Write (record { index = index; sub = sub }) (record { items = octets.now })))
+        answer (parts_of handle.new) }
 {
     if !handle.is_open {
         return CLOSED;

@@ -116,11 +116,7 @@ pub struct IolEvent {
 
 /// Hands out the event that was kept longest: 0, or 252 where the handle is closed, and 30 where none is kept.
 #[unsafe(no_mangle)]
-pub extern "C" fn iol_port_take_event(
-    alloc: Global,
-    handle: &mut IolPort,
-    out: &mut IolEvent,
-) -> u8
+pub extern "C" fn iol_port_take_event(alloc: Global, handle: &mut IolPort, out: &mut IolEvent) -> u8
     ensures closed { IsFalse handle.old.is_open → IsRefused result handle.old handle.new }
     ensures gives { IsTrue handle.old.is_open → (answer : _) × (result ≡ number_of answer) ×
         TakeEventGives (parts_of handle.old) answer (parts_of handle.new) }
