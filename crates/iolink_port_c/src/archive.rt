@@ -1,5 +1,7 @@
 //! The journal, entry by entry.
 ghost use Rattle.std.specs.Prelude.{◌≡◌, ◌≤◌, IsTrue, IsFalse};
+ghost use Rattle.iol_book.specs.BookModel.{may_archive, archived};
+ghost use Rattle.iol_port.specs.EveryWire.{IsBookCall};
 ghost use Rattle.iolink_port_c.specs.Calls.{parts_of, IsRefused};
 
 use crate::held::{IolPort, Master};
@@ -56,6 +58,13 @@ pub struct IolEntry {
 #[unsafe(no_mangle)]
 pub extern "C" fn iol_port_archive(alloc: Global, handle: &mut IolPort, count: &mut u32) -> u8
     ensures closed { IsFalse handle.old.is_open → IsRefused result handle.old handle.new }
+    ensures refused { IsTrue handle.old.is_open → IsFalse (may_archive (parts_of handle.old).book.state) →
+        (result ≡ 28) × (count.new ≡ 0) }
+    ensures done { IsTrue handle.old.is_open → IsTrue (may_archive (parts_of handle.old).book.state) →
+        (result ≡ 0) × (handle.new.held.value.journal.items ≡ (parts_of handle.old).book.state.journal) }
+    ensures book { IsTrue handle.old.is_open →
+        (parts_of handle.new).book.state ≡ archived (parts_of handle.old).book.state }
+    ensures rest { IsTrue handle.old.is_open → IsBookCall (parts_of handle.old) (parts_of handle.new) }
 {
     if !handle.is_open {
         return CLOSED;

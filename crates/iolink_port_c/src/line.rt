@@ -32,6 +32,9 @@ pub extern "C" fn iol_port_asks(alloc: Global, handle: &mut IolPort, out: &mut I
     ensures done { IsTrue handle.old.is_open → result ≡ 0 }
     ensures same { handle.new.held.value ≡ handle.old.held.value }
     ensures wake { IsTrue handle.old.is_open → asks_of (parts_of handle.old) ≡ Asked.Wake → out.new.length ≡ 0 }
+    ensures exchange { IsTrue handle.old.is_open →
+        (sent : _) → asks_of (parts_of handle.old) ≡ Asked.Exchange sent →
+        take out.new.length out.new.octets ≡ sent.items }
 {
     if !handle.is_open {
         return CLOSED;

@@ -1,5 +1,5 @@
 //! The link, process data and events.
-ghost use Rattle.std.specs.Prelude.{◌≡◌, ◌≤◌, ◌<◌, Some, None, take, length, IsTrue, IsFalse};
+ghost use Rattle.std.specs.Prelude.{◌≡◌, ◌≤◌, ◌<◌, Some, None, take, length, unwrap_or, [], IsTrue, IsFalse};
 ghost use Rattle.iol_port.specs.EveryWire.{TakeEventGives, SetOutputGives, ClearOutputGives, RestartGives};
 ghost use Rattle.iol_image.specs.Image.{IsImage};
 ghost use Rattle.iol_port.specs.View.{status_of};
@@ -89,21 +89,27 @@ pub struct IolImage {
 pub extern "C" fn iol_port_image(alloc: Global, handle: &mut IolPort, out: &mut IolImage) -> u8
     ensures closed { IsFalse handle.old.is_open → IsRefused result handle.old handle.new }
     ensures same { handle.new.held.value ≡ handle.old.held.value }
+    ensures image { IsTrue handle.old.is_open → (result ≡ 0) × (take out.new.length out.new.octets
+        ≡ unwrap_or (parts_of handle.old).station.session.image []) }
 {
     if !handle.is_open {
         return CLOSED;
     }
-    replace_with(handle, (alloc, out), |handle, (alloc, out)| {
+    let image = replace_with(handle, alloc, |handle, alloc| {
         let master = handle.into_box(alloc);
-        match master.port.image() {
-            Some(image) => {
-                out.length = image.octets().len() as u8;
-                put(image.octets(), &mut out.octets);
-            }
-            None => out.length = 0,
-        }
-        (IolPort::of(master), ())
+        let image = match master.port.image() {
+            Some(image) => Some(image.clone().unwrap()),
+            None => None,
+        };
+        (IolPort::of(master), image)
     });
+    match image {
+        Some(image) => {
+            out.length = image.octets().len() as u8;
+            put(image.octets(), &mut out.octets);
+        }
+        None => out.length = 0,
+    }
     0
 }
 
