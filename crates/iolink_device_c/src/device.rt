@@ -1,0 +1,116 @@
+//! Opening and closing, and what comes to pass at a device by itself.
+ghost use Rattle.std.specs.Prelude.{◌≡◌, true, false, IsTrue, IsFalse};
+ghost use Rattle.iol_device.specs.Local.{local, woken, LocalStep};
+ghost use Rattle.iolink_device_c.specs.Calls.{far_of, IsRefused};
+
+use crate::held::{IolDevice, Sensor};
+use crate::refusal::{CLOSED, IS_OPEN};
+use core::mem::replace_with;
+use iol_device::{Apart, Device};
+use iol_event::Event;
+use iol_page::Page;
+use std::alloc::Global;
+
+/// Opens a device with this direct parameter page 1, asleep: 0, or 8, 7 or 2 where the page is refused, 24 where there is
+/// no memory, and 253 where the handle is open already. It takes no memory after this.
+#[unsafe(no_mangle)]
+pub extern "C" fn iol_device_open(alloc: Global, handle: &mut IolDevice, page: &[u8; 10]) -> u8
+    ensures once { IsTrue handle.old.is_open → (result ≡ 253) × (handle.new ≡ handle.old) }
+    ensures opened { result ≡ 0 → handle.new.is_open ≡ true }
+{
+    if handle.is_open {
+        return IS_OPEN;
+    }
+    let page = Page::from_octets(page);
+    if let Err(fault) = page.layouts() {
+        return fault.code();
+    }
+    let device = Device::new(Apart, page);
+    match Box::new(alloc, Sensor { device }) {
+        Ok(sensor) => {
+            *handle = IolDevice::of(sensor);
+            0
+        }
+        Err(_) => 24,
+    }
+}
+
+/// Ends the device and gives its memory back: 0, or 252 where the handle is closed.
+#[unsafe(no_mangle)]
+pub extern "C" fn iol_device_close(alloc: Global, handle: &mut IolDevice) -> u8
+    ensures shut { handle.new.is_open ≡ false }
+    ensures once { IsFalse handle.old.is_open → (result ≡ 252) × (handle.new ≡ handle.old) }
+    ensures done { IsTrue handle.old.is_open → result ≡ 0 }
+{
+    if !handle.is_open {
+        return CLOSED;
+    }
+    replace_with(handle, alloc, |handle, alloc| {
+        let sensor = handle.into_box(alloc);
+        let closed = IolDevice::closed(&sensor);
+        drop(sensor);
+        (closed, ())
+    });
+    0
+}
+
+/// A wake-up request came: 0, or 252 where the handle is closed.
+#[unsafe(no_mangle)]
+pub extern "C" fn iol_device_wake(alloc: Global, handle: &mut IolDevice) -> u8
+    ensures closed { IsFalse handle.old.is_open → IsRefused result handle.old handle.new }
+    ensures far { IsTrue handle.old.is_open → (result ≡ 0) × (far_of handle.new ≡ woken (far_of handle.old)) }
+{
+    if !handle.is_open {
+        return CLOSED;
+    }
+    replace_with(handle, alloc, |handle, alloc| {
+        let mut sensor = handle.into_box(alloc);
+        sensor.device.wake();
+        (IolDevice::of(sensor), ())
+    });
+    0
+}
+
+/// The power failed and came back: 0, or 252 where the handle is closed.
+#[unsafe(no_mangle)]
+pub extern "C" fn iol_device_power_cycle(alloc: Global, handle: &mut IolDevice) -> u8
+    ensures closed { IsFalse handle.old.is_open → IsRefused result handle.old handle.new }
+    ensures far { IsTrue handle.old.is_open →
+        (result ≡ 0) × (far_of handle.new ≡ local (far_of handle.old) LocalStep.Power) }
+{
+    if !handle.is_open {
+        return CLOSED;
+    }
+    replace_with(handle, alloc, |handle, alloc| {
+        let mut sensor = handle.into_box(alloc);
+        sensor.device.power_cycle();
+        (IolDevice::of(sensor), ())
+    });
+    0
+}
+
+/// Raises an event: 0, or 252 where the handle is closed, and 16 where the event memory is full.
+#[unsafe(no_mangle)]
+pub extern "C" fn iol_device_raise(
+    alloc: Global,
+    handle: &mut IolDevice,
+    qualifier: u8,
+    code: u16,
+) -> u8
+    ensures closed { IsFalse handle.old.is_open → IsRefused result handle.old handle.new }
+    ensures far { IsTrue handle.old.is_open → far_of handle.new ≡ local (far_of handle.old)
+        (LocalStep.Raise (record { qualifier = qualifier; code = code })) }
+{
+    if !handle.is_open {
+        return CLOSED;
+    }
+    let event = Event { qualifier, code };
+    replace_with(handle, (alloc, event), |handle, (alloc, event)| {
+        let mut sensor = handle.into_box(alloc);
+        let code = match sensor.device.raise(event) {
+            Ok(()) => 0,
+            Err(fault) => fault.code(),
+        };
+        (IolDevice::of(sensor), code)
+    })
+}

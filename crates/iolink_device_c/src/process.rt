@@ -1,0 +1,82 @@
+//! Process data.
+ghost use Rattle.std.specs.Prelude.{◌≡◌, length, take, IsTrue, IsFalse};
+ghost use Rattle.iol_device.specs.Local.{local, LocalStep};
+ghost use Rattle.iolink_device_c.specs.Calls.{far_of, IsRefused};
+
+use crate::held::IolDevice;
+use crate::octets::put;
+use crate::refusal::CLOSED;
+use core::mem::replace_with;
+use iol_image::Image;
+use std::alloc::Global;
+
+/// The process data in from now on: 0, or 252 where the handle is closed, and 29 for another number of octets than the
+/// page has.
+#[unsafe(no_mangle)]
+pub extern "C" fn iol_device_set_input(alloc: Global, handle: &mut IolDevice, octets: &[u8]) -> u8
+    ensures closed { IsFalse handle.old.is_open → IsRefused result handle.old handle.new }
+{
+    if !handle.is_open {
+        return CLOSED;
+    }
+    let image = match Image::new(octets) {
+        Ok(image) => image,
+        Err(fault) => return fault.code(),
+    };
+    replace_with(handle, (alloc, image), |handle, (alloc, image)| {
+        let mut sensor = handle.into_box(alloc);
+        let code = match sensor.device.set_input(&image) {
+            Ok(()) => 0,
+            Err(fault) => fault.code(),
+        };
+        (IolDevice::of(sensor), code)
+    })
+}
+
+/// No valid process data in from now on: 0, or 252 where the handle is closed.
+#[unsafe(no_mangle)]
+pub extern "C" fn iol_device_clear_input(alloc: Global, handle: &mut IolDevice) -> u8
+    ensures closed { IsFalse handle.old.is_open → IsRefused result handle.old handle.new }
+    ensures far { IsTrue handle.old.is_open →
+        (result ≡ 0) × (far_of handle.new ≡ local (far_of handle.old) LocalStep.NoInput) }
+{
+    if !handle.is_open {
+        return CLOSED;
+    }
+    replace_with(handle, alloc, |handle, alloc| {
+        let mut sensor = handle.into_box(alloc);
+        sensor.device.clear_input();
+        (IolDevice::of(sensor), ())
+    });
+    0
+}
+
+/// Process data: `length` octets, none where that is 0.
+#[repr(C)]
+pub struct IolImage {
+    pub length: u8,
+    pub octets: [u8; 32],
+}
+
+/// The process data out, none while none is valid: 0, or 252 where the handle is closed.
+#[unsafe(no_mangle)]
+pub extern "C" fn iol_device_output(alloc: Global, handle: &mut IolDevice, out: &mut IolImage) -> u8
+    ensures closed { IsFalse handle.old.is_open → IsRefused result handle.old handle.new }
+    ensures same { handle.new.held.value ≡ handle.old.held.value }
+{
+    if !handle.is_open {
+        return CLOSED;
+    }
+    replace_with(handle, (alloc, out), |handle, (alloc, out)| {
+        let sensor = handle.into_box(alloc);
+        match sensor.device.output() {
+            Some(image) => {
+                out.length = image.octets().len() as u8;
+                put(image.octets(), &mut out.octets);
+            }
+            None => out.length = 0,
+        }
+        (IolDevice::of(sensor), ())
+    });
+    0
+}

@@ -1,0 +1,146 @@
+//! Requests: the one that is handed over, and its answer.
+ghost use Rattle.std.specs.Prelude.{◌≡◌, ◌≤◌, ◌<◌, length, IsTrue, IsFalse, is_some, None};
+ghost use Rattle.iol_device.specs.Isdu.{handed};
+ghost use Rattle.iol_isdu.specs.declared.values.Answer.TheVariants as answer;
+ghost use Rattle.iolink_device_c.specs.Calls.{far_of, IsRefused, Answers, read_of};
+
+use crate::held::IolDevice;
+use crate::octets::put;
+use crate::refusal::{CLOSED, NOT_ASKED};
+use core::mem::replace_with;
+use iol_isdu::{Answer, Octets, Place, Request};
+use std::alloc::Global;
+
+const NONE: u8 = 0;
+
+const READ: u8 = 1;
+
+const WRITE: u8 = 2;
+
+const DATA_TOO_LONG: u8 = 9;
+
+/// A request: a read, or a write of `length` octets.
+#[repr(C)]
+pub struct IolRequest {
+    /// 1 read, 2 write; 0 where there is none.
+    pub kind: u8,
+    pub sub: u8,
+    pub index: u16,
+    pub length: u8,
+    pub octets: [u8; 232],
+}
+
+/// The request that is handed over and has no answer yet, of kind 0 where there is none: 0, or 252 where the handle is
+/// closed. It changes nothing.
+#[unsafe(no_mangle)]
+pub extern "C" fn iol_device_handed(
+    alloc: Global,
+    handle: &mut IolDevice,
+    out: &mut IolRequest,
+) -> u8
+    ensures closed { IsFalse handle.old.is_open → IsRefused result handle.old handle.new }
+    ensures same { handle.new.held.value ≡ handle.old.held.value }
+    ensures none { IsTrue handle.old.is_open → handed (far_of handle.old).isdu ≡ None → out.new.kind ≡ 0 }
+{
+    if !handle.is_open {
+        return CLOSED;
+    }
+    let request = replace_with(handle, alloc, |handle, alloc| {
+        let sensor = handle.into_box(alloc);
+        let request = match sensor.device.handed() {
+            Some(request) => Some(request.clone().unwrap()),
+            None => None,
+        };
+        (IolDevice::of(sensor), request)
+    });
+    match request {
+        Some(request) => show_request(&request, out),
+        None => out.kind = NONE,
+    }
+    0
+}
+
+fn show_request(request: &Request, out: &mut IolRequest) {
+    match request {
+        Request::Read(place) => {
+            out.kind = READ;
+            show_place(*place, out);
+            out.length = 0;
+        }
+        Request::Write(place, octets) => {
+            out.kind = WRITE;
+            show_place(*place, out);
+            out.length = octets.len() as u8;
+            put(octets.as_slice(), &mut out.octets);
+        }
+    }
+}
+
+fn show_place(place: Place, out: &mut IolRequest) {
+    out.index = place.index;
+    out.sub = place.sub;
+}
+
+fn answered(alloc: Global, handle: &mut IolDevice, answer: Answer) -> u8
+    requires { IsTrue handle.old.is_open }
+    ensures { Answers answer handle.old result handle.new }
+{
+    replace_with(handle, (alloc, answer), |handle, (alloc, answer)| {
+        let mut sensor = handle.into_box(alloc);
+        let code = if sensor.device.answer(answer) {
+            0
+        } else {
+            NOT_ASKED
+        };
+        (IolDevice::of(sensor), code)
+    })
+}
+
+/// The read that is handed over gave these octets: 0, or 252 where the handle is closed, 9 for more than 232 octets, and
+/// 255 where no read is handed over.
+#[unsafe(no_mangle)]
+pub extern "C" fn iol_device_answer_read(alloc: Global, handle: &mut IolDevice, octets: &[u8]) -> u8
+    ensures closed { IsFalse handle.old.is_open → IsRefused result handle.old handle.new }
+    ensures long { IsTrue handle.old.is_open → 232 < length octets.now → (result ≡ 9) × (handle.new ≡ handle.old) }
+    ensures answer { IsTrue handle.old.is_open → length octets.now ≤ 232 →
+        Answers (read_of octets.now) handle.old result handle.new }
+{
+    if !handle.is_open {
+        return CLOSED;
+    }
+    match Octets::try_from(octets) {
+        Ok(octets) => answered(alloc, handle, Answer::Read(octets)),
+        Err(_) => DATA_TOO_LONG,
+    }
+}
+
+/// The write that is handed over is done: 0, or 252 where the handle is closed, and 255 where no write is handed over.
+#[unsafe(no_mangle)]
+pub extern "C" fn iol_device_answer_written(alloc: Global, handle: &mut IolDevice) -> u8
+    ensures closed { IsFalse handle.old.is_open → IsRefused result handle.old handle.new }
+    ensures answer { IsTrue handle.old.is_open → Answers answer.Written handle.old result handle.new }
+{
+    if !handle.is_open {
+        return CLOSED;
+    }
+    answered(alloc, handle, Answer::Written)
+}
+
+/// The request that is handed over is refused, with ErrorCode and AdditionalCode: 0, or 252 where the handle is closed,
+/// and 255 where none is handed over.
+#[unsafe(no_mangle)]
+pub extern "C" fn iol_device_answer_refused(
+    alloc: Global,
+    handle: &mut IolDevice,
+    code: u8,
+    additional: u8,
+) -> u8
+    ensures closed { IsFalse handle.old.is_open → IsRefused result handle.old handle.new }
+    ensures answer { IsTrue handle.old.is_open →
+        Answers (answer.Refused code additional) handle.old result handle.new }
+{
+    if !handle.is_open {
+        return CLOSED;
+    }
+    answered(alloc, handle, Answer::Refused(code, additional))
+}

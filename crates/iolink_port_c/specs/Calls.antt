@@ -1,0 +1,40 @@
+-- The calls of a port, as C sees them: by a handle, and with numbers in place of answers.
+use Rattle.std.specs.Prelude.{◌≡◌, ◌<◌, ℕ, Bool, true, false, nat_eq, if◌then◌else◌, List, length, take, Option, Some, None, Result, Ok, Err, IsTrue, OnOk, OnErr}
+use Rattle.arrayvec.specs.ArrayVec.{ArrayVec}
+use Rattle.iol_isdu.specs.declared.values.Request.{Request}
+use Rattle.iol_isdu.specs.declared.values.Request.TheVariants as request
+use Rattle.iol_link.specs.declared.wire.Rate.{Rate}
+use Rattle.iol_link.specs.declared.wire.Rate.TheVariants.{Com1, Com2, Com3}
+use Rattle.iol_book.specs.declared.entries.Ticket.{Ticket}
+use Rattle.iol_line.specs.declared.given.Given.{Given}
+use Rattle.iol_port.specs.declared.fault.PortFault.{PortFault}
+use Rattle.iol_port.specs.Faults.{fault_number}
+use Rattle.iol_port.specs.View.{Parts}
+use Rattle.iolink_port_c.specs.declared.held.IolPort.{IolPort}
+
+-- the parts of the port that a handle holds
+abbrev pub parts_of : IolPort → Parts (Option Given)
+parts_of handle = handle.held.value.port.parts
+
+-- a call of a closed handle: refused, with nothing changed
+abbrev pub IsRefused : ℕ → IolPort → IolPort → Type 0
+IsRefused result old new = (result ≡ 252) × (new ≡ old)
+
+-- the number of an answer: that of its refusal, or 0
+abbrev pub number_of : {X : Type 0} → Result X PortFault → ℕ
+number_of (Ok value) = 0
+number_of (Err why) = fault_number why
+
+-- the ticket's number, or 0 for a refusal
+abbrev pub ticket_out : Result Ticket PortFault → ℕ
+ticket_out (Ok ticket) = ticket.0
+ticket_out (Err why) = 0
+
+-- a rate by its number: 0 for no answer, 1 to 3 for COM1 to COM3
+abbrev pub rate_of : ℕ → Option Rate
+rate_of number =
+    if nat_eq number 1 then Some Com1 else if nat_eq number 2 then Some Com2 else if nat_eq number 3 then Some Com3 else None
+
+-- what came on the line: nothing where there are no octets
+abbrev pub answer_of : List ℕ → Option (ArrayVec ℕ)
+answer_of octets = if nat_eq (length octets) 0 then None else Some (record { items = octets })

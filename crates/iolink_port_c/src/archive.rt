@@ -1,0 +1,167 @@
+//! The journal, entry by entry.
+ghost use Rattle.std.specs.Prelude.{◌≡◌, ◌≤◌, IsTrue, IsFalse};
+ghost use Rattle.iol_book.specs.BookModel.{may_archive, archived};
+ghost use Rattle.iol_port.specs.EveryWire.{IsBookCall};
+ghost use Rattle.iolink_port_c.specs.Calls.{parts_of, IsRefused};
+
+use crate::held::{IolPort, Master};
+use crate::octets::put;
+use crate::outcome::{IolOutcome, show_outcome};
+use crate::refusal::CLOSED;
+use core::mem::replace_with;
+use iol_book::{Entry, Ticket};
+use iol_isdu::{Place, Request};
+use std::alloc::Global;
+
+/// The request was entered, among those that aren't urgent.
+const SUBMITTED: u8 = 1;
+/// The request was entered among the urgent ones.
+const URGENT: u8 = 2;
+/// The master began to send it.
+const TAKEN: u8 = 8;
+/// It has this outcome.
+const ANSWERED: u8 = 9;
+/// It was withdrawn while it waited.
+const WITHDRAWN: u8 = 12;
+/// Its outcome was handed out.
+const COLLECTED: u8 = 16;
+
+const READ: u8 = 1;
+
+const WRITE: u8 = 2;
+
+/// A request: a read, or a write of `length` octets.
+#[repr(C)]
+pub struct IolRequest {
+    /// 1 read, 2 write; 0 where there is none.
+    pub kind: u8,
+    pub sub: u8,
+    pub index: u16,
+    pub length: u8,
+    pub octets: [u8; 232],
+}
+
+/// An entry of a journal.
+#[repr(C)]
+pub struct IolEntry {
+    pub ticket: u64,
+    /// 1 submitted and 2 submitted as urgent, with the request; 8 taken; 9 answered, with the outcome; 12 withdrawn; 16
+    /// collected. 0 where the journal is at its end.
+    pub kind: u8,
+    pub request: IolRequest,
+    pub outcome: IolOutcome,
+}
+
+/// Begins a new journal and keeps the old one for `iol_port_entry`, in place of the one that was kept before: 0 and how
+/// many entries it has, or 252 where the handle is closed, and 28 where a ticket is outstanding or a request that was
+/// cut off may still be carried out.
+#[unsafe(no_mangle)]
+pub extern "C" fn iol_port_archive(alloc: Global, handle: &mut IolPort, count: &mut u32) -> u8
+    ensures closed { IsFalse handle.old.is_open → IsRefused result handle.old handle.new }
+    ensures refused { IsTrue handle.old.is_open → IsFalse (may_archive (parts_of handle.old).book.state) →
+        (result ≡ 28) × (count.new ≡ 0) }
+    ensures done { IsTrue handle.old.is_open → IsTrue (may_archive (parts_of handle.old).book.state) →
+        (result ≡ 0) × (handle.new.held.value.journal.items ≡ (parts_of handle.old).book.state.journal) }
+    ensures book { IsTrue handle.old.is_open →
+        (parts_of handle.new).book.state ≡ archived (parts_of handle.old).book.state }
+    ensures rest { IsTrue handle.old.is_open → IsBookCall (parts_of handle.old) (parts_of handle.new) }
+{
+    if !handle.is_open {
+        return CLOSED;
+    }
+    let (code, entries) = replace_with(handle, alloc, |handle, alloc| {
+        let mut master = handle.into_box(alloc);
+        let answer = match master.port.archive() {
+            Ok(entries) => {
+                let count = entries.len() as u32;
+                master.journal = entries;
+                master.read = 0;
+                (0, count)
+            }
+            Err(fault) => (fault.code(), 0),
+        };
+        (IolPort::of(master), answer)
+    });
+    *count = entries;
+    code
+}
+
+/// Hands out the next entry of the journal that was archived last, the oldest first: 0, or 252 where the handle is
+/// closed. At the end the kind is 0, and the memory of that journal is given back.
+#[unsafe(no_mangle)]
+pub extern "C" fn iol_port_entry(alloc: Global, handle: &mut IolPort, out: &mut IolEntry) -> u8
+    ensures closed { IsFalse handle.old.is_open → IsRefused result handle.old handle.new }
+    ensures port { parts_of handle.new ≡ parts_of handle.old }
+{
+    if !handle.is_open {
+        return CLOSED;
+    }
+    replace_with(handle, (alloc, out), |handle, (alloc, out)| {
+        let mut master = handle.into_box(alloc);
+        next_entry(alloc, &mut master, out);
+        (IolPort::of(master), ())
+    });
+    0
+}
+
+fn next_entry(alloc: Global, master: &mut Master, out: &mut IolEntry)
+    ensures { master.new.port ≡ master.old.port }
+{
+    out.kind = 0;
+    out.ticket = 0;
+    out.request.kind = 0;
+    out.outcome.kind = 0;
+    match master.journal.get(master.read) {
+        Some(entry) => {
+            show_entry(entry, out);
+            master.read += 1;
+        }
+        None => {
+            master.journal = Vec::new(alloc);
+            master.read = 0;
+        }
+    }
+}
+
+fn show_entry(entry: &Entry, out: &mut IolEntry) {
+    let (kind, Ticket(ticket)) = match entry {
+        Entry::Submitted(ticket, request) => {
+            show_request(request, &mut out.request);
+            (SUBMITTED, *ticket)
+        }
+        Entry::Urgent(ticket, request) => {
+            show_request(request, &mut out.request);
+            (URGENT, *ticket)
+        }
+        Entry::Taken(ticket) => (TAKEN, *ticket),
+        Entry::Answered(ticket, outcome) => {
+            show_outcome(outcome, &mut out.outcome);
+            (ANSWERED, *ticket)
+        }
+        Entry::Withdrawn(ticket) => (WITHDRAWN, *ticket),
+        Entry::Collected(ticket) => (COLLECTED, *ticket),
+    };
+    out.kind = kind;
+    out.ticket = ticket;
+}
+
+fn show_request(request: &Request, out: &mut IolRequest) {
+    match request {
+        Request::Read(place) => {
+            out.kind = READ;
+            show_place(*place, out);
+            out.length = 0;
+        }
+        Request::Write(place, octets) => {
+            out.kind = WRITE;
+            show_place(*place, out);
+            out.length = octets.len() as u8;
+            put(octets.as_slice(), &mut out.octets);
+        }
+    }
+}
+
+fn show_place(place: Place, out: &mut IolRequest) {
+    out.index = place.index;
+    out.sub = place.sub;
+}

@@ -1,0 +1,104 @@
+//! What a handle of C holds.
+ghost use Rattle.std.specs.Prelude.{◌≡◌, Bool, true, false};
+ghost use Rattle.iolink_port_c.specs.declared.held.Master.{Master};
+
+use crate::loose::Loose;
+use iol_book::Entry;
+use iol_line::Line;
+use iol_port::Port;
+use std::alloc::Global;
+use std::marker::Model;
+use std::ptr::null_mut;
+
+/// What lies behind the pointer: the port, and the journal that was handed out last, of which C reads one entry after
+/// the other.
+#[derive(Drop)]
+pub struct Master {
+    pub port: Port<Line, Global>,
+    pub journal: Vec<Entry, Global>,
+    pub read: usize,
+}
+
+/// A pointer, with the box behind it where it holds one.
+#[derive(Drop)]
+#[repr(C)]
+pub struct Held {
+    at: *mut (),
+    pub ghost is_held: { Bool },
+    pub ghost value: { Master },
+}
+
+impl Model for Held {
+    ghost use Rattle.iolink_port_c.specs.Heap.{held};
+    ghost use Rattle.iolink_port_c.specs.contracts.held.Master.{the_row};
+
+    ghost also_owns = { λ h. held the_row h.is_held h.at h.value };
+}
+
+impl Held {
+    fn of_loose(loose: Loose<Master, Global>) -> Held
+        ensures value { result.value ≡ loose.value }
+        ensures holds { result.is_held ≡ true }
+    {
+        let Loose { at, alloc: _ } = loose;
+        Held { at: at as *mut () }
+    }
+
+    fn closed(last: &Master) -> Held
+        ensures value { result.value ≡ last.now }
+        ensures holds { result.is_held ≡ false }
+    {
+        Held { at: null_mut() }
+    }
+
+    fn into_loose(self, alloc: Global) -> Loose<Master, Global>
+        requires { self.is_held ≡ true }
+        ensures { result.value ≡ self.value }
+    {
+        let Held { at } = self;
+        Loose {
+            at: at as *mut Master,
+            alloc,
+        }
+    }
+}
+
+/// A port, as C holds it. All zero it is closed.
+#[derive(Drop)]
+#[repr(C)]
+pub struct IolPort {
+    pub held: Held,
+    pub is_open: bool,
+    pub ghost same: { held.is_held ≡ is_open },
+}
+
+impl IolPort {
+    pub(crate) fn of(master: Box<Master>) -> IolPort
+        ensures value { result.held.value ≡ master.value }
+        ensures opened { result.is_open ≡ true }
+    {
+        IolPort {
+            held: Held::of_loose(Loose::of(master)),
+            is_open: true,
+        }
+    }
+
+    /// The closed handle that is left of this one.
+    pub(crate) fn closed(last: &Master) -> IolPort
+        ensures value { result.held.value ≡ last.now }
+        ensures shut { result.is_open ≡ false }
+    {
+        IolPort {
+            held: Held::closed(last),
+            is_open: false,
+        }
+    }
+
+    pub(crate) fn into_box(self, alloc: Global) -> Box<Master>
+        requires { self.is_open ≡ true }
+        ensures { result.value ≡ self.held.value }
+    {
+        let IolPort { held, is_open: _ } = self;
+        held.into_loose(alloc).into_box()
+    }
+}

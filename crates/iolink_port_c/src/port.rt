@@ -1,0 +1,80 @@
+//! Opening and closing.
+ghost use Rattle.std.specs.Prelude.{◌≡◌, true, false, IsTrue, IsFalse};
+ghost use Rattle.iolink_port_c.specs.Calls.{parts_of};
+
+use crate::held::{IolPort, Master};
+use crate::refusal::{CLOSED, IS_OPEN, OUT_OF_RANGE};
+use core::mem::replace_with;
+use iol_book::Limits;
+use iol_line::Line;
+use iol_port::Port;
+use std::alloc::Global;
+
+const LEAST_JOURNAL: u32 = 4;
+
+const MOST_JOURNAL: u32 = 1000000;
+
+const LEAST_BUSY: u16 = 2;
+
+/// Opens a port, whose link is down: 0, or 24 where there is no memory, 253 where the handle is open already, 254 where
+/// the journal isn't 4 to 1,000,000 entries or the busy limit isn't 2 to 65,535. The first ticket is `given` + 1.
+///
+/// Where it is refused, nothing changed.
+#[unsafe(no_mangle)]
+pub extern "C" fn iol_port_open(
+    alloc: Global,
+    handle: &mut IolPort,
+    journal: u32,
+    busy: u16,
+    given: u64,
+) -> u8
+    ensures once { IsTrue handle.old.is_open → (result ≡ 253) × (handle.new ≡ handle.old) }
+    ensures opened { result ≡ 0 → handle.new.is_open ≡ true }
+{
+    if handle.is_open {
+        return IS_OPEN;
+    }
+    if journal < LEAST_JOURNAL || journal > MOST_JOURNAL || busy < LEAST_BUSY {
+        return OUT_OF_RANGE;
+    }
+    let limits = Limits {
+        journal,
+        busy,
+        given,
+    };
+    let port = match Port::open(alloc, Line::new(), &limits) {
+        Ok(port) => port,
+        Err((fault, _)) => return fault.code(),
+    };
+    let master = Master {
+        port,
+        journal: Vec::new(alloc),
+        read: 0,
+    };
+    match Box::new(alloc, master) {
+        Ok(master) => {
+            *handle = IolPort::of(master);
+            0
+        }
+        Err(_) => 24,
+    }
+}
+
+/// Ends the port and gives its memory back: 0, or 252 where the handle is closed.
+#[unsafe(no_mangle)]
+pub extern "C" fn iol_port_close(alloc: Global, handle: &mut IolPort) -> u8
+    ensures shut { handle.new.is_open ≡ false }
+    ensures once { IsFalse handle.old.is_open → (result ≡ 252) × (handle.new ≡ handle.old) }
+    ensures done { IsTrue handle.old.is_open → result ≡ 0 }
+{
+    if !handle.is_open {
+        return CLOSED;
+    }
+    replace_with(handle, alloc, |handle, alloc| {
+        let master = handle.into_box(alloc);
+        let closed = IolPort::closed(&master);
+        drop(master);
+        (closed, ())
+    });
+    0
+}

@@ -1,0 +1,367 @@
+/* A port against a device, both through C, over a line of this program. What is printed is compared with both.stdout. */
+#include "iolink_port.h"
+#include "iolink_device.h"
+#include <stdio.h>
+#include <string.h>
+
+static iol_port port;
+static iol_device device;
+static int lost, damaged; /* so many of the next replies are lost, damaged */
+static bool lazy;         /* the application leaves requests unanswered */
+static uint8_t setting = 7;
+static int wrong;
+
+static void is(long long got, long long wanted, const char *what, int line)
+{
+    if (got == wanted)
+        return;
+    wrong++;
+    printf("line %d: %s is %lld, not %lld\n", line, what, got, wanted);
+}
+#define IS(got, wanted) is((long long)(got), (wanted), #got, __LINE__)
+
+/* The application: parameter 16 is read only, 24 holds one octet. */
+static void work(void)
+{
+    iol_request asked;
+    IS(iol_device_handed(&device, &asked), 0);
+    if (asked.kind == 0 || lazy)
+        return;
+    if (asked.index == 16 && asked.kind == 1)
+        IS(iol_device_answer_read(&device, (const uint8_t *)"AB", 2), 0);
+    else if (asked.index == 24 && asked.kind == 1)
+        IS(iol_device_answer_read(&device, &setting, 1), 0);
+    else if (asked.index == 24 && asked.length == 1) {
+        setting = asked.octets[0];
+        IS(iol_device_answer_written(&device), 0);
+    } else
+        IS(iol_device_answer_refused(&device, 0x80, 0x11), 0);
+}
+
+static void turn(void)
+{
+    iol_message asked;
+    iol_reply reply;
+    IS(iol_port_asks(&port, &asked), 0);
+    if (asked.length == 0) {
+        IS(iol_port_turn_answered(&port, asked.octets, 0), IOL_NOT_ASKED);
+        IS(iol_device_wake(&device), 0);
+        IS(iol_port_turn_woken(&port, 2), 0);
+        return;
+    }
+    IS(iol_port_turn_woken(&port, 2), IOL_NOT_ASKED);
+    work();
+    IS(iol_device_hear(&device, asked.octets, asked.length, &reply), 0);
+    if (lost > 0) {
+        lost--;
+        reply.length = 0;
+    } else if (damaged > 0 && reply.length > 0) {
+        damaged--;
+        reply.octets[0] ^= 0x10;
+    }
+    IS(iol_port_turn_answered(&port, reply.octets, reply.length), 0);
+}
+
+static void turns(int count)
+{
+    while (count-- > 0)
+        turn();
+}
+
+static int mode(void)
+{
+    iol_status status;
+    IS(iol_port_status(&port, &status), 0);
+    return status.mode;
+}
+
+static int why(void)
+{
+    iol_status status;
+    IS(iol_port_status(&port, &status), 0);
+    return status.why;
+}
+
+static const char *names[17] = {"none", "submitted", "urgent", "", "", "", "", "", "taken", "answered", "", "",
+                                "withdrawn", "", "", "", "collected"};
+
+static void archive(void)
+{
+    uint32_t count = 0;
+    iol_entry entry;
+    IS(iol_port_archive(&port, &count), 0);
+    printf("archived %u\n", (unsigned)count);
+    do {
+        IS(iol_port_entry(&port, &entry), 0);
+        printf("  %llu %s", (unsigned long long)entry.ticket, names[entry.kind % 17]);
+        if (entry.request.kind)
+            printf(" %s %d/%d", entry.request.kind == 1 ? "read" : "write", entry.request.index, entry.request.sub);
+        if (entry.outcome.kind)
+            printf(" outcome %d cause %d length %d", entry.outcome.kind, entry.outcome.cause, entry.outcome.length);
+        printf("\n");
+    } while (entry.kind);
+}
+
+static void closed_handles(void)
+{
+    iol_port none = {0};
+    iol_device nothing = {0};
+    iol_message message;
+    iol_outcome outcome;
+    iol_status status;
+    iol_image image;
+    iol_event event;
+    iol_entry entry;
+    iol_request request;
+    iol_reply reply;
+    uint64_t ticket = 5;
+    uint32_t count = 5;
+    uint8_t octet = 0;
+    IS(iol_port_close(&none), IOL_CLOSED);
+    IS(iol_port_asks(&none, &message), IOL_CLOSED);
+    IS(iol_port_turn_woken(&none, 0), IOL_CLOSED);
+    IS(iol_port_turn_answered(&none, &octet, 1), IOL_CLOSED);
+    IS(iol_port_read(&none, 16, 0, &ticket), IOL_CLOSED);
+    IS(iol_port_read_urgent(&none, 16, 0, &ticket), IOL_CLOSED);
+    IS(iol_port_write(&none, 16, 0, &octet, 1, &ticket), IOL_CLOSED);
+    IS(iol_port_write_urgent(&none, 16, 0, &octet, 1, &ticket), IOL_CLOSED);
+    IS(iol_port_collect(&none, 1, &outcome), IOL_CLOSED);
+    IS(iol_port_withdraw(&none, 1), IOL_CLOSED);
+    IS(iol_port_cancel(&none, 1), IOL_CLOSED);
+    IS(iol_port_restart(&none), IOL_CLOSED);
+    IS(iol_port_set_output(&none, &octet, 1), IOL_CLOSED);
+    IS(iol_port_clear_output(&none), IOL_CLOSED);
+    IS(iol_port_image(&none, &image), IOL_CLOSED);
+    IS(iol_port_take_event(&none, &event), IOL_CLOSED);
+    IS(iol_port_status(&none, &status), IOL_CLOSED);
+    IS(iol_port_archive(&none, &count), IOL_CLOSED);
+    IS(iol_port_entry(&none, &entry), IOL_CLOSED);
+    IS(iol_device_close(&nothing), IOL_CLOSED);
+    IS(iol_device_hear(&nothing, &octet, 1, &reply), IOL_CLOSED);
+    IS(iol_device_wake(&nothing), IOL_CLOSED);
+    IS(iol_device_power_cycle(&nothing), IOL_CLOSED);
+    IS(iol_device_handed(&nothing, &request), IOL_CLOSED);
+    IS(iol_device_answer_read(&nothing, &octet, 1), IOL_CLOSED);
+    IS(iol_device_answer_written(&nothing), IOL_CLOSED);
+    IS(iol_device_answer_refused(&nothing, 0x80, 0), IOL_CLOSED);
+    IS(iol_device_raise(&nothing, 0xF4, 1), IOL_CLOSED);
+    IS(iol_device_set_input(&nothing, &octet, 1), IOL_CLOSED);
+    IS(iol_device_clear_input(&nothing), IOL_CLOSED);
+    IS(iol_device_output(&nothing, &image), IOL_CLOSED);
+    IS(ticket, 5);
+    IS(count, 5);
+}
+
+static const uint8_t plain[10] = {0x17, 0x2D, 0x11, 0, 0, 0x12, 0x34, 0, 1, 7};
+static const uint8_t process[10] = {0x17, 1, 0x11, 0x10, 8, 0x12, 0x34, 0, 1, 7};
+static const uint8_t deaf[10] = {0x17, 0x2C, 0x11, 0, 0, 0x12, 0x34, 0, 1, 7};
+
+static void open_both(const uint8_t page[10])
+{
+    IS(iol_device_open(&device, page), 0);
+    IS(iol_device_open(&device, page), IOL_IS_OPEN);
+    IS(iol_port_open(&port, 1000, 100, 0), 0);
+    IS(iol_port_open(&port, 1000, 100, 0), IOL_IS_OPEN);
+}
+
+static void close_both(void)
+{
+    IS(iol_port_close(&port), 0);
+    IS(iol_port_close(&port), IOL_CLOSED);
+    IS(iol_device_close(&device), 0);
+    IS(iol_device_close(&device), IOL_CLOSED);
+}
+
+static void refusals_at_opening(void)
+{
+    uint8_t page[10];
+    IS(iol_port_open(&port, 3, 100, 0), IOL_OUT_OF_RANGE);
+    IS(iol_port_open(&port, 1000001, 100, 0), IOL_OUT_OF_RANGE);
+    IS(iol_port_open(&port, 4, 1, 0), IOL_OUT_OF_RANGE);
+    memcpy(page, plain, 10);
+    page[2] = 0x12;
+    IS(iol_device_open(&device, page), 8);
+    IS(port.is_open, 0);
+    IS(device.is_open, 0);
+}
+
+static void requests(void)
+{
+    uint64_t ticket = 0;
+    iol_outcome outcome;
+    uint8_t octets[233] = {0};
+    IS(iol_port_collect(&port, 1, &outcome), 25);
+    turns(15);
+    IS(mode(), 4);
+    IS(why(), 0);
+    IS(iol_port_read(&port, 16, 0, &ticket), 0);
+    IS(ticket, 1);
+    IS(iol_port_collect(&port, 1, &outcome), 26);
+    turns(3);
+    IS(iol_port_collect(&port, 1, &outcome), 0);
+    IS(outcome.kind, 1);
+    IS(outcome.length, 2);
+    IS(outcome.octets[0], 'A');
+    IS(outcome.octets[1], 'B');
+    IS(iol_port_collect(&port, 1, &outcome), 25);
+    IS(iol_port_write(&port, 24, 0, (const uint8_t *)"A", 1, &ticket), 0);
+    turns(3);
+    IS(iol_port_collect(&port, ticket, &outcome), 0);
+    IS(outcome.kind, 2);
+    IS(setting, 'A');
+    IS(iol_port_read(&port, 17, 0, &ticket), 0);
+    turns(3);
+    IS(iol_port_collect(&port, ticket, &outcome), 0);
+    IS(outcome.kind, 3);
+    IS(outcome.octets[0], 0x80);
+    IS(outcome.octets[1], 0x11);
+    IS(iol_port_write(&port, 24, 0, octets, 233, &ticket), 9);
+    printf("requests end in mode %d\n", mode());
+}
+
+static void losses(void)
+{
+    uint64_t ticket = 0;
+    iol_outcome outcome;
+    uint32_t count = 9;
+    IS(iol_port_read(&port, 16, 0, &ticket), 0);
+    lost = 2;
+    turns(5);
+    IS(iol_port_collect(&port, ticket, &outcome), 0);
+    IS(outcome.kind, 1);
+    IS(iol_port_read(&port, 16, 0, &ticket), 0);
+    turn();
+    damaged = 2;
+    turns(4);
+    IS(iol_port_collect(&port, ticket, &outcome), 0);
+    IS(outcome.kind, 1);
+    IS(iol_port_read(&port, 16, 0, &ticket), 0);
+    turn();
+    lost = 3;
+    turns(3);
+    IS(mode(), 1);
+    IS(why(), 19);
+    IS(iol_port_collect(&port, ticket, &outcome), 0);
+    IS(outcome.kind, 8);
+    IS(outcome.cause, 1);
+    IS(iol_port_archive(&port, &count), 28);
+    IS(count, 0);
+    turns(15);
+    IS(mode(), 4);
+    archive();
+}
+
+static void cancelled_and_withdrawn(void)
+{
+    uint64_t first = 0, second = 0, urgent = 0;
+    iol_outcome outcome;
+    lazy = true;
+    IS(iol_port_read(&port, 16, 0, &first), 0);
+    IS(iol_port_cancel(&port, first), 36);
+    turns(3);
+    IS(iol_port_withdraw(&port, first), 27);
+    IS(iol_port_cancel(&port, first), 0);
+    turns(2);
+    IS(iol_port_collect(&port, first, &outcome), 0);
+    IS(outcome.kind, 8);
+    IS(outcome.cause, 5);
+    lazy = false;
+    IS(iol_port_read(&port, 16, 0, &first), 0);
+    IS(iol_port_read(&port, 16, 0, &second), 0);
+    IS(iol_port_read_urgent(&port, 17, 0, &urgent), 0);
+    turns(3);
+    IS(iol_port_collect(&port, urgent, &outcome), 0);
+    IS(outcome.kind, 3);
+    IS(iol_port_collect(&port, first, &outcome), 26);
+    IS(iol_port_withdraw(&port, second), 0);
+    IS(iol_port_collect(&port, second, &outcome), 0);
+    IS(outcome.kind, 12);
+    turn();
+    IS(iol_port_restart(&port), 0);
+    IS(mode(), 1);
+    IS(iol_port_collect(&port, first, &outcome), 0);
+    IS(outcome.kind, 8);
+    IS(outcome.cause, 2);
+    turns(15);
+    IS(mode(), 4);
+    IS(iol_port_write_urgent(&port, 24, 0, (const uint8_t *)"B", 1, &urgent), 0);
+    turns(3);
+    IS(iol_port_collect(&port, urgent, &outcome), 0);
+    IS(outcome.kind, 2);
+    archive();
+}
+
+static void events(void)
+{
+    iol_event event;
+    IS(iol_port_take_event(&port, &event), 30);
+    IS(iol_device_raise(&device, 0xF4, 0x4210), 0);
+    turns(7);
+    IS(iol_port_take_event(&port, &event), 0);
+    IS(event.qualifier, 0xF4);
+    IS(event.code, 0x4210);
+    IS(iol_port_take_event(&port, &event), 30);
+}
+
+static void process_data(void)
+{
+    iol_image image;
+    IS(iol_port_set_output(&port, (const uint8_t *)"\x5A", 1), 34);
+    IS(iol_device_set_input(&device, (const uint8_t *)"\x12\x34", 2), 0);
+    IS(iol_device_set_input(&device, (const uint8_t *)"\x12", 1), 29);
+    turns(16);
+    IS(iol_port_image(&port, &image), 0);
+    IS(image.length, 2);
+    IS(image.octets[0], 0x12);
+    IS(image.octets[1], 0x34);
+    IS(iol_port_set_output(&port, (const uint8_t *)"\x5A\x5A", 2), 29);
+    IS(iol_port_set_output(&port, (const uint8_t *)"\x5A", 1), 0);
+    IS(iol_device_output(&device, &image), 0);
+    IS(image.length, 0);
+    turn();
+    IS(iol_device_output(&device, &image), 0);
+    IS(image.length, 1);
+    IS(image.octets[0], 0x5A);
+    IS(iol_port_clear_output(&port), 0);
+    IS(iol_device_clear_input(&device), 0);
+    turn();
+    IS(iol_device_output(&device, &image), 0);
+    IS(image.length, 0);
+    IS(iol_port_image(&port, &image), 0);
+    IS(image.length, 0);
+}
+
+static void without_isdu(void)
+{
+    uint64_t ticket = 0;
+    iol_outcome outcome;
+    IS(iol_port_read(&port, 16, 0, &ticket), 0);
+    turns(16);
+    IS(iol_port_collect(&port, ticket, &outcome), 0);
+    IS(outcome.kind, 16);
+}
+
+int main(void)
+{
+    closed_handles();
+    refusals_at_opening();
+    open_both(plain);
+    requests();
+    losses();
+    cancelled_and_withdrawn();
+    events();
+    IS(iol_device_power_cycle(&device), 0);
+    turns(20);
+    IS(mode(), 4);
+    close_both();
+    open_both(process);
+    process_data();
+    close_both();
+    open_both(deaf);
+    without_isdu();
+    close_both();
+    printf("sizes %zu %zu %zu %zu %zu %zu %zu %zu\n", sizeof(iol_port), sizeof(iol_device), sizeof(iol_message),
+           sizeof(iol_outcome), sizeof(iol_request), sizeof(iol_entry), sizeof(iol_image), sizeof(iol_status));
+    printf("wrong %d\n", wrong);
+    return wrong != 0;
+}

@@ -1,0 +1,146 @@
+/* A port of an IO-Link master.
+ *
+ * A handle is a struct of yours, all zero before it is opened: `iol_port port = {0};`. It says itself whether it is
+ * open, so a call of a closed handle, and a second close, are refused and do nothing.
+ *
+ * Every call answers the number of a refusal, 0 where there is none: 1 to 36 are the library's, and
+ *   252  the handle is closed
+ *   253  the handle is open already
+ *   254  a number is out of its range
+ *   255  what was brought isn't what the port asks for
+ * What is refused changed nothing of the port; what a call hands out is written only where it answers 0, but for a
+ * ticket and a count, which are then 0 (not for 9 and 252, which leave them).
+ *
+ * What you owe, and what nothing checks: a handle is zero or was opened, and is never copied; one call at a time, on the
+ * thread that opened it, and none from a signal handler; no pointer is null, not even one to 0 octets; a pointer with a
+ * count has that many octets; what is written through overlaps nothing else that is passed.
+ *
+ * What came on a line is any octets whatever: nothing is asked of it, and none does harm. */
+#ifndef IOLINK_PORT_H
+#define IOLINK_PORT_H
+
+#include <stdbool.h>
+#include <stddef.h>
+#include <stdint.h>
+
+#ifdef __cplusplus
+extern "C" {
+#endif
+
+#ifndef IOL_CLOSED
+#define IOL_CLOSED 252
+#define IOL_IS_OPEN 253
+#define IOL_OUT_OF_RANGE 254
+#define IOL_NOT_ASKED 255
+#endif
+
+typedef struct { void *at; bool is_open; } iol_port;
+
+/* Opens a port, whose link is down. Its journal has at most `journal` entries, 4 to 1,000,000; a request is cut off
+ * after `busy` busy replies, 2 to 65,535; the first ticket is `given` + 1.
+ * 24 no memory, 253, 254. */
+uint8_t iol_port_open(iol_port *port, uint32_t journal, uint16_t busy, uint64_t given);
+
+/* Ends the port, and gives its memory back. 252. */
+uint8_t iol_port_close(iol_port *port);
+
+/* ---- the line: ask, do it, bring what came. One of the two turns a cycle. */
+
+/* A message: `length` octets. */
+typedef struct { uint8_t length; uint8_t octets[66]; } iol_message;
+
+/* What the next turn sends: a message, or a wake-up request where `length` is 0. It changes nothing; any other call may
+ * change what is asked, so ask right before the line is used. 252. */
+uint8_t iol_port_asks(iol_port *port, iol_message *out);
+
+/* The turn in which the line was woken: `rate` is 1, 2, 3 for a device that answered at COM1, COM2, COM3, and 0 where
+ * none answered. 252, 254 a rate above 3, 255 a message is asked for. */
+uint8_t iol_port_turn_woken(iol_port *port, uint8_t rate);
+
+/* The turn in which the message was sent, and these octets came back in the time of a reply; none did where `count` is
+ * 0. Of more than 66 give the first 66. 252, 254 more than 66 octets, 255 a wake is asked for. */
+uint8_t iol_port_turn_answered(iol_port *port, const uint8_t *octets, size_t count);
+
+/* ---- requests */
+
+/* Enters a read, or a write of 0 to 232 octets, and answers its ticket; the urgent ones go before those that wait.
+ * 252, 9 more than 232 octets, 21 64 tickets are outstanding, 22 the journal is full, 23 no ticket is left, 24 no
+ * memory. */
+uint8_t iol_port_read(iol_port *port, uint16_t index, uint8_t sub, uint64_t *ticket);
+uint8_t iol_port_read_urgent(iol_port *port, uint16_t index, uint8_t sub, uint64_t *ticket);
+uint8_t iol_port_write(iol_port *port, uint16_t index, uint8_t sub, const uint8_t *octets, size_t count,
+                       uint64_t *ticket);
+uint8_t iol_port_write_urgent(iol_port *port, uint16_t index, uint8_t sub, const uint8_t *octets, size_t count,
+                              uint64_t *ticket);
+
+/* How a request ended. Where `kind` is
+ *    1  read: `octets` are those that were read
+ *    2  written
+ *    3  refused by the device: two octets, ErrorCode and AdditionalCode
+ *    8  unknown: whether the device carried it out; `cause` is 1 the link was lost, 2 restarted, 3 busy too long,
+ *       4 no text of an answer, 5 cancelled
+ *   12  withdrawn, and never sent
+ *   16  the device has no ISDU, and it was never sent
+ * 0 is none, and other kinds may come. */
+typedef struct { uint8_t kind; uint8_t cause; uint8_t length; uint8_t octets[232]; } iol_outcome;
+
+/* Hands out the outcome of a ticket, which is outstanding no more. 252, 25 no such ticket is outstanding, 26 it has no
+ * outcome yet. */
+uint8_t iol_port_collect(iol_port *port, uint64_t ticket, iol_outcome *out);
+
+/* Takes back a request that waits. 252, 25 no such ticket is outstanding, 27 it waits no longer. */
+uint8_t iol_port_withdraw(iol_port *port, uint64_t ticket);
+
+/* Asks to cut off the request under way; the outcome follows in a later turn. 252, 25 no such ticket is outstanding,
+ * 36 it waits, or has an outcome. */
+uint8_t iol_port_cancel(iol_port *port, uint64_t ticket);
+
+/* ---- the link, process data, events */
+
+/* Cuts off the request under way, if any, and leaves the link in down. 252. */
+uint8_t iol_port_restart(iol_port *port);
+
+/* Wants this output of the device, or none. 252, 34 no start-up has told the lengths yet, 29 another length. */
+uint8_t iol_port_set_output(iol_port *port, const uint8_t *octets, size_t count);
+uint8_t iol_port_clear_output(iol_port *port);
+
+/* Process data: `length` octets, none where that is 0. */
+typedef struct { uint8_t length; uint8_t octets[32]; } iol_image;
+
+/* The device's input by the last good reply in OPERATE. 252. */
+uint8_t iol_port_image(iol_port *port, iol_image *out);
+
+typedef struct { uint8_t qualifier; uint16_t code; } iol_event;
+
+/* Hands out the event that was kept longest. 252, 30 none is kept. */
+uint8_t iol_port_take_event(iol_port *port, iol_event *out);
+
+/* `mode` is 1 down, 2 startup, 3 preoperate, 4 operate; `why` the number of the fault that led down, 0 where none did;
+ * `event_form` says that a reading of events met a form that the master doesn't know. */
+typedef struct { uint8_t mode; uint8_t why; bool event_form; } iol_status;
+
+/* 252. */
+uint8_t iol_port_status(iol_port *port, iol_status *out);
+
+/* ---- the journal */
+
+/* A request: `kind` 1 a read, 2 a write of `length` octets, 0 none. */
+typedef struct { uint8_t kind; uint8_t sub; uint16_t index; uint8_t length; uint8_t octets[232]; } iol_request;
+
+/* An entry of the journal. Where `kind` is 1 the request was submitted, 2 submitted as urgent; 8 the master began to
+ * send it; 9 it has this outcome; 12 it was withdrawn while it waited; 16 its outcome was handed out; 0 there is no
+ * further entry. Other kinds may come. `request` counts for 1 and 2, `outcome` for 9; the kind of the other is 0. */
+typedef struct { uint64_t ticket; uint8_t kind; iol_request request; iol_outcome outcome; } iol_entry;
+
+/* Begins a new journal, and keeps the old one, of `count` entries, for iol_port_entry; one that was kept before is given
+ * up. 252, 28 a ticket is outstanding, or a request that was cut off may still be carried out. */
+uint8_t iol_port_archive(iol_port *port, uint32_t *count);
+
+/* The next entry of the journal that was archived last, the oldest first. At the end `kind` is 0, and the memory of that
+ * journal is given back. 252. */
+uint8_t iol_port_entry(iol_port *port, iol_entry *out);
+
+#ifdef __cplusplus
+}
+#endif
+#endif

@@ -1,0 +1,101 @@
+/* A million random messages to a device, and as many random replies to a port. Nothing is asked of them: the program is
+ * to end, and the sanitizers are to stay silent. What is printed is compared with noise.stdout. */
+#include "iolink_port.h"
+#include "iolink_device.h"
+#include <stdio.h>
+
+static uint64_t state = 0x9E3779B97F4A7C15;
+
+static uint32_t next(void)
+{
+    state ^= state << 13;
+    state ^= state >> 7;
+    state ^= state << 17;
+    return (uint32_t)(state >> 32);
+}
+
+/* Octets with a checksum that fits in the octet of the given place, most of the time (IEC 61131-9, A.1.6). */
+static size_t random_octets(uint8_t octets[80], size_t place)
+{
+    size_t count = next() % 4 ? next() % 12 : next() % 80, i;
+    uint8_t sum = 0x52;
+    for (i = 0; i < count; i++)
+        octets[i] = (uint8_t)next();
+    if (count == 0 || next() % 8 == 0)
+        return count;
+    if (place >= count)
+        place = count - 1;
+    octets[place] &= 0xC0;
+    for (i = 0; i < count; i++)
+        sum ^= octets[i];
+    octets[place] |= (uint8_t)((((sum >> 7) ^ (sum >> 5) ^ (sum >> 3) ^ (sum >> 1)) & 1) << 5 |
+                               (((sum >> 6) ^ (sum >> 4) ^ (sum >> 2) ^ sum) & 1) << 4 |
+                               (((sum >> 7) ^ (sum >> 6)) & 1) << 3 | (((sum >> 5) ^ (sum >> 4)) & 1) << 2 |
+                               (((sum >> 3) ^ (sum >> 2)) & 1) << 1 | (((sum >> 1) ^ sum) & 1));
+    return count;
+}
+
+static const uint8_t page[10] = {0x17, 1, 0x11, 0x10, 8, 0x12, 0x34, 0, 1, 7};
+
+static long heard(long count)
+{
+    iol_device device = {0};
+    iol_reply reply;
+    iol_request request;
+    uint8_t octets[80];
+    long replies = 0;
+    if (iol_device_open(&device, page) != 0)
+        return -1;
+    while (count-- > 0) {
+        size_t length = random_octets(octets, 1);
+        if (next() % 64 == 0)
+            iol_device_wake(&device);
+        if (next() % 1024 == 0)
+            iol_device_raise(&device, octets[0], next() & 0xFFFF);
+        iol_device_hear(&device, octets, length, &reply);
+        replies += reply.length > 0;
+        iol_device_handed(&device, &request);
+        if (request.kind)
+            iol_device_answer_refused(&device, 0x80, 0x11);
+    }
+    return iol_device_close(&device) == 0 ? replies : -1;
+}
+
+static long turned(long count)
+{
+    iol_port port = {0};
+    iol_message asked;
+    iol_outcome outcome;
+    iol_event event;
+    uint8_t octets[80];
+    uint64_t ticket = 0;
+    uint32_t entries;
+    long tickets = 0;
+    if (iol_port_open(&port, 1000, 20, 0) != 0)
+        return -1;
+    while (count-- > 0) {
+        if (iol_port_asks(&port, &asked) != 0)
+            return -1;
+        if (asked.length == 0)
+            iol_port_turn_woken(&port, 2);
+        else {
+            size_t length = random_octets(octets, 79);
+            iol_port_turn_answered(&port, octets, length);
+        }
+        if (iol_port_read(&port, 16, 0, &ticket) == 0)
+            tickets++;
+        iol_port_cancel(&port, ticket);
+        iol_port_withdraw(&port, ticket);
+        iol_port_collect(&port, ticket, &outcome);
+        iol_port_take_event(&port, &event);
+        iol_port_archive(&port, &entries);
+    }
+    return iol_port_close(&port) == 0 ? tickets : -1;
+}
+
+int main(void)
+{
+    printf("%s\n", heard(1000000) > 0 ? "the device heard them" : "the device was silent");
+    printf("%s\n", turned(1000000) > 0 ? "the port took them" : "the port gave no ticket");
+    return 0;
+}
