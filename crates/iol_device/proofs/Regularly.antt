@@ -1,9 +1,8 @@
 -- The parts of a far end stay as they can be.
-use Rattle.std.proofs.Common.{◌≡◌, ℕ, ◌≤◌, Bool, true, false, ◌&&◌, not, ◌==◌, List, length, refl, subst, sym, arith}
-use Rattle.std.specs.Prelude.{Option, Some, None, IfSome, if◌then◌else◌}
+use Rattle.std.proofs.Common.{◌≡◌, ℕ, ◌≤◌, Bool, true, false, ◌&&◌, List, length, refl, arith}
+use Rattle.std.specs.Prelude.{Some, None, if◌then◌else◌}
 use Rattle.std.proofs.lemmas.Bool.Decides.{nat_tests}
 use Rattle.std.proofs.lemmas.Grind.{common_steps}
-use Rattle.iol_mseq.specs.declared.master.MasterMsg.{MasterMsg}
 use Rattle.iol_mseq.specs.Shape.{IsLayout}
 use Rattle.iol_isdu.specs.declared.values.Answer.{Answer}
 use Rattle.iol_event.specs.Memory.{Events, IsEventMemory}
@@ -13,7 +12,7 @@ use Rattle.iol_device.specs.declared.commands.Mode.TheVariants.{Operate}
 use Rattle.iol_device.specs.Isdu.{IsduState, Handed, Answered, fits}
 use Rattle.iol_device.specs.Codec.{layout_in}
 use Rattle.iol_device.specs.Far.{Far, hear, events_after, is_confirm}
-use Rattle.iol_device.specs.Local.{LocalStep, Carry, Raise, Input, NoInput, Power, local, carried_by, has_room, is_input, input_size, woken}
+use Rattle.iol_device.specs.Local.{LocalStep, Carry, Raise, Input, NoInput, Power, local, carried_by, has_room, is_input, input_size}
 use Rattle.iol_device.specs.Level.{grown_by}
 use Rattle.iol_device.specs.Laws.{IsRegular, ModesHaveLayouts}
 use Rattle.iol_device.specs.Regular.{RegularStays}

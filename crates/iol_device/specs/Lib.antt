@@ -1,5 +1,6 @@
 pub mod Isdu
 pub mod Codec
+pub mod Record
 pub mod Far
 pub mod Local
 pub mod Faults

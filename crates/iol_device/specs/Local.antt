@@ -1,13 +1,14 @@
 -- What happens at the far end by itself, and at a wake.
-use Rattle.std.specs.Prelude.{◌≡◌, ℕ, Bool, true, false, not, ◌&&◌, ◌==◌, nat_lt, if◌then◌else◌, List, [], ◌∷◌, ◌++◌, length, Option, Some, None, IsTrue, MatchBool}
+use Rattle.std.specs.Prelude.{◌≡◌, ℕ, Bool, true, false, not, ◌&&◌, ◌==◌, if◌then◌else◌, List, [], ◌∷◌, ◌++◌, length, Option, Some, None, IsTrue, MatchBool}
 use Rattle.iol_isdu.specs.declared.values.Request.{Request}
 use Rattle.iol_isdu.specs.declared.values.Answer.{Answer}
 use Rattle.iol_event.specs.declared.event.Event.{Event}
 use Rattle.iol_event.specs.Memory.{no_events, raised, released}
 use Rattle.iol_device.specs.declared.app.Carried.{Carried}
 use Rattle.iol_device.specs.declared.commands.Mode.TheVariants.{Startup, Operate}
-use Rattle.iol_device.specs.Isdu.{IsduState, Empty, Handed, Answered, fits}
+use Rattle.iol_device.specs.Isdu.{IsduState, Empty, Handed, Answered, fits, handed}
 use Rattle.iol_device.specs.Codec.{layout_in}
+use Rattle.iol_device.specs.Record.{takes_more}
 use Rattle.iol_device.specs.Far.{Far}
 
 pub data LocalStep : Type 0 where
@@ -21,7 +22,7 @@ pub data LocalStep : Type 0 where
 
 -- whether the record takes one more pair
 abbrev pub has_room : Far → Bool
-has_room far = nat_lt (length far.carried) far.room
+has_room far = takes_more far.room far.carried
 
 -- a handed request is answered, and the pair goes to the end of the record
 abbrev pub carried_by : IsduState → Far → Answer → Far
@@ -30,6 +31,15 @@ carried_by (Handed request) far answer =
     then record far { isdu = Answered request answer None; carried = far.carried ++ record { request = request; answer = answer } ∷ [] }
     else far
 carried_by state far answer = far
+
+-- whether this answers a request: it fits one that is handed over
+abbrev pub is_answer : Option Request → Answer → Bool
+is_answer None answer = false
+is_answer (Some request) answer = fits request answer
+
+-- whether an answer is taken from elsewhere
+abbrev pub takes_answer : Far → Answer → Bool
+takes_answer far answer = has_room far && is_answer (handed far.isdu) answer
 
 -- how many octets an input has, 0 where the page has no process data in
 abbrev pub input_size : Far → ℕ

@@ -5,18 +5,20 @@ use crate::app::{App, Carried};
 use crate::commands::{Mode, Waiting, command_in, is_confirm, mode_asked};
 use crate::data::{copy_of, flow_of, image_of, message_in, message_of, octets_of, size_of};
 use crate::fault::DeviceFault;
-use crate::isdu::IsduSide;
+use crate::isdu::{IsduSide, answer_of, is_kind_of};
+use crate::record::{Kept, Record};
 use iol_event::{Event, EventMemory};
 use iol_image::Image;
+use iol_isdu::{Answer, Request};
 use iol_mseq::{Layout, MasterMsg, Message, Part, Reply, first, first_of_zeros, part_of, zeros};
 use iol_octets::{Channel, Mc};
 use iol_page::{Layouts, MasterCommand, Page, pages_ask_for_layouts};
-use std::alloc::{AllocError, Allocator, Global};
+use std::alloc::Allocator;
 use std::marker::Model;
 
 /// The far end of the line.
 #[derive(Drop)]
-pub(crate) struct FarEnd<A: Allocator + Copy = Global> {
+pub(crate) struct FarEnd<R: Record = Kept> {
     awake: bool,
     mode: Mode,
     waits: Option<Waiting>,
@@ -29,12 +31,11 @@ pub(crate) struct FarEnd<A: Allocator + Copy = Global> {
     layouts: Layouts,
     /// The octet of page address 0x01.
     cycle_time: u8,
-    carried: Vec<Carried, A>,
-    room: u32,
+    carried: R,
 }
 
-impl<A: Allocator + Copy> Model for FarEnd<A> {
-    ghost use Rattle.std.specs.Prelude.{◌≤◌, [], option_map, unwrap_or, vec_capacity};
+impl<R: Record> Model for FarEnd<R> {
+    ghost use Rattle.std.specs.Prelude.{[], option_map, unwrap_or};
     ghost use Rattle.iol_device.specs.Far.{Far};
     ghost use Rattle.iol_device.specs.Inside.{IsSound};
 
@@ -51,15 +52,14 @@ impl<A: Allocator + Copy> Model for FarEnd<A> {
       valid = d.valid;
       page = d.page;
       cycle_time = d.cycle_time;
-      carried = d.carried.items;
-      room = d.room;
+      carried = R.carried d.carried;
+      room = R.room d.carried;
     } };
 
-    ghost invariant = { λ d. IsSound d.page d.mode d.layouts d.isdu.size d.input d.out
-        × (d.room ≤ vec_capacity d.carried) };
+    ghost invariant = { λ d. IsSound d.page d.mode d.layouts d.isdu.size d.input d.out };
 }
 
-impl<A: Allocator + Copy> FarEnd<A> {
+impl<R: Record> FarEnd<R> {
     ghost use Rattle.iol_mseq.specs.Shape.{IsLayout};
     ghost use Rattle.iol_page.specs.Page.{layouts_of, knows_isdu};
     ghost use Rattle.iol_event.specs.Memory.{is_full};
@@ -67,20 +67,21 @@ impl<A: Allocator + Copy> FarEnd<A> {
     ghost use Rattle.iol_device.specs.Far as far;
     ghost use Rattle.iol_device.specs.Far.{layout_of, moved};
     ghost use Rattle.iol_device.specs.Isdu.{handed};
-    ghost use Rattle.iol_device.specs.Local.{local, woken, is_input, LocalStep, IsCarriedOut};
+    ghost use Rattle.iol_device.specs.Local.{local, woken, is_input, takes_answer, LocalStep, IsCarriedOut};
     ghost use Rattle.iol_device.specs.Inside.{new_mode};
     ghost use Rattle.iol_device.specs.Device.{octets_in};
     ghost use Rattle.iol_device.specs.Laws.{IsRegular};
     ghost use Rattle.iol_device.specs.declared.fault.DeviceFault.{DeviceFault};
 
     /// Asleep, as a device is delivered.
-    pub fn open(alloc: A, page: Page, room: u32) -> Result<FarEnd<A>, AllocError>
+    pub fn open(carried: R, page: Page) -> FarEnd<R>
         requires page { IsOk (layouts_of page) }
-        ensures { IfOk result (λ d. d ≡ far.opened page room) }
+        requires empty { R.carried carried ≡ [] }
+        ensures { result ≡ far.opened page (R.room carried) }
     {
         pages_ask_for_layouts();
         let layouts = page.layouts().unwrap();
-        Ok(FarEnd {
+        FarEnd {
             awake: false,
             mode: Mode::Startup,
             waits: None,
@@ -92,9 +93,8 @@ impl<A: Allocator + Copy> FarEnd<A> {
             page,
             layouts,
             cycle_time: 0,
-            carried: Vec::with_capacity(alloc, room as usize)?,
-            room,
-        })
+            carried,
+        }
     }
 
     /// The layout of a mode.
@@ -311,16 +311,42 @@ impl<A: Allocator + Copy> FarEnd<A> {
         }
     }
 
+    /// The request that is handed over.
+    pub fn handed(&self) -> Option<&Request>
+        ensures { option_copied result ≡ handed self.now.isdu }
+    {
+        self.isdu.handed()
+    }
+
     /// A handed request is carried out, where the record has room.
     pub fn work<P: App>(&mut self, app: &mut P)
         ensures { IsCarriedOut P.carry_out_gives (handed self.old.isdu) self.old app.old self.new app.new }
     {
-        if !self.isdu.is_handed() || self.carried.len() >= self.room as usize {
+        let Some(request) = self.isdu.handed() else {
+            return;
+        };
+        if !self.carried.has_room() {
             return;
         }
-        if let Some(carried) = self.isdu.carry_out(app) {
-            self.carried.push_reserved(carried);
+        let given = answer_of(app, request);
+        self.carried.push(request, &given);
+        self.isdu.answer(given);
+    }
+
+    /// A handed request has this answer, where it fits and the record has room. Answers whether it had.
+    pub fn answer(&mut self, answer: Answer) -> bool
+        ensures far { self.new ≡ local self.old (LocalStep.Carry answer) }
+        ensures took { result ≡ takes_answer self.old answer }
+    {
+        let Some(request) = self.isdu.handed() else {
+            return false;
+        };
+        if !self.carried.has_room() || !is_kind_of(request, &answer) {
+            return false;
         }
+        self.carried.push(request, &answer);
+        self.isdu.answer(answer);
+        true
     }
 
     /// An event is raised.
@@ -402,17 +428,19 @@ impl<A: Allocator + Copy> FarEnd<A> {
         self.page.octets()
     }
 
-    /// The record.
-    pub fn carried(&self) -> &[Carried]
-        ensures value { result.now ≡ self.now.carried }
-    {
-        self.carried.as_slice()
-    }
-
     /// The process data out, only while it is valid.
     pub fn output(&self) -> Option<&Image>
         ensures { option_copied result ≡ far.output_of self.now }
     {
         if self.valid { self.out.as_ref() } else { None }
+    }
+}
+
+impl<A: Allocator + Copy> FarEnd<Kept<A>> {
+    /// The record.
+    pub fn carried(&self) -> &[Carried]
+        ensures { result.now ≡ self.now.carried }
+    {
+        self.carried.carried()
     }
 }

@@ -1,14 +1,14 @@
 //! The request under way, and the answer to it (IEC 61131-9, 7.3.6).
-ghost use Rattle.std.specs.Prelude.{◌≡◌, ◌<◌, ◌≤◌, ◌+◌, ◌%◌, true, false, None, Some, List, ℕ, IsTrue, MatchOption, IfSome, IfNone, option_map, is_some, length};
+ghost use Rattle.std.specs.Prelude.{◌≡◌, ◌<◌, ◌≤◌, ◌+◌, ◌%◌, true, false, None, Some, List, ℕ, IsTrue, IfSome, option_copied, length};
 ghost use Rattle.iol_segment.specs.Join.{is_whole};
 ghost use Rattle.iol_segment.specs.Cut.{flow_at};
 ghost use Rattle.iol_octets.specs.Flow.{IsFlow};
 ghost use Rattle.iol_octets.specs.declared.flow_control.Flow.{Flow};
 ghost use Rattle.iol_isdu.specs.Parse.{request_of};
-ghost use Rattle.iol_device.specs.Isdu.{Empty, Receiving, Answered, IsduState, isdu_written, isdu_read, isdu_data, completed, answer_text, handed, fits};
+ghost use Rattle.iol_device.specs.Isdu.{Empty, Receiving, IsduState, isdu_written, isdu_read, isdu_data, completed, answer_text, answered, handed, fits};
 ghost use Rattle.iol_device.specs.Inside.{IsduValue, IsKept, IsReceiving, GoesOn, IsSent, state_of, joining_in, count_in, handed_over, sent_flow, is_sent, is_next};
 
-use crate::app::{App, Carried};
+use crate::app::App;
 use iol_isdu::{Answer, Request};
 use iol_mseq::{Part, first_of_zeros, zeros};
 use iol_octets::Flow;
@@ -97,47 +97,50 @@ impl IsduSide {
         }
     }
 
-    /// Whether the application has a request, or will have it.
-    pub fn is_handed(&self) -> bool
-        ensures { result ≡ is_some (handed self.now.state) }
+    /// The request that the application has, or will have.
+    pub fn handed(&self) -> Option<&Request>
+        ensures { option_copied result ≡ handed self.now.state }
     {
-        matches!(self.stage, Stage::Handed(_))
+        match &self.stage {
+            Stage::Handed(request) => Some(request),
+            _ => None,
+        }
     }
 
-    /// A request that is handed over is carried out.
-    pub fn carry_out<P: App>(&mut self, app: &mut P) -> Option<Carried>
-        ensures request { handed self.old.state ≡ option_map (λ carried. carried.request) result }
-        ensures answer { IfSome result (λ carried. IsTrue (fits carried.request carried.answer)) }
-        ensures gives { IfSome result (λ carried. P.carry_out_gives app.old carried.request carried.answer app.new) }
-        ensures idle { IfNone result (app.new ≡ app.old) }
-        ensures state { MatchOption result (self.new ≡ self.old) (λ carried. self.new ≡ record self.old { state = Answered carried.request carried.answer None }) }
+    /// The request that is handed over has this answer.
+    pub fn answer(&mut self, answer: Answer)
+        requires { IfSome (handed self.old.state) (λ request. IsTrue (fits request answer)) }
+        ensures { self.new ≡ record self.old { state = answered self.old.state answer } }
     {
-        if !self.is_handed() {
-            return None;
-        }
         match mem::replace(&mut self.stage, Stage::Empty) {
             Stage::Handed(request) => {
-                let answer = answer_of(app, &request);
-                let carried = Carried {
-                    request: request.clone().unwrap(),
-                    answer: answer.clone().unwrap(),
-                };
                 self.stage = Stage::Answered(Cutter::new(
                     Reaction { request, answer },
                     self.size as usize,
                 ));
-                Some(carried)
             }
-            other => {
-                self.stage = other;
-                None
-            }
+            other => self.stage = other,
         }
     }
 }
 
+/// Whether an answer fits a request: Read answers a read, Written a write, Refused both.
+pub(crate) fn is_kind_of(request: &Request, answer: &Answer) -> bool
+    ensures { result ≡ fits request.now answer.now }
+{
+    // To the proof this says that the octets fit into one ISDU.
+    if let Answer::Read(octets) = answer {
+        let _ = octets.len();
+    }
+    match answer {
+        Answer::Read(_) => matches!(request, Request::Read(_)),
+        Answer::Written => !matches!(request, Request::Read(_)),
+        Answer::Refused(_, _) => true,
+    }
+}
+
 /// The application's answer, which fits the request.
-fn answer_of<P: App>(app: &mut P, request: &Request) -> Answer
+pub(crate) fn answer_of<P: App>(app: &mut P, request: &Request) -> Answer
     ensures fits { IsTrue (fits request.now result) }
     ensures gives { P.carry_out_gives app.old request.now result app.new }
 {

@@ -14,8 +14,9 @@ mod far_end;
 mod fault;
 mod isdu;
 mod laws;
+mod record;
 
-pub use app::{App, Carried};
+pub use app::{Apart, App, Carried};
 pub use commands::Mode;
 pub use device::Device;
 pub use fault::DeviceFault;
@@ -24,6 +25,7 @@ pub use laws::{
     messages_are_heard, modes_have_layouts, page_and_room_stay, parts_stay_regular,
     replies_are_read, requests_are_received, texts_are_heard,
 };
+pub use record::{Kept, Record, Unkept};
 
 #[cfg(test)]
 mod tests;

@@ -1,0 +1,148 @@
+//! Where the record of a device stands.
+ghost use Rattle.std.specs.Prelude.{◌≡◌, ◌≤◌, ℕ, [], List, Option, None, Some, IfOk, IsTrue};
+ghost use Rattle.iol_isdu.specs.declared.values.Request.{Request};
+ghost use Rattle.iol_isdu.specs.declared.values.Answer.{Answer};
+ghost use Rattle.iol_device.specs.declared.app.Carried.{Carried};
+ghost use Rattle.iol_device.specs.Level.{grown_by};
+ghost use Rattle.iol_device.specs.Record.{takes_more};
+ghost use base.Fml.{ftrue};
+
+use crate::app::Carried;
+use iol_isdu::{Answer, Request};
+use std::alloc::{AllocError, Allocator, Global};
+use std::marker::{Model, PhantomData, Send, Sync};
+
+/// The record of a device: each request that was carried out, with the answer to it, the oldest first.
+pub trait Record: Drop {
+    /// The pairs of the record.
+    ghost carried: { Self → List Carried };
+
+    /// The most pairs that the record may have; none where it has no bound.
+    ghost room: { Self → Option ℕ };
+
+    /// Whether the record takes one more pair.
+    fn has_room(&self) -> bool
+        ensures { result ≡ takes_more (room self.now) (carried self.now) };
+
+    /// The pair goes to the end of the record.
+    fn push(&mut self, request: &Request, answer: &Answer)
+        requires room { IsTrue (takes_more (room self.old) (carried self.old)) }
+        ensures appended { carried self.new ≡ grown_by (carried self.old) request.now answer.now }
+        ensures room { room self.new ≡ room self.old };
+}
+
+/// A record in memory, of a room of 1 to 100,000 pairs that is taken at the opening.
+#[derive(Drop)]
+pub struct Kept<A: Allocator + Copy = Global> {
+    pairs: Vec<Carried, A>,
+    room: u32,
+}
+
+impl<A: Allocator + Copy> Model for Kept<A> {
+    ghost use Rattle.std.specs.Prelude.{◌≤◌, vec_capacity};
+    ghost use Rattle.iol_device.specs.Record.{RecordValue};
+
+    ghost Value = { RecordValue };
+
+    ghost view = { λ r. record { carried = r.pairs.items; room = r.room } };
+
+    ghost invariant = { λ r. r.room ≤ vec_capacity r.pairs };
+}
+
+impl<A: Allocator + Copy> Kept<A> {
+    /// An empty record with room for so many pairs.
+    pub(crate) fn open(alloc: A, room: u32) -> Result<Kept<A>, AllocError>
+        ensures { IfOk result (λ r. r ≡ record { carried = []; room = room }) }
+    {
+        Ok(Kept {
+            pairs: Vec::with_capacity(alloc, room as usize)?,
+            room,
+        })
+    }
+
+    /// The pairs.
+    pub(crate) fn carried(&self) -> &[Carried]
+        ensures { result.now ≡ self.now.carried }
+    {
+        self.pairs.as_slice()
+    }
+}
+
+impl<A: Allocator + Copy> Record for Kept<A> {
+    ghost carried = { λ r. r.carried };
+
+    ghost room = { λ r. Some r.room };
+
+    fn has_room(&self) -> bool {
+        self.pairs.len() < self.room as usize
+    }
+
+    fn push(&mut self, request: &Request, answer: &Answer) {
+        self.pairs.push_reserved(Carried {
+            request: request.clone().unwrap(),
+            answer: answer.clone().unwrap(),
+        });
+    }
+}
+
+/// A record without bound that takes no memory: clauses alone know it.
+pub struct Unkept {
+    marker: PhantomData<u8>,
+    pub ghost pairs: { List Carried },
+}
+
+impl Model for Unkept {
+    ghost also_owns = { λ _. ftrue };
+}
+
+impl Unkept {
+    /// The record that the caller names; its name may speak of `near`.
+    pub(crate) fn of<T>(near: &T) -> Unkept
+        ghost pairs: { List Carried }
+        ensures { result.pairs ≡ pairs }
+    {
+        let _ = near;
+        Unkept {
+            marker: PhantomData,
+        }
+    }
+
+    /// An empty record.
+    pub(crate) fn new() -> Unkept
+        ensures { result.pairs ≡ [] }
+    {
+        Unkept::of(&())
+    }
+
+    /// The record with one more pair.
+    fn grown_by(&self, request: &Request, answer: &Answer) -> Unkept
+        ensures { result.pairs ≡ grown_by self.now.pairs request.now answer.now }
+    {
+        Unkept::of(&(self, request, answer))
+    }
+}
+
+impl Drop for Unkept {
+    fn drop(self) {
+        let Self { marker: _ } = self;
+    }
+}
+
+// It owns nothing, so it may go to any thread, and any thread may share it.
+unsafe impl Send for Unkept {}
+
+unsafe impl Sync for Unkept {}
+
+impl Record for Unkept {
+    ghost carried = { λ r. r.pairs };
+
+    ghost room = { λ r. None };
+
+    fn has_room(&self) -> bool {
+        true
+    }
+
+    fn push(&mut self, request: &Request, answer: &Answer) {
+        *self = self.grown_by(request, answer);
+    }
+}
