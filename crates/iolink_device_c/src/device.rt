@@ -1,5 +1,6 @@
 //! Opening and closing, and what comes to pass at a device by itself.
 ghost use Rattle.std.specs.Prelude.{◌≡◌, true, false, IsTrue, IsFalse};
+ghost use Rattle.iol_event.specs.Memory.{is_full};
 ghost use Rattle.iol_device.specs.Local.{local, woken, LocalStep};
 ghost use Rattle.iolink_device_c.specs.Calls.{far_of, IsRefused};
 
@@ -100,6 +101,8 @@ pub extern "C" fn iol_device_raise(
     ensures closed { IsFalse handle.old.is_open → IsRefused result handle.old handle.new }
     ensures far { IsTrue handle.old.is_open → far_of handle.new ≡ local (far_of handle.old)
         (LocalStep.Raise (record { qualifier = qualifier; code = code })) }
+    ensures full { IsTrue handle.old.is_open → IsTrue (is_full (far_of handle.old).events) → result ≡ 16 }
+    ensures done { IsTrue handle.old.is_open → IsFalse (is_full (far_of handle.old).events) → result ≡ 0 }
 {
     if !handle.is_open {
         return CLOSED;

@@ -1,5 +1,7 @@
 //! Process data.
-ghost use Rattle.std.specs.Prelude.{◌≡◌, length, take, IsTrue, IsFalse};
+ghost use Rattle.std.specs.Prelude.{◌≡◌, length, take, unwrap_or, [], IsTrue, IsFalse};
+ghost use Rattle.iol_image.specs.Image.{IsImage};
+ghost use Rattle.iol_device.specs.Far.{output_of};
 ghost use Rattle.iol_device.specs.Local.{local, LocalStep};
 ghost use Rattle.iolink_device_c.specs.Calls.{far_of, IsRefused};
 
@@ -15,6 +17,8 @@ use std::alloc::Global;
 #[unsafe(no_mangle)]
 pub extern "C" fn iol_device_set_input(alloc: Global, handle: &mut IolDevice, octets: &[u8]) -> u8
     ensures closed { IsFalse handle.old.is_open → IsRefused result handle.old handle.new }
+    ensures far { IsTrue handle.old.is_open → IsImage octets.now →
+        far_of handle.new ≡ local (far_of handle.old) (LocalStep.Input octets.now) }
 {
     if !handle.is_open {
         return CLOSED;
@@ -63,20 +67,26 @@ pub struct IolImage {
 pub extern "C" fn iol_device_output(alloc: Global, handle: &mut IolDevice, out: &mut IolImage) -> u8
     ensures closed { IsFalse handle.old.is_open → IsRefused result handle.old handle.new }
     ensures same { handle.new.held.value ≡ handle.old.held.value }
+    ensures image { IsTrue handle.old.is_open → (result ≡ 0)
+        × (take out.new.length out.new.octets ≡ unwrap_or (output_of (far_of handle.old)) []) }
 {
     if !handle.is_open {
         return CLOSED;
     }
-    replace_with(handle, (alloc, out), |handle, (alloc, out)| {
+    let image = replace_with(handle, alloc, |handle, alloc| {
         let sensor = handle.into_box(alloc);
-        match sensor.device.output() {
-            Some(image) => {
-                out.length = image.octets().len() as u8;
-                put(image.octets(), &mut out.octets);
-            }
-            None => out.length = 0,
-        }
-        (IolDevice::of(sensor), ())
+        let image = match sensor.device.output() {
+            Some(image) => Some(image.clone().unwrap()),
+            None => None,
+        };
+        (IolDevice::of(sensor), image)
     });
+    match image {
+        Some(image) => {
+            out.length = image.octets().len() as u8;
+            put(image.octets(), &mut out.octets);
+        }
+        None => out.length = 0,
+    }
     0
 }

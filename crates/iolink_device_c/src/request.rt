@@ -1,5 +1,5 @@
 //! Requests: the one that is handed over, and its answer.
-ghost use Rattle.std.specs.Prelude.{◌≡◌, ◌≤◌, ◌<◌, length, IsTrue, IsFalse, is_some, None};
+ghost use Rattle.std.specs.Prelude.{◌≡◌, ◌≤◌, ◌<◌, length, IsTrue, IsFalse, None};
 ghost use Rattle.iol_device.specs.Isdu.{handed};
 ghost use Rattle.iol_isdu.specs.declared.values.Answer.TheVariants as answer;
 ghost use Rattle.iolink_device_c.specs.Calls.{far_of, IsRefused, Answers, read_of};

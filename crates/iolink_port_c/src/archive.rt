@@ -1,5 +1,5 @@
 //! The journal, entry by entry.
-ghost use Rattle.std.specs.Prelude.{◌≡◌, ◌≤◌, IsTrue, IsFalse};
+ghost use Rattle.std.specs.Prelude.{◌≡◌, IsTrue, IsFalse};
 ghost use Rattle.iol_book.specs.BookModel.{may_archive, archived};
 ghost use Rattle.iol_port.specs.EveryWire.{IsBookCall};
 ghost use Rattle.iolink_port_c.specs.Calls.{parts_of, IsRefused};

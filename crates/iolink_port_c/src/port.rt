@@ -1,6 +1,5 @@
 //! Opening and closing.
 ghost use Rattle.std.specs.Prelude.{◌≡◌, true, false, IsTrue, IsFalse};
-ghost use Rattle.iolink_port_c.specs.Calls.{parts_of};
 
 use crate::held::{IolPort, Master};
 use crate::refusal::{CLOSED, IS_OPEN, OUT_OF_RANGE};

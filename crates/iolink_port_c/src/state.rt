@@ -1,5 +1,5 @@
 //! The link, process data and events.
-ghost use Rattle.std.specs.Prelude.{◌≡◌, ◌≤◌, ◌<◌, Some, None, take, length, unwrap_or, [], IsTrue, IsFalse};
+ghost use Rattle.std.specs.Prelude.{◌≡◌, Some, None, take, length, unwrap_or, [], IsTrue, IsFalse};
 ghost use Rattle.iol_port.specs.EveryWire.{TakeEventGives, SetOutputGives, ClearOutputGives, RestartGives};
 ghost use Rattle.iol_image.specs.Image.{IsImage};
 ghost use Rattle.iol_port.specs.View.{status_of};
