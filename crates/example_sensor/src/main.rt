@@ -58,7 +58,7 @@ fn answer(rt: &impl Print, sensor: &mut Sensor<'_>, line: &str) -> Result<()> {
 fn main(rt: HostRuntime) -> Result<()> {
     let temperature = Cell::new(FIRST);
     let application = Thermometer::new(&temperature, LIMIT);
-    let mut sensor = Sensor::open(rt.alloc(), &temperature, application)?;
+    let mut sensor = Sensor::new(&temperature, application);
     for line in rt.lines(rt.alloc()) {
         sensor.measure()?;
         answer(&rt, &mut sensor, line?.as_str())?;

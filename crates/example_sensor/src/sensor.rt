@@ -1,19 +1,15 @@
 //! The device: what it measures becomes its process data and its events.
 use crate::thermometer::Thermometer;
-use anyhow::{Context, Result};
-use iol_device::Device;
+use anyhow::Result;
+use iol_device::{Device, Unkept};
 use iol_event::Event;
 use iol_image::Image;
 use iol_mseq::Message;
 use iol_page::Page;
-use std::alloc::Global;
 use std::cell::Cell;
 
 /// V1.1, with ISDU, 8 octets of on-request data, 16 bits of process data in, none out.
 const PAGE: [u8; 10] = [0x17, 0x2D, 0x11, 0x10, 0x00, 0x12, 0x34, 0x00, 0x01, 0x07];
-
-/// How many requests the record has room for.
-const ROOM: u32 = 100;
 
 /// The process variable is out of its range: a warning of the application, with the two modes that it has.
 const OUT_OF_RANGE: u16 = 0x8C10;
@@ -25,27 +21,19 @@ const DISAPPEARS: u8 = 0xA4;
 /// A device with a thermometer, and whether its last event said that it is hot.
 #[derive(Drop)]
 pub struct Sensor<'a> {
-    device: Device<Thermometer<'a>>,
+    device: Device<Thermometer<'a>, Unkept>,
     temperature: &'a Cell<u16>,
     is_hot: bool,
 }
 
 impl<'a> Sensor<'a> {
-    /// Refused where there is no memory.
-    pub fn open(
-        alloc: Global,
-        temperature: &'a Cell<u16>,
-        application: Thermometer<'a>,
-    ) -> Result<Sensor<'a>> {
-        let page = Page::from_octets(&PAGE);
-        let Ok(device) = Device::open(alloc, application, page, ROOM) else {
-            anyhow::bail!("no memory");
-        };
-        Ok(Sensor {
-            device,
+    /// A sensor whose record is not kept, so it takes no memory, however long it runs.
+    pub fn new(temperature: &'a Cell<u16>, application: Thermometer<'a>) -> Sensor<'a> {
+        Sensor {
+            device: Device::new(application, Page::from_octets(&PAGE)),
             temperature,
             is_hot: false,
-        })
+        }
     }
 
     /// It is a tenth of a degree warmer than before: the process data follows, and the events where they are due.
