@@ -1,6 +1,6 @@
 //! Ports over a wire that answers no message: memory refused in turn, refusals, and calls by their names.
 ghost use Rattle.std.proofs.Common.{rules};
-ghost use Rattle.std.specs.Prelude.{[], false, ⊤};
+ghost use Rattle.std.specs.Prelude.{[], false, ⊤, None};
 ghost use Rattle.iol_device.specs.Far.{opened};
 
 use iol_app::{Asked, Mode, OutputFault};
@@ -32,7 +32,7 @@ struct Bare {
 }
 
 impl Wire for Bare {
-    ghost far = { λ w. opened [] 0 };
+    ghost far = { λ w. opened [] None };
 
     ghost honest = { λ w. false };
 

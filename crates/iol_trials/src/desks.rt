@@ -1,6 +1,6 @@
 //! Desks and memory of a master run out, and what a submit counts, urgent or not.
 ghost use Rattle.std.proofs.Common.{rules};
-ghost use Rattle.std.specs.Prelude.{◌≡◌, [], false, ⊤, All, IfOk, vec_len};
+ghost use Rattle.std.specs.Prelude.{◌≡◌, [], false, ⊤, None, All, IfOk, vec_len};
 ghost use Rattle.iol_device.specs.Far.{opened};
 ghost use Rattle.iol_master.specs.Tickets.{HasGiven};
 
@@ -25,7 +25,7 @@ use std::thread::Threads;
 struct Bare;
 
 impl Wire for Bare {
-    ghost far = { λ w. opened [] 0 };
+    ghost far = { λ w. opened [] None };
 
     ghost honest = { λ w. false };
 
