@@ -14,11 +14,11 @@ use Rattle.iol_commands.specs.RunPlayed.{first_port, PlaysOut, PrintsRun, PortPl
 
 -- a port over a new device of an honest wire
 pub opens_well : {W : Type 0} (o : Opening W) (limits : Limits) (wire : W) (far : Far) (silence : ℕ) (honest : Bool) (page : List ℕ)
-    → o ≡ record { limits = limits; wire = wire; far = far; silence = silence; honest = honest } → honest ≡ true → far ≡ device.opened page 1000 → OpensWell o
+    → o ≡ record { limits = limits; wire = wire; far = far; silence = silence; honest = honest } → honest ≡ true → far ≡ device.opened page (Some 1000) → OpensWell o
 opens_well o limits wire far silence honest page is good new = subst OpensWell (sym is) (good, ap (λ (f : Far). handed f.isdu) new)
 
-pub opened_first : (limits : Limits) (far : Far) (silence : ℕ) (page : List ℕ) → far ≡ device.opened page 1000 → silence ≡ 0 → opened limits far silence ≡ first_port limits page
-opened_first limits far silence page new quiet = ap (λ (f : Far). opened limits f silence) new ∙ ap (λ (n : ℕ). opened limits (device.opened page 1000) n) quiet
+pub opened_first : (limits : Limits) (far : Far) (silence : ℕ) (page : List ℕ) → far ≡ device.opened page (Some 1000) → silence ≡ 0 → opened limits far silence ≡ first_port limits page
+opened_first limits far silence page new quiet = ap (λ (f : Far). opened limits f silence) new ∙ ap (λ (n : ℕ). opened limits (device.opened page (Some 1000)) n) quiet
 
 module _ {W : Type 0} (honest : W → Bool) (far : W → Far) (silence : W → ℕ) where
   -- what a port stands for has the record of its far end

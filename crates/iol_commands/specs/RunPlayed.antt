@@ -1,5 +1,5 @@
 -- What `run` carries out, and what it prints of it.
-use Rattle.std.specs.Prelude.{◌≡◌, ℕ, Bool, true, false, List, ◌++◌, IsSomeAnd}
+use Rattle.std.specs.Prelude.{◌≡◌, ℕ, Bool, true, false, Some, List, ◌++◌, IsSomeAnd}
 use Rattle.std.specs.List.{list_any}
 use Rattle.iol_book.specs.declared.entries.Limits.{Limits}
 use Rattle.iol_book.specs.declared.fault.BookFault.TheVariants.{OutOfMemory}
@@ -16,7 +16,7 @@ use Rattle.iol_commands.specs.RunPrinted.{answers_text, record_text}
 
 -- a port of these limits that is opened over a new device of this page, whose record has room for 1,000 requests
 abbrev pub first_port : Limits → List ℕ → PortState
-first_port limits page = opened limits (device.opened page 1000) 0
+first_port limits page = opened limits (device.opened page (Some 1000)) 0
 
 -- whether a call was refused for want of memory
 abbrev pub lacks_memory : Answered → Bool

@@ -66,7 +66,7 @@ module _ {W : Type 0} (wakes : W → Option Rate → W → Type 0) (gives : W �
 -- the wire of a script at first: a new device of its page and its parameters, and its steps
 abbrev pub first_wire : ScriptValue → Simulated (List Entry)
 first_wire script = record {
-  device = record { far = device.opened script.page 1000; app = script.params; first = script.params };
+  device = record { far = device.opened script.page (Some 1000); app = script.params; first = script.params };
   steps = script.steps;
   auto = true;
   silent = false;

@@ -1,5 +1,5 @@
 //! `run`: a port over a simulated wire, as a script says.
-ghost use Rattle.std.specs.Prelude.{◌≡◌, ◌≢◌, ◌<◌, ◌⊎◌, ℕ, Err, OnErr, OnOk, IfOk, IfErr, IsOk, None};
+ghost use Rattle.std.specs.Prelude.{◌≡◌, ◌≢◌, ◌<◌, ◌⊎◌, ℕ, Err, OnErr, OnOk, IfOk, IfErr, IsOk, None, Some};
 ghost use Rattle.std.specs.Io.KnownBytes.{Keeps};
 ghost use Rattle.std.specs.String.{string_bytes};
 ghost use Rattle.iol_device.specs.Far.{opened};
@@ -78,7 +78,7 @@ fn played<A: Handle>(alloc: A, input: &[u8]) -> Result<String<A>, ProgramFault>
 /// The wire of a script, with its device.
 pub(crate) fn wire_of<A: Handle>(alloc: A, script: Script<A>) -> Result<Sim<Params, A>, AllocError>
     requires { IsOk (layouts_of script.page) }
-    ensures far { IfOk result (λ sim. sim.device.far ≡ opened script.page ROOM) }
+    ensures far { IfOk result (λ sim. sim.device.far ≡ opened script.page (Some ROOM)) }
     ensures app { IfOk result (λ sim. sim.device.app ≡ script.params) }
     ensures steps { IfOk result (λ sim. sim.steps ≡ script.steps.items) }
     ensures silence { IfOk result (λ sim. sim.silence ≡ 0) }

@@ -30,7 +30,7 @@ abbrev pub is_honest : Option Given → Bool
 is_honest told = false
 
 abbrev pub far_of : Option Given → Far
-far_of told = opened [] 0
+far_of told = opened [] None
 
 abbrev pub silence_of : Option Given → ℕ
 silence_of told = 0

@@ -1,6 +1,6 @@
 -- One turn over a clean wire brings a request one stage on.
 use Rattle.std.proofs.Common.{◌≡◌, ⊎_elim, ℕ, zero, suc, ◌+◌, ◌*◌, ◌<◌, ◌≤◌, Bool, true, false, ◌&&◌, ◌==◌, List, [], ◌∷◌, ◌++◌, length, refl, sym, ap, subst, ◌∙◌, arith, Option, Some, None, Ok}
-use Rattle.std.specs.Prelude.{IsTrue, if◌then◌else◌, MatchBool, nat_lt}
+use Rattle.std.specs.Prelude.{IsTrue, if◌then◌else◌, MatchBool}
 use Rattle.std.proofs.lemmas.Bool.{cases_lt}
 use Rattle.std.proofs.lemmas.Bool.Decides.{nat_tests}
 use Rattle.arrayvec.specs.ArrayVec.{ArrayVec}
@@ -16,6 +16,7 @@ use Rattle.iol_device.specs.declared.app.Carried.{Carried}
 use Rattle.iol_device.specs.Codec.{flow_of}
 use Rattle.iol_device.specs.Isdu.{IsduState, Handed, Answered, received, isdu_data, answer_text, fits, handed}
 use Rattle.iol_device.specs.Far.{Far, isdu_moved}
+use Rattle.iol_device.specs.Record.{takes_more}
 use Rattle.iol_device.specs.Local.{Carry, local, carried_by, has_room, IsWorkedOff}
 use Rattle.iol_device.specs.Level.{Link, link_of, grown_by}
 use Rattle.iol_link.specs.declared.wire.Rate.{Rate}
@@ -47,9 +48,9 @@ record Worked (request : Request) (base : List Carried) (ready : Far) : Type 0 w
   pub isdu : ready.isdu ≡ Answered request answer None
   pub carried : ready.carried ≡ grown_by base request answer
 
-work_done : (f ready : Far) (request : Request) (base : List Carried) → f.isdu ≡ Handed request → f.carried ≡ base → length base < f.room → IsWorkedOff (handed f.isdu) f ready → Worked request base ready
+work_done : (f ready : Far) (request : Request) (base : List Carried) → f.isdu ≡ Handed request → f.carried ≡ base → takes_more f.room base ≡ true → IsWorkedOff (handed f.isdu) f ready → Worked request base ready
 work_done f ready request base is carried room h =
-    let some : has_room f ≡ true = let r = room in let e : nat_lt (length base) f.room ≡ true = grind (arith, nat_tests) in ap (λ (xs : List Carried). nat_lt (length xs) f.room) carried ∙ e in
+    let some : has_room f ≡ true = ap (takes_more f.room) carried ∙ room in
     by_answer some (subst (λ (b : Bool). MatchBool b ((answer : Answer) × IsTrue (fits request answer) × (ready ≡ local f (Carry answer))) (ready ≡ f)) some
     (subst (λ (q : Option Request). IsWorkedOff q f ready) (ap handed is) h))
   where
@@ -103,12 +104,12 @@ module _ {W : Type 0} (honest : W → Bool) (far : W → Far) (silence : W → �
       od_is = t.heard_as.od ∙ ap (λ (h : Head). if h.read then isdu_data size (far t.next).isdu else []) t.head
 
       -- the request goes on, or has its answer
-      pub next_at : length base < (far wire).room → 2 ≤ old.session.limit → (stage : Stage) → StageFits size request base stage new.session.current (far t.next).isdu (far t.next).carried
+      pub next_at : takes_more (far wire).room base ≡ true → 2 ≤ old.session.limit → (stage : Stage) → StageFits size request base stage new.session.current (far t.next).isdu (far t.next).carried
           → At honest far clean layouts request base stage new t.next
       next_at room limit stage fits = record {
         stood = t.stood;
         fits = fits;
-        room = subst (λ (n : ℕ). length base < n) (sym (t.heard_as.room ∙ same.room)) room;
+        room = ap (λ (most : Option ℕ). takes_more most base) (t.heard_as.room ∙ same.room) ∙ room;
         limit = subst (λ (n : ℕ). 2 ≤ n) (sym t.limit) limit;
       }
 
@@ -164,7 +165,7 @@ module _ {W : Type 0} (honest : W → Bool) (far : W → Far) (silence : W → �
       -- The answer
 
       -- one more segment of the answer was had
-      had_step : (c : Current) (t : Turns old wire c said new) (given j n : ℕ) (answer : Answer) → IsTrue (fits request answer) → c.cutter.source ≡ request → length base < (far wire).room → 2 ≤ old.session.limit
+      had_step : (c : Current) (t : Turns old wire c said new) (given j n : ℕ) (answer : Answer) → IsTrue (fits request answer) → c.cutter.source ≡ request → takes_more (far wire).room base ≡ true → 2 ≤ old.session.limit
           → (far t.next).isdu ≡ Answered request answer (Some j) → (far t.next).carried ≡ grown_by base request answer → j * size < length (answer_text request answer)
           → replied old.session.limit t.reply.od.items c ≡ joined_with (cutting request size given) None j (Ok (took_at size (answer_text request answer) j)) (standing false size (answer_text request answer) j)
           → suc n ≡ segments size (request_text request) + 1 + suc j → Next layouts request base n said new
@@ -249,7 +250,7 @@ module _ {W : Type 0} (honest : W → Bool) (far : W → Far) (silence : W → �
             let t = first_takes other current in
             sym (laws.pieces other (request_text request) 0) ∙ sym (ap length t.octets) ∙ t.parts.od ∙ ap (λ (h : Head). if h.read then 0 else size) t.head
 
-        first_at : old.session.current ≡ Some (sent_on (cutting request size 0) None) → handed (far wire).isdu ≡ None → (far wire).carried ≡ base → length base < (far wire).room → 2 ≤ old.session.limit
+        first_at : old.session.current ≡ Some (sent_on (cutting request size 0) None) → handed (far wire).isdu ≡ None → (far wire).carried ≡ base → takes_more (far wire).room base ≡ true → 2 ≤ old.session.limit
             → Next layouts request base 0 said new
         first_at current unhanded carried some limit =
             let c : Current = sends request size 0 in
@@ -266,6 +267,6 @@ module _ {W : Type 0} (honest : W → Bool) (far : W → Far) (silence : W → �
               said_is = goes.1;
             }
 
-        pub first : (other : ℕ) → old.session.current ≡ Some (sent_on (cutting request other 0) None) → handed (far wire).isdu ≡ None → (far wire).carried ≡ base → length base < (far wire).room → 2 ≤ old.session.limit
+        pub first : (other : ℕ) → old.session.current ≡ Some (sent_on (cutting request other 0) None) → handed (far wire).isdu ≡ None → (far wire).carried ≡ base → takes_more (far wire).room base ≡ true → 2 ≤ old.session.limit
             → Next layouts request base 0 said new
         first other current = first_at (current ∙ ap (λ (n : ℕ). Some (sent_on (cutting request n 0) None)) (same_size other current))

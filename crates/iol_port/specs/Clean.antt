@@ -14,6 +14,8 @@ use Rattle.iol_page.specs.Page.{knows_isdu}
 use Rattle.iol_device.specs.declared.app.Carried.{Carried}
 use Rattle.iol_device.specs.Device.{octets_in}
 use Rattle.iol_device.specs.Far.{Far}
+use Rattle.iol_device.specs.Local.{has_room}
+use Rattle.iol_device.specs.Record.{takes_more}
 use Rattle.iol_device.specs.Level.{Link, Quiet, link_of, IsBefore, grown_by}
 use Rattle.iol_device.specs.Laws.{RepliesAreRead, InputStaysSized, ModesHaveLayouts, MuchStays}
 use Rattle.iol_device.specs.SegmentLaws.{SegmentLaws}
@@ -94,7 +96,7 @@ module _ {W : Type 0} (honest : W → Bool) (far : W → Far) (clean : W → Boo
   pub record At (layouts : Layouts) (request : Request) (base : List Carried) (stage : Stage) (station : StationState W) (wire : W) : Type 0 where
     pub stood : Stood layouts operate_link station wire
     pub fits : StageFits layouts.run.od request base stage station.session.current (far wire).isdu (far wire).carried
-    pub room : length base < (far wire).room
+    pub room : IsTrue (takes_more (far wire).room base)
     pub limit : 2 ≤ station.session.limit
 
   -- a port at this stage of the request of that ticket
@@ -120,7 +122,7 @@ module _ {W : Type 0} (honest : W → Bool) (far : W → Far) (clean : W → Boo
     pub isdu : knows_isdu (far wire).page ≡ true
     pub told : p.station.session.isdu ≡ Some true
     pub quiet : IsQuiet (far wire).events
-    pub room : length (far wire).carried < (far wire).room
+    pub room : IsTrue (has_room (far wire))
     pub next : next_taken p.book.state.standing ≡ Some (ticket, request)
 
   -- how the request stands after so many turns: it is taken, and nothing entered the record; its answer did, and it is not done; it is done

@@ -9,7 +9,7 @@ ghost use Rattle.iol_sim.specs.Sim.{damaged};
 use crate::fault::SimFault;
 use crate::params::Params;
 use crate::script::{Fate, Step};
-use iol_device::{App, Device, replies_are_read};
+use iol_device::{App, Device, Kept, replies_are_read};
 use iol_link::{Rate, Wire, damaged_replies_are_unread};
 use iol_mseq::Message;
 use iol_octets::one_flip_is_seen;
@@ -28,7 +28,7 @@ const LONGEST: usize = 66;
 pub struct Sim<P: App, A: Allocator + Copy = Global> {
     line: Line,
     // Apart, since a device is large and a wire is moved with the link that owns it.
-    device: Box<Device<P, A>, A>,
+    device: Box<Device<P, Kept<A>>, A>,
     /// The steps of the script that were not used yet.
     steps: IntoIter<Step, A>,
 }
@@ -73,9 +73,9 @@ impl<P: App, A: Allocator + Copy> Sim<P, A> {
     /// Refused with 24 OutOfMemory, the device and the script handed back, where there is no memory for the device.
     pub fn new(
         alloc: A,
-        device: Device<P, A>,
+        device: Device<P, Kept<A>>,
         steps: Vec<Step, A>,
-    ) -> Result<Sim<P, A>, (SimFault, Device<P, A>, Vec<Step, A>)>
+    ) -> Result<Sim<P, A>, (SimFault, Device<P, Kept<A>>, Vec<Step, A>)>
         ensures value { IfOk result (λ sim. sim ≡ record {
           device = device;
           steps = steps.items;
@@ -102,7 +102,7 @@ impl<P: App, A: Allocator + Copy> Sim<P, A> {
     }
 
     /// The device at the far end.
-    pub fn device(&self) -> &Device<P, A>
+    pub fn device(&self) -> &Device<P, Kept<A>>
         ensures { result.now ≡ self.now.device }
     {
         &self.device

@@ -3,7 +3,7 @@ ghost use Rattle.iol_mseq.specs.Master.{HasMasterParts};
 ghost use Rattle.iol_mseq.specs.Shape.{startup_shape};
 
 use super::*;
-use iol_device::{App, Device};
+use iol_device::{App, Device, Kept};
 use iol_event::Event;
 use iol_image::Image;
 use iol_isdu::{Answer, Octets, Place, Request};
@@ -113,7 +113,7 @@ fn revision() -> Attempt {
     })
 }
 
-fn opened<A: Allocator + Copy>(alloc: A) -> Result<Device<Params, A>, Fail> {
+fn opened<A: Allocator + Copy>(alloc: A) -> Result<Device<Params, Kept<A>>, Fail> {
     let page = Page::from_octets(&PAGE);
     Device::open(alloc, params()?, page, 2).map_err(|(fault, _)| Fail::from(fault))
 }

@@ -1,5 +1,5 @@
 ghost use Rattle.std.proofs.Common.{rules};
-ghost use Rattle.std.specs.Prelude.{[], false, ⊤};
+ghost use Rattle.std.specs.Prelude.{[], false, ⊤, None};
 ghost use Rattle.iol_device.specs.Far.{opened};
 
 use super::*;
@@ -16,7 +16,7 @@ struct Echo {
 }
 
 impl Wire for Echo {
-    ghost far = { λ w. opened [] 0 };
+    ghost far = { λ w. opened [] None };
 
     ghost honest = { λ w. false };
 

@@ -1,6 +1,6 @@
 //! Wires of which nothing is promised.
 ghost use Rattle.std.proofs.Common.{rules};
-ghost use Rattle.std.specs.Prelude.{[], false, ⊤};
+ghost use Rattle.std.specs.Prelude.{[], false, ⊤, None};
 ghost use Rattle.iol_device.specs.Far.{opened};
 
 use iol_link::{Rate, Wire};
@@ -18,7 +18,7 @@ pub trait Peer {
 pub struct AnyWire<P: Peer>(pub P);
 
 impl<P: Peer> Wire for AnyWire<P> {
-    ghost far = { λ w. opened [] 0 };
+    ghost far = { λ w. opened [] None };
 
     ghost honest = { λ w. false };
 
