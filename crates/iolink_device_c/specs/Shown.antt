@@ -1,5 +1,5 @@
 -- What C is shown of the request that is handed over, as numbers.
-use Rattle.std.specs.Prelude.{◌≡◌, ℕ, List, take, Option, Some, None}
+use Rattle.std.specs.Prelude.{◌≡◌, take, Option, Some, None}
 use Rattle.iol_isdu.specs.declared.values.Place.{Place}
 use Rattle.iol_isdu.specs.declared.values.Request.{Request}
 use Rattle.iol_isdu.specs.declared.values.Request.TheVariants.{Read, Write}
