@@ -1,5 +1,5 @@
 -- The calls of a device, as C sees them: by a handle, and with numbers in place of answers.
-use Rattle.std.specs.Prelude.{◌≡◌, ℕ, Bool, true, false, List, []}
+use Rattle.std.specs.Prelude.{◌≡◌, ℕ, Bool, true, false, List}
 use Rattle.iol_isdu.specs.declared.values.Answer.{Answer}
 use Rattle.iol_isdu.specs.declared.values.Answer.TheVariants.{Read}
 use Rattle.iol_device.specs.Far.{Far}

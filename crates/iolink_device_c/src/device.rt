@@ -1,6 +1,7 @@
 //! Opening and closing, and what comes to pass at a device by itself.
-ghost use Rattle.std.specs.Prelude.{◌≡◌, true, false, IsTrue, IsFalse};
+ghost use Rattle.std.specs.Prelude.{◌≡◌, true, false, None, IsTrue, IsFalse};
 ghost use Rattle.iol_event.specs.Memory.{is_full};
+ghost use Rattle.iol_device.specs.Far.{opened};
 ghost use Rattle.iol_device.specs.Local.{local, woken, LocalStep};
 ghost use Rattle.iolink_device_c.specs.Calls.{far_of, IsRefused};
 
@@ -18,6 +19,7 @@ use std::alloc::Global;
 pub extern "C" fn iol_device_open(alloc: Global, handle: &mut IolDevice, page: &[u8; 10]) -> u8
     ensures once { IsTrue handle.old.is_open → (result ≡ 253) × (handle.new ≡ handle.old) }
     ensures opened { result ≡ 0 → handle.new.is_open ≡ true }
+    ensures far { result ≡ 0 → far_of handle.new ≡ opened page.now None }
 {
     if handle.is_open {
         return IS_OPEN;
@@ -59,6 +61,7 @@ pub extern "C" fn iol_device_close(alloc: Global, handle: &mut IolDevice) -> u8
 #[unsafe(no_mangle)]
 pub extern "C" fn iol_device_wake(alloc: Global, handle: &mut IolDevice) -> u8
     ensures closed { IsFalse handle.old.is_open → IsRefused result handle.old handle.new }
+    ensures stays { handle.new.is_open ≡ handle.old.is_open }
     ensures far { IsTrue handle.old.is_open → (result ≡ 0) × (far_of handle.new ≡ woken (far_of handle.old)) }
 {
     if !handle.is_open {
@@ -76,6 +79,7 @@ pub extern "C" fn iol_device_wake(alloc: Global, handle: &mut IolDevice) -> u8
 #[unsafe(no_mangle)]
 pub extern "C" fn iol_device_power_cycle(alloc: Global, handle: &mut IolDevice) -> u8
     ensures closed { IsFalse handle.old.is_open → IsRefused result handle.old handle.new }
+    ensures stays { handle.new.is_open ≡ handle.old.is_open }
     ensures far { IsTrue handle.old.is_open →
         (result ≡ 0) × (far_of handle.new ≡ local (far_of handle.old) LocalStep.Power) }
 {
@@ -99,6 +103,7 @@ pub extern "C" fn iol_device_raise(
     code: u16,
 ) -> u8
     ensures closed { IsFalse handle.old.is_open → IsRefused result handle.old handle.new }
+    ensures stays { handle.new.is_open ≡ handle.old.is_open }
     ensures far { IsTrue handle.old.is_open → far_of handle.new ≡ local (far_of handle.old)
         (LocalStep.Raise (record { qualifier = qualifier; code = code })) }
     ensures full { IsTrue handle.old.is_open → IsTrue (is_full (far_of handle.old).events) → result ≡ 16 }

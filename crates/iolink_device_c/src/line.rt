@@ -25,6 +25,7 @@ pub extern "C" fn iol_device_hear(
     out: &mut IolReply,
 ) -> u8
     ensures closed { IsFalse handle.old.is_open → IsRefused result handle.old handle.new }
+    ensures stays { handle.new.is_open ≡ handle.old.is_open }
     ensures far { IsTrue handle.old.is_open →
         (result ≡ 0) × (far_of handle.new ≡ (hear (far_of handle.old) octets.now).far) }
     ensures reply { IsTrue handle.old.is_open → take out.new.length out.new.octets

@@ -2,7 +2,7 @@
 ghost use Rattle.std.specs.Prelude.{◌≡◌, length, take, unwrap_or, [], IsTrue, IsFalse};
 ghost use Rattle.iol_image.specs.Image.{IsImage};
 ghost use Rattle.iol_device.specs.Far.{output_of};
-ghost use Rattle.iol_device.specs.Local.{local, LocalStep};
+ghost use Rattle.iol_device.specs.Local.{local, is_input, LocalStep};
 ghost use Rattle.iolink_device_c.specs.Calls.{far_of, IsRefused};
 
 use crate::held::IolDevice;
@@ -17,8 +17,16 @@ use std::alloc::Global;
 #[unsafe(no_mangle)]
 pub extern "C" fn iol_device_set_input(alloc: Global, handle: &mut IolDevice, octets: &[u8]) -> u8
     ensures closed { IsFalse handle.old.is_open → IsRefused result handle.old handle.new }
+    ensures stays { handle.new.is_open ≡ handle.old.is_open }
     ensures far { IsTrue handle.old.is_open → IsImage octets.now →
         far_of handle.new ≡ local (far_of handle.old) (LocalStep.Input octets.now) }
+    ensures done { IsTrue handle.old.is_open → IsImage octets.now →
+        IsTrue (is_input (far_of handle.old) octets.now) → result ≡ 0 }
+    ensures refused { IsTrue handle.old.is_open → IsImage octets.now →
+        IsFalse (is_input (far_of handle.old) octets.now) →
+        (result ≡ 29) × (far_of handle.new ≡ far_of handle.old) }
+    ensures sized { IsTrue handle.old.is_open → ¬ IsImage octets.now →
+        (result ≡ 29) × (handle.new ≡ handle.old) }
 {
     if !handle.is_open {
         return CLOSED;
@@ -41,6 +49,7 @@ pub extern "C" fn iol_device_set_input(alloc: Global, handle: &mut IolDevice, oc
 #[unsafe(no_mangle)]
 pub extern "C" fn iol_device_clear_input(alloc: Global, handle: &mut IolDevice) -> u8
     ensures closed { IsFalse handle.old.is_open → IsRefused result handle.old handle.new }
+    ensures stays { handle.new.is_open ≡ handle.old.is_open }
     ensures far { IsTrue handle.old.is_open →
         (result ≡ 0) × (far_of handle.new ≡ local (far_of handle.old) LocalStep.NoInput) }
 {
@@ -66,6 +75,7 @@ pub struct IolImage {
 #[unsafe(no_mangle)]
 pub extern "C" fn iol_device_output(alloc: Global, handle: &mut IolDevice, out: &mut IolImage) -> u8
     ensures closed { IsFalse handle.old.is_open → IsRefused result handle.old handle.new }
+    ensures stays { handle.new.is_open ≡ handle.old.is_open }
     ensures same { handle.new.held.value ≡ handle.old.held.value }
     ensures image { IsTrue handle.old.is_open → (result ≡ 0)
         × (take out.new.length out.new.octets ≡ unwrap_or (output_of (far_of handle.old)) []) }

@@ -1,8 +1,9 @@
 //! Requests: the one that is handed over, and its answer.
-ghost use Rattle.std.specs.Prelude.{◌≡◌, ◌≤◌, ◌<◌, length, IsTrue, IsFalse, None};
+ghost use Rattle.std.specs.Prelude.{◌≡◌, ◌≤◌, ◌<◌, length, IsTrue, IsFalse, Some};
 ghost use Rattle.iol_device.specs.Isdu.{handed};
 ghost use Rattle.iol_isdu.specs.declared.values.Answer.TheVariants as answer;
 ghost use Rattle.iolink_device_c.specs.Calls.{far_of, IsRefused, Answers, read_of};
+ghost use Rattle.iolink_device_c.specs.Shown.{IsShown};
 
 use crate::held::IolDevice;
 use crate::octets::put;
@@ -39,8 +40,10 @@ pub extern "C" fn iol_device_handed(
     out: &mut IolRequest,
 ) -> u8
     ensures closed { IsFalse handle.old.is_open → IsRefused result handle.old handle.new }
+    ensures stays { handle.new.is_open ≡ handle.old.is_open }
     ensures same { handle.new.held.value ≡ handle.old.held.value }
-    ensures none { IsTrue handle.old.is_open → handed (far_of handle.old).isdu ≡ None → out.new.kind ≡ 0 }
+    ensures done { IsTrue handle.old.is_open → result ≡ 0 }
+    ensures shown { IsTrue handle.old.is_open → IsShown (handed (far_of handle.old).isdu) out.new }
 {
     if !handle.is_open {
         return CLOSED;
@@ -60,7 +63,9 @@ pub extern "C" fn iol_device_handed(
     0
 }
 
-fn show_request(request: &Request, out: &mut IolRequest) {
+fn show_request(request: &Request, out: &mut IolRequest)
+    ensures { IsShown (Some request.now) out.new }
+{
     match request {
         Request::Read(place) => {
             out.kind = READ;
@@ -76,14 +81,17 @@ fn show_request(request: &Request, out: &mut IolRequest) {
     }
 }
 
-fn show_place(place: Place, out: &mut IolRequest) {
+fn show_place(place: Place, out: &mut IolRequest)
+    ensures { out.new ≡ record out.old { index = place.index; sub = place.sub } }
+{
     out.index = place.index;
     out.sub = place.sub;
 }
 
 fn answered(alloc: Global, handle: &mut IolDevice, answer: Answer) -> u8
     requires { IsTrue handle.old.is_open }
-    ensures { Answers answer handle.old result handle.new }
+    ensures stays { handle.new.is_open ≡ handle.old.is_open }
+    ensures answer { Answers answer handle.old result handle.new }
 {
     replace_with(handle, (alloc, answer), |handle, (alloc, answer)| {
         let mut sensor = handle.into_box(alloc);
@@ -101,6 +109,7 @@ fn answered(alloc: Global, handle: &mut IolDevice, answer: Answer) -> u8
 #[unsafe(no_mangle)]
 pub extern "C" fn iol_device_answer_read(alloc: Global, handle: &mut IolDevice, octets: &[u8]) -> u8
     ensures closed { IsFalse handle.old.is_open → IsRefused result handle.old handle.new }
+    ensures stays { handle.new.is_open ≡ handle.old.is_open }
     ensures long { IsTrue handle.old.is_open → 232 < length octets.now → (result ≡ 9) × (handle.new ≡ handle.old) }
     ensures answer { IsTrue handle.old.is_open → length octets.now ≤ 232 →
         Answers (read_of octets.now) handle.old result handle.new }
@@ -118,6 +127,7 @@ pub extern "C" fn iol_device_answer_read(alloc: Global, handle: &mut IolDevice, 
 #[unsafe(no_mangle)]
 pub extern "C" fn iol_device_answer_written(alloc: Global, handle: &mut IolDevice) -> u8
     ensures closed { IsFalse handle.old.is_open → IsRefused result handle.old handle.new }
+    ensures stays { handle.new.is_open ≡ handle.old.is_open }
     ensures answer { IsTrue handle.old.is_open → Answers answer.Written handle.old result handle.new }
 {
     if !handle.is_open {
@@ -136,6 +146,7 @@ pub extern "C" fn iol_device_answer_refused(
     additional: u8,
 ) -> u8
     ensures closed { IsFalse handle.old.is_open → IsRefused result handle.old handle.new }
+    ensures stays { handle.new.is_open ≡ handle.old.is_open }
     ensures answer { IsTrue handle.old.is_open →
         Answers (answer.Refused code additional) handle.old result handle.new }
 {

@@ -20,6 +20,12 @@ parts_of handle = handle.held.value.port.parts
 abbrev pub IsRefused : ℕ → IolPort → IolPort → Type 0
 IsRefused result old new = (result ≡ 252) × (new ≡ old)
 
+-- all stays but the port's parts: the handle is as open as it was, the port's opening and the archived journal are what they were
+abbrev pub Stays : IolPort → IolPort → Type 0
+Stays old new =
+    (new.is_open ≡ old.is_open)
+    × (new.held.value ≡ record old.held.value { port = record old.held.value.port { parts = parts_of new } })
+
 -- the number of an answer: that of its refusal, or 0
 abbrev pub number_of : {X : Type 0} → Result X PortFault → ℕ
 number_of (Ok value) = 0

@@ -1,9 +1,14 @@
--- What C is shown of a status and of an outcome, as numbers.
-use Rattle.std.specs.Prelude.{◌≡◌, ℕ, Option, Some, None}
+-- What C is shown of a status, an outcome and an entry of a journal, as numbers.
+use Rattle.std.specs.Prelude.{◌≡◌, ℕ, List, [], ◌∷◌, take, Option, Some, None}
+use Rattle.iol_isdu.specs.declared.values.Place.{Place}
+use Rattle.iol_isdu.specs.declared.values.Request.{Request}
+use Rattle.iol_isdu.specs.declared.values.Request.TheVariants as request
 use Rattle.iol_isdu.specs.declared.values.Answer.{Answer}
 use Rattle.iol_isdu.specs.declared.values.Answer.TheVariants.{Read, Written, Refused}
 use Rattle.iol_isdu.specs.declared.values.Cause.{Cause}
 use Rattle.iol_isdu.specs.declared.values.Cause.TheVariants.{LinkLost, Restarted, BusyTooLong, Protocol, Cancelled}
+use Rattle.iol_book.specs.declared.entries.Entry.{Entry}
+use Rattle.iol_book.specs.declared.entries.Entry.TheVariants as entry
 use Rattle.iol_book.specs.declared.entries.Outcome.{Outcome}
 use Rattle.iol_book.specs.declared.entries.Outcome.TheVariants.{Done, Unknown, Withdrawn, NoIsdu}
 use Rattle.iol_mode.specs.declared.why.Why.{Why}
@@ -12,6 +17,9 @@ use Rattle.iol_steps.specs.declared.mode.Mode.{Mode}
 use Rattle.iol_steps.specs.declared.mode.Mode.TheVariants.{Down, Startup, Preoperate, Operate}
 use Rattle.iol_app.specs.declared.station.Status.{Status}
 use Rattle.iolink_port_c.specs.declared.state.IolStatus.{IolStatus}
+use Rattle.iolink_port_c.specs.declared.outcome.IolOutcome.{IolOutcome}
+use Rattle.iolink_port_c.specs.declared.archive.IolRequest.{IolRequest}
+use Rattle.iolink_port_c.specs.declared.archive.IolEntry.{IolEntry}
 
 -- a mode's number
 abbrev pub mode_number : Mode → ℕ
@@ -55,3 +63,42 @@ cause_number Cancelled = 5
 abbrev pub outcome_cause : Outcome → ℕ
 outcome_cause (Unknown cause) = cause_number cause
 outcome_cause other = 0
+
+-- the octets of an answer: those that were read, or ErrorCode and AdditionalCode
+abbrev pub answer_octets : Answer → List ℕ
+answer_octets (Read octets) = octets.items
+answer_octets Written = []
+answer_octets (Refused code additional) = code ∷ additional ∷ []
+
+-- the octets of an outcome
+abbrev pub outcome_octets : Outcome → List ℕ
+outcome_octets (Done answer) = answer_octets answer
+outcome_octets other = []
+
+-- an outcome as C is shown it
+abbrev pub IsOutcome : Outcome → IolOutcome → Type 0
+IsOutcome outcome out =
+    (out.kind ≡ outcome_kind outcome) × (out.cause ≡ outcome_cause outcome) × (take out.length out.octets ≡ outcome_octets outcome)
+
+-- the place of a request
+abbrev pub IsAt : Place → IolRequest → Type 0
+IsAt place out = (out.index ≡ place.index) × (out.sub ≡ place.sub)
+
+-- a request as C is shown it
+abbrev pub IsRequest : Request → IolRequest → Type 0
+IsRequest (request.Read place) out = (out.kind ≡ 1) × IsAt place out × (out.length ≡ 0)
+IsRequest (request.Write place octets) out = (out.kind ≡ 2) × IsAt place out × (take out.length out.octets ≡ octets.items)
+
+-- an entry of a journal as C is shown it
+abbrev pub IsEntry : Entry → IolEntry → Type 0
+IsEntry (entry.Submitted ticket request) out = (out.kind ≡ 1) × (out.ticket ≡ ticket.0) × IsRequest request out.request
+IsEntry (entry.Urgent ticket request) out = (out.kind ≡ 2) × (out.ticket ≡ ticket.0) × IsRequest request out.request
+IsEntry (entry.Taken ticket) out = (out.kind ≡ 8) × (out.ticket ≡ ticket.0)
+IsEntry (entry.Answered ticket outcome) out = (out.kind ≡ 9) × (out.ticket ≡ ticket.0) × IsOutcome outcome out.outcome
+IsEntry (entry.Withdrawn ticket) out = (out.kind ≡ 12) × (out.ticket ≡ ticket.0)
+IsEntry (entry.Collected ticket) out = (out.kind ≡ 16) × (out.ticket ≡ ticket.0)
+
+-- the next entry, or kind 0 at the end
+abbrev pub IsNext : Option Entry → IolEntry → Type 0
+IsNext None out = out.kind ≡ 0
+IsNext (Some entry) out = IsEntry entry out

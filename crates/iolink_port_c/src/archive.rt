@@ -1,8 +1,9 @@
 //! The journal, entry by entry.
-ghost use Rattle.std.specs.Prelude.{◌≡◌, IsTrue, IsFalse};
+ghost use Rattle.std.specs.Prelude.{◌≡◌, ◌+◌, length, slice_get, IsSome, IsTrue, IsFalse};
 ghost use Rattle.iol_book.specs.BookModel.{may_archive, archived};
 ghost use Rattle.iol_port.specs.EveryWire.{IsBookCall};
 ghost use Rattle.iolink_port_c.specs.Calls.{parts_of, IsRefused};
+ghost use Rattle.iolink_port_c.specs.Shown.{IsRequest, IsEntry, IsNext};
 
 use crate::held::{IolPort, Master};
 use crate::octets::put;
@@ -58,10 +59,14 @@ pub struct IolEntry {
 #[unsafe(no_mangle)]
 pub extern "C" fn iol_port_archive(alloc: Global, handle: &mut IolPort, count: &mut u32) -> u8
     ensures closed { IsFalse handle.old.is_open → IsRefused result handle.old handle.new }
+    ensures stays { handle.new.is_open ≡ handle.old.is_open }
+    ensures opening { handle.new.held.value.port ≡
+        record handle.old.held.value.port { parts = parts_of handle.new } }
     ensures refused { IsTrue handle.old.is_open → IsFalse (may_archive (parts_of handle.old).book.state) →
         (result ≡ 28) × (count.new ≡ 0) }
     ensures done { IsTrue handle.old.is_open → IsTrue (may_archive (parts_of handle.old).book.state) →
-        (result ≡ 0) × (handle.new.held.value.journal.items ≡ (parts_of handle.old).book.state.journal) }
+        (result ≡ 0) × (handle.new.held.value.journal.items ≡ (parts_of handle.old).book.state.journal) ×
+        (handle.new.held.value.read ≡ 0) × (count.new ≡ length (parts_of handle.old).book.state.journal) }
     ensures book { IsTrue handle.old.is_open →
         (parts_of handle.new).book.state ≡ archived (parts_of handle.old).book.state }
     ensures rest { IsTrue handle.old.is_open → IsBookCall (parts_of handle.old) (parts_of handle.new) }
@@ -91,39 +96,54 @@ pub extern "C" fn iol_port_archive(alloc: Global, handle: &mut IolPort, count: &
 #[unsafe(no_mangle)]
 pub extern "C" fn iol_port_entry(alloc: Global, handle: &mut IolPort, out: &mut IolEntry) -> u8
     ensures closed { IsFalse handle.old.is_open → IsRefused result handle.old handle.new }
-    ensures port { parts_of handle.new ≡ parts_of handle.old }
+    ensures stays { handle.new.is_open ≡ handle.old.is_open }
+    ensures port { handle.new.held.value.port ≡ handle.old.held.value.port }
+    ensures shown { IsTrue handle.old.is_open →
+        IsNext (slice_get handle.old.held.value.journal.items handle.old.held.value.read) out.new }
+    ensures next { IsTrue handle.old.is_open →
+        IsSome (slice_get handle.old.held.value.journal.items handle.old.held.value.read) →
+        handle.new.held.value ≡ record handle.old.held.value { read = handle.old.held.value.read + 1 } }
 {
     if !handle.is_open {
         return CLOSED;
     }
-    replace_with(handle, (alloc, out), |handle, (alloc, out)| {
+    let next = replace_with(handle, alloc, |handle, alloc| {
         let mut master = handle.into_box(alloc);
-        next_entry(alloc, &mut master, out);
-        (IolPort::of(master), ())
+        let next = next_entry(alloc, &mut master);
+        (IolPort::of(master), next)
     });
-    0
-}
-
-fn next_entry(alloc: Global, master: &mut Master, out: &mut IolEntry)
-    ensures { master.new.port ≡ master.old.port }
-{
     out.kind = 0;
     out.ticket = 0;
     out.request.kind = 0;
     out.outcome.kind = 0;
+    if let Some(entry) = next {
+        show_entry(&entry, out);
+    }
+    0
+}
+
+fn next_entry(alloc: Global, master: &mut Master) -> Option<Entry>
+    ensures port { master.new.port ≡ master.old.port }
+    ensures entry { result ≡ slice_get master.old.journal.items master.old.read }
+    ensures next { IsSome result → master.new ≡ record master.old { read = master.old.read + 1 } }
+{
     match master.journal.get(master.read) {
         Some(entry) => {
-            show_entry(entry, out);
+            let entry = entry.clone().unwrap();
             master.read += 1;
+            Some(entry)
         }
         None => {
             master.journal = Vec::new(alloc);
             master.read = 0;
+            None
         }
     }
 }
 
-fn show_entry(entry: &Entry, out: &mut IolEntry) {
+fn show_entry(entry: &Entry, out: &mut IolEntry)
+    ensures { IsEntry entry.now out.new }
+{
     let (kind, Ticket(ticket)) = match entry {
         Entry::Submitted(ticket, request) => {
             show_request(request, &mut out.request);
@@ -145,7 +165,9 @@ fn show_entry(entry: &Entry, out: &mut IolEntry) {
     out.ticket = ticket;
 }
 
-fn show_request(request: &Request, out: &mut IolRequest) {
+fn show_request(request: &Request, out: &mut IolRequest)
+    ensures { IsRequest request.now out.new }
+{
     match request {
         Request::Read(place) => {
             out.kind = READ;
@@ -161,7 +183,9 @@ fn show_request(request: &Request, out: &mut IolRequest) {
     }
 }
 
-fn show_place(place: Place, out: &mut IolRequest) {
+fn show_place(place: Place, out: &mut IolRequest)
+    ensures { out.new ≡ record out.old { index = place.index; sub = place.sub } }
+{
     out.index = place.index;
     out.sub = place.sub;
 }

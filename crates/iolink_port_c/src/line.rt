@@ -1,10 +1,13 @@
 //! The line: what goes out, and what came.
 ghost use Rattle.std.specs.Prelude.{◌≡◌, ◌≤◌, ◌<◌, None, Some, length, take, IsTrue, IsFalse};
 ghost use Rattle.iol_app.specs.declared.asked.Asked.{Asked};
+ghost use Rattle.iol_port.specs.declared.call.Call.TheVariants as call;
+ghost use Rattle.iol_port.specs.declared.call.Answered.TheVariants as answered;
+ghost use Rattle.iol_port.specs.View.{Does};
 ghost use Rattle.iol_port.specs.Asks.{asks_of};
 ghost use Rattle.iol_line.specs.Told.{is_honest, far_of, silence_of};
 ghost use Rattle.iol_line.specs.Driving.{TurnWoken, TurnAnswered};
-ghost use Rattle.iolink_port_c.specs.Calls.{parts_of, IsRefused, rate_of, answer_of};
+ghost use Rattle.iolink_port_c.specs.Calls.{parts_of, IsRefused, Stays, rate_of, answer_of};
 
 use crate::held::IolPort;
 use crate::octets::put;
@@ -29,6 +32,7 @@ pub struct IolMessage {
 #[unsafe(no_mangle)]
 pub extern "C" fn iol_port_asks(alloc: Global, handle: &mut IolPort, out: &mut IolMessage) -> u8
     ensures closed { IsFalse handle.old.is_open → IsRefused result handle.old handle.new }
+    ensures stays { handle.new.is_open ≡ handle.old.is_open }
     ensures done { IsTrue handle.old.is_open → result ≡ 0 }
     ensures same { handle.new.held.value ≡ handle.old.held.value }
     ensures wake { IsTrue handle.old.is_open → asks_of (parts_of handle.old) ≡ Asked.Wake → out.new.length ≡ 0 }
@@ -60,6 +64,7 @@ pub extern "C" fn iol_port_asks(alloc: Global, handle: &mut IolPort, out: &mut I
 #[unsafe(no_mangle)]
 pub extern "C" fn iol_port_turn_woken(alloc: Global, handle: &mut IolPort, rate: u8) -> u8
     ensures closed { IsFalse handle.old.is_open → IsRefused result handle.old handle.new }
+    ensures stays { Stays handle.old handle.new }
     ensures range { IsTrue handle.old.is_open → 3 < rate → (result ≡ 254) × (handle.new ≡ handle.old) }
     ensures refused { IsTrue handle.old.is_open → rate ≤ 3 →
         (sent : _) → asks_of (parts_of handle.old) ≡ Asked.Exchange sent →
@@ -67,6 +72,9 @@ pub extern "C" fn iol_port_turn_woken(alloc: Global, handle: &mut IolPort, rate:
     ensures turn { IsTrue handle.old.is_open → rate ≤ 3 → asks_of (parts_of handle.old) ≡ Asked.Wake →
         (result ≡ 0) × TurnWoken is_honest far_of silence_of
         (rate_of rate) None (parts_of handle.old) (parts_of handle.new) }
+    ensures does { IsTrue handle.old.is_open → rate ≤ 3 → asks_of (parts_of handle.old) ≡ Asked.Wake →
+        Does is_honest far_of silence_of
+        (parts_of handle.old) call.Turn answered.Nothing (parts_of handle.new) }
 {
     if !handle.is_open {
         return CLOSED;
@@ -105,6 +113,7 @@ fn rate_named(number: u8) -> Option<Rate>
 #[unsafe(no_mangle)]
 pub extern "C" fn iol_port_turn_answered(alloc: Global, handle: &mut IolPort, octets: &[u8]) -> u8
     ensures closed { IsFalse handle.old.is_open → IsRefused result handle.old handle.new }
+    ensures stays { Stays handle.old handle.new }
     ensures long { IsTrue handle.old.is_open → 66 < length octets.now → (result ≡ 254) × (handle.new ≡ handle.old) }
     ensures refused { IsTrue handle.old.is_open → length octets.now ≤ 66 →
         asks_of (parts_of handle.old) ≡ Asked.Wake →
@@ -113,6 +122,10 @@ pub extern "C" fn iol_port_turn_answered(alloc: Global, handle: &mut IolPort, oc
         (sent : _) → asks_of (parts_of handle.old) ≡ Asked.Exchange sent →
         (result ≡ 0) × TurnAnswered is_honest far_of silence_of
         sent (answer_of octets.now) None (parts_of handle.old) (parts_of handle.new) }
+    ensures does { IsTrue handle.old.is_open → length octets.now ≤ 66 →
+        (sent : _) → asks_of (parts_of handle.old) ≡ Asked.Exchange sent →
+        Does is_honest far_of silence_of
+        (parts_of handle.old) call.Turn answered.Nothing (parts_of handle.new) }
 {
     if !handle.is_open {
         return CLOSED;

@@ -1,6 +1,6 @@
 //! How a request ended, as C sees it.
-ghost use Rattle.std.specs.Prelude.{◌≡◌};
-ghost use Rattle.iolink_port_c.specs.Shown.{outcome_kind, outcome_cause, answer_kind, cause_number};
+ghost use Rattle.std.specs.Prelude.{◌≡◌, take};
+ghost use Rattle.iolink_port_c.specs.Shown.{IsOutcome, answer_kind, answer_octets, cause_number};
 
 use crate::octets::put;
 use iol_book::Outcome;
@@ -33,8 +33,7 @@ pub struct IolOutcome {
 }
 
 pub(crate) fn show_outcome(outcome: &Outcome, out: &mut IolOutcome)
-    ensures kind { out.new.kind ≡ outcome_kind outcome.now }
-    ensures cause { out.new.cause ≡ outcome_cause outcome.now }
+    ensures { IsOutcome outcome.now out.new }
 {
     out.cause = 0;
     out.length = 0;
@@ -51,6 +50,7 @@ pub(crate) fn show_outcome(outcome: &Outcome, out: &mut IolOutcome)
 
 fn show_answer(answer: &Answer, out: &mut IolOutcome)
     ensures kind { out.new.kind ≡ answer_kind answer.now }
+    ensures octets { take out.new.length out.new.octets ≡ answer_octets answer.now }
     ensures cause { out.new.cause ≡ out.old.cause }
 {
     match answer {
@@ -59,12 +59,14 @@ fn show_answer(answer: &Answer, out: &mut IolOutcome)
             out.length = octets.len() as u8;
             put(octets.as_slice(), &mut out.octets);
         }
-        Answer::Written => out.kind = WRITTEN,
+        Answer::Written => {
+            out.kind = WRITTEN;
+            out.length = 0;
+        }
         Answer::Refused(code, additional) => {
             out.kind = REFUSED;
             out.length = 2;
-            out.octets[0] = *code;
-            out.octets[1] = *additional;
+            put(&[*code, *additional], &mut out.octets);
         }
     }
 }

@@ -1,5 +1,8 @@
 //! Opening and closing.
-ghost use Rattle.std.specs.Prelude.{◌≡◌, true, false, IsTrue, IsFalse};
+ghost use Rattle.std.specs.Prelude.{◌≡◌, true, false, None, IsTrue, IsFalse};
+ghost use Rattle.iol_port.specs.View.{IsOpened, opening_of};
+ghost use Rattle.iol_line.specs.Told.{is_honest, far_of, silence_of};
+ghost use Rattle.iolink_port_c.specs.Calls.{parts_of};
 
 use crate::held::{IolPort, Master};
 use crate::refusal::{CLOSED, IS_OPEN, OUT_OF_RANGE};
@@ -29,6 +32,10 @@ pub extern "C" fn iol_port_open(
 ) -> u8
     ensures once { IsTrue handle.old.is_open → (result ≡ 253) × (handle.new ≡ handle.old) }
     ensures opened { result ≡ 0 → handle.new.is_open ≡ true }
+    ensures opening { result ≡ 0 → handle.new.held.value.port.opening ≡ opening_of is_honest far_of silence_of
+        (record { journal = journal; busy = busy; given = given }) None }
+    ensures parts { result ≡ 0 → IsOpened handle.new.held.value.port.opening (parts_of handle.new) }
+    ensures writer { result ≡ 0 → handle.new.held.value.port.writer ≡ None }
 {
     if handle.is_open {
         return IS_OPEN;

@@ -5,8 +5,8 @@ ghost use Rattle.iol_book.specs.declared.entries.Ticket.{Ticket};
 ghost use Rattle.iol_book.specs.BookModel.{submitted, submitted_urgent};
 ghost use Rattle.iol_port.specs.declared.fault.PortFault.{PortFault};
 ghost use Rattle.iol_port.specs.EveryWire.{SubmitGives, CollectGives, WithdrawGives, CancelGives};
-ghost use Rattle.iolink_port_c.specs.Shown.{outcome_kind};
-ghost use Rattle.iolink_port_c.specs.Calls.{parts_of, IsRefused, number_of, ticket_out};
+ghost use Rattle.iolink_port_c.specs.Shown.{IsOutcome};
+ghost use Rattle.iolink_port_c.specs.Calls.{parts_of, IsRefused, Stays, number_of, ticket_out};
 
 use crate::held::IolPort;
 use crate::outcome::{IolOutcome, show_outcome};
@@ -19,7 +19,7 @@ use std::alloc::Global;
 
 fn submit(alloc: Global, handle: &mut IolPort, request: Request) -> Result<Ticket, PortFault>
     requires { IsTrue handle.old.is_open }
-    ensures opened { IsTrue handle.new.is_open }
+    ensures stays { Stays handle.old handle.new }
     ensures gives { SubmitGives (parts_of handle.old)
         (submitted (parts_of handle.old).book.state request) result (parts_of handle.new) }
 {
@@ -32,7 +32,7 @@ fn submit(alloc: Global, handle: &mut IolPort, request: Request) -> Result<Ticke
 
 fn submit_urgent(alloc: Global, handle: &mut IolPort, request: Request) -> Result<Ticket, PortFault>
     requires { IsTrue handle.old.is_open }
-    ensures opened { IsTrue handle.new.is_open }
+    ensures stays { Stays handle.old handle.new }
     ensures gives { SubmitGives (parts_of handle.old)
         (submitted_urgent (parts_of handle.old).book.state request) result (parts_of handle.new) }
 {
@@ -70,6 +70,7 @@ pub extern "C" fn iol_port_read(
     ticket: &mut u64,
 ) -> u8
     ensures closed { IsFalse handle.old.is_open → IsRefused result handle.old handle.new }
+    ensures stays { Stays handle.old handle.new }
     ensures gives { IsTrue handle.old.is_open → (answer : Result Ticket PortFault) ×
         (result ≡ number_of answer) × (ticket.new ≡ ticket_out answer) ×
         SubmitGives (parts_of handle.old) (submitted (parts_of handle.old).book.state
@@ -92,6 +93,7 @@ pub extern "C" fn iol_port_read_urgent(
     ticket: &mut u64,
 ) -> u8
     ensures closed { IsFalse handle.old.is_open → IsRefused result handle.old handle.new }
+    ensures stays { Stays handle.old handle.new }
     ensures gives { IsTrue handle.old.is_open → (answer : Result Ticket PortFault) ×
         (result ≡ number_of answer) × (ticket.new ≡ ticket_out answer) ×
         SubmitGives (parts_of handle.old) (submitted_urgent (parts_of handle.old).book.state
@@ -116,6 +118,7 @@ pub extern "C" fn iol_port_write(
     ticket: &mut u64,
 ) -> u8
     ensures closed { IsFalse handle.old.is_open → IsRefused result handle.old handle.new }
+    ensures stays { Stays handle.old handle.new }
     ensures long { IsTrue handle.old.is_open → 232 < length octets.now → (result ≡ 9) × (handle.new ≡ handle.old) }
     ensures gives { IsTrue handle.old.is_open → length octets.now ≤ 232 → (answer : Result Ticket PortFault) ×
         (result ≡ number_of answer) × (ticket.new ≡ ticket_out answer) ×
@@ -146,6 +149,7 @@ pub extern "C" fn iol_port_write_urgent(
     ticket: &mut u64,
 ) -> u8
     ensures closed { IsFalse handle.old.is_open → IsRefused result handle.old handle.new }
+    ensures stays { Stays handle.old handle.new }
     ensures long { IsTrue handle.old.is_open → 232 < length octets.now → (result ≡ 9) × (handle.new ≡ handle.old) }
     ensures gives { IsTrue handle.old.is_open → length octets.now ≤ 232 → (answer : Result Ticket PortFault) ×
         (result ≡ number_of answer) × (ticket.new ≡ ticket_out answer) ×
@@ -175,9 +179,10 @@ pub extern "C" fn iol_port_collect(
     out: &mut IolOutcome,
 ) -> u8
     ensures closed { IsFalse handle.old.is_open → IsRefused result handle.old handle.new }
+    ensures stays { Stays handle.old handle.new }
     ensures gives { IsTrue handle.old.is_open → (answer : _) × (result ≡ number_of answer) ×
         CollectGives (parts_of handle.old) (record { 0 = ticket }) answer (parts_of handle.new) ×
-        IfOk answer (λ outcome. out.new.kind ≡ outcome_kind outcome) }
+        IfOk answer (λ outcome. IsOutcome outcome out.new) }
 {
     if !handle.is_open {
         return CLOSED;
@@ -201,6 +206,7 @@ pub extern "C" fn iol_port_collect(
 #[unsafe(no_mangle)]
 pub extern "C" fn iol_port_withdraw(alloc: Global, handle: &mut IolPort, ticket: u64) -> u8
     ensures closed { IsFalse handle.old.is_open → IsRefused result handle.old handle.new }
+    ensures stays { Stays handle.old handle.new }
     ensures gives { IsTrue handle.old.is_open → (answer : _) × (result ≡ number_of answer) ×
         WithdrawGives (parts_of handle.old) (record { 0 = ticket }) answer (parts_of handle.new) }
 {
@@ -223,6 +229,7 @@ pub extern "C" fn iol_port_withdraw(alloc: Global, handle: &mut IolPort, ticket:
 #[unsafe(no_mangle)]
 pub extern "C" fn iol_port_cancel(alloc: Global, handle: &mut IolPort, ticket: u64) -> u8
     ensures closed { IsFalse handle.old.is_open → IsRefused result handle.old handle.new }
+    ensures stays { Stays handle.old handle.new }
     ensures gives { IsTrue handle.old.is_open → (answer : _) × (result ≡ number_of answer) ×
         CancelGives (parts_of handle.old) (record { 0 = ticket }) answer (parts_of handle.new) }
 {

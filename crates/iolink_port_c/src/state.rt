@@ -1,10 +1,10 @@
 //! The link, process data and events.
-ghost use Rattle.std.specs.Prelude.{◌≡◌, Some, None, take, length, unwrap_or, [], IsTrue, IsFalse};
+ghost use Rattle.std.specs.Prelude.{◌≡◌, Some, None, take, length, unwrap_or, [], IsTrue, IsFalse, IfOk};
 ghost use Rattle.iol_port.specs.EveryWire.{TakeEventGives, SetOutputGives, ClearOutputGives, RestartGives};
 ghost use Rattle.iol_image.specs.Image.{IsImage};
 ghost use Rattle.iol_port.specs.View.{status_of};
 ghost use Rattle.iolink_port_c.specs.Shown.{IsShown};
-ghost use Rattle.iolink_port_c.specs.Calls.{parts_of, IsRefused, number_of};
+ghost use Rattle.iolink_port_c.specs.Calls.{parts_of, IsRefused, Stays, number_of};
 
 use crate::held::IolPort;
 use crate::octets::put;
@@ -18,6 +18,7 @@ use std::alloc::Global;
 #[unsafe(no_mangle)]
 pub extern "C" fn iol_port_restart(alloc: Global, handle: &mut IolPort) -> u8
     ensures closed { IsFalse handle.old.is_open → IsRefused result handle.old handle.new }
+    ensures stays { Stays handle.old handle.new }
     ensures gives { IsTrue handle.old.is_open →
         (result ≡ 0) × RestartGives (parts_of handle.old) (parts_of handle.new) }
 {
@@ -37,6 +38,7 @@ pub extern "C" fn iol_port_restart(alloc: Global, handle: &mut IolPort) -> u8
 #[unsafe(no_mangle)]
 pub extern "C" fn iol_port_set_output(alloc: Global, handle: &mut IolPort, octets: &[u8]) -> u8
     ensures closed { IsFalse handle.old.is_open → IsRefused result handle.old handle.new }
+    ensures stays { Stays handle.old handle.new }
     ensures gives { IsTrue handle.old.is_open → IsImage octets.now →
         (answer : _) × (result ≡ number_of answer) ×
         SetOutputGives (parts_of handle.old) octets.now answer (parts_of handle.new) }
@@ -63,6 +65,7 @@ pub extern "C" fn iol_port_set_output(alloc: Global, handle: &mut IolPort, octet
 #[unsafe(no_mangle)]
 pub extern "C" fn iol_port_clear_output(alloc: Global, handle: &mut IolPort) -> u8
     ensures closed { IsFalse handle.old.is_open → IsRefused result handle.old handle.new }
+    ensures stays { Stays handle.old handle.new }
     ensures gives { IsTrue handle.old.is_open →
         (result ≡ 0) × ClearOutputGives (parts_of handle.old) (parts_of handle.new) }
 {
@@ -88,6 +91,7 @@ pub struct IolImage {
 #[unsafe(no_mangle)]
 pub extern "C" fn iol_port_image(alloc: Global, handle: &mut IolPort, out: &mut IolImage) -> u8
     ensures closed { IsFalse handle.old.is_open → IsRefused result handle.old handle.new }
+    ensures stays { handle.new.is_open ≡ handle.old.is_open }
     ensures same { handle.new.held.value ≡ handle.old.held.value }
     ensures image { IsTrue handle.old.is_open → (result ≡ 0) × (take out.new.length out.new.octets
         ≡ unwrap_or (parts_of handle.old).station.session.image []) }
@@ -124,8 +128,10 @@ pub struct IolEvent {
 #[unsafe(no_mangle)]
 pub extern "C" fn iol_port_take_event(alloc: Global, handle: &mut IolPort, out: &mut IolEvent) -> u8
     ensures closed { IsFalse handle.old.is_open → IsRefused result handle.old handle.new }
+    ensures stays { Stays handle.old handle.new }
     ensures gives { IsTrue handle.old.is_open → (answer : _) × (result ≡ number_of answer) ×
-        TakeEventGives (parts_of handle.old) answer (parts_of handle.new) }
+        TakeEventGives (parts_of handle.old) answer (parts_of handle.new) ×
+        IfOk answer (λ event. (out.new.qualifier ≡ event.qualifier) × (out.new.code ≡ event.code)) }
 {
     if !handle.is_open {
         return CLOSED;
@@ -160,6 +166,7 @@ pub struct IolStatus {
 #[unsafe(no_mangle)]
 pub extern "C" fn iol_port_status(alloc: Global, handle: &mut IolPort, out: &mut IolStatus) -> u8
     ensures closed { IsFalse handle.old.is_open → IsRefused result handle.old handle.new }
+    ensures stays { handle.new.is_open ≡ handle.old.is_open }
     ensures same { handle.new.held.value ≡ handle.old.held.value }
     ensures status { IsTrue handle.old.is_open →
         (result ≡ 0) × IsShown (status_of (parts_of handle.old).station) out.new }
