@@ -62,7 +62,8 @@ pub extern "C" fn iol_device_close(alloc: Global, handle: &mut IolDevice) -> u8
 pub extern "C" fn iol_device_wake(alloc: Global, handle: &mut IolDevice) -> u8
     ensures closed { IsFalse handle.old.is_open → IsRefused result handle.old handle.new }
     ensures stays { handle.new.is_open ≡ handle.old.is_open }
-    ensures far { IsTrue handle.old.is_open → (result ≡ 0) × (far_of handle.new ≡ woken (far_of handle.old)) }
+    ensures far { IsTrue handle.old.is_open → (result ≡ 0)
+        × (far_of handle.new ≡ woken (far_of handle.old)) }
 {
     if !handle.is_open {
         return CLOSED;
@@ -106,8 +107,10 @@ pub extern "C" fn iol_device_raise(
     ensures stays { handle.new.is_open ≡ handle.old.is_open }
     ensures far { IsTrue handle.old.is_open → far_of handle.new ≡ local (far_of handle.old)
         (LocalStep.Raise (record { qualifier = qualifier; code = code })) }
-    ensures full { IsTrue handle.old.is_open → IsTrue (is_full (far_of handle.old).events) → result ≡ 16 }
-    ensures done { IsTrue handle.old.is_open → IsFalse (is_full (far_of handle.old).events) → result ≡ 0 }
+    ensures full { IsTrue handle.old.is_open → IsTrue (is_full (far_of handle.old).events)
+        → result ≡ 16 }
+    ensures done { IsTrue handle.old.is_open → IsFalse (is_full (far_of handle.old).events)
+        → result ≡ 0 }
 {
     if !handle.is_open {
         return CLOSED;

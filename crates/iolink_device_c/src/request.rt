@@ -110,7 +110,8 @@ fn answered(alloc: Global, handle: &mut IolDevice, answer: Answer) -> u8
 pub extern "C" fn iol_device_answer_read(alloc: Global, handle: &mut IolDevice, octets: &[u8]) -> u8
     ensures closed { IsFalse handle.old.is_open → IsRefused result handle.old handle.new }
     ensures stays { handle.new.is_open ≡ handle.old.is_open }
-    ensures long { IsTrue handle.old.is_open → 232 < length octets.now → (result ≡ 9) × (handle.new ≡ handle.old) }
+    ensures long { IsTrue handle.old.is_open → 232 < length octets.now → (result ≡ 9)
+        × (handle.new ≡ handle.old) }
     ensures answer { IsTrue handle.old.is_open → length octets.now ≤ 232 →
         Answers (read_of octets.now) handle.old result handle.new }
 {
@@ -128,7 +129,8 @@ pub extern "C" fn iol_device_answer_read(alloc: Global, handle: &mut IolDevice, 
 pub extern "C" fn iol_device_answer_written(alloc: Global, handle: &mut IolDevice) -> u8
     ensures closed { IsFalse handle.old.is_open → IsRefused result handle.old handle.new }
     ensures stays { handle.new.is_open ≡ handle.old.is_open }
-    ensures answer { IsTrue handle.old.is_open → Answers answer.Written handle.old result handle.new }
+    ensures answer { IsTrue handle.old.is_open
+        → Answers answer.Written handle.old result handle.new }
 {
     if !handle.is_open {
         return CLOSED;

@@ -69,7 +69,8 @@ pub extern "C" fn iol_port_archive(alloc: Global, handle: &mut IolPort, count: &
         (handle.new.held.value.read ≡ 0) × (count.new ≡ length (parts_of handle.old).book.state.journal) }
     ensures book { IsTrue handle.old.is_open →
         (parts_of handle.new).book.state ≡ archived (parts_of handle.old).book.state }
-    ensures rest { IsTrue handle.old.is_open → IsBookCall (parts_of handle.old) (parts_of handle.new) }
+    ensures rest { IsTrue handle.old.is_open
+        → IsBookCall (parts_of handle.old) (parts_of handle.new) }
 {
     if !handle.is_open {
         return CLOSED;

@@ -35,7 +35,8 @@ pub extern "C" fn iol_port_asks(alloc: Global, handle: &mut IolPort, out: &mut I
     ensures stays { handle.new.is_open ≡ handle.old.is_open }
     ensures done { IsTrue handle.old.is_open → result ≡ 0 }
     ensures same { handle.new.held.value ≡ handle.old.held.value }
-    ensures wake { IsTrue handle.old.is_open → asks_of (parts_of handle.old) ≡ Asked.Wake → out.new.length ≡ 0 }
+    ensures wake { IsTrue handle.old.is_open → asks_of (parts_of handle.old) ≡ Asked.Wake
+        → out.new.length ≡ 0 }
     ensures exchange { IsTrue handle.old.is_open →
         (sent : _) → asks_of (parts_of handle.old) ≡ Asked.Exchange sent →
         take out.new.length out.new.octets ≡ sent.items }
@@ -65,7 +66,8 @@ pub extern "C" fn iol_port_asks(alloc: Global, handle: &mut IolPort, out: &mut I
 pub extern "C" fn iol_port_turn_woken(alloc: Global, handle: &mut IolPort, rate: u8) -> u8
     ensures closed { IsFalse handle.old.is_open → IsRefused result handle.old handle.new }
     ensures stays { Stays handle.old handle.new }
-    ensures range { IsTrue handle.old.is_open → 3 < rate → (result ≡ 254) × (handle.new ≡ handle.old) }
+    ensures range { IsTrue handle.old.is_open → 3 < rate → (result ≡ 254)
+        × (handle.new ≡ handle.old) }
     ensures refused { IsTrue handle.old.is_open → rate ≤ 3 →
         (sent : _) → asks_of (parts_of handle.old) ≡ Asked.Exchange sent →
         (result ≡ 255) × (parts_of handle.new ≡ parts_of handle.old) }
@@ -114,7 +116,8 @@ fn rate_named(number: u8) -> Option<Rate>
 pub extern "C" fn iol_port_turn_answered(alloc: Global, handle: &mut IolPort, octets: &[u8]) -> u8
     ensures closed { IsFalse handle.old.is_open → IsRefused result handle.old handle.new }
     ensures stays { Stays handle.old handle.new }
-    ensures long { IsTrue handle.old.is_open → 66 < length octets.now → (result ≡ 254) × (handle.new ≡ handle.old) }
+    ensures long { IsTrue handle.old.is_open → 66 < length octets.now → (result ≡ 254)
+        × (handle.new ≡ handle.old) }
     ensures refused { IsTrue handle.old.is_open → length octets.now ≤ 66 →
         asks_of (parts_of handle.old) ≡ Asked.Wake →
         (result ≡ 255) × (parts_of handle.new ≡ parts_of handle.old) }

@@ -119,7 +119,8 @@ pub extern "C" fn iol_port_write(
 ) -> u8
     ensures closed { IsFalse handle.old.is_open → IsRefused result handle.old handle.new }
     ensures stays { Stays handle.old handle.new }
-    ensures long { IsTrue handle.old.is_open → 232 < length octets.now → (result ≡ 9) × (handle.new ≡ handle.old) }
+    ensures long { IsTrue handle.old.is_open → 232 < length octets.now → (result ≡ 9)
+        × (handle.new ≡ handle.old) }
     ensures gives { IsTrue handle.old.is_open → length octets.now ≤ 232 → (answer : Result Ticket PortFault) ×
         (result ≡ number_of answer) × (ticket.new ≡ ticket_out answer) ×
         SubmitGives (parts_of handle.old) (submitted (parts_of handle.old).book.state
@@ -150,7 +151,8 @@ pub extern "C" fn iol_port_write_urgent(
 ) -> u8
     ensures closed { IsFalse handle.old.is_open → IsRefused result handle.old handle.new }
     ensures stays { Stays handle.old handle.new }
-    ensures long { IsTrue handle.old.is_open → 232 < length octets.now → (result ≡ 9) × (handle.new ≡ handle.old) }
+    ensures long { IsTrue handle.old.is_open → 232 < length octets.now → (result ≡ 9)
+        × (handle.new ≡ handle.old) }
     ensures gives { IsTrue handle.old.is_open → length octets.now ≤ 232 → (answer : Result Ticket PortFault) ×
         (result ≡ number_of answer) × (ticket.new ≡ ticket_out answer) ×
         SubmitGives (parts_of handle.old) (submitted_urgent (parts_of handle.old).book.state
