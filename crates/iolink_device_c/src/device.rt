@@ -13,8 +13,9 @@ use iol_event::Event;
 use iol_page::Page;
 use std::alloc::Global;
 
-/// Opens a device with this direct parameter page 1, asleep: 0, or 8, 7 or 2 where the page is refused, 24 where there is
-/// no memory, and 253 where the handle is open already. It takes no memory after this.
+/// Opens a device with this direct parameter page 1, asleep. It takes no memory after this.
+///
+/// 0, or 8, 7 or 2 where the page is refused, 24 where there is no memory, and 253 where the handle is open already.
 #[unsafe(no_mangle)]
 pub extern "C" fn iol_device_open(alloc: Global, handle: &mut IolDevice, page: &[u8; 10]) -> u8
     ensures once { IsTrue handle.old.is_open → (result ≡ 253) × (handle.new ≡ handle.old) }

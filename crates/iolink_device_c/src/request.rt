@@ -104,8 +104,9 @@ fn answered(alloc: Global, handle: &mut IolDevice, answer: Answer) -> u8
     })
 }
 
-/// The read that is handed over gave these octets: 0, or 252 where the handle is closed, 9 for more than 232 octets, and
-/// 255 where no read is handed over.
+/// The read that is handed over gave these octets.
+///
+/// 0, or 252 where the handle is closed, 9 for more than 232 octets, and 255 where no read is handed over.
 #[unsafe(no_mangle)]
 pub extern "C" fn iol_device_answer_read(alloc: Global, handle: &mut IolDevice, octets: &[u8]) -> u8
     ensures closed { IsFalse handle.old.is_open → IsRefused result handle.old handle.new }

@@ -110,8 +110,10 @@ fn rate_named(number: u8) -> Option<Rate>
 }
 
 /// The turn in which the octets that the port asks for were sent, and these came back in the time of a reply; none did
-/// where `octets` is empty. Of more than 66 octets give the first 66: a reply of a wrong length as it is. 0, or 252 where
-/// the handle is closed, 254 for more than 66 octets, and 255 where the port asks for a wake; nothing changed then.
+/// where `octets` is empty. Of more than 66 octets give the first 66: a reply of a wrong length as it is.
+///
+/// 0, or 252 where the handle is closed, 254 for more than 66 octets, and 255 where the port asks for a wake; nothing
+/// changed then.
 #[unsafe(no_mangle)]
 pub extern "C" fn iol_port_turn_answered(alloc: Global, handle: &mut IolPort, octets: &[u8]) -> u8
     ensures closed { IsFalse handle.old.is_open → IsRefused result handle.old handle.new }

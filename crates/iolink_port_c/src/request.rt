@@ -203,8 +203,9 @@ pub extern "C" fn iol_port_collect(
     }
 }
 
-/// Takes back a request that waits: 0, or 252 where the handle is closed, 25 where no such ticket is outstanding, and 27
-/// where it waits no longer.
+/// Takes back a request that waits.
+///
+/// 0, or 252 where the handle is closed, 25 where no such ticket is outstanding, and 27 where it waits no longer.
 #[unsafe(no_mangle)]
 pub extern "C" fn iol_port_withdraw(alloc: Global, handle: &mut IolPort, ticket: u64) -> u8
     ensures closed { IsFalse handle.old.is_open → IsRefused result handle.old handle.new }
