@@ -7,13 +7,17 @@
  *   252  the handle is closed
  *   253  the handle is open already
  *   255  what was brought isn't what the device asks for
- * What is refused changed nothing; what a call hands out is written only where it answers 0.
+ * Beside each call stand its refusals, in the order in which they are tested: the first that holds is answered. Every
+ * call but iol_device_open tests 252 first. What is refused changed nothing, and what a call hands out is written only
+ * where it answers 0, so that what `out` points to is as it was.
  *
  * What you owe, and what nothing checks: a handle is zero or was opened, and is never copied; one call at a time, on the
  * thread that opened it, and none from a signal handler; no pointer is null, not even one to 0 octets; a pointer with a
  * count has that many octets; what is written through overlaps nothing else that is passed.
  *
- * What a master sends is any octets whatever: nothing is asked of it, and none does harm. */
+ * What a master sends is any octets whatever: nothing is asked of it, and none does harm.
+ *
+ * It can be included with iolink_port.h, before it or after it. */
 #ifndef IOLINK_DEVICE_H
 #define IOLINK_DEVICE_H
 
@@ -25,20 +29,31 @@
 extern "C" {
 #endif
 
-#ifndef IOL_CLOSED
+/* What both headers have. */
+#ifndef IOLINK_SEALED
+#define IOLINK_SEALED
+
 #define IOL_CLOSED 252
 #define IOL_IS_OPEN 253
 #define IOL_OUT_OF_RANGE 254
 #define IOL_NOT_ASKED 255
+
+/* A request: `kind` 1 a read, 2 a write of `length` octets, 0 none. */
+typedef struct { uint8_t kind; uint8_t sub; uint16_t index; uint8_t length; uint8_t octets[232]; } iol_request;
+
+/* Process data: `length` octets, none where that is 0. */
+typedef struct { uint8_t length; uint8_t octets[32]; } iol_image;
+
 #endif
 
 typedef struct { void *at; bool is_open; } iol_device;
 
-/* Opens a device with this direct parameter page 1, asleep until it is woken. It keeps no record, so it takes no memory
- * after this. 8, 7 or 2 the page, 24 no memory, 253. */
+/* Opens a device with direct parameter page 1, the ten octets of its addresses 0x02 to 0x0B, asleep until it is woken.
+ * It keeps no record, so it takes no memory after this. 253 it is open already, 8 the RevisionID is neither 0x11 nor
+ * 0x10, 7 ProcessDataIn or ProcessDataOut is no length, 2 its M-sequence codes have no layout, 24 no memory. */
 uint8_t iol_device_open(iol_device *device, const uint8_t page[10]);
 
-/* Ends the device, and gives its memory back. 252. */
+/* Ends the device, and gives its memory back. The handle can be opened again. 252. */
 uint8_t iol_device_close(iol_device *device);
 
 /* ---- the line */
@@ -46,47 +61,43 @@ uint8_t iol_device_close(iol_device *device);
 /* A reply: `length` octets, none where that is 0. */
 typedef struct { uint8_t length; uint8_t octets[66]; } iol_reply;
 
-/* These octets came: what is sent back. 252. */
+/* These octets came, any number of them: what is sent back, or no octet where the device is asleep or they are no
+ * message to it. 252. */
 uint8_t iol_device_hear(iol_device *device, const uint8_t *octets, size_t count, iol_reply *out);
 
-/* A wake-up request came. 252. */
+/* A wake-up request came: the device is awake, in startup, and a request under way is dropped. 252. */
 uint8_t iol_device_wake(iol_device *device);
 
-/* The power failed and came back. 252. */
+/* The power failed and came back: asleep, with no request, no event and no process data. 252. */
 uint8_t iol_device_power_cycle(iol_device *device);
 
 /* ---- requests: look whether one is handed over, carry it out, answer it once */
 
-/* A request: `kind` 1 a read, 2 a write of `length` octets, 0 none. */
-#ifndef IOLINK_PORT_H
-typedef struct { uint8_t kind; uint8_t sub; uint16_t index; uint8_t length; uint8_t octets[232]; } iol_request;
-#endif
-
-/* The request that is handed over and has no answer yet; `kind` is 0 where there is none. It changes nothing. 252. */
+/* The request that is handed over and has no answer yet; where there is none `kind` is 0, and the rest says nothing.
+ * A read has `length` 0, a write 0 to 232. It changes nothing. 252. */
 uint8_t iol_device_handed(iol_device *device, iol_request *out);
 
-/* The request that is handed over has this answer: the octets that were read, 232 at most; that it is written; or that
- * it is refused, with ErrorCode and AdditionalCode. 252, 9 more than 232 octets, 255 none is handed over, or the answer
- * is of the other kind. */
+/* The read that is handed over gave these octets, 0 to 232. 252, 9 more than 232 octets, 255 no read is handed over. */
 uint8_t iol_device_answer_read(iol_device *device, const uint8_t *octets, size_t count);
+
+/* The write that is handed over is done. 252, 255 no write is handed over. */
 uint8_t iol_device_answer_written(iol_device *device);
+
+/* The request that is handed over is refused, with ErrorCode and AdditionalCode. 252, 255 none is handed over. */
 uint8_t iol_device_answer_refused(iol_device *device, uint8_t code, uint8_t additional);
 
 /* ---- events and process data */
 
-/* Raises an event. 252, 16 the event memory is full. */
+/* Raises an event. 252, 16 the event memory is full: 32 events wait. */
 uint8_t iol_device_raise(iol_device *device, uint8_t qualifier, uint16_t code);
 
-/* The process data in from now on, or none that is valid. 252, 29 another length than the page has. */
+/* The process data in from now on, as many octets as the page says. 252, 29 another length, or the page has none. */
 uint8_t iol_device_set_input(iol_device *device, const uint8_t *octets, size_t count);
+
+/* No valid process data in from now on. 252. */
 uint8_t iol_device_clear_input(iol_device *device);
 
-/* Process data: `length` octets, none where that is 0. */
-#ifndef IOLINK_PORT_H
-typedef struct { uint8_t length; uint8_t octets[32]; } iol_image;
-#endif
-
-/* The process data out, none while none is valid. 252. */
+/* The process data out, no octet while none is valid. It changes nothing. 252. */
 uint8_t iol_device_output(iol_device *device, iol_image *out);
 
 #ifdef __cplusplus

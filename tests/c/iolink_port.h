@@ -8,14 +8,17 @@
  *   253  the handle is open already
  *   254  a number is out of its range
  *   255  what was brought isn't what the port asks for
- * What is refused changed nothing of the port; what a call hands out is written only where it answers 0, but for a
- * ticket and a count, which are then 0 (not for 9 and 252, which leave them).
+ * Beside each call stand its refusals, in the order in which they are tested: the first that holds is answered. What is
+ * refused changed nothing of the port. Every call but iol_port_open tests 252 first, and then writes nothing at all; by
+ * any other refusal a ticket or a count that a call hands out is 0, and anything else that it hands out is as it was.
  *
  * What you owe, and what nothing checks: a handle is zero or was opened, and is never copied; one call at a time, on the
  * thread that opened it, and none from a signal handler; no pointer is null, not even one to 0 octets; a pointer with a
  * count has that many octets; what is written through overlaps nothing else that is passed.
  *
- * What came on a line is any octets whatever: nothing is asked of it, and none does harm. */
+ * What came on a line is any octets whatever: nothing is asked of it, and none does harm.
+ *
+ * It can be included with iolink_device.h, before it or after it. */
 #ifndef IOLINK_PORT_H
 #define IOLINK_PORT_H
 
@@ -27,18 +30,28 @@
 extern "C" {
 #endif
 
-#ifndef IOL_CLOSED
+/* What both headers have. */
+#ifndef IOLINK_SEALED
+#define IOLINK_SEALED
+
 #define IOL_CLOSED 252
 #define IOL_IS_OPEN 253
 #define IOL_OUT_OF_RANGE 254
 #define IOL_NOT_ASKED 255
+
+/* A request: `kind` 1 a read, 2 a write of `length` octets, 0 none. */
+typedef struct { uint8_t kind; uint8_t sub; uint16_t index; uint8_t length; uint8_t octets[232]; } iol_request;
+
+/* Process data: `length` octets, none where that is 0. */
+typedef struct { uint8_t length; uint8_t octets[32]; } iol_image;
+
 #endif
 
 typedef struct { void *at; bool is_open; } iol_port;
 
 /* Opens a port, whose link is down. Its journal has at most `journal` entries, 4 to 1,000,000; a request is cut off
  * after `busy` busy replies, 2 to 65,535; the first ticket is `given` + 1.
- * 24 no memory, 253, 254. */
+ * 253 it is open already, 254 `journal` or `busy` is out of its range, 24 no memory. */
 uint8_t iol_port_open(iol_port *port, uint32_t journal, uint16_t busy, uint64_t given);
 
 /* Ends the port, and gives its memory back. 252. */
@@ -63,11 +76,12 @@ uint8_t iol_port_turn_answered(iol_port *port, const uint8_t *octets, size_t cou
 
 /* ---- requests */
 
-/* Enters a read, or a write of 0 to 232 octets, and answers its ticket; the urgent ones go before those that wait.
- * 252, 9 more than 232 octets, 21 64 tickets are outstanding, 22 the journal is full, 23 no ticket is left, 24 no
- * memory. */
+/* Enters a read and answers its ticket, which is never 0; the urgent one goes before those that wait and aren't urgent.
+ * 252, 21 64 tickets are outstanding, 22 the journal is full, 23 no ticket is left, 24 no memory. */
 uint8_t iol_port_read(iol_port *port, uint16_t index, uint8_t sub, uint64_t *ticket);
 uint8_t iol_port_read_urgent(iol_port *port, uint16_t index, uint8_t sub, uint64_t *ticket);
+
+/* The same of a write of 0 to 232 octets. 252, 9 more than 232 octets, 21, 22, 23, 24. */
 uint8_t iol_port_write(iol_port *port, uint16_t index, uint8_t sub, const uint8_t *octets, size_t count,
                        uint64_t *ticket);
 uint8_t iol_port_write_urgent(iol_port *port, uint16_t index, uint8_t sub, const uint8_t *octets, size_t count,
@@ -81,7 +95,7 @@ uint8_t iol_port_write_urgent(iol_port *port, uint16_t index, uint8_t sub, const
  *       4 no text of an answer, 5 cancelled
  *   12  withdrawn, and never sent
  *   16  the device has no ISDU, and it was never sent
- * 0 is none, and other kinds may come. */
+ * There are `length` octets, none but of 1 and 3. 0 is none, and other kinds may come. */
 typedef struct { uint8_t kind; uint8_t cause; uint8_t length; uint8_t octets[232]; } iol_outcome;
 
 /* Hands out the outcome of a ticket, which is outstanding no more. 252, 25 no such ticket is outstanding, 26 it has no
@@ -100,32 +114,29 @@ uint8_t iol_port_cancel(iol_port *port, uint64_t ticket);
 /* Cuts off the request under way, if any, and leaves the link in down. 252. */
 uint8_t iol_port_restart(iol_port *port);
 
-/* Wants this output of the device, or none. 252, 34 no start-up has told the lengths yet, 29 another length. */
+/* Wants this output of the device. 252, 29 not 1 to 32 octets, 34 no start-up has told the lengths yet, 29 another
+ * length than the device has. */
 uint8_t iol_port_set_output(iol_port *port, const uint8_t *octets, size_t count);
+
+/* Wants no output of the device. 252. */
 uint8_t iol_port_clear_output(iol_port *port);
 
-/* Process data: `length` octets, none where that is 0. */
-typedef struct { uint8_t length; uint8_t octets[32]; } iol_image;
-
-/* The device's input by the last good reply in OPERATE. 252. */
+/* The device's input by the last good reply in OPERATE; none in any other mode. 252. */
 uint8_t iol_port_image(iol_port *port, iol_image *out);
 
 typedef struct { uint8_t qualifier; uint16_t code; } iol_event;
 
-/* Hands out the event that was kept longest. 252, 30 none is kept. */
+/* Hands out the event that was kept longest, which is kept no more. 252, 30 none is kept. */
 uint8_t iol_port_take_event(iol_port *port, iol_event *out);
 
 /* `mode` is 1 down, 2 startup, 3 preoperate, 4 operate; `why` the number of the fault that led down, 0 where none did;
  * `event_form` says that a reading of events met a form that the master doesn't know. */
 typedef struct { uint8_t mode; uint8_t why; bool event_form; } iol_status;
 
-/* 252. */
+/* How the link is. 252. */
 uint8_t iol_port_status(iol_port *port, iol_status *out);
 
 /* ---- the journal */
-
-/* A request: `kind` 1 a read, 2 a write of `length` octets, 0 none. */
-typedef struct { uint8_t kind; uint8_t sub; uint16_t index; uint8_t length; uint8_t octets[232]; } iol_request;
 
 /* An entry of the journal. Where `kind` is 1 the request was submitted, 2 submitted as urgent; 8 the master began to
  * send it; 9 it has this outcome; 12 it was withdrawn while it waited; 16 its outcome was handed out; 0 there is no
@@ -133,7 +144,8 @@ typedef struct { uint8_t kind; uint8_t sub; uint16_t index; uint8_t length; uint
 typedef struct { uint64_t ticket; uint8_t kind; iol_request request; iol_outcome outcome; } iol_entry;
 
 /* Begins a new journal, and keeps the old one, of `count` entries, for iol_port_entry; one that was kept before is given
- * up. 252, 28 a ticket is outstanding, or a request that was cut off may still be carried out. */
+ * up. 252, 28 a ticket is outstanding, or a request that was cut off may still be carried out: the one that was kept
+ * before stays then. */
 uint8_t iol_port_archive(iol_port *port, uint32_t *count);
 
 /* The next entry of the journal that was archived last, the oldest first. At the end `kind` is 0, and the memory of that

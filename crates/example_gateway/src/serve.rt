@@ -4,7 +4,7 @@ ghost use Rattle.std.specs.Prelude.{◌≡◌};
 use crate::ports::{PLACE, open_port};
 use anyhow::{Result, bail};
 use iol_book::Ticket;
-use iol_image::image_cell;
+use iol_cell::image_cell;
 use iol_isdu::Request;
 use iol_link::Wire;
 use iol_master::{Gate, Master, MasterFault};

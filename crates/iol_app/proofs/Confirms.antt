@@ -6,9 +6,9 @@ use Rattle.iol_octets.specs.declared.control.Mc.{Mc}
 use Rattle.iol_mseq.specs.Shape.{Shape}
 use Rattle.iol_mseq.specs.Master.{SpellsMaster, master_fault, message_of}
 use Rattle.iol_mseq.specs.declared.master.MasterMsg.{MasterMsg}
-use Rattle.iol_device.specs.Codec.{message_in}
-use Rattle.iol_device.specs.Far.{is_confirm}
-use Rattle.iol_device.specs.Laws.{MessagesAreHeard}
+use Rattle.iol_far.specs.Codec.{message_in}
+use Rattle.iol_far.specs.Far.{is_confirm}
+use Rattle.iol_far.specs.Laws.{MessagesAreHeard}
 use Rattle.iol_app.specs.declared.event_work.Reading.{Reading}
 use Rattle.iol_app.specs.declared.request.Current.{Current}
 use Rattle.iol_app.specs.declared.request.Progress.{Progress}

@@ -4,7 +4,7 @@ use Rattle.std.specs.Prelude.{MatchOption, is_some}
 use Rattle.arrayvec.specs.ArrayVec.{ArrayVec}
 use Rattle.iol_isdu.specs.declared.values.Request.{Request}
 use Rattle.iol_event.specs.declared.event.Event.{Event}
-use Rattle.iol_device.specs.Far.{Far}
+use Rattle.iol_far.specs.Far.{Far}
 use Rattle.iol_link.specs.declared.wire.Rate.{Rate}
 use Rattle.iol_mode.specs.declared.states.Outcome.{Outcome}
 use Rattle.iol_mode.specs.declared.states.Outcome.TheVariants.{Down as OutDown, Startup as OutStartup, Preoperate as OutPreoperate, Operate as OutOperate}

@@ -12,7 +12,7 @@ use Rattle.iol_isdu.specs.Answers.{answer_fault, is_read}
 use Rattle.iol_segment.specs.Cut.{Cutting, pair, last_given}
 use Rattle.iol_segment.specs.Join.{Joining, Stage, Open, Complete, Wrong, stage, staged}
 use Rattle.iol_segment.specs.JoinLaws.{count_at}
-use Rattle.iol_device.specs.Level.{Quiet, Written, Busy, Had, Ask, asked as level_asked, after}
+use Rattle.iol_far.specs.Level.{Quiet, Written, Busy, Had, Ask, asked as level_asked, after}
 use Rattle.iol_app.specs.declared.request.Current.{Current}
 use Rattle.iol_app.specs.declared.request.Progress.{Progress as Cursor}
 use Rattle.iol_app.specs.declared.request.Progress.TheVariants.{Sending, Asking, Receiving, Refused}

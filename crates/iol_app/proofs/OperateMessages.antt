@@ -8,7 +8,7 @@ use Rattle.iol_mseq.specs.declared.master.MasterMsg.{MasterMsg}
 use Rattle.iol_page.specs.Commands.{command_octet}
 use Rattle.iol_page.specs.declared.master_command.MasterCommand.TheVariants.{ProcessDataOutputOperate, DeviceOperate}
 use Rattle.iol_mseq.specs.Parts.{first_of_zeros}
-use Rattle.iol_device.specs.Far.{command_at, command_in}
+use Rattle.iol_far.specs.Far.{command_at, command_in}
 use Rattle.iol_mode.specs.Messages.{command_message}
 use Rattle.iol_steps.specs.declared.mode.Mode.TheVariants.{Operate}
 use Rattle.iol_steps.specs.Station.{confirms, reads_events, is_diagnosis_read, output_by}

@@ -10,7 +10,7 @@ use Rattle.iol_isdu.specs.Answers.{is_read}
 use Rattle.iol_event.specs.declared.event.Event.{Event}
 use Rattle.iol_event.specs.declared.faults.EventForm.{EventForm}
 use Rattle.iol_event.specs.Reading.{taken, is_readable, places_size}
-use Rattle.iol_device.specs.Far.{Far}
+use Rattle.iol_far.specs.Far.{Far}
 use Rattle.iol_link.specs.declared.handler.Attempt.{Attempt}
 use Rattle.iol_link.specs.declared.handler.Attempt.TheVariants.{Got, Again, Lost}
 use Rattle.iol_link.specs.declared.wire.Rate.{Rate}

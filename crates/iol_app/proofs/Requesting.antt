@@ -1,9 +1,8 @@
 -- An answer and a cut end the request under way, and nothing else does.
 use Rattle.std.proofs.Common.{◌≡◌, ⊎_elim, ℕ, ◌+◌, ◌%◌, Bool, true, false, ◌==◌, List, refl, sym, ap, ◌∙◌, Option, Some, None, Result, Ok, Err}
-use Rattle.std.specs.Prelude.{slice_index, is_some, IfSome, IsTrue, MatchOption}
+use Rattle.std.specs.Prelude.{slice_index, is_some, IfSome, IsTrue}
 use Rattle.std.proofs.lemmas.Bool.{cases_Bool}
 use Rattle.iol_octets.specs.declared.flow_control.Flow.TheVariants.{Start, Count}
-use Rattle.iol_event.specs.declared.event.Event.{Event}
 use Rattle.iol_isdu.specs.declared.values.Request.{Request}
 use Rattle.iol_isdu.specs.declared.values.Cause.{Cause}
 use Rattle.iol_isdu.specs.declared.fault.IsduFault.{IsduFault}
@@ -13,15 +12,13 @@ use Rattle.iol_segment.specs.Join.{Joining, taken, empty}
 use Rattle.iol_segment.specs.declared.took.Took.{Took}
 use Rattle.iol_segment.specs.declared.took.Took.TheVariants.{Repeat, More, Whole}
 use Rattle.iol_segment.specs.declared.took.JoinFault.{JoinFault}
-use Rattle.iol_app.specs.declared.event_work.Reading.{Reading}
 use Rattle.iol_app.specs.declared.request.Current.{Current}
 use Rattle.iol_app.specs.declared.request.Progress.{Progress}
 use Rattle.iol_app.specs.declared.request.Progress.TheVariants.{Sending, Asking, Receiving, Refused}
 use Rattle.iol_app.specs.declared.session.Exchange.{Exchange}
 use Rattle.iol_app.specs.declared.session.Exchange.TheVariants.{TellOutput, DropOutput, Abort, ReadEvent, ConfirmEvents, Request as NextMessage, Idle}
 use Rattle.iol_steps.specs.declared.said.Said.{Said}
-use Rattle.iol_steps.specs.declared.said.Said.TheVariants.{Cut, Reported}
-use Rattle.iol_app.specs.EventReading.{list_read}
+use Rattle.iol_steps.specs.declared.said.Said.TheVariants.{Cut}
 use Rattle.iol_app.specs.Requests.{Outcome, GoesOn, HasText, finished, joined, asked, replied_at, replied, going, one_after, current_after, IsOutcomeSaid, IsSaidOf, IsSaid, Suits, request_in, request_after}
 
 -- what becomes of a request is of that request
@@ -76,31 +73,8 @@ one_request NextMessage limit od current said suits h =
     outcome_request current.cutter.source (is_read current.cutter.source) (replied limit od current) said (replied_source current.progress limit od current) h
 one_request Idle limit od current said suits h = ap (request_after (Some current.cutter.source)) (sym h)
 
-current_request : (exchange : Exchange) (limit : ℕ) (od : List ℕ) (current : Option Current) (said : Said) → Suits exchange current → IsSaid exchange limit od current said
+-- what is said of a reply where no list was read: how the request is
+pub current_request : (exchange : Exchange) (limit : ℕ) (od : List ℕ) (current : Option Current) (said : Said) → Suits exchange current → IsSaid exchange limit od current said
     → request_in (current_after exchange limit od current) ≡ request_after (request_in current) said
 current_request exchange limit od None said suits h = ap (request_after None) (sym h)
 current_request exchange limit od (Some current) said suits h = one_request exchange limit od current said suits h
-
--- a reading leaves the request
-read_request : (limit : ℕ) (od : List ℕ) (current : Option Current) → request_in (current_after ReadEvent limit od current) ≡ request_in current
-read_request limit od None = refl
-read_request limit od (Some current) = refl
-
-reported_request : (exchange : Exchange) (limit : ℕ) (od : List ℕ) (reading : Reading) (current : Option Current) (list : List Event) → list_read exchange od reading ≡ Some list
-    → request_in (current_after exchange limit od current) ≡ request_in current
-reported_request ReadEvent limit od _ current list e = read_request limit od current
-reported_request TellOutput limit od _ current list e = absurd (let k : None ≡ Some list = e in cc)
-reported_request DropOutput limit od _ current list e = absurd (let k : None ≡ Some list = e in cc)
-reported_request Abort limit od _ current list e = absurd (let k : None ≡ Some list = e in cc)
-reported_request ConfirmEvents limit od _ current list e = absurd (let k : None ≡ Some list = e in cc)
-reported_request NextMessage limit od _ current list e = absurd (let k : None ≡ Some list = e in cc)
-reported_request Idle limit od _ current list e = absurd (let k : None ≡ Some list = e in cc)
-
--- what is said of a reply: the list that was read, else how the request is
-pub reply_request : (exchange : Exchange) (limit : ℕ) (od : List ℕ) (reading : Reading) (current : Option Current) (said result : Said) (list : Option (List Event)) → list ≡ list_read exchange od reading
-    → Suits exchange current → IsSaid exchange limit od current said → MatchOption list (result ≡ said) (λ l. result ≡ Reported l)
-    → request_in (current_after exchange limit od current) ≡ request_after (request_in current) result
-reply_request exchange limit od _ current said result None e suits h is =
-    current_request exchange limit od current said suits h ∙ ap (request_after (request_in current)) (sym is)
-reply_request exchange limit od events current said result (Some list) e suits h is =
-    reported_request exchange limit od events current list (sym e) ∙ ap (request_after (request_in current)) (sym is)

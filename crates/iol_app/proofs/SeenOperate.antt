@@ -13,10 +13,10 @@ use Rattle.iol_mseq.specs.declared.master.MasterMsg.{MasterMsg}
 use Rattle.iol_mseq.specs.declared.reply.Reply.{Reply}
 use Rattle.iol_page.specs.Page.{layouts_of}
 use Rattle.iol_page.specs.declared.page.Layouts.{Layouts}
-use Rattle.iol_device.specs.Device.{octets_in}
-use Rattle.iol_device.specs.Far.{Far, command_in}
-use Rattle.iol_device.specs.Level.{Link, taken, turned}
-use Rattle.iol_device.specs.declared.commands.Mode.TheVariants.{Operate as FarOperate}
+use Rattle.iol_far.specs.Octets.{octets_in}
+use Rattle.iol_far.specs.Far.{Far, command_in}
+use Rattle.iol_far.specs.Level.{Link, taken, turned}
+use Rattle.iol_far.specs.declared.mode.Mode.TheVariants.{Operate as FarOperate}
 use Rattle.iol_link.specs.declared.handler.Attempt.TheVariants.{Again, Lost}
 use Rattle.iol_link.specs.declared.wire.Rate.{Rate}
 use Rattle.iol_link.specs.Attempts.{Sending, good_reply}

@@ -14,12 +14,12 @@ use Rattle.iol_page.specs.Page.{layouts_of, IsAskedBy, PagesAskForLayouts, is_ol
 use Rattle.std.proofs.lemmas.Grind.{common_steps}
 use Rattle.iol_page.specs.declared.page.Layouts.{Layouts}
 use Rattle.iol_page.specs.declared.fault.PageFault.{PageFault}
-use Rattle.iol_device.specs.Device.{octets_in}
-use Rattle.iol_device.specs.Far.{Far}
-use Rattle.iol_device.specs.Codec.{layout_in}
-use Rattle.iol_device.specs.Level.{Progress, Quiet, Other, Link, after, taken, turned}
-use Rattle.iol_device.specs.Linked.{TextsAreHeard}
-use Rattle.iol_device.specs.declared.commands.Mode.TheVariants.{Operate as FarOperate}
+use Rattle.iol_far.specs.Octets.{octets_in}
+use Rattle.iol_far.specs.Far.{Far}
+use Rattle.iol_far.specs.Codec.{layout_in}
+use Rattle.iol_far.specs.Level.{Progress, Quiet, Other, Link, after, taken, turned}
+use Rattle.iol_far.specs.Linked.{TextsAreHeard}
+use Rattle.iol_far.specs.declared.mode.Mode.TheVariants.{Operate as FarOperate}
 use Rattle.iol_link.specs.declared.handler.Attempt.TheVariants.{Again, Lost}
 use Rattle.iol_link.specs.declared.wire.Rate.{Rate}
 use Rattle.iol_link.specs.Attempts.{good_reply}

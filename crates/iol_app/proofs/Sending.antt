@@ -15,10 +15,10 @@ use Rattle.iol_isdu.specs.Texts.{IsRequest, request_text}
 use Rattle.iol_segment.specs.Cut.{Cutting, flow_at, last_given}
 use Rattle.iol_segment.specs.Join.{Joining, stage}
 use Rattle.iol_segment.specs.TextLaws.{TextLaws}
-use Rattle.iol_device.specs.Codec.{flow_of}
-use Rattle.iol_device.specs.Isdu.{answer_text}
-use Rattle.iol_device.specs.SegmentLaws.{AnswersFit}
-use Rattle.iol_device.specs.Level.{Quiet, Written, Had, Begin, More, Ask, Next, IsMove}
+use Rattle.iol_far.specs.Codec.{flow_of}
+use Rattle.iol_far.specs.Isdu.{answer_text}
+use Rattle.iol_far.specs.SegmentLaws.{AnswersFit}
+use Rattle.iol_far.specs.Level.{Quiet, Written, Had, Begin, More, Ask, Next, IsMove}
 use Rattle.iol_app.specs.declared.event_work.Reading.{Reading}
 use Rattle.iol_app.specs.declared.request.Current.{Current}
 use Rattle.iol_app.specs.declared.request.Progress.{Progress as Cursor}

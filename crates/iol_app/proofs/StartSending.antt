@@ -6,9 +6,9 @@ use Rattle.iol_mseq.specs.Master.{HasMasterParts}
 use Rattle.iol_mseq.specs.Texts.{master_text}
 use Rattle.iol_mseq.specs.declared.master.MasterMsg.{MasterMsg}
 use Rattle.iol_mseq.specs.declared.reply.Reply.{Reply}
-use Rattle.iol_device.specs.Far.{Far}
-use Rattle.iol_device.specs.Level.{Quiet, Other, taken}
-use Rattle.iol_device.specs.Linked.{TextsAreHeard}
+use Rattle.iol_far.specs.Far.{Far}
+use Rattle.iol_far.specs.Level.{Quiet, Other, taken}
+use Rattle.iol_far.specs.Linked.{TextsAreHeard}
 use Rattle.iol_link.specs.Attempts.{good_reply}
 use Rattle.iol_link.specs.Honest.{HonestExchange}
 use Rattle.iol_mode.specs.States.{lost as lost_outcome}

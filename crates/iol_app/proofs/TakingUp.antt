@@ -15,8 +15,8 @@ use Rattle.iol_segment.specs.Cut.{Cutting, segment}
 use Rattle.iol_segment.specs.Join.{Stage, Open, Complete, stage, staged}
 use Rattle.iol_segment.specs.JoinLaws.{count_at}
 use Rattle.iol_segment.specs.TextLaws.{TextLaws, HoldsLength, joined as joined_octets}
-use Rattle.iol_device.specs.Isdu.{answer_text, fits}
-use Rattle.iol_device.specs.SegmentLaws.{AnswersFit}
+use Rattle.iol_far.specs.Isdu.{answer_text, fits}
+use Rattle.iol_far.specs.SegmentLaws.{AnswersFit}
 use Rattle.iol_app.specs.declared.request.Current.{Current}
 use Rattle.iol_app.specs.declared.request.Progress.{Progress as Cursor}
 use Rattle.iol_app.specs.declared.request.Progress.TheVariants.{Sending, Asking, Receiving, Refused}

@@ -9,10 +9,10 @@ use Rattle.iol_isdu.specs.declared.values.Answer.{Answer}
 use Rattle.iol_segment.specs.Cut.{Cutting, segment}
 use Rattle.iol_segment.specs.Join.{Complete, stage}
 use Rattle.iol_segment.specs.TextLaws.{joined}
-use Rattle.iol_device.specs.Codec.{flow_of}
-use Rattle.iol_device.specs.Isdu.{answer_text, fits}
-use Rattle.iol_device.specs.Laws.{confirms}
-use Rattle.iol_device.specs.Level.{Progress, Quiet, Written, Busy, Had, Move, Begin, More, Ask, Next, Leave, Other, after, IsMove}
+use Rattle.iol_far.specs.Codec.{flow_of}
+use Rattle.iol_far.specs.Isdu.{answer_text, fits}
+use Rattle.iol_far.specs.Laws.{confirms}
+use Rattle.iol_far.specs.Level.{Progress, Quiet, Written, Busy, Had, Move, Begin, More, Ask, Next, Leave, Other, after, IsMove}
 use Rattle.iol_app.specs.declared.event_work.Reading.{Reading}
 use Rattle.iol_app.specs.declared.request.Current.{Current}
 use Rattle.iol_app.specs.declared.request.Progress.{Progress as Cursor}

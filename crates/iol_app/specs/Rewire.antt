@@ -1,6 +1,6 @@
 -- A station that goes on over another wire.
 use Rattle.std.specs.Prelude.{ℕ, Bool}
-use Rattle.iol_device.specs.Far.{Far}
+use Rattle.iol_far.specs.Far.{Far}
 use Rattle.iol_steps.specs.Station.{Station}
 use Rattle.iol_app.specs.declared.station.AnyLink.{AnyLink}
 use Rattle.iol_app.specs.declared.station.AnyLink.TheVariants.{Down as InDown, Startup as InStartup, Preoperate as InPreoperate, Operate as InOperate}

@@ -2,7 +2,7 @@
 ghost use Rattle.iol_app.specs.Moves.{MessagesAreMoves, ConfirmsConfirm, RepliesFollow, AnswersAreTakenUp};
 ghost use Rattle.iol_app.specs.StationLaws.{StationLaws};
 
-use iol_device::{messages_are_heard, requests_are_received, texts_are_heard};
+use iol_far::{messages_are_heard, requests_are_received, texts_are_heard};
 use iol_isdu::one_text_each;
 use iol_link::exchanges_keep_ends_level;
 use iol_page::pages_ask_for_layouts;

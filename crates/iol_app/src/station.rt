@@ -1,8 +1,10 @@
 //! A station: the link in its mode, and the session over it.
-ghost use Rattle.std.specs.Prelude.{◌≡◌, None, Some, true, false, is_some, IsSome, IfSome, IsTrue, OnOk, OnErr, ◌&&◌, ◌≢◌};
+ghost use Rattle.std.specs.Prelude.{◌≡◌, None, Some, Bool, true, false, is_some, IsSome, IfSome, IsTrue, OnOk, OnErr, ◌&&◌, ◌≢◌};
 ghost use Rattle.std.specs.Result.{result_err};
 ghost use Rattle.std.specs.Option.{option_copied};
 ghost use Rattle.iol_mode.specs.Next.{wire_of as wire_in, outcome_of};
+ghost use Rattle.iol_mode.specs.Stands.{OutcomeStands};
+ghost use Rattle.iol_mode.specs.States.{waked};
 ghost use Rattle.iol_app.specs.EventReading.{is_refused};
 ghost use Rattle.iol_app.specs.State.{opened, aborted_in, begun_in, wanting, output_refusal, left, IsSession, IsHearable};
 ghost use Rattle.iol_app.specs.Requests.{request_in, request_after, EndsRequest};
@@ -12,7 +14,7 @@ ghost use Rattle.iol_app.specs.Seen.{TurnSteps, NewSteps, BeginSteps, AbortSteps
 ghost use Rattle.iol_app.specs.Asking.{asked_of, prepared, IsCall};
 ghost use Rattle.iol_app.specs.AskedCalls.{AskedWakes, AskedGives};
 ghost use Rattle.iol_app.specs.Rewire.{rewired, RewireSteps};
-ghost use Rattle.iol_app.specs.StationState.{wire_of, mode_of, why_of, is_operating, linked, is_waked, waked_session, settled_session, reply_session, IsReplySaid, fallen, attempt_session, IsAttemptSaid, IsReplyHearable, LinkFits, NextFits, IsSettledSaid, IsTurn};
+ghost use Rattle.iol_app.specs.StationState.{wire_of, mode_of, why_of, is_operating, is_starting, linked, started_up, waked_session, settled_session, reply_session, IsReplySaid, fallen, attempt_session, IsAttemptSaid, IsReplyHearable, LinkFits, NextFits, IsSettledSaid, IsTurn};
 
 use crate::asked::Asked;
 use crate::laws::station_laws;
@@ -21,7 +23,7 @@ use crate::session::Session;
 use core::mem::replace_with;
 use iol_image::Image;
 use iol_isdu::{Cause, Request};
-use iol_link::{Attempt, Wire};
+use iol_link::{Attempt, Rate, Wire};
 use iol_mode::{Down, Link, Next, Operate, Preoperate, Startup, Why};
 use iol_mseq::{Reply, encode_master};
 use iol_steps::{
@@ -299,16 +301,16 @@ impl<W: Wire> Station<W> {
         ensures valid { IsSession self.old.session }
     {
         self.session.is_valid();
-        if matches!(self.link, AnyLink::Operate(_)) {
-            operated(&mut self.link, &mut self.session, room)
-        } else {
-            replace_with(self, room, Station::risen)
+        match &self.link {
+            AnyLink::Down(_) => waked(&mut self.link, &mut self.session),
+            AnyLink::Operate(_) => operated(&mut self.link, &mut self.session, room),
+            _ => replace_with(self, room, Station::risen),
         }
     }
 
-    /// A turn outside OPERATE.
+    /// A turn of a start-up.
     fn risen(self, room: bool) -> (Station<W>, Said)
-        requires { is_operating self.link ≡ false }
+        requires { is_starting self.link ≡ true }
         ensures request { request_in result.0.session.current
             ≡ request_after (request_in self.session.current) result.1 }
         ensures turn { IsTurn W.honest W.far W.silence W.wake_gives W.exchange_gives room self
@@ -347,9 +349,9 @@ impl<W: Wire> Station<W> {
     }
 }
 
-/// A turn outside OPERATE.
+/// A turn of a start-up.
 fn rise<W: Wire>(link: AnyLink<W>, session: &mut Session, room: bool) -> (AnyLink<W>, Said)
-    requires mode { is_operating link ≡ false }
+    requires mode { is_starting link ≡ true }
     requires fits { LinkFits link session.old }
     ensures request { request_in session.new.current
         ≡ request_after (request_in session.old.current) result.1 }
@@ -358,33 +360,70 @@ fn rise<W: Wire>(link: AnyLink<W>, session: &mut Session, room: bool) -> (AnyLin
     ensures fits { LinkFits result.0 session.new }
 {
     match link {
-        AnyLink::Down(link) => waked(link, session),
         AnyLink::Startup(link) => settled(link.turn(), session),
         AnyLink::Preoperate(link) => settled(link.turn(), session),
-        AnyLink::Operate(_) => unreachable!(),
+        AnyLink::Down(_) | AnyLink::Operate(_) => unreachable!(),
     }
 }
 
-/// A turn in Down: a wake, and where it is answered a start-up begins.
-fn waked<W: Wire>(link: Link<W, Down>, session: &mut Session) -> (AnyLink<W>, Said)
-    requires { LinkFits (AnyLink.Down link) session.old }
+/// A turn in Down, in place: a wake, and where it is answered a start-up begins.
+fn waked<W: Wire>(link: &mut AnyLink<W>, session: &mut Session) -> Said
+    requires mode { mode_of link.old ≡ Mode.Down }
+    requires fits { LinkFits link.old session.old }
     ensures request { request_in session.new.current
-        ≡ request_after (request_in session.old.current) result.1 }
-    ensures turn { IsTurn W.honest W.far W.silence W.wake_gives W.exchange_gives false
-        (record { link = AnyLink.Down link; session = session.old }) result.1 (record { link = result.0; session = session.new }) }
-    ensures fits { LinkFits result.0 session.new }
+        ≡ request_after (request_in session.old.current) result }
+    ensures turn { (room : Bool)
+        → IsTurn W.honest W.far W.silence W.wake_gives W.exchange_gives room
+        (record { link = link.old; session = session.old }) result (record { link = link.new; session = session.new }) }
+    ensures fits { LinkFits link.new session.new }
 {
-    let next = link.turn();
-    follow_wake(&next, session);
-    settled(next, session)
+    let AnyLink::Down(down) = link else {
+        unreachable!()
+    };
+    let rate = down.wake();
+    start_up(link, rate);
+    follow_wake(session, rate)
 }
 
-/// A wake that is answered begins a start-up.
-fn follow_wake<W: Wire>(next: &Next<W>, session: &mut Session)
-    ensures { session.new ≡ waked_session (is_waked (outcome_of next.now)) session.old }
+/// The link comes to STARTUP, where a device answered the wake.
+fn start_up<W: Wire>(link: &mut AnyLink<W>, rate: Option<Rate>)
+    requires mode { mode_of link.old ≡ Mode.Down }
+    requires awake { IsTrue (is_some rate) → IsTrue (W.honest (wire_of link.old))
+        → OutcomeStands (waked true) (W.silence (wire_of link.old)) (W.far (wire_of link.old)) }
+    ensures { link.new ≡ started_up (is_some rate) link.old }
 {
-    if matches!(next, Next::Startup(_)) {
-        session.start();
+    if rate.is_some() {
+        replace_with(link, (), awake_link);
+    }
+}
+
+fn awake_link<W: Wire>(link: AnyLink<W>, _: ()) -> (AnyLink<W>, ())
+    requires mode { mode_of link ≡ Mode.Down }
+    requires awake { IsTrue (W.honest (wire_of link))
+        → OutcomeStands (waked true) (W.silence (wire_of link)) (W.far (wire_of link)) }
+    ensures { result.0 ≡ started_up true link }
+{
+    match link {
+        AnyLink::Down(link) => (AnyLink::Startup(link.rise()), ()),
+        AnyLink::Startup(_) | AnyLink::Preoperate(_) | AnyLink::Operate(_) => unreachable!(),
+    }
+}
+
+/// Takes up what a wake brought: a start-up begins, or the link is still down.
+fn follow_wake(session: &mut Session, rate: Option<Rate>) -> Said
+    ensures session { session.new
+        ≡ settled_session (waked (is_some rate)) (waked_session (is_some rate) session.old) }
+    ensures said { IsSettledSaid (waked (is_some rate))
+        (waked_session (is_some rate) session.old) result }
+    ensures request { request_in session.new.current
+        ≡ request_after (request_in session.old.current) result }
+{
+    match rate {
+        Some(_) => {
+            session.start();
+            Said::Idle
+        }
+        None => session.lose(),
     }
 }
 

@@ -1,3 +1,4 @@
+use iol_cell::CellFault;
 use iol_image::ImageFault;
 use iol_isdu::IsduFault;
 use iol_master::MasterFault;
@@ -30,6 +31,9 @@ pub(crate) enum BenchFault {
     /// The simulated device refuses a parameter.
     #[error(transparent)]
     Sim(#[from] SimFault),
+    /// There is no cell.
+    #[error(transparent)]
+    Cell(#[from] CellFault),
     /// An image is refused.
     #[error(transparent)]
     Image(#[from] ImageFault),

@@ -1,7 +1,8 @@
 //! Images that are read without a port's lock.
 use crate::check_word::CheckWord;
 use crate::fault::BenchFault;
-use iol_image::{Image, image_cell};
+use iol_cell::image_cell;
+use iol_image::Image;
 use std::alloc::Global;
 use std::sync::Wait;
 

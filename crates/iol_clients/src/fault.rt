@@ -1,4 +1,5 @@
 ghost use Rattle.std.specs.Prelude.{◌≡◌};
+ghost use Rattle.iol_clients.specs.declared.fault.ClientsFault.TheVariants.{OutOfMemory};
 
 use std::alloc::{AllocError, AllocFailed};
 use thiserror::Error;
@@ -29,12 +30,16 @@ impl ClientsFault {
 }
 
 impl From<AllocError> for ClientsFault {
+    ghost from_gives = { λ _ fault. fault ≡ OutOfMemory };
+
     fn from(_: AllocError) -> ClientsFault {
         ClientsFault::OutOfMemory
     }
 }
 
 impl<T: Drop> From<AllocFailed<T>> for ClientsFault {
+    ghost from_gives = { λ _ fault. fault ≡ OutOfMemory };
+
     fn from(_: AllocFailed<T>) -> ClientsFault {
         ClientsFault::OutOfMemory
     }

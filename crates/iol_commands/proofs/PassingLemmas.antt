@@ -2,7 +2,7 @@
 use Rattle.std.proofs.Common.{◌≡◌, ℕ, Bool, Option, Some, Result, Ok, Err, OnOk, List, ◌++◌, refl, sym, ap, subst, ◌∙◌, append_assoc, codes}
 use Rattle.arrayvec.specs.ArrayVec.{ArrayVec}
 use Rattle.iol_mseq.specs.Shape.{Shape}
-use Rattle.iol_device.specs.Device.{octets_in}
+use Rattle.iol_far.specs.Octets.{octets_in}
 use Rattle.iol_tap.specs.declared.tap.Passed.{Passed}
 use Rattle.iol_tap.specs.declared.tap.Passed.TheVariants.{Exchange}
 use Rattle.iol_commands.specs.Checked.{PrintsReply}

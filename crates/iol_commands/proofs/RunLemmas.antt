@@ -1,16 +1,20 @@
 -- A script that is played out.
 use Rattle.std.proofs.Common.{◌≡◌, ℕ, Bool, true, Some, IsSomeAnd, Option, List, [], ◌++◌, sym, ap, subst, ◌∙◌}
 use Rattle.iol_book.specs.declared.entries.Limits.{Limits}
-use Rattle.iol_device.specs.declared.app.Carried.{Carried}
-use Rattle.iol_device.specs.Far.{Far}
-use Rattle.iol_device.specs.Far as device
-use Rattle.iol_device.specs.Isdu.{handed}
+use Rattle.iol_far.specs.declared.carried.Carried.{Carried}
+use Rattle.iol_far.specs.Far.{Far}
+use Rattle.iol_far.specs.Far as device
+use Rattle.iol_far.specs.Isdu.{handed}
 use Rattle.iol_app.specs.StationState.{wire_of}
-use Rattle.iol_port.specs.Run.{PortState, opened}
-use Rattle.iol_port.specs.View.{Parts, Opening, OpensWell, StandsFor}
+use Rattle.iol_port.specs.declared.call.Call.{Call}
+use Rattle.iol_port.specs.Run.{PortState, Run, opened}
+use Rattle.iol_port.specs.View.{Parts, Opening, OpensWell, StandsFor, Runs, IsOpened, opening_of}
 use Rattle.iol_script.specs.Script.{ScriptValue, script_in, calls_in}
-use Rattle.iol_commands.specs.RunPrinted.{record_text}
-use Rattle.iol_commands.specs.RunPlayed.{first_port, PlaysOut, PrintsRun, PortPlays}
+use Rattle.iol_sim.specs.Params.{Stores}
+use Rattle.iol_sim.specs.Sim.{Simulated, IsWake, IsExchange}
+use Rattle.iol_sim.specs.declared.params.Entry.{Entry}
+use Rattle.iol_commands.specs.RunPrinted.{answers_text, record_text}
+use Rattle.iol_commands.specs.RunPlayed.{first_port, first_wire, PlaysOut, PrintsRun, PortPlays}
 
 -- a port over a new device of an honest wire
 pub opens_well : {W : Type 0} (o : Opening W) (limits : Limits) (wire : W) (far : Far) (silence : ℕ) (honest : Bool) (page : List ℕ)
@@ -25,12 +29,38 @@ module _ {W : Type 0} (honest : W → Bool) (far : W → Far) (silence : W → �
   pub carried_is : (p : Parts W) (a : PortState) → StandsFor honest far silence p a → (far (wire_of p.station.link)).carried ≡ a.session.carried
   carried_is p a (choice, shows, is) = sym (ap (λ (b : PortState). b.session.carried) is ∙ ap (λ (f : Far). f.carried) shows.seen.far_is)
 
-  pub script_printed : (p q : Parts W) (a : PortState) (lines : List (ℕ × List ℕ)) (script : ScriptValue) (entries : List Carried) (text empty out new : List ℕ)
-      → script_in lines ≡ Some script → StandsFor honest far silence p a → a ≡ first_port script.limits script.page → PortPlays honest far silence p (calls_in lines) q text
-      → entries ≡ (far (wire_of q.station.link)).carried → empty ≡ [] → out ≡ empty ++ text → new ≡ out ++ record_text entries → PrintsRun lines new
-  unfolding PortPlays
-  script_printed p q a lines script entries text empty out new read stands first plays those none wrote last =
-      let (b, played, there) = plays a stands in
-      let answered : new ≡ text ++ record_text b.session.carried = last ∙ ap (λ (l : List ℕ). l ++ record_text entries) (wrote ∙ ap (λ (l : List ℕ). l ++ text) none) ∙ ap (λ (l : List Carried). text ++ record_text l) (those ∙ carried_is q b there) in
-      let out_of : PlaysOut (first_port script.limits script.page) (calls_in lines) new = subst (λ (s : PortState). PlaysOut s (calls_in lines) new) first (record { last = b; calls_text = text; plays = played; text_is = answered }) in
-      subst (λ (o : Option ScriptValue). IsSomeAnd o (λ s. PlaysOut (first_port s.limits s.page) (calls_in lines) new)) (sym read) out_of
+-- the wire of a script, as a port sees it
+abbrev honest : Simulated (List Entry) → Bool
+honest sim = true
+
+abbrev far : Simulated (List Entry) → Far
+far sim = sim.device.far
+
+abbrev silence : Simulated (List Entry) → ℕ
+silence sim = sim.silence
+
+pub script_printed : (p q : Parts (Simulated (List Entry))) (a : PortState) (opening : Opening (Simulated (List Entry))) (wire : Simulated (List Entry)) (lines : List (ℕ × List ℕ)) (script : ScriptValue) (entries : List Carried) (text empty out new : List ℕ)
+    → script_in lines ≡ Some script → opening ≡ opening_of honest far silence script.limits wire → wire ≡ first_wire script → IsOpened opening p
+    → StandsFor honest far silence p a → a ≡ first_port script.limits script.page → PortPlays honest far silence (IsWake Stores) (IsExchange Stores) p (calls_in lines) q text
+    → entries ≡ (wire_of q.station.link).device.far.carried → empty ≡ [] → out ≡ empty ++ text → new ≡ out ++ record_text entries → PrintsRun lines new
+unfolding Runs
+script_printed p q a opening wire lines script entries text empty out new read over_wire wire_is opens stands first plays those none wrote last =
+    let (b, run, there) = plays.runs a stands in
+    let calls : List Call = calls_in lines in
+    let carried : (wire_of q.station.link).device.far.carried ≡ b.session.carried = carried_is honest far silence q b there in
+    let answered : new ≡ answers_text calls plays.answers ++ record_text b.session.carried =
+    last ∙ ap (λ (l : List ℕ). l ++ record_text entries) (wrote ∙ ap (λ (l : List ℕ). l ++ text) none ∙ plays.text_is)
+    ∙ ap (λ (l : List Carried). answers_text calls plays.answers ++ record_text l) (those ∙ carried) in
+    let out_of : PlaysOut script calls new = record {
+      answers = plays.answers;
+      first = p;
+      opens = subst (λ (o : Opening (Simulated (List Entry))). IsOpened o p) (over_wire ∙ ap (λ (w : Simulated (List Entry)). opening_of honest far silence script.limits w) wire_is) opens;
+      last = q;
+      made = plays.made;
+      after = b;
+      run = subst (λ (s : PortState). Run s calls plays.answers b) first run;
+      carried = carried;
+      granted = plays.granted;
+      text_is = answered;
+    } in
+    subst (λ (o : Option ScriptValue). IsSomeAnd o (λ s. PlaysOut s calls new)) (sym read) out_of

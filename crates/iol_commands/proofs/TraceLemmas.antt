@@ -6,7 +6,7 @@ use Rattle.std.specs.Io.KnownBytes.{Appends}
 use Rattle.arrayvec.specs.ArrayVec.{ArrayVec}
 use Rattle.iol_mseq.specs.Shape.{Shape}
 use Rattle.iol_page.specs.declared.page.Layouts.{Layouts}
-use Rattle.iol_device.specs.Far.{Far}
+use Rattle.iol_far.specs.Far.{Far}
 use Rattle.iol_link.specs.declared.wire.Rate.{Rate}
 use Rattle.iol_tap.specs.Tapped.{Tapped, through, wake_noted, exchange_noted, TapWakes, TapGives, IsNoteOf}
 use Rattle.iol_tap.specs.declared.tap.Passed.{Passed}
@@ -25,7 +25,7 @@ use Rattle.iol_port.specs.Asks.{IsWireCall}
 use Rattle.iol_port.specs.Run.{PortState, CallOf}
 use Rattle.iol_port.specs.View.{Parts, Follows, StandsFor}
 use Rattle.iol_commands.specs.Passing.{PrintsPassed}
-use Rattle.iol_device.specs.declared.app.Carried.{Carried}
+use Rattle.iol_far.specs.declared.carried.Carried.{Carried}
 use Rattle.iol_sim.specs.Params.{Stores}
 use Rattle.iol_sim.specs.Sim.{Simulated, IsWake, IsExchange}
 use Rattle.iol_sim.specs.declared.params.Entry.{Entry}
@@ -33,9 +33,9 @@ use Rattle.iol_page.specs.Page.{layouts_of}
 use Rattle.iol_script.specs.Script.{ScriptValue, script_in, calls_in}
 use Rattle.iol_script.specs.Text.{numbered_lines}
 use Rattle.iol_commands.proofs.RunLemmas.{carried_is}
-use Rattle.iol_commands.specs.RunPlayed.{first_port, lacks_memory}
+use Rattle.iol_commands.specs.RunPlayed.{first_port, first_wire, lacks_memory}
 use Rattle.iol_commands.specs.RunPrinted.{answer_text, record_text}
-use Rattle.iol_commands.specs.TracePrinted.{layout_in, first_wire, first_stage, TracesOut, PrintsTrace, Stage, Passes, TracesCall, Traces, stage_of, PortTraces, Flows, PrintsNote, PrintsNoteOf}
+use Rattle.iol_commands.specs.TracePrinted.{layout_in, first_stage, TracesOut, PrintsTrace, Stage, Passes, TracesCall, Traces, stage_of, PortTraces, Flows, PrintsNote, PrintsNoteOf}
 
 -- Text that is written in pieces
 

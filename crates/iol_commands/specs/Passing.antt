@@ -2,7 +2,7 @@
 use Rattle.std.specs.Prelude.{◌≡◌, ℕ, ◌+◌, Bool, nat_le, Option, Some, None, List, [], ◌++◌, slice_index, codes}
 use Rattle.std.specs.Fmt.{decimal}
 use Rattle.iol_mseq.specs.Shape.{Shape}
-use Rattle.iol_device.specs.Device.{octets_in}
+use Rattle.iol_far.specs.Octets.{octets_in}
 use Rattle.iol_link.specs.declared.wire.Rate.{Rate}
 use Rattle.iol_link.specs.declared.wire.Rate.TheVariants.{Com1, Com2, Com3}
 use Rattle.iol_tap.specs.declared.tap.Passed.{Passed}

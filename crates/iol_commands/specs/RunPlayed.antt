@@ -1,17 +1,24 @@
 -- What `run` carries out, and what it prints of it.
-use Rattle.std.specs.Prelude.{◌≡◌, ℕ, Bool, true, false, Some, List, ◌++◌, IsSomeAnd}
+use Rattle.std.specs.Prelude.{◌≡◌, ℕ, Bool, true, false, Option, Some, List, ◌++◌, IsSomeAnd}
 use Rattle.std.specs.List.{list_any}
+use Rattle.arrayvec.specs.ArrayVec.{ArrayVec}
 use Rattle.iol_book.specs.declared.entries.Limits.{Limits}
 use Rattle.iol_book.specs.declared.fault.BookFault.TheVariants.{OutOfMemory}
-use Rattle.iol_device.specs.Far.{Far}
-use Rattle.iol_device.specs.Far as device
+use Rattle.iol_far.specs.Far.{Far}
+use Rattle.iol_far.specs.Far as device
+use Rattle.iol_link.specs.declared.wire.Rate.{Rate}
+use Rattle.iol_sim.specs.Params.{Stores}
+use Rattle.iol_sim.specs.declared.params.Entry.{Entry}
+use Rattle.iol_sim.specs.Sim.{Simulated, IsWake, IsExchange}
+use Rattle.iol_app.specs.StationState.{wire_of}
 use Rattle.iol_port.specs.declared.call.Call.{Call}
 use Rattle.iol_port.specs.declared.call.Answered.{Answered}
 use Rattle.iol_port.specs.declared.call.Answered.TheVariants as answered
 use Rattle.iol_port.specs.declared.fault.PortFault.TheVariants as fault
 use Rattle.iol_port.specs.Run.{PortState, Run, opened}
-use Rattle.iol_port.specs.View.{Parts, StandsFor}
-use Rattle.iol_script.specs.Script.{script_in, calls_in}
+use Rattle.iol_port.specs.View.{Parts, Opening, Runs, IsOpened, opening_of}
+use Rattle.iol_port.specs.EveryWire.{RunGives}
+use Rattle.iol_script.specs.Script.{ScriptValue, script_in, calls_in}
 use Rattle.iol_commands.specs.RunPrinted.{answers_text, record_text}
 
 -- a port of these limits that is opened over a new device of this page, whose record has room for 1,000 requests
@@ -23,25 +30,49 @@ abbrev pub lacks_memory : Answered → Bool
 lacks_memory (answered.Refused (fault.Book OutOfMemory)) = true
 lacks_memory other = false
 
--- The calls are made from a on, and lead to b. None lacks memory, and the text is what they answer.
-pub record Plays (a : PortState) (calls : List Call) (b : PortState) (text : List ℕ) : Type 0 where
-  pub answers : List Answered
-  pub run : Run a calls answers b
-  pub granted : list_any lacks_memory answers ≡ false
-  pub text_is : text ≡ answers_text calls answers
+-- the wire of a script at first: a new device of its page and its parameters, and its steps, none of which was used
+abbrev pub first_wire : ScriptValue → Simulated (List Entry)
+first_wire script = record {
+  device = record { far = device.opened script.page (Some 1000); app = script.params; first = script.params };
+  steps = script.steps;
+  auto = true;
+  silent = false;
+  silence = 0;
+}
 
--- what is printed for calls: what they answer, and then the device's record
-pub record PlaysOut (a : PortState) (calls : List Call) (text : List ℕ) : Type 0 where
-  pub last : PortState
-  pub calls_text : List ℕ
-  pub plays : Plays a calls last calls_text
-  pub text_is : text ≡ calls_text ++ record_text last.session.carried
+-- Calls are made on a port, one after the other: none of the answers lacks memory, and the text is what they are.
+module _ {W : Type 0} (honest : W → Bool) (far : W → Far) (silence : W → ℕ) (wakes : W → Option Rate → W → Type 0) (gives : W → List ℕ → Option (ArrayVec ℕ) → W → Type 0) where
+  pub record PortPlays (p : Parts W) (calls : List Call) (next : Parts W) (text : List ℕ) : Type 0 where
+    pub answers : List Answered
+    -- each call does to the port's own parts, and to its wire, just what a call does there
+    pub made : RunGives honest far silence wakes gives p calls answers next
+    -- and whatever abstract port it stands for, that makes these calls with the same answers
+    pub runs : Runs honest far silence p calls answers next
+    pub granted : list_any lacks_memory answers ≡ false
+    pub text_is : text ≡ answers_text calls answers
+
+-- a port over the wire of a script makes calls, with these answers
+abbrev pub MadeOverWire : Parts (Simulated (List Entry)) → List Call → List Answered → Parts (Simulated (List Entry)) → Type 0
+MadeOverWire p calls answers next = RunGives (λ sim. true) (λ sim. sim.device.far) (λ sim. sim.silence) (IsWake Stores) (IsExchange Stores) p calls answers next
+
+-- with what the port of a script is opened
+abbrev pub first_opening : ScriptValue → Opening (Simulated (List Entry))
+first_opening script = opening_of (λ sim. true) (λ sim. sim.device.far) (λ sim. sim.silence) script.limits (first_wire script)
+
+-- What is printed for calls: what they answer, and then the device's record. They are made on a new port over the script's wire; and the abstract
+-- port over the new device makes them with the same answers.
+pub record PlaysOut (script : ScriptValue) (calls : List Call) (text : List ℕ) : Type 0 where
+  pub answers : List Answered
+  pub first : Parts (Simulated (List Entry))
+  pub opens : IsOpened (first_opening script) first
+  pub last : Parts (Simulated (List Entry))
+  pub made : MadeOverWire first calls answers last
+  pub after : PortState
+  pub run : Run (first_port script.limits script.page) calls answers after
+  pub carried : (wire_of last.station.link).device.far.carried ≡ after.session.carried
+  pub granted : list_any lacks_memory answers ≡ false
+  pub text_is : text ≡ answers_text calls answers ++ record_text after.session.carried
 
 -- what `run` prints for lines, which are a script
 abbrev pub PrintsRun : List (ℕ × List ℕ) → List ℕ → Type 0
-PrintsRun lines text = IsSomeAnd (script_in lines) (λ script. PlaysOut (first_port script.limits script.page) (calls_in lines) text)
-
--- Whatever abstract port a port stands for: it makes these calls, and the port stands for the one that they lead to.
-module _ {W : Type 0} (honest : W → Bool) (far : W → Far) (silence : W → ℕ) where
-  unfoldable pub PortPlays : Parts W → List Call → Parts W → List ℕ → Type 0
-  PortPlays p calls next text = (a : PortState) → StandsFor honest far silence p a → (b : PortState) × Plays a calls b text × StandsFor honest far silence next b
+PrintsRun lines text = IsSomeAnd (script_in lines) (λ script. PlaysOut script (calls_in lines) text)

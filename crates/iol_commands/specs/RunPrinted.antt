@@ -9,7 +9,7 @@ use Rattle.iol_isdu.specs.declared.values.Answer.TheVariants as answer
 use Rattle.iol_isdu.specs.declared.values.Cause.{Cause}
 use Rattle.iol_isdu.specs.declared.values.Cause.TheVariants.{LinkLost, Restarted, BusyTooLong, Protocol, Cancelled}
 use Rattle.iol_event.specs.declared.event.Event.{Event}
-use Rattle.iol_device.specs.declared.app.Carried.{Carried}
+use Rattle.iol_far.specs.declared.carried.Carried.{Carried}
 use Rattle.iol_mode.specs.declared.why.Why.{Why}
 use Rattle.iol_mode.specs.declared.why.Why.TheVariants.{NoWake, Lost, Revision, PdLength, Code}
 use Rattle.iol_steps.specs.declared.mode.Mode.{Mode}

@@ -1,12 +1,11 @@
 -- What `trace` carries out, and what it prints of it.
-use Rattle.std.specs.Prelude.{◌≡◌, ℕ, ◌+◌, Bool, true, false, Option, Some, None, List, [], ◌∷◌, ◌++◌, IsSomeAnd, IsOkAnd, unwrap_or}
+use Rattle.std.specs.Prelude.{◌≡◌, ℕ, ◌+◌, Bool, false, Option, Some, None, List, [], ◌∷◌, ◌++◌, IsSomeAnd, IsOkAnd, unwrap_or}
 use Rattle.std.specs.Io.KnownBytes.{Appends}
 use Rattle.arrayvec.specs.ArrayVec.{ArrayVec}
 use Rattle.iol_mseq.specs.Shape.{Shape, startup_shape}
 use Rattle.iol_page.specs.Page.{layouts_of}
 use Rattle.iol_page.specs.declared.page.Layouts.{Layouts}
-use Rattle.iol_device.specs.Far.{Far}
-use Rattle.iol_device.specs.Far as device
+use Rattle.iol_far.specs.Far.{Far}
 use Rattle.iol_link.specs.declared.wire.Rate.{Rate}
 use Rattle.iol_tap.specs.Tapped.{Tapped, through, IsNoteOf}
 use Rattle.iol_tap.specs.declared.tap.Passed.{Passed}
@@ -23,7 +22,7 @@ use Rattle.iol_port.specs.Run.{PortState, CallOf}
 use Rattle.iol_port.specs.View.{Parts, StandsFor}
 use Rattle.iol_script.specs.Script.{ScriptValue, script_in, calls_in}
 use Rattle.iol_commands.specs.Passing.{PrintsPassed}
-use Rattle.iol_commands.specs.RunPlayed.{first_port, lacks_memory}
+use Rattle.iol_commands.specs.RunPlayed.{first_port, first_wire, lacks_memory}
 use Rattle.iol_commands.specs.RunPrinted.{answer_text, record_text}
 
 -- the layout of a mode, where these are the device's; in down no message is sent
@@ -62,16 +61,6 @@ module _ {W : Type 0} (wakes : W → Option Rate → W → Type 0) (gives : W �
   Traces s [] t text = (t ≡ s) × (text ≡ [])
   Traces s (call ∷ calls) t text =
       (mid : Stage W) × (first : List ℕ) × (later : List ℕ) × (text ≡ first ++ later) × TracesCall s call mid first × Traces mid calls t later
-
--- the wire of a script at first: a new device of its page and its parameters, and its steps
-abbrev pub first_wire : ScriptValue → Simulated (List Entry)
-first_wire script = record {
-  device = record { far = device.opened script.page (Some 1000); app = script.params; first = script.params };
-  steps = script.steps;
-  auto = true;
-  silent = false;
-  silence = 0;
-}
 
 abbrev pub first_stage : ScriptValue → Stage (Simulated (List Entry))
 first_stage script = record { number = 1; port = first_port script.limits script.page; wire = first_wire script }

@@ -1,7 +1,7 @@
 //! What is printed for one call of the wire.
 ghost use Rattle.std.specs.Prelude.{◌≡◌, ◌++◌, ℕ, List, OnOk};
 ghost use Rattle.std.specs.String.{string_bytes};
-ghost use Rattle.iol_device.specs.Device.{octets_in};
+ghost use Rattle.iol_far.specs.Octets.{octets_in};
 ghost use Rattle.iol_commands.specs.Passing.{rate_name, wake_text, line_front, asks_read, PrintsSent, PrintsCame, PrintsPassed};
 
 use crate::check_command::{answer_message, answer_reply};

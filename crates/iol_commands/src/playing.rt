@@ -10,7 +10,7 @@ ghost use Rattle.iol_commands.specs.RunPrinted.{answers_text};
 
 use crate::run_printing::print_answer;
 use iol_book::BookFault;
-use iol_image::Handle;
+use iol_cell::Handle;
 use iol_link::Wire;
 use iol_port::{Answered, Call, Port, PortFault, runs_join};
 use iol_script::{CallLine, Lines, RunLine};
@@ -29,8 +29,8 @@ pub(crate) fn play_lines<W: Wire, A: Handle>(
 ) -> Result<(), AllocError>
     ensures { OnOk result ((text : List ℕ)
         × (string_bytes output.new ≡ string_bytes output.old ++ text)
-        × PortPlays W.honest W.far W.silence port.old.parts (calls_in (numbered_lines input.now))
-        port.new.parts text) }
+        × PortPlays W.honest W.far W.silence W.wake_gives W.exchange_gives
+        port.old.parts (calls_in (numbered_lines input.now)) port.new.parts text) }
 {
     runs_join();
     let turns = turns_of(alloc)?;
@@ -64,8 +64,8 @@ fn play_line<W: Wire, A: Handle>(
     requires { turns.now ≡ replicate PIECE Turn }
     ensures { OnOk result ((text : List ℕ)
         × (string_bytes output.new ≡ string_bytes output.old ++ text)
-        × PortPlays W.honest W.far W.silence port.old.parts (line_calls line.now) port.new.parts
-        text) }
+        × PortPlays W.honest W.far W.silence W.wake_gives W.exchange_gives
+        port.old.parts (line_calls line.now) port.new.parts text) }
 {
     match line {
         CallLine::Once(call) => play(alloc, output, port, slice::from_ref(call)),
@@ -84,8 +84,8 @@ fn play_turns<W: Wire, A: Handle>(
     requires { turns.now ≡ replicate PIECE Turn }
     ensures { OnOk result ((text : List ℕ)
         × (string_bytes output.new ≡ string_bytes output.old ++ text)
-        × PortPlays W.honest W.far W.silence port.old.parts (replicate count Turn) port.new.parts
-        text) }
+        × PortPlays W.honest W.far W.silence W.wake_gives W.exchange_gives
+        port.old.parts (replicate count Turn) port.new.parts text) }
 {
     runs_join();
     let mut made = 0;
@@ -106,7 +106,8 @@ fn play<W: Wire, A: Handle>(
 ) -> Result<(), AllocError>
     ensures { OnOk result ((text : List ℕ)
         × (string_bytes output.new ≡ string_bytes output.old ++ text)
-        × PortPlays W.honest W.far W.silence port.old.parts calls.now port.new.parts text) }
+        × PortPlays W.honest W.far W.silence W.wake_gives W.exchange_gives
+        port.old.parts calls.now port.new.parts text) }
 {
     let Ok(answers) = port.run(alloc, calls) else {
         return Err(AllocError);

@@ -2,21 +2,20 @@
 ghost use Rattle.std.specs.Prelude.{◌≡◌, ◌≢◌, ◌<◌, ◌⊎◌, ℕ, Err, OnErr, OnOk, IfOk, IfErr, IsOk, None, Some};
 ghost use Rattle.std.specs.Io.KnownBytes.{Keeps};
 ghost use Rattle.std.specs.String.{string_bytes};
-ghost use Rattle.iol_device.specs.Far.{opened};
+ghost use Rattle.iol_far.specs.Far.{opened};
 ghost use Rattle.iol_page.specs.Page.{layouts_of};
 ghost use Rattle.iol_script.specs.Script.{first_bad_run};
 ghost use Rattle.iol_script.specs.Text.{numbered_lines};
 ghost use Rattle.iol_commands.specs.declared.fault.ProgramFault.TheVariants.{Line, NoThread, OutOfMemory, TooLong, WriteFailed};
-ghost use Rattle.iol_commands.specs.RunPlayed.{PrintsRun};
-ghost use Rattle.iol_commands.specs.TracePrinted.{first_wire};
+ghost use Rattle.iol_commands.specs.RunPlayed.{first_wire, PrintsRun};
 ghost use Rattle.iol_commands.specs.Input.{IsTooLong, OfLines, TakesInput, Writes};
 
 use crate::fault::ProgramFault;
 use crate::playing::play_lines;
 use crate::run_printing::print_record;
 use crate::streams::{read_input, write_output};
+use iol_cell::Handle;
 use iol_device::Device;
-use iol_image::Handle;
 use iol_port::Port;
 use iol_script::Script;
 use iol_sim::{Params, Sim};

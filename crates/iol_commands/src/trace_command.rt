@@ -14,7 +14,7 @@ use crate::run_command::wire_of;
 use crate::run_printing::print_record;
 use crate::streams::{read_input, write_output};
 use crate::tracing::Tracer;
-use iol_image::Handle;
+use iol_cell::Handle;
 use iol_port::Port;
 use iol_script::Script;
 use iol_tap::Tap;

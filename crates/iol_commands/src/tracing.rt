@@ -13,7 +13,7 @@ use crate::passing::print_passed;
 use crate::playing::lacks_memory;
 use crate::run_printing::print_answer;
 use crate::streams::write_output;
-use iol_image::Handle;
+use iol_cell::Handle;
 use iol_link::Wire;
 use iol_mseq::Layout;
 use iol_page::Layouts;

@@ -1,13 +1,5 @@
-pub mod Isdu
-pub mod Codec
+pub mod App
 pub mod Record
-pub mod Far
-pub mod Local
 pub mod Faults
 pub mod Device
 pub mod Inside
-pub mod Level
-pub mod SegmentLaws
-pub mod Laws
-pub mod Linked
-pub mod Regular

@@ -1,13 +1,14 @@
 //! What a device is without its application.
 ghost use Rattle.std.specs.Prelude.{◌≡◌, ℕ, ◌+◌, ◌-◌, ◌<◌, ◌≤◌, ◌↔◌, ◌∷◌, ◌==◌, replicate, length, slice_index, List, Option, Some, None, MatchOption, IsTrue, IsErr, IfErr, OnErr, option_copied, IfOk, bytes_eq, option_map, IfNone, OnSome, false, is_some, IsOk, unwrap_or, [], if◌then◌else◌};
 
-use crate::app::{App, Carried};
-use crate::commands::{Mode, Waiting, command_in, is_confirm, mode_asked};
+use crate::app::App;
+use crate::commands::{Waiting, command_in, is_confirm, mode_asked};
 use crate::data::{copy_of, flow_of, image_of, message_in, message_of, octets_of, size_of};
 use crate::fault::DeviceFault;
 use crate::isdu::{IsduSide, answer_of, is_kind_of};
 use crate::record::{Kept, Record};
 use iol_event::{Event, EventMemory};
+use iol_far::{Carried, Mode};
 use iol_image::Image;
 use iol_isdu::{Answer, Request};
 use iol_mseq::{Layout, MasterMsg, Message, Part, Reply, first, first_of_zeros, part_of, zeros};
@@ -36,7 +37,7 @@ pub(crate) struct FarEnd<R: Record = Kept> {
 
 impl<R: Record> Model for FarEnd<R> {
     ghost use Rattle.std.specs.Prelude.{[], option_map, unwrap_or};
-    ghost use Rattle.iol_device.specs.Far.{Far};
+    ghost use Rattle.iol_far.specs.Far.{Far};
     ghost use Rattle.iol_device.specs.Inside.{IsSound};
 
     ghost Value = { Far };
@@ -63,14 +64,15 @@ impl<R: Record> FarEnd<R> {
     ghost use Rattle.iol_mseq.specs.Shape.{IsLayout};
     ghost use Rattle.iol_page.specs.Page.{layouts_of, knows_isdu};
     ghost use Rattle.iol_event.specs.Memory.{is_full};
-    ghost use Rattle.iol_device.specs.Codec.{layout_in, flow_of};
-    ghost use Rattle.iol_device.specs.Far as far;
-    ghost use Rattle.iol_device.specs.Far.{layout_of, moved};
-    ghost use Rattle.iol_device.specs.Isdu.{handed};
-    ghost use Rattle.iol_device.specs.Local.{local, woken, is_input, takes_answer, LocalStep, IsCarriedOut};
+    ghost use Rattle.iol_far.specs.Codec.{layout_in, flow_of};
+    ghost use Rattle.iol_far.specs.Far as far;
+    ghost use Rattle.iol_far.specs.Far.{layout_of, moved};
+    ghost use Rattle.iol_far.specs.Isdu.{handed};
+    ghost use Rattle.iol_far.specs.Local.{local, woken, is_input, takes_answer, LocalStep};
+    ghost use Rattle.iol_device.specs.App.{IsCarriedOut};
     ghost use Rattle.iol_device.specs.Inside.{new_mode};
-    ghost use Rattle.iol_device.specs.Device.{octets_in};
-    ghost use Rattle.iol_device.specs.Laws.{IsRegular};
+    ghost use Rattle.iol_far.specs.Octets.{octets_in};
+    ghost use Rattle.iol_far.specs.Laws.{IsRegular};
     ghost use Rattle.iol_device.specs.declared.fault.DeviceFault.{DeviceFault};
 
     /// Asleep, as a device is delivered.

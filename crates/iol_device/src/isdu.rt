@@ -5,14 +5,14 @@ ghost use Rattle.iol_segment.specs.Cut.{flow_at};
 ghost use Rattle.iol_octets.specs.Flow.{IsFlow};
 ghost use Rattle.iol_octets.specs.declared.flow_control.Flow.{Flow};
 ghost use Rattle.iol_isdu.specs.Parse.{request_of};
-ghost use Rattle.iol_device.specs.Isdu.{Empty, Receiving, IsduState, isdu_written, isdu_read, isdu_data, completed, answer_text, answered, handed, fits};
+ghost use Rattle.iol_far.specs.Isdu.{Empty, Receiving, IsduState, isdu_written, isdu_read, isdu_data, completed, answer_text, answered, handed, fits};
 ghost use Rattle.iol_device.specs.Inside.{IsduValue, IsKept, IsReceiving, GoesOn, IsSent, state_of, joining_in, count_in, handed_over, sent_flow, is_sent, is_next};
 
 use crate::app::App;
 use iol_isdu::{Answer, Request};
 use iol_mseq::{Part, first_of_zeros, zeros};
 use iol_octets::Flow;
-use iol_segment::{Cutter, Joiner, Reaction};
+use iol_segment::{Cutter, Joiner, Reaction, cut_is_whole};
 use std::marker::Model;
 use std::mem;
 
@@ -82,11 +82,11 @@ impl IsduSide {
     }
 
     /// The on-request data of the reply to a read.
-    #[tactic(auto, using(crate::proofs::Sending::segment_size))]
     pub fn data(&self) -> Part
         ensures value { result.items ≡ isdu_data self.now.size self.now.state }
         ensures size { length result.items ≡ self.now.size }
     {
+        cut_is_whole();
         match &self.stage {
             Stage::Handed(_) => first_of_zeros(self.size, 1),
             Stage::Answered(cutter) => match cutter.again() {

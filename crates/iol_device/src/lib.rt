@@ -13,18 +13,12 @@ mod device;
 mod far_end;
 mod fault;
 mod isdu;
-mod laws;
 mod record;
 
-pub use app::{Apart, App, Carried};
-pub use commands::Mode;
+pub use app::{Apart, App};
 pub use device::Device;
 pub use fault::DeviceFault;
-pub use laws::{
-    ends_stay_level, events_stay_until_confirmed, hearing_again_changes_nothing, links_stay_level,
-    messages_are_heard, modes_have_layouts, page_and_room_stay, parts_stay_regular,
-    replies_are_read, requests_are_received, texts_are_heard,
-};
+pub use iol_far::{Carried, Mode};
 pub use record::{Kept, Record, Unkept};
 
 #[cfg(test)]

@@ -2,12 +2,12 @@
 ghost use Rattle.std.specs.Prelude.{◌≡◌, ◌≤◌, ℕ, [], List, Option, None, Some, IfOk, IsTrue};
 ghost use Rattle.iol_isdu.specs.declared.values.Request.{Request};
 ghost use Rattle.iol_isdu.specs.declared.values.Answer.{Answer};
-ghost use Rattle.iol_device.specs.declared.app.Carried.{Carried};
-ghost use Rattle.iol_device.specs.Level.{grown_by};
-ghost use Rattle.iol_device.specs.Record.{takes_more};
+ghost use Rattle.iol_far.specs.declared.carried.Carried.{Carried};
+ghost use Rattle.iol_far.specs.Level.{grown_by};
+ghost use Rattle.iol_far.specs.Record.{takes_more};
 ghost use base.Fml.{ftrue};
 
-use crate::app::Carried;
+use iol_far::Carried;
 use iol_isdu::{Answer, Request};
 use std::alloc::{AllocError, Allocator, Global};
 use std::marker::{Model, PhantomData, Send, Sync};

@@ -1,8 +1,7 @@
 use Rattle.std.specs.Prelude.{ℕ}
 use Rattle.iol_image.specs.declared.fault.ImageFault.{ImageFault}
-use Rattle.iol_image.specs.declared.fault.ImageFault.TheVariants.{OutOfMemory, WrongImageLength}
+use Rattle.iol_image.specs.declared.fault.ImageFault.TheVariants.{WrongImageLength}
 
 -- the number of each refusal
 abbrev pub fault_number : ImageFault → ℕ
-fault_number OutOfMemory = 24
 fault_number WrongImageLength = 29

@@ -1,24 +1,11 @@
-//! Process data of one direction, whole or none.
-//!
-//! An `Image` has all process data octets of a direction. A cell (profile) hands the last published image,
-//! or none, from one `ImageWriter` to up to 16 readers, each with an `ImageSeat` of its own. The image is
-//! kept in five words, its length and its octets, which are read and written as one: no reader sees a mix
-//! of two images, and none takes the lock of the port that publishes.
+//! Process data of one direction, whole: an [`Image`] has all its octets (IEC 61131-9, 7.3.4).
 #![tactic(auto)]
 
-mod cell;
 mod fault;
-mod handle;
 mod image;
-mod laws;
-mod packing;
-mod steps;
 
-pub use cell::{ImageSeat, ImageWriter, image_cell};
 pub use fault::ImageFault;
-pub use handle::Handle;
 pub use image::Image;
-pub use laws::each_step_keeps_the_rule;
 
 #[cfg(test)]
 mod tests;

@@ -1,6 +1,6 @@
 -- A turn once the wire was told is a turn of the port before it.
 use Rattle.std.proofs.Common.{◌≡◌, ℕ, Bool, subst}
-use Rattle.iol_device.specs.Far.{Far}
+use Rattle.iol_far.specs.Far.{Far}
 use Rattle.iol_book.specs.BookModel.{BookValue}
 use Rattle.iol_port.specs.declared.call.Call.TheVariants as call
 use Rattle.iol_port.specs.declared.call.Answered.TheVariants as answered

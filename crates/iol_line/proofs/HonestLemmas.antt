@@ -5,11 +5,11 @@ use Rattle.std.proofs.lemmas.Slice.Eq.{bytes_eq-Decides}
 use Rattle.std.proofs.lemmas.Grind.{common_steps}
 use Rattle.std.proofs.Common.{arith}
 use Rattle.arrayvec.specs.ArrayVec.{ArrayVec}
-use Rattle.iol_device.specs.Device.{octets_in}
-use Rattle.iol_device.specs.Far.{Far, hear}
-use Rattle.iol_device.specs.Local.{LocalStep, local, locals, woken}
-use Rattle.iol_device.specs.Laws.{IsRegular}
-use Rattle.iol_device.specs.Regular.{RegularStays}
+use Rattle.iol_far.specs.Octets.{octets_in}
+use Rattle.iol_far.specs.Far.{Far, hear}
+use Rattle.iol_far.specs.Local.{LocalStep, local, locals, woken}
+use Rattle.iol_far.specs.Laws.{IsRegular}
+use Rattle.iol_far.specs.Regular.{RegularStays}
 use Rattle.iol_link.specs.declared.wire.Rate.{Rate}
 use Rattle.iol_link.specs.Honest.{HonestExchange, HonestWake, Passage, OutLost, BackLost, Clean, far_after}
 use Rattle.iol_line.specs.declared.given.Given.{Given}

@@ -3,10 +3,11 @@ use Rattle.std.proofs.Common.{◌≡◌, refl, sym, ◌∙◌, ap, Bool, true, f
 use Rattle.std.specs.Prelude.{MatchBool}
 use Rattle.iol_isdu.specs.declared.values.Request.{Request}
 use Rattle.iol_isdu.specs.declared.values.Answer.{Answer}
-use Rattle.iol_device.specs.Isdu.{handed, fits}
-use Rattle.iol_device.specs.Far.{Far, hear}
-use Rattle.iol_device.specs.Local.{LocalStep, Carry, Gives, local, locals, woken, has_room, IsCarriedOut}
-use Rattle.iol_device.specs.Laws.{IsRegular}
+use Rattle.iol_far.specs.Isdu.{handed, fits}
+use Rattle.iol_far.specs.Far.{Far, hear}
+use Rattle.iol_far.specs.Local.{LocalStep, Carry, local, locals, woken, has_room}
+use Rattle.iol_device.specs.App.{Gives, IsCarriedOut}
+use Rattle.iol_far.specs.Laws.{IsRegular}
 use Rattle.iol_link.specs.Honest.{HonestExchange, HonestWake, OutLost, BackLost, Clean, silence_after}
 
 -- what the application does is a step of the device's own

@@ -1,7 +1,7 @@
 -- A port whose line is told from outside.
 use Rattle.std.specs.Prelude.{◌≡◌, ℕ, Bool, List, Option}
 use Rattle.arrayvec.specs.ArrayVec.{ArrayVec}
-use Rattle.iol_device.specs.Far.{Far}
+use Rattle.iol_far.specs.Far.{Far}
 use Rattle.iol_link.specs.declared.wire.Rate.{Rate}
 use Rattle.iol_app.specs.StationState.{wire_of}
 use Rattle.iol_port.specs.View.{Parts, Port}

@@ -2,9 +2,9 @@
 use Rattle.std.specs.Prelude.{◌≡◌, ℕ, Bool, true, if◌then◌else◌, List, Option, Some, None, is_some, bytes_eq}
 use Rattle.arrayvec.specs.ArrayVec.{ArrayVec}
 use Rattle.std.specs.Option.{option_map}
-use Rattle.iol_device.specs.Device.{octets_in}
-use Rattle.iol_device.specs.Far.{Far}
-use Rattle.iol_device.specs.Laws.{IsRegular}
+use Rattle.iol_far.specs.Octets.{octets_in}
+use Rattle.iol_far.specs.Far.{Far}
+use Rattle.iol_far.specs.Laws.{IsRegular}
 use Rattle.iol_link.specs.declared.wire.Rate.{Rate}
 use Rattle.iol_link.specs.Honest.{HonestExchange, HonestWake}
 use Rattle.iol_line.specs.declared.given.Given.{Given}

@@ -1,6 +1,6 @@
 -- Where a line stands: the device at its far end, and the silence up to now.
 use Rattle.std.specs.Prelude.{ℕ, ◌+◌, min}
-use Rattle.iol_device.specs.Far.{Far}
+use Rattle.iol_far.specs.Far.{Far}
 
 pub record Standing : Type 0 where
   pub far : Far

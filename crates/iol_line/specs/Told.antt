@@ -1,7 +1,7 @@
 -- A line that is told from outside what its next call brings: what each call of it gives.
 use Rattle.std.specs.Prelude.{◌≡◌, ℕ, Bool, true, false, if◌then◌else◌, List, [], Option, Some, None, bytes_eq, ⊤}
 use Rattle.arrayvec.specs.ArrayVec.{ArrayVec}
-use Rattle.iol_device.specs.Far.{Far, opened}
+use Rattle.iol_far.specs.Far.{Far, opened}
 use Rattle.iol_link.specs.declared.wire.Rate.{Rate}
 use Rattle.iol_line.specs.declared.given.Given.{Given}
 use Rattle.iol_line.specs.declared.given.Given.TheVariants.{Wake, Exchange}

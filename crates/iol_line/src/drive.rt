@@ -9,7 +9,7 @@ ghost use Rattle.iol_line.specs.Told.{is_honest, far_of, silence_of};
 ghost use Rattle.iol_line.specs.Driving.{line_of, TurnWoken, TurnAnswered};
 
 use crate::line::Line;
-use iol_image::Handle;
+use iol_cell::Handle;
 use iol_link::Rate;
 use iol_mseq::Message;
 use iol_port::Port;

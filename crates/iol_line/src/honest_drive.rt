@@ -1,7 +1,7 @@
 //! The turns of a port over a line that claims to be honest.
 ghost use Rattle.std.specs.Prelude.{◌≡◌, is_some};
-ghost use Rattle.iol_device.specs.Device.{octets_in};
-ghost use Rattle.iol_device.specs.Far.{Far};
+ghost use Rattle.iol_far.specs.Octets.{octets_in};
+ghost use Rattle.iol_far.specs.Far.{Far};
 ghost use Rattle.iol_link.specs.Honest.{HonestWake};
 ghost use Rattle.iol_app.specs.declared.asked.Asked.{Asked};
 ghost use Rattle.iol_port.specs.declared.call.Call.TheVariants as call;
@@ -13,7 +13,7 @@ ghost use Rattle.iol_line.specs.HonestTold.{ExchangePremise, standing, is_honest
 ghost use Rattle.iol_line.specs.Driving.{line_of, TurnWoken, TurnAnswered};
 
 use crate::honest_line::HonestLine;
-use iol_image::Handle;
+use iol_cell::Handle;
 use iol_link::Rate;
 use iol_mseq::Message;
 use iol_port::Port;

@@ -2,16 +2,16 @@
 ghost use Rattle.std.specs.Prelude.{◌≡◌, ℕ, false, Some, IsTrue, List, Option, is_some};
 ghost use Rattle.arrayvec.specs.ArrayVec.{ArrayVec};
 ghost use Rattle.iol_octets.specs.Checksum.{has_checksum};
-ghost use Rattle.iol_device.specs.Device.{octets_in};
-ghost use Rattle.iol_device.specs.Laws.{IsRegular};
-ghost use Rattle.iol_device.specs.Far.{Far};
+ghost use Rattle.iol_far.specs.Octets.{octets_in};
+ghost use Rattle.iol_far.specs.Laws.{IsRegular};
+ghost use Rattle.iol_far.specs.Far.{Far};
 ghost use Rattle.iol_link.specs.Honest.{HonestExchange, HonestWake};
 ghost use Rattle.iol_line.specs.Standing.{Standing, unheard, woken_to};
 
 use crate::given::Given;
 use crate::line::Line;
 use crate::place::Place;
-use iol_device::parts_stay_regular;
+use iol_far::parts_stay_regular;
 use iol_link::{Rate, Wire};
 use iol_mseq::Message;
 use std::marker::Model;

@@ -4,10 +4,10 @@ use Rattle.iol_mseq.specs.Shape.{Shape, IsLayout}
 use Rattle.iol_mseq.specs.Master.{master_in}
 use Rattle.iol_mseq.specs.Replies.{reply_in}
 use Rattle.iol_mseq.specs.declared.master.MasterMsg.{MasterMsg}
-use Rattle.iol_device.specs.Isdu.{handed}
-use Rattle.iol_device.specs.Far.{Far, hear}
-use Rattle.iol_device.specs.Local.{LocalStep, locals, woken, IsWorkedOff}
-use Rattle.iol_device.specs.Laws.{IsRegular}
+use Rattle.iol_far.specs.Isdu.{handed}
+use Rattle.iol_far.specs.Far.{Far, hear}
+use Rattle.iol_far.specs.Local.{LocalStep, locals, woken, IsWorkedOff}
+use Rattle.iol_far.specs.Laws.{IsRegular}
 
 -- nothing, or octets that are well-formed in no layout in which the sent octets spell a message
 abbrev pub IsUnread : List ℕ → Option (List ℕ) → Type 0

@@ -3,12 +3,12 @@ use Rattle.std.specs.Prelude.{◌≡◌, ℕ, ◌+◌, ◌<◌, ◌≤◌, List,
 use Rattle.iol_mseq.specs.Shape.{Shape, IsLayout}
 use Rattle.iol_mseq.specs.declared.master.MasterMsg.{MasterMsg}
 use Rattle.iol_mseq.specs.declared.reply.Reply.{Reply}
-use Rattle.iol_device.specs.declared.app.Carried.{Carried}
-use Rattle.iol_device.specs.Isdu.{isdu_data}
-use Rattle.iol_device.specs.Codec.{layout_in, message_in}
-use Rattle.iol_device.specs.Far.{Far, reply_to}
-use Rattle.iol_device.specs.Level.{Link, taken, turned, Progress, Move, after, base_after, IsSent, IsBefore, IsLevel, IsGrown}
-use Rattle.iol_device.specs.Linked.{IsAt, IsLinked}
+use Rattle.iol_far.specs.declared.carried.Carried.{Carried}
+use Rattle.iol_far.specs.Isdu.{isdu_data}
+use Rattle.iol_far.specs.Codec.{layout_in, message_in}
+use Rattle.iol_far.specs.Far.{Far, reply_to}
+use Rattle.iol_far.specs.Level.{Link, taken, turned, Progress, Move, after, base_after, IsSent, IsBefore, IsLevel, IsGrown}
+use Rattle.iol_far.specs.Linked.{IsAt, IsLinked}
 use Rattle.iol_link.specs.Honest.{HonestExchange}
 use Rattle.iol_link.specs.Attempts.{good_reply}
 

@@ -1,6 +1,9 @@
 -- What the calls of a master answer. A master is seen as the number of its ports.
-use Rattle.std.specs.Prelude.{◌≡◌, ℕ, ◌+◌, ◌≤◌, Result, Ok, Err}
+use Rattle.std.specs.Prelude.{◌≡◌, ◌⊎◌, ℕ, ◌+◌, ◌≤◌, Result, Ok, Err}
 use Rattle.iol_book.specs.declared.entries.Ticket.{Ticket}
+use Rattle.iol_book.specs.declared.fault.BookFault.TheVariants.{Full, JournalFull, TicketsSpent, OutOfMemory as NoMemory}
+use Rattle.iol_port.specs.declared.fault.PortFault.{PortFault}
+use Rattle.iol_port.specs.declared.fault.PortFault.TheVariants.{Book}
 use Rattle.iol_master.specs.declared.fault.MasterFault.{MasterFault}
 use Rattle.iol_master.specs.declared.fault.MasterFault.TheVariants.{Port, OutOfMemory, NoSuchPort, NoThread, DesksFull}
 use Rattle.iol_master.specs.declared.accounts.Settled.{Settled}
@@ -20,12 +23,16 @@ Desks ports port (Err (Port why)) = ⊥
 Desks ports port (Err OutOfMemory) = ⊥
 Desks ports port (Err NoThread) = ⊥
 
+-- why a port refuses a submit: 64 tickets are outstanding, the journal has no room, the tickets are spent, memory is lacking
+abbrev pub IsSubmitRefusal : PortFault → Type 0
+IsSubmitRefusal why = (why ≡ Book Full) ⊎ (why ≡ Book JournalFull) ⊎ (why ≡ Book TicketsSpent) ⊎ (why ≡ Book NoMemory)
+
 -- A desk counts one more exactly where a ticket is answered. Tickets are numbered from 1.
 abbrev pub Submitted : ℕ → DeskState → Result Ticket MasterFault → DeskState → Type 0
 Submitted ports d (Ok ticket) d' =
     IsPort ports d.port × (1 ≤ ticket.0) × (d' ≡ record d { accepted = d.accepted + 1 })
 Submitted ports d (Err NoSuchPort) d' = (¬ IsPort ports d.port) × (d' ≡ d)
-Submitted ports d (Err (Port why)) d' = IsPort ports d.port × (d' ≡ d)
+Submitted ports d (Err (Port why)) d' = IsPort ports d.port × IsSubmitRefusal why × (d' ≡ d)
 Submitted ports d (Err OutOfMemory) d' = ⊥
 Submitted ports d (Err NoThread) d' = ⊥
 Submitted ports d (Err DesksFull) d' = ⊥

@@ -9,7 +9,7 @@ use crate::accounts::{Accounts, Desk, Settled, Tally};
 use crate::fault::MasterFault;
 use crate::held::{Held, Urgency};
 use iol_book::Ticket;
-use iol_image::Handle;
+use iol_cell::Handle;
 use iol_isdu::Request;
 use iol_link::Wire;
 use iol_port::Port;

@@ -5,7 +5,7 @@ ghost use Rattle.iol_master.specs.declared.fault.MasterFault.TheVariants as faul
 use crate::fault::MasterFault;
 use crate::held::Held;
 use crate::master::Master;
-use iol_image::Handle;
+use iol_cell::Handle;
 use iol_link::Wire;
 use std::sync::ledger::Ledger;
 use std::sync::{Mutex, Wait};

@@ -1,29 +1,29 @@
 //! A link, and what a turn makes of it.
-ghost use Rattle.std.specs.Prelude.{ℕ, ◌≡◌, ◌<◌, Option, Some, None, IsTrue, IfSome, is_some};
+ghost use Rattle.std.specs.Prelude.{ℕ, ◌≡◌, ◌<◌, Option, Some, None, true, IsTrue, IfSome, is_some};
 ghost use Rattle.std.specs.Option.{option_copied, option_map};
 ghost use Rattle.arrayvec.specs.ArrayVec.{ArrayVec};
 ghost use Rattle.iol_mseq.specs.Shape.{startup_shape};
 ghost use Rattle.iol_mseq.specs.Master.{HasMasterParts};
 ghost use Rattle.iol_mseq.specs.Texts.{master_text};
-ghost use Rattle.iol_device.specs.Device.{octets_in};
+ghost use Rattle.iol_far.specs.Octets.{octets_in};
 ghost use Rattle.iol_link.specs.declared.wire.Rate.{Rate};
 ghost use Rattle.iol_link.specs.Attempts.{good_reply, attempt_of};
 ghost use Rattle.iol_link.specs.Honest.{HonestExchange, HonestWake};
 ghost use Rattle.iol_mode.specs.Messages.{stays};
-ghost use Rattle.iol_mode.specs.States.{OperateFits, OutcomeFits, waked, startup_turned, preoperate_turned, operate_turned, sending_of, counted, left_by, exchanged};
-ghost use Rattle.iol_device.specs.Level.{Link as FarLink};
+ghost use Rattle.iol_mode.specs.States.{OperateFits, OutcomeFits, waked, left_down, startup_turned, preoperate_turned, operate_turned, sending_of, counted, left_by, exchanged};
+ghost use Rattle.iol_far.specs.Level.{Link as FarLink};
 ghost use Rattle.iol_mode.specs.Stands.{OperateStands, OutcomeStands, IsTold, IsOperating, IsAccepted};
 ghost use Rattle.iol_mode.specs.Next.{wire_of, outcome_of, told_by, message_out, MetFits, LostFits, FaultFits, EnteredFits};
 ghost use Rattle.iol_mode.specs.Laws.{Laws};
 
 use crate::messages::copy_of;
 use crate::states::{
-    Down, Mode, Operate, Outcome, Preoperate, Startup, Step, Up, preoperate_done, startup_done,
-    woken,
+    Down, Mode, Operate, Outcome, Preoperate, Startup, Step, Up, awake, preoperate_done,
+    startup_done,
 };
 use crate::why::Why;
-use iol_device::{ends_stay_level, links_stay_level, texts_are_heard};
-use iol_link::{Attempt, Handler, Wire, exchanges_keep_ends_level};
+use iol_far::{ends_stay_level, links_stay_level, texts_are_heard};
+use iol_link::{Attempt, Handler, Rate, Wire, exchanges_keep_ends_level};
 use iol_mseq::{Layout, MasterMsg, Message, Reply, encode_master};
 use iol_page::{Layouts, pages_ask_for_layouts};
 use std::marker::Model;
@@ -182,6 +182,47 @@ impl<W: Wire> Link<W, Down> {
         self.wire
     }
 
+    /// Makes a wake-up request: the rate of the device that answered it, none where none did. The link stays where it
+    /// is.
+    ///
+    /// Where none did, it is down with `NoWake`. Where a device answered, the caller takes it up, by `rise`.
+    pub fn wake(&mut self) -> Option<Rate>
+        ensures honest { W.honest self.new.wire ≡ W.honest self.old.wire }
+        ensures quiet { W.silence self.new.wire ≡ W.silence self.old.wire }
+
+        // the wire is woken once, and its answer is handed on
+        ensures called { W.wake_gives self.old.wire result self.new.wire }
+        ensures passes { IsTrue (W.honest self.old.wire)
+            → HonestWake (W.far self.old.wire) (is_some result) (W.far self.new.wire) }
+        ensures left { self.new.state ≡ left_down (is_some result) self.old.state }
+
+        // on an honest wire
+        ensures stands { IsTrue (W.honest self.old.wire) → OutcomeStands (waked (is_some result))
+            (W.silence self.new.wire) (W.far self.new.wire) }
+    {
+        laws();
+        let rate = self.wire.wake();
+        if rate.is_none() {
+            self.state = Down {
+                why: Some(Why::NoWake),
+            };
+        }
+        rate
+    }
+
+    /// Takes the link into STARTUP, at a device that answered the wake; no message was sent to it yet.
+    pub fn rise(self) -> Link<W, Startup>
+        requires awake { IsTrue (W.honest self.wire)
+            → OutcomeStands (waked true) (W.silence self.wire) (W.far self.wire) }
+        ensures wire { result.wire ≡ self.wire }
+        ensures state { Outcome.Startup result.state ≡ waked true }
+    {
+        Link {
+            wire: self.wire,
+            state: awake(),
+        }
+    }
+
     /// Makes a wake-up request: STARTUP, where the device answers it, else Down with `NoWake`.
     pub fn turn(self) -> Next<W>
         ensures honest { W.honest (wire_of result) ≡ W.honest self.wire }
@@ -196,10 +237,11 @@ impl<W: Wire> Link<W, Down> {
         ensures stands { IsTrue (W.honest self.wire)
             → OutcomeStands (outcome_of result) (W.silence (wire_of result)) (W.far (wire_of result)) }
     {
-        laws();
-        let Link { mut wire, state: _ } = self;
-        let answer = wire.wake();
-        linked(wire, woken(answer.is_some()))
+        let mut link = self;
+        match link.wake() {
+            Some(_) => Next::Startup(link.rise()),
+            None => Next::Down(link),
+        }
     }
 }
 

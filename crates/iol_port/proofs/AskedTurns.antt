@@ -2,7 +2,7 @@
 use Rattle.std.proofs.Common.{◌≡◌, ℕ, Bool, List, Option, subst}
 use Rattle.arrayvec.specs.ArrayVec.{ArrayVec}
 use Rattle.iol_isdu.specs.declared.values.Request.{Request}
-use Rattle.iol_device.specs.Far.{Far}
+use Rattle.iol_far.specs.Far.{Far}
 use Rattle.iol_link.specs.declared.wire.Rate.{Rate}
 use Rattle.iol_steps.specs.declared.said.Said.{Said}
 use Rattle.iol_app.specs.StationState.{StationState, IsTurn}

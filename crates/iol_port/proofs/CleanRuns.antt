@@ -6,10 +6,10 @@ use Rattle.iol_page.specs.declared.page.Layouts.{Layouts}
 use Rattle.iol_isdu.specs.declared.values.Request.{Request}
 use Rattle.iol_isdu.specs.declared.values.Answer.{Answer}
 use Rattle.iol_isdu.specs.Texts.{request_text}
-use Rattle.iol_device.specs.declared.app.Carried.{Carried}
-use Rattle.iol_device.specs.Isdu.{answer_text}
-use Rattle.iol_device.specs.Far.{Far}
-use Rattle.iol_device.specs.Level.{grown_by}
+use Rattle.iol_far.specs.declared.carried.Carried.{Carried}
+use Rattle.iol_far.specs.Isdu.{answer_text}
+use Rattle.iol_far.specs.Far.{Far}
+use Rattle.iol_far.specs.Level.{grown_by}
 use Rattle.iol_book.specs.declared.entries.Ticket.{Ticket}
 use Rattle.iol_app.specs.declared.station.AnyLink.{AnyLink}
 use Rattle.iol_app.specs.StationState.{wire_of}

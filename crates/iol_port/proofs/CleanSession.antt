@@ -11,12 +11,12 @@ use Rattle.iol_page.specs.declared.page.Layouts.{Layouts}
 use Rattle.iol_page.specs.Page.{knows_isdu}
 use Rattle.iol_isdu.specs.declared.values.Request.{Request}
 use Rattle.iol_isdu.specs.declared.values.Answer.{Answer}
-use Rattle.iol_device.specs.Device.{octets_in}
-use Rattle.iol_device.specs.Isdu.{IsduState, Empty, Receiving, Whole, Handed, Answered, handed, fits}
-use Rattle.iol_device.specs.Far.{Far, hear}
-use Rattle.iol_device.specs.Local.{Carry, local, carried_by, has_room, IsWorkedOff}
-use Rattle.iol_device.specs.Level.{Link, link_of}
-use Rattle.iol_device.specs.Laws.{IsSized, RepliesAreRead, InputStaysSized}
+use Rattle.iol_far.specs.Octets.{octets_in}
+use Rattle.iol_far.specs.Isdu.{IsduState, Empty, Receiving, Whole, Handed, Answered, handed, fits}
+use Rattle.iol_far.specs.Far.{Far, hear}
+use Rattle.iol_far.specs.Local.{Carry, local, carried_by, has_room, IsWorkedOff}
+use Rattle.iol_far.specs.Level.{Link, link_of}
+use Rattle.iol_far.specs.Laws.{IsSized, RepliesAreRead, InputStaysSized}
 use Rattle.iol_link.specs.declared.wire.Rate.{Rate}
 use Rattle.iol_mode.specs.declared.states.Outcome.TheVariants.{Operate as OutOperate}
 use Rattle.iol_mode.specs.Stands.{operate_link, IsOperating, IsAccepted}

@@ -17,9 +17,9 @@ use Rattle.iol_segment.specs.Cut.{segment, segments, flow_at}
 use Rattle.iol_segment.specs.Join.{empty, taken, is_last, next_count}
 use Rattle.iol_segment.specs.JoinLaws.{count_at, standing, took_at, JoinLaws}
 use Rattle.iol_segment.specs.TextLaws.{TextLaws, HoldsLength, joined}
-use Rattle.iol_device.specs.Codec.{flow_of}
-use Rattle.iol_device.specs.Isdu.{Handed, Answered, received, isdu_written, isdu_read, answer_text, fits, handed}
-use Rattle.iol_device.specs.SegmentLaws.{AnswersFit, SegmentLaws}
+use Rattle.iol_far.specs.Codec.{flow_of}
+use Rattle.iol_far.specs.Isdu.{Handed, Answered, received, isdu_written, isdu_read, answer_text, fits, handed}
+use Rattle.iol_far.specs.SegmentLaws.{AnswersFit, SegmentLaws}
 use Rattle.iol_app.specs.declared.request.Current.{Current}
 use Rattle.iol_app.specs.declared.request.Progress.TheVariants.{Sending, Asking, Receiving}
 use Rattle.iol_app.specs.Requests.{sent_on, GoesOn, HasText, joined as joined_with, asked, received as received_with, IsOutcomeSaid}

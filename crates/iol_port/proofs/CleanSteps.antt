@@ -12,13 +12,13 @@ use Rattle.iol_isdu.specs.Texts.{IsRequest, request_text}
 use Rattle.iol_segment.specs.Cut.{segment, segments}
 use Rattle.iol_segment.specs.JoinLaws.{count_at, standing, took_at}
 use Rattle.iol_segment.specs.TextLaws.{joined}
-use Rattle.iol_device.specs.declared.app.Carried.{Carried}
-use Rattle.iol_device.specs.Codec.{flow_of}
-use Rattle.iol_device.specs.Isdu.{IsduState, Handed, Answered, received, isdu_data, answer_text, fits, handed}
-use Rattle.iol_device.specs.Far.{Far, isdu_moved}
-use Rattle.iol_device.specs.Record.{takes_more}
-use Rattle.iol_device.specs.Local.{Carry, local, carried_by, has_room, IsWorkedOff}
-use Rattle.iol_device.specs.Level.{Link, link_of, grown_by}
+use Rattle.iol_far.specs.declared.carried.Carried.{Carried}
+use Rattle.iol_far.specs.Codec.{flow_of}
+use Rattle.iol_far.specs.Isdu.{IsduState, Handed, Answered, received, isdu_data, answer_text, fits, handed}
+use Rattle.iol_far.specs.Far.{Far, isdu_moved}
+use Rattle.iol_far.specs.Record.{takes_more}
+use Rattle.iol_far.specs.Local.{Carry, local, carried_by, has_room, IsWorkedOff}
+use Rattle.iol_far.specs.Level.{Link, link_of, grown_by}
 use Rattle.iol_link.specs.declared.wire.Rate.{Rate}
 use Rattle.iol_mode.specs.Stands.{operate_link}
 use Rattle.iol_steps.specs.declared.said.Said.{Said}

@@ -10,8 +10,8 @@ use Rattle.std.proofs.option.Option.TheSendSync as option
 use Rattle.iol_link.specs.declared.wire.Wire as wire
 use Rattle.iol_app.proofs.station.Station.TheSendSync as station
 use Rattle.iol_book.proofs.book.Book.TheSendSync as book
-use Rattle.iol_image.specs.contracts.cell.ImageWriter as Writer
-use Rattle.iol_image.proofs.cell.ImageWriter.TheSendSync as writer
+use Rattle.iol_cell.specs.contracts.cell.ImageWriter as Writer
+use Rattle.iol_cell.proofs.cell.ImageWriter.TheSendSync as writer
 use Rattle.iol_port.specs.contracts.parts.Parts as Parts
 use Rattle.iol_port.specs.contracts.parts.Parts.TheInside as parts
 use Rattle.iol_port.specs.contracts.port.Port as Port

@@ -5,7 +5,7 @@ use Rattle.std.proofs.lemmas.Bool.{eq-eqb}
 use Rattle.std.proofs.lemmas.Bool.Decides.{nat_tests}
 use Rattle.std.specs.Map.{remove_entry}
 use Rattle.iol_isdu.specs.declared.values.Request.{Request}
-use Rattle.iol_device.specs.declared.app.Carried.{Carried}
+use Rattle.iol_far.specs.declared.carried.Carried.{Carried}
 use Rattle.iol_book.specs.declared.entries.Ticket.{Ticket}
 use Rattle.iol_book.specs.Replay.{Standing, same_ticket, is_among, without, others_without}
 use Rattle.iol_book.specs.BookModel.{next_taken, others_behind}

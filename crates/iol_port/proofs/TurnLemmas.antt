@@ -10,7 +10,7 @@ use Rattle.iol_steps.specs.declared.mode.Mode.TheVariants.{Down, Operate}
 use Rattle.iol_steps.specs.declared.said.Said.{Said}
 use Rattle.iol_steps.specs.Step.{Step, Take, Deny, Done, Unknown, Moment, woke_up, book_said, reports_said}
 use Rattle.iol_steps.specs.Session.{MaySession, MaySessionAll, session_after, session_through}
-use Rattle.iol_device.specs.Far.{Far}
+use Rattle.iol_far.specs.Far.{Far}
 use Rattle.iol_event.specs.declared.event.Event.{Event}
 use Rattle.iol_steps.specs.Station.{Station, Unseen, Stands, session_in, job_of}
 use Rattle.iol_steps.specs.Exchange.{begun, unseen_begun}

@@ -6,8 +6,8 @@ use Rattle.iol_page.specs.Page.{knows_isdu}
 use Rattle.iol_isdu.specs.declared.values.Request.{Request}
 use Rattle.iol_isdu.specs.declared.values.Cause.TheVariants.{Restarted}
 use Rattle.iol_event.specs.declared.event.Event.{Event}
-use Rattle.iol_device.specs.declared.app.Carried.{Carried}
-use Rattle.iol_device.specs.Far.{Far}
+use Rattle.iol_far.specs.declared.carried.Carried.{Carried}
+use Rattle.iol_far.specs.Far.{Far}
 use Rattle.iol_book.specs.declared.entries.Limits.{Limits}
 use Rattle.iol_book.specs.declared.entries.Ticket.{Ticket}
 use Rattle.iol_book.specs.declared.entries.Outcome.{Outcome}

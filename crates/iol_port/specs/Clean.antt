@@ -11,14 +11,14 @@ use Rattle.iol_segment.specs.TextLaws.{TextLaws}
 use Rattle.iol_event.specs.Memory.{Events}
 use Rattle.iol_page.specs.declared.page.Layouts.{Layouts}
 use Rattle.iol_page.specs.Page.{knows_isdu}
-use Rattle.iol_device.specs.declared.app.Carried.{Carried}
-use Rattle.iol_device.specs.Device.{octets_in}
-use Rattle.iol_device.specs.Far.{Far}
-use Rattle.iol_device.specs.Local.{has_room}
-use Rattle.iol_device.specs.Record.{takes_more}
-use Rattle.iol_device.specs.Level.{Link, Quiet, link_of, IsBefore, grown_by}
-use Rattle.iol_device.specs.Laws.{RepliesAreRead, InputStaysSized, ModesHaveLayouts, MuchStays}
-use Rattle.iol_device.specs.SegmentLaws.{SegmentLaws}
+use Rattle.iol_far.specs.declared.carried.Carried.{Carried}
+use Rattle.iol_far.specs.Octets.{octets_in}
+use Rattle.iol_far.specs.Far.{Far}
+use Rattle.iol_far.specs.Local.{has_room}
+use Rattle.iol_far.specs.Record.{takes_more}
+use Rattle.iol_far.specs.Level.{Link, Quiet, link_of, IsBefore, grown_by}
+use Rattle.iol_far.specs.Laws.{RepliesAreRead, InputStaysSized, ModesHaveLayouts, MuchStays}
+use Rattle.iol_far.specs.SegmentLaws.{SegmentLaws}
 use Rattle.iol_mode.specs.Stands.{operate_link, IsOperating}
 use Rattle.iol_link.specs.Honest.{CleanExchange}
 use Rattle.iol_book.specs.declared.entries.Ticket.{Ticket}

@@ -1,7 +1,7 @@
 -- What a client may conclude of a request that was denied: the device has no ISDU, and carries out nothing.
 use Rattle.std.specs.Prelude.{◌≡◌, ℕ, false, List}
 use Rattle.iol_page.specs.Page.{knows_isdu}
-use Rattle.iol_device.specs.Far.{Far}
+use Rattle.iol_far.specs.Far.{Far}
 use Rattle.iol_book.specs.declared.entries.Limits.{Limits}
 use Rattle.iol_book.specs.declared.entries.Outcome.TheVariants.{NoIsdu}
 use Rattle.iol_book.specs.declared.entries.Ticket.{Ticket}

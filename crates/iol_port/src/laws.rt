@@ -5,7 +5,7 @@ ghost use Rattle.iol_port.specs.Denials.{CarriesNone, IsDeniedWithoutIsdu};
 ghost use Rattle.iol_port.specs.Owned.{EachDoneHasItsPair, LateEnds, CutForGoodStaysOut};
 
 use iol_book::{records_fit, takings_of_calls};
-use iol_device::{modes_have_layouts, page_and_room_stay, replies_are_read, requests_are_received};
+use iol_far::{modes_have_layouts, page_and_room_stay, replies_are_read, requests_are_received};
 use iol_isdu::one_text_each;
 use iol_segment::{cut_is_whole, segments_join, texts_join};
 

@@ -4,10 +4,12 @@ use Rattle.std.specs.Prelude.{None, Some, IsTrue, MatchBool}
 use Rattle.arrayvec.specs.ArrayVec.{ArrayVec}
 use Rattle.iol_isdu.specs.declared.values.Answer.{Answer}
 use Rattle.iol_isdu.specs.declared.values.Request.{Request}
-use Rattle.iol_device.specs.Device.{Running, octets_in}
-use Rattle.iol_device.specs.Far.{Far}
-use Rattle.iol_device.specs.Isdu.{fits}
-use Rattle.iol_device.specs.Local.{Carry, local, has_room, Gives, IsCarriedOut, IsWorkedOff}
+use Rattle.iol_device.specs.Device.{Running}
+use Rattle.iol_far.specs.Octets.{octets_in}
+use Rattle.iol_far.specs.Far.{Far}
+use Rattle.iol_far.specs.Isdu.{fits}
+use Rattle.iol_far.specs.Local.{Carry, local, has_room, IsWorkedOff}
+use Rattle.iol_device.specs.App.{Gives, IsCarriedOut}
 use Rattle.iol_link.specs.Honest.{CleanExchange}
 use Rattle.iol_link.specs.declared.wire.Rate.{Rate}
 use Rattle.iol_sim.specs.declared.script.Step.{Step}

@@ -2,9 +2,11 @@
 use Rattle.std.specs.Prelude.{◌≡◌, ℕ, ◌-◌, Bool, true, false, not, ◌&&◌, nat_le, if◌then◌else◌, List, [], ◌∷◌, length, MatchBool, Option, Some, None, option_map}
 use Rattle.arrayvec.specs.ArrayVec.{ArrayVec}
 use Rattle.iol_octets.specs.Checksum.{with_flip}
-use Rattle.iol_device.specs.Device.{Running, octets_in}
-use Rattle.iol_device.specs.Far.{Far, Heard, hear}
-use Rattle.iol_device.specs.Local.{Gives, woken}
+use Rattle.iol_device.specs.Device.{Running}
+use Rattle.iol_far.specs.Octets.{octets_in}
+use Rattle.iol_far.specs.Far.{Far, Heard, hear}
+use Rattle.iol_far.specs.Local.{woken}
+use Rattle.iol_device.specs.App.{Gives}
 use Rattle.iol_link.specs.Honest.{silence_after}
 use Rattle.iol_link.specs.declared.wire.Rate.{Rate}
 use Rattle.iol_link.specs.declared.wire.Rate.TheVariants.{Com2}

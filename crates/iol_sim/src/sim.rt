@@ -2,14 +2,15 @@ ghost use Rattle.std.specs.Prelude.{◌≡◌, ℕ, [], true, false, List, Some,
 ghost use Rattle.arrayvec.specs.ArrayVec.{ArrayVec};
 ghost use Rattle.std.specs.Vec.Iter.{into_iter_items};
 ghost use Rattle.iol_octets.specs.Checksum.{has_checksum, AreOctets};
-ghost use Rattle.iol_device.specs.Device.{octets_in};
+ghost use Rattle.iol_far.specs.Octets.{octets_in};
 ghost use Rattle.iol_link.specs.Honest.{HonestExchange, HonestWake};
 ghost use Rattle.iol_sim.specs.Sim.{damaged};
 
 use crate::fault::SimFault;
 use crate::params::Params;
 use crate::script::{Fate, Step};
-use iol_device::{App, Device, Kept, replies_are_read};
+use iol_device::{App, Device, Kept};
+use iol_far::replies_are_read;
 use iol_link::{Rate, Wire, damaged_replies_are_unread};
 use iol_mseq::Message;
 use iol_octets::one_flip_is_seen;
@@ -61,8 +62,8 @@ impl<P: App, A: Allocator + Copy> Model for Sim<P, A> {
 }
 
 impl<P: App, A: Allocator + Copy> Sim<P, A> {
-    ghost use Rattle.iol_device.specs.Far.{hear};
-    ghost use Rattle.iol_device.specs.Local.{Follows};
+    ghost use Rattle.iol_far.specs.Far.{hear};
+    ghost use Rattle.iol_device.specs.App.{Follows};
     ghost use Rattle.iol_sim.specs.declared.fault.SimFault.{SimFault};
     ghost use Rattle.iol_sim.specs.declared.script.Fate.{Fate};
     ghost use Rattle.iol_sim.specs.Script.{fate_of, rest_of, auto_of, IsDone, AreDone};

@@ -2,8 +2,8 @@
 use Rattle.std.proofs.Common.{◌≡◌, ℕ, Bool, true, false, List, refl}
 use Rattle.std.specs.Prelude.{Option, Some, None, if◌then◌else◌, option_map, bytes_eq}
 use Rattle.iol_mseq.specs.declared.master.MasterMsg.{MasterMsg}
-use Rattle.iol_device.specs.Codec.{layout_in, message_in}
-use Rattle.iol_device.specs.Far.{Far, WaitingCommand, accepted, accepted_by, accepted_now, moved}
+use Rattle.iol_far.specs.Codec.{layout_in, message_in}
+use Rattle.iol_far.specs.Far.{Far, WaitingCommand, accepted, accepted_by, accepted_now, moved}
 
 module _ (P : Option (Far × MasterMsg) → Type 0) (g : Far) (o : List ℕ) (none : P None)
     (here : (m : MasterMsg) → message_in (layout_in g.page g.mode) o ≡ Some m → P (Some (g, m)))

@@ -13,7 +13,7 @@ use Rattle.iol_isdu.specs.Texts.{FitsAnswer}
 use Rattle.iol_isdu.specs.Laws.{OneAnswerInFront, OneAnswerText}
 use Rattle.iol_segment.specs.Cut.{segment}
 use Rattle.iol_segment.specs.TextLaws.{joined}
-use Rattle.iol_device.specs.Isdu.{is_kind, answer_text}
+use Rattle.iol_far.specs.Isdu.{is_kind, answer_text}
 use Rattle.iol_steps.specs.Promises.{TextNamesAnswer}
 
 assoc : (xs ys zs : List ℕ) → (xs ++ ys) ++ zs ≡ xs ++ (ys ++ zs)

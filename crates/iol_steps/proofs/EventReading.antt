@@ -7,14 +7,14 @@ use Rattle.iol_event.specs.declared.event.Event.{Event}
 use Rattle.iol_event.specs.Memory.{Events, IsEventMemory, is_empty, released, event_octet}
 use Rattle.iol_event.specs.Reading.{Taken, taken, next_address, reading, IsEventList}
 use Rattle.iol_event.specs.Laws.{MemoryStaysValid, WaitsForAll, GivesFrozen, taken_from}
-use Rattle.iol_device.specs.Isdu.{IsduState, Handed, Answered, fits}
-use Rattle.iol_device.specs.Codec.{layout_in}
-use Rattle.iol_device.specs.Far.{Far, hear, heard_as, events_after}
-use Rattle.iol_device.specs.Local.{LocalStep, local, locals, carried_by, has_room, is_input}
-use Rattle.iol_device.specs.Local.{Carry as OwnCarry, Raise as OwnRaise, Input as OwnInput, NoInput as OwnNoInput, Power as OwnPower}
-use Rattle.iol_device.specs.Level.{grown_by}
-use Rattle.iol_device.specs.Laws.{IsFrozen}
-use Rattle.iol_device.specs.Laws.{confirms as octets_confirm}
+use Rattle.iol_far.specs.Isdu.{IsduState, Handed, Answered, fits}
+use Rattle.iol_far.specs.Codec.{layout_in}
+use Rattle.iol_far.specs.Far.{Far, hear, heard_as, events_after}
+use Rattle.iol_far.specs.Local.{LocalStep, local, locals, carried_by, has_room, is_input}
+use Rattle.iol_far.specs.Local.{Carry as OwnCarry, Raise as OwnRaise, Input as OwnInput, NoInput as OwnNoInput, Power as OwnPower}
+use Rattle.iol_far.specs.Level.{grown_by}
+use Rattle.iol_far.specs.Laws.{IsFrozen}
+use Rattle.iol_far.specs.Laws.{confirms as octets_confirm}
 use Rattle.iol_steps.specs.Bridge.{confirms_by}
 use Rattle.iol_steps.specs.Station.{Reading, Resting, Flagged, Under, Due, is_due, wants_octet, read_so_far, EventsFit}
 use Rattle.iol_steps.specs.Exchange.{reading_with, reading_read, reading_flagged, reading_kept, list_of}

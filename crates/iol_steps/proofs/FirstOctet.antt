@@ -4,8 +4,8 @@ use Rattle.std.specs.Prelude.{Option, Some, None, if◌then◌else◌, slice_ind
 use Rattle.iol_octets.specs.Control.{control_of}
 use Rattle.iol_mseq.specs.Shape.{Shape}
 use Rattle.iol_mseq.specs.declared.master.MasterMsg.{MasterMsg}
-use Rattle.iol_device.specs.Codec.{message_in}
-use Rattle.iol_device.specs.Laws.{confirms as octets_confirm}
+use Rattle.iol_far.specs.Codec.{message_in}
+use Rattle.iol_far.specs.Laws.{confirms as octets_confirm}
 use Rattle.iol_steps.specs.Bridge.{confirms_by}
 use Rattle.iol_mseq.specs.Master.{master_fault, message_of}
 

@@ -6,10 +6,10 @@ use Rattle.iol_isdu.specs.declared.values.Request.{Request}
 use Rattle.iol_isdu.specs.declared.values.Answer.{Answer}
 use Rattle.iol_event.specs.Memory.{freezes_at_once}
 use Rattle.iol_link.specs.Honest.{Passage}
-use Rattle.iol_device.specs.Isdu.{IsduState, Empty, Receiving, Whole, Handed, Answered, handed}
-use Rattle.iol_device.specs.Far.{Far}
-use Rattle.iol_device.specs.Local.{LocalStep, local, locals, carried_by, is_input}
-use Rattle.iol_device.specs.Local.{Carry as OwnCarry, Raise as OwnRaise, Input as OwnInput, NoInput as OwnNoInput, Power as OwnPower}
+use Rattle.iol_far.specs.Isdu.{IsduState, Empty, Receiving, Whole, Handed, Answered, handed}
+use Rattle.iol_far.specs.Far.{Far}
+use Rattle.iol_far.specs.Local.{LocalStep, local, locals, carried_by, is_input}
+use Rattle.iol_far.specs.Local.{Carry as OwnCarry, Raise as OwnRaise, Input as OwnInput, NoInput as OwnNoInput, Power as OwnPower}
 use Rattle.iol_steps.specs.Step.{Step, Freeze, Input}
 use Rattle.iol_steps.specs.Bridge.{carry_steps, own_step, own_steps, passed_steps, exchange_steps}
 use Rattle.iol_steps.specs.Kinds.{made_steps}

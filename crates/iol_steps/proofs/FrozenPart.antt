@@ -7,13 +7,13 @@ use Rattle.iol_isdu.specs.declared.values.Answer.{Answer}
 use Rattle.iol_event.specs.declared.event.Event.{Event}
 use Rattle.iol_event.specs.Memory.{Events, freezes_at_once, raised, confirmed, released}
 use Rattle.iol_link.specs.Honest.{Passage, OutLost, BackLost, Clean, far_after}
-use Rattle.iol_device.specs.Isdu.{IsduState, Empty, Receiving, Whole, Handed, Answered, fits}
-use Rattle.iol_device.specs.Codec.{layout_in}
-use Rattle.iol_device.specs.Far.{Far, moved, hear, heard_as, worked, output_of, events_after}
-use Rattle.iol_device.specs.Local.{LocalStep, local, locals, carried_by, has_room, is_input, woken}
-use Rattle.iol_device.specs.Local.{Carry as OwnCarry, Raise as OwnRaise, Input as OwnInput, NoInput as OwnNoInput, Power as OwnPower}
-use Rattle.iol_device.specs.Level.{grown_by}
-use Rattle.iol_device.specs.Laws.{confirms as octets_confirm}
+use Rattle.iol_far.specs.Isdu.{IsduState, Empty, Receiving, Whole, Handed, Answered, fits}
+use Rattle.iol_far.specs.Codec.{layout_in}
+use Rattle.iol_far.specs.Far.{Far, moved, hear, heard_as, worked, output_of, events_after}
+use Rattle.iol_far.specs.Local.{LocalStep, local, locals, carried_by, has_room, is_input, woken}
+use Rattle.iol_far.specs.Local.{Carry as OwnCarry, Raise as OwnRaise, Input as OwnInput, NoInput as OwnNoInput, Power as OwnPower}
+use Rattle.iol_far.specs.Level.{grown_by}
+use Rattle.iol_far.specs.Laws.{confirms as octets_confirm}
 use Rattle.iol_steps.specs.Step.{Step, OutputOff, Input, Image}
 use Rattle.iol_steps.specs.FrozenEvents.{Frozen, frozen_through, MayFrozenAll}
 use Rattle.iol_steps.specs.Bridge.{carry_step, carry_steps, raise_steps, own_step, own_steps, told_after, told_through, confirm_steps, release_steps, event_steps, output_steps, confirms_by, worked_steps, heard_steps_as, heard_steps, told_released, told_worked, told_heard_as, told_heard, passed_steps, told_passed, exchange_steps, told_exchanged, woken_steps, told_woken, wake_steps, told_wake}

@@ -2,11 +2,11 @@
 use Rattle.std.proofs.Common.{◌≡◌, ℕ, suc, ◌≤◌, List, [], ◌∷◌, refl, ◌∙◌}
 use Rattle.iol_event.specs.declared.event.Event.{Event}
 use Rattle.iol_link.specs.Honest.{Passage, OutLost, BackLost, Clean, far_after}
-use Rattle.iol_device.specs.declared.app.Carried.{Carried}
-use Rattle.iol_device.specs.Far.{Far}
-use Rattle.iol_device.specs.Local.{LocalStep, local, locals}
-use Rattle.iol_device.specs.Level.{Progress, Link, IsLevel}
-use Rattle.iol_device.specs.Laws.{IsSized, RepliesAreRead, InputStaysSized, MuchStays, LevelLaws, EventLaws, ModesHaveLayouts}
+use Rattle.iol_far.specs.declared.carried.Carried.{Carried}
+use Rattle.iol_far.specs.Far.{Far}
+use Rattle.iol_far.specs.Local.{LocalStep, local, locals}
+use Rattle.iol_far.specs.Level.{Progress, Link, IsLevel}
+use Rattle.iol_far.specs.Laws.{IsSized, RepliesAreRead, InputStaysSized, MuchStays, LevelLaws, EventLaws, ModesHaveLayouts}
 
 pub record Laws : Type 0 where
   pub level : (size : ℕ) → 1 ≤ size → LevelLaws size

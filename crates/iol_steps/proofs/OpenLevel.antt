@@ -5,13 +5,13 @@ use Rattle.iol_mseq.specs.declared.master.MasterMsg.{MasterMsg}
 use Rattle.iol_isdu.specs.declared.values.Request.{Request}
 use Rattle.iol_isdu.specs.declared.values.Answer.{Answer}
 use Rattle.iol_segment.specs.TextLaws.{joined}
-use Rattle.iol_device.specs.declared.app.Carried.{Carried}
-use Rattle.iol_device.specs.Isdu.{IsduState, Empty, Receiving, Whole, Handed, Answered, fits, received, isdu_data}
-use Rattle.iol_device.specs.Far.{Far, Heard, hear, heard_as}
-use Rattle.iol_device.specs.Local.{LocalStep, local, locals, carried_by, has_room, is_input}
-use Rattle.iol_device.specs.Local.{Carry as OwnCarry, Raise as OwnRaise, Input as OwnInput, NoInput as OwnNoInput, Power as OwnPower}
-use Rattle.iol_device.specs.Level.{Progress, Quiet, Written, Busy as IsBusy, Had as IsHad, grown_by, Stands as FarStands, Move, Begin, More, Ask, Next, Leave, Other, after, base_after, Link}
-use Rattle.iol_device.specs.Laws.{ReplySays}
+use Rattle.iol_far.specs.declared.carried.Carried.{Carried}
+use Rattle.iol_far.specs.Isdu.{IsduState, Empty, Receiving, Whole, Handed, Answered, fits, received, isdu_data}
+use Rattle.iol_far.specs.Far.{Far, Heard, hear, heard_as}
+use Rattle.iol_far.specs.Local.{LocalStep, local, locals, carried_by, has_room, is_input}
+use Rattle.iol_far.specs.Local.{Carry as OwnCarry, Raise as OwnRaise, Input as OwnInput, NoInput as OwnNoInput, Power as OwnPower}
+use Rattle.iol_far.specs.Level.{Progress, Quiet, Written, Busy as IsBusy, Had as IsHad, grown_by, Stands as FarStands, Move, Begin, More, Ask, Next, Leave, Other, after, base_after, Link}
+use Rattle.iol_far.specs.Laws.{ReplySays}
 use Rattle.iol_steps.specs.Session.{unanswered}
 use Rattle.iol_steps.specs.Bridge.{Hidden, open_request, IsOpen, hidden_carried, hidden_carry, hidden_after, hidden_through}
 use Rattle.iol_steps.specs.Station.{AnswerFits, ProgressFits}
@@ -22,7 +22,7 @@ use Rattle.iol_isdu.specs.Texts.{request_text}
 use Rattle.iol_isdu.specs.Parse.{request_of}
 use Rattle.iol_segment.specs.JoinLaws.{count_at}
 use Rattle.iol_segment.specs.Join.{Stage, Open, Complete, Wrong, stage}
-use Rattle.iol_device.specs.Isdu.{received_at, completed}
+use Rattle.iol_far.specs.Isdu.{received_at, completed}
 
 pub handed_opens : (base : List Carried) (request : Option Request) (h : Hidden) (carried : List Carried) (q : Request) →
     request ≡ Some q → carried ≡ base → AnswerFits base request h carried → open_request request h ≡ Some q

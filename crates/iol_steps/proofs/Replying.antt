@@ -8,17 +8,17 @@ use Rattle.iol_mseq.specs.declared.master.MasterMsg.{MasterMsg}
 use Rattle.iol_mseq.specs.declared.reply.Reply.{Reply}
 use Rattle.iol_link.specs.Honest.{Passage, OutLost, BackLost, Clean, far_after, HonestExchange, IsUnread, IsAnswer, brought, silence_after}
 use Rattle.iol_link.specs.Attempts.{good_reply}
-use Rattle.iol_device.specs.declared.app.Carried.{Carried}
-use Rattle.iol_device.specs.Codec.{layout_in, message_in, octets_of}
-use Rattle.iol_device.specs.Far.{Far, layout_of, accepted, moved, hear, heard_as, worked, reply_to}
-use Rattle.iol_device.specs.Local.{locals}
-use Rattle.iol_device.specs.Level.{Link, taken as taken_link, IsSent, IsLevel}
-use Rattle.iol_device.specs.Laws.{IsSized, ReplySays}
+use Rattle.iol_far.specs.declared.carried.Carried.{Carried}
+use Rattle.iol_far.specs.Codec.{layout_in, message_in, octets_of}
+use Rattle.iol_far.specs.Far.{Far, layout_of, accepted, moved, hear, heard_as, worked, reply_to}
+use Rattle.iol_far.specs.Local.{locals}
+use Rattle.iol_far.specs.Level.{Link, taken as taken_link, IsSent, IsLevel}
+use Rattle.iol_far.specs.Laws.{IsSized, ReplySays}
 use Rattle.iol_steps.specs.Station.{Out, Station, Unseen, far_mode, layout_at}
 use Rattle.iol_steps.proofs.Given.{Laws, level_locals, page_locals, sized_locals}
 use Rattle.iol_steps.proofs.Accepted.{by_accepted}
 use Rattle.iol_steps.proofs.Sending.{Sending}
-use Rattle.iol_device.specs.declared.commands.Mode as device
+use Rattle.iol_far.specs.declared.mode.Mode as device
 
 -- a message that the far end accepts it replies to
 pub accepts_reply : (far : Far) (o : List ℕ) (there : Far) (m : MasterMsg) → accepted far o ≡ Some (there, m) → (reply : List ℕ) × ((hear far o).reply ≡ Some reply)

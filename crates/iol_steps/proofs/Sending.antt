@@ -2,12 +2,12 @@
 use Rattle.std.proofs.Common.{◌≡◌, inl, ℕ, ◌≤◌, Bool, true, false, List, refl, sym, ◌∙◌, ap, subst, arith}
 use Rattle.std.specs.Prelude.{Option, Some, None, IsSome}
 use Rattle.iol_event.specs.Memory.{Events}
-use Rattle.iol_device.specs.declared.app.Carried.{Carried}
-use Rattle.iol_device.specs.declared.commands.Mode.TheVariants.{Operate as FarOperate}
-use Rattle.iol_device.specs.Isdu.{fits}
-use Rattle.iol_device.specs.Codec.{layout_in}
-use Rattle.iol_device.specs.Level.{taken as taken_link, IsLevel}
-use Rattle.iol_device.specs.Laws.{confirms as octets_confirm}
+use Rattle.iol_far.specs.declared.carried.Carried.{Carried}
+use Rattle.iol_far.specs.declared.mode.Mode.TheVariants.{Operate as FarOperate}
+use Rattle.iol_far.specs.Isdu.{fits}
+use Rattle.iol_far.specs.Codec.{layout_in}
+use Rattle.iol_far.specs.Level.{taken as taken_link, IsLevel}
+use Rattle.iol_far.specs.Laws.{confirms as octets_confirm}
 use Rattle.iol_steps.specs.declared.mode.Mode.{Mode}
 use Rattle.iol_steps.specs.declared.mode.Mode.TheVariants.{Down, Startup, Preoperate, Operate}
 use Rattle.iol_steps.specs.Step.{Image}

@@ -6,9 +6,9 @@ use Rattle.iol_octets.specs.declared.flow_control.Flow.{Flow}
 use Rattle.iol_isdu.specs.declared.values.Request.{Request}
 use Rattle.iol_isdu.specs.declared.values.Answer.{Answer}
 use Rattle.iol_segment.specs.TextLaws.{joined}
-use Rattle.iol_device.specs.declared.app.Carried.{Carried}
-use Rattle.iol_device.specs.Isdu.{IsduState, Empty, Receiving, Whole, Handed, Answered, fits, answer_text, isdu_data}
-use Rattle.iol_device.specs.Level.{Progress, Quiet, Written, Busy as IsBusy, Had as IsHad, Stands as FarStands, Move, Begin, More, Ask, Next, Leave, Other, asked, after, IsMove}
+use Rattle.iol_far.specs.declared.carried.Carried.{Carried}
+use Rattle.iol_far.specs.Isdu.{IsduState, Empty, Receiving, Whole, Handed, Answered, fits, answer_text, isdu_data}
+use Rattle.iol_far.specs.Level.{Progress, Quiet, Written, Busy as IsBusy, Had as IsHad, Stands as FarStands, Move, Begin, More, Ask, Next, Leave, Other, asked, after, IsMove}
 use Rattle.iol_steps.specs.Exchange.{ReadsAnswer}
 use Rattle.std.proofs.lemmas.List.{length-append, append_cancel_right}
 use Rattle.iol_isdu.specs.Answers.{is_read}

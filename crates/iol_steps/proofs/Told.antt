@@ -6,14 +6,14 @@ use Rattle.iol_event.specs.declared.event.Event.{Event}
 use Rattle.iol_event.specs.Memory.{Events, is_empty, freezes_at_once}
 use Rattle.iol_event.specs.Reading.{reading}
 use Rattle.iol_link.specs.Honest.{Passage, OutLost, BackLost, Clean, far_after}
-use Rattle.iol_device.specs.Isdu.{IsduState, Handed, Answered, fits}
-use Rattle.iol_device.specs.Codec.{layout_in}
-use Rattle.iol_device.specs.Far.{Far, hear, heard_as}
-use Rattle.iol_device.specs.Local.{LocalStep, local, locals, carried_by, has_room, is_input}
-use Rattle.iol_device.specs.Local.{Carry as OwnCarry, Raise as OwnRaise, Input as OwnInput, NoInput as OwnNoInput, Power as OwnPower}
-use Rattle.iol_device.specs.Level.{grown_by}
-use Rattle.iol_device.specs.Laws.{EventLaws}
-use Rattle.iol_device.specs.Laws.{confirms as octets_confirm}
+use Rattle.iol_far.specs.Isdu.{IsduState, Handed, Answered, fits}
+use Rattle.iol_far.specs.Codec.{layout_in}
+use Rattle.iol_far.specs.Far.{Far, hear, heard_as}
+use Rattle.iol_far.specs.Local.{LocalStep, local, locals, carried_by, has_room, is_input}
+use Rattle.iol_far.specs.Local.{Carry as OwnCarry, Raise as OwnRaise, Input as OwnInput, NoInput as OwnNoInput, Power as OwnPower}
+use Rattle.iol_far.specs.Level.{grown_by}
+use Rattle.iol_far.specs.Laws.{EventLaws}
+use Rattle.iol_far.specs.Laws.{confirms as octets_confirm}
 use Rattle.iol_steps.specs.Bridge.{told_after, told_through, told_released, told_worked, told_heard_as, told_heard, told_passed, told_exchanged}
 use Rattle.iol_steps.specs.Station.{Reading, Resting, Flagged, Under, Due, is_due, EventsFit}
 use Rattle.iol_steps.proofs.Accepted.{by_accepted}

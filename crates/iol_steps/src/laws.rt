@@ -2,11 +2,11 @@
 //! for every master whose fields and far end stand together before it.
 ghost use Rattle.iol_steps.specs.Promises.{WakeGives, MissedGives, LostGives, HadGives, StartedGives, ReplyTells, TextNamesAnswer, OpenGives, WantGives, BeginGives, DenyGives, RestartGives, CancelGives};
 
-use iol_device::{
+use iol_event::{memory_stays_valid, reading_gives_the_frozen_list};
+use iol_far::{
     ends_stay_level, events_stay_until_confirmed, modes_have_layouts, page_and_room_stay,
     replies_are_read,
 };
-use iol_event::{memory_stays_valid, reading_gives_the_frozen_list};
 use iol_isdu::{one_text_each, one_text_in_front};
 
 /// A wake-up request of a link that is down, answered or not (IEC 61131-9, 7.3.2).

@@ -1,6 +1,6 @@
 ghost use Rattle.std.proofs.Common.{rules};
 ghost use Rattle.std.specs.Prelude.{[], false, ⊤, None};
-ghost use Rattle.iol_device.specs.Far.{opened};
+ghost use Rattle.iol_far.specs.Far.{opened};
 
 use super::*;
 use iol_link::{Rate, Wire};

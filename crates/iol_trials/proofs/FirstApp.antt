@@ -1,6 +1,6 @@
 -- over every simulated wire a port leaves the application with which the device was opened
 use Rattle.std.proofs.Common.{◌≡◌, List, [], ◌∷◌, Option, Some, None, ap, subst, ◌∙◌}
-use Rattle.iol_device.specs.Local.{Gives, Follows}
+use Rattle.iol_device.specs.App.{Gives, Follows}
 use Rattle.iol_app.specs.declared.asked.Asked.{Asked}
 use Rattle.iol_app.specs.declared.asked.Asked.TheVariants.{Wake, Exchange}
 use Rattle.iol_app.specs.Asking.{IsCall}

@@ -1,7 +1,7 @@
 //! Ports over a wire that answers no message: memory refused in turn, refusals, and calls by their names.
 ghost use Rattle.std.proofs.Common.{rules};
 ghost use Rattle.std.specs.Prelude.{[], false, ⊤, None};
-ghost use Rattle.iol_device.specs.Far.{opened};
+ghost use Rattle.iol_far.specs.Far.{opened};
 
 use iol_app::{Asked, Mode, OutputFault};
 use iol_book::{BookFault, Entry, Limits, Outcome, Ticket};

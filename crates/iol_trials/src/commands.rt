@@ -1,8 +1,8 @@
 //! The program's commands, from a reader to a writer: what they print, and each read, write and request for memory refused.
 
 use crate::commands::runs::PLAIN;
+use iol_cell::Handle;
 use iol_commands::{ProgramFault, check, run};
-use iol_image::Handle;
 use iol_mseq::MseqFault;
 use scarce::{Refusal, Scarce};
 use std::alloc::Global;

@@ -1,11 +1,11 @@
 //! Desks and memory of a master run out, and what a submit counts, urgent or not.
 ghost use Rattle.std.proofs.Common.{rules};
 ghost use Rattle.std.specs.Prelude.{◌≡◌, [], false, ⊤, None, All, IfOk, vec_len};
-ghost use Rattle.iol_device.specs.Far.{opened};
+ghost use Rattle.iol_far.specs.Far.{opened};
 ghost use Rattle.iol_master.specs.Tickets.{HasGiven};
 
 use iol_book::{BookFault, Limits, Ticket};
-use iol_image::Handle;
+use iol_cell::Handle;
 use iol_isdu::{Place, Request};
 use iol_link::{Rate, Wire};
 use iol_master::{Desk, Gate, Master, MasterFault, Settled, Tally};

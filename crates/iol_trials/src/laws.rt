@@ -1,10 +1,10 @@
 //! What holds of every port over a simulated wire, beside what its own contracts say.
 ghost use Rattle.iol_app.specs.StationState.{wire_of};
-ghost use Rattle.iol_device.specs.Local.{Follows};
+ghost use Rattle.iol_device.specs.App.{Follows};
 ghost use Rattle.iol_sim.specs.Params.{AnsweredBy};
 
+use iol_cell::Handle;
 use iol_device::App;
-use iol_image::Handle;
 use iol_port::Port;
 use iol_sim::{Params, Sim};
 use std::alloc::Allocator;

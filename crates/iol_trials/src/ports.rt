@@ -2,7 +2,8 @@
 use crate::play::device;
 use crate::rows::{Ask, DATA, NO_DATA};
 use iol_book::{Limits, Outcome, Ticket};
-use iol_image::{Handle, Image, image_cell};
+use iol_cell::{Handle, image_cell};
+use iol_image::Image;
 use iol_isdu::{Cause, Place, Request};
 use iol_link::Wire;
 use iol_port::{Port, PortFault};

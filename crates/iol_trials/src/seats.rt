@@ -4,8 +4,9 @@ ghost use Rattle.iol_master.specs.Tickets.{HasGiven};
 
 use crate::masters::{LIMITS, LOOKS};
 use crate::wires::{AnyWire, Peer};
+use iol_cell::{ImageSeat, image_cell};
 use iol_device::Device;
-use iol_image::{Image, ImageSeat, image_cell};
+use iol_image::Image;
 use iol_link::{Rate, Wire};
 use iol_master::Master;
 use iol_mseq::Message;

@@ -1,7 +1,7 @@
 //! Wires of which nothing is promised.
 ghost use Rattle.std.proofs.Common.{rules};
 ghost use Rattle.std.specs.Prelude.{[], false, ⊤, None};
-ghost use Rattle.iol_device.specs.Far.{opened};
+ghost use Rattle.iol_far.specs.Far.{opened};
 
 use iol_link::{Rate, Wire};
 use iol_mseq::Message;

@@ -2,8 +2,8 @@
 use Rattle.std.specs.Prelude.{◌≡◌, ℕ, Bool, true, false, List}
 use Rattle.iol_isdu.specs.declared.values.Answer.{Answer}
 use Rattle.iol_isdu.specs.declared.values.Answer.TheVariants.{Read}
-use Rattle.iol_device.specs.Far.{Far}
-use Rattle.iol_device.specs.Local.{LocalStep, local, takes_answer}
+use Rattle.iol_far.specs.Far.{Far}
+use Rattle.iol_far.specs.Local.{LocalStep, local, takes_answer}
 use Rattle.iolink_device_c.specs.declared.held.IolDevice.{IolDevice}
 
 -- the far end of the line, which is the device that a handle holds

@@ -1,5 +1,5 @@
 -- What C is shown of the request that is handed over, as numbers.
-use Rattle.std.specs.Prelude.{◌≡◌, take, Option, Some, None}
+use Rattle.std.specs.Prelude.{◌≡◌, length, take, Option, Some, None}
 use Rattle.iol_isdu.specs.declared.values.Place.{Place}
 use Rattle.iol_isdu.specs.declared.values.Request.{Request}
 use Rattle.iol_isdu.specs.declared.values.Request.TheVariants.{Read, Write}
@@ -13,4 +13,5 @@ IsAt place out = (out.index ≡ place.index) × (out.sub ≡ place.sub)
 abbrev pub IsShown : Option Request → IolRequest → Type 0
 IsShown None out = out.kind ≡ 0
 IsShown (Some (Read place)) out = (out.kind ≡ 1) × IsAt place out × (out.length ≡ 0)
-IsShown (Some (Write place octets)) out = (out.kind ≡ 2) × IsAt place out × (take out.length out.octets ≡ octets.items)
+IsShown (Some (Write place octets)) out =
+    (out.kind ≡ 2) × IsAt place out × (out.length ≡ length octets.items) × (take out.length out.octets ≡ octets.items)

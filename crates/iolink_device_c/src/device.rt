@@ -1,12 +1,14 @@
 //! Opening and closing, and what comes to pass at a device by itself.
-ghost use Rattle.std.specs.Prelude.{◌≡◌, true, false, None, IsTrue, IsFalse};
+ghost use Rattle.std.specs.Prelude.{◌≡◌, true, false, None, IfErr, IsOk, IsTrue, IsFalse};
 ghost use Rattle.iol_event.specs.Memory.{is_full};
-ghost use Rattle.iol_device.specs.Far.{opened};
-ghost use Rattle.iol_device.specs.Local.{local, woken, LocalStep};
+ghost use Rattle.iol_page.specs.Fault.{fault_number};
+ghost use Rattle.iol_page.specs.Page.{layouts_of};
+ghost use Rattle.iol_far.specs.Far.{opened};
+ghost use Rattle.iol_far.specs.Local.{local, woken, LocalStep};
 ghost use Rattle.iolink_device_c.specs.Calls.{far_of, IsRefused};
 
 use crate::held::{IolDevice, Sensor};
-use crate::refusal::{CLOSED, IS_OPEN};
+use crate::refusal::{CLOSED, IS_OPEN, OUT_OF_MEMORY};
 use core::mem::replace_with;
 use iol_device::{Apart, Device};
 use iol_event::Event;
@@ -15,10 +17,16 @@ use std::alloc::Global;
 
 /// Opens a device with this direct parameter page 1, asleep. It takes no memory after this.
 ///
-/// 0, or 8, 7 or 2 where the page is refused, 24 where there is no memory, and 253 where the handle is open already.
+/// 0, or the first of these that holds, with the handle as it was: 253 it is open already; 8, 7 or 2 the page is
+/// refused, as by `Page::layouts`; 24 there is no memory.
 #[unsafe(no_mangle)]
 pub extern "C" fn iol_device_open(alloc: Global, handle: &mut IolDevice, page: &[u8; 10]) -> u8
     ensures once { IsTrue handle.old.is_open → (result ≡ 253) × (handle.new ≡ handle.old) }
+    ensures refused { IsFalse handle.old.is_open →
+        IfErr (layouts_of page.now) (λ fault. result ≡ fault_number fault) }
+    ensures memory { IsFalse handle.old.is_open → IsOk (layouts_of page.now) →
+        ¬ (result ≡ 0) → result ≡ 24 }
+    ensures kept { ¬ (result ≡ 0) → handle.new ≡ handle.old }
     ensures opened { result ≡ 0 → handle.new.is_open ≡ true }
     ensures far { result ≡ 0 → far_of handle.new ≡ opened page.now None }
 {
@@ -35,7 +43,7 @@ pub extern "C" fn iol_device_open(alloc: Global, handle: &mut IolDevice, page: &
             *handle = IolDevice::of(sensor);
             0
         }
-        Err(_) => 24,
+        Err(_) => OUT_OF_MEMORY,
     }
 }
 
@@ -43,7 +51,7 @@ pub extern "C" fn iol_device_open(alloc: Global, handle: &mut IolDevice, page: &
 #[unsafe(no_mangle)]
 pub extern "C" fn iol_device_close(alloc: Global, handle: &mut IolDevice) -> u8
     ensures shut { handle.new.is_open ≡ false }
-    ensures once { IsFalse handle.old.is_open → (result ≡ 252) × (handle.new ≡ handle.old) }
+    ensures closed { IsFalse handle.old.is_open → IsRefused result handle.old handle.new }
     ensures done { IsTrue handle.old.is_open → result ≡ 0 }
 {
     if !handle.is_open {
@@ -96,7 +104,8 @@ pub extern "C" fn iol_device_power_cycle(alloc: Global, handle: &mut IolDevice) 
     0
 }
 
-/// Raises an event: 0, or 252 where the handle is closed, and 16 where the event memory is full.
+/// Raises an event: 0, or 252 where the handle is closed, and then 16, with nothing changed, where the event memory is
+/// full.
 #[unsafe(no_mangle)]
 pub extern "C" fn iol_device_raise(
     alloc: Global,
@@ -108,10 +117,10 @@ pub extern "C" fn iol_device_raise(
     ensures stays { handle.new.is_open ≡ handle.old.is_open }
     ensures far { IsTrue handle.old.is_open → far_of handle.new ≡ local (far_of handle.old)
         (LocalStep.Raise (record { qualifier = qualifier; code = code })) }
-    ensures full { IsTrue handle.old.is_open → IsTrue (is_full (far_of handle.old).events)
-        → result ≡ 16 }
-    ensures done { IsTrue handle.old.is_open → IsFalse (is_full (far_of handle.old).events)
-        → result ≡ 0 }
+    ensures full { IsTrue handle.old.is_open → IsTrue (is_full (far_of handle.old).events) →
+        (result ≡ 16) × (far_of handle.new ≡ far_of handle.old) }
+    ensures done { IsTrue handle.old.is_open → IsFalse (is_full (far_of handle.old).events) →
+        result ≡ 0 }
 {
     if !handle.is_open {
         return CLOSED;

@@ -1,6 +1,6 @@
 //! The line: what came, and what is sent back.
 ghost use Rattle.std.specs.Prelude.{◌≡◌, length, take, unwrap_or, [], IsTrue, IsFalse};
-ghost use Rattle.iol_device.specs.Far.{hear};
+ghost use Rattle.iol_far.specs.Far.{hear};
 ghost use Rattle.iolink_device_c.specs.Calls.{far_of, IsRefused};
 
 use crate::held::IolDevice;
@@ -16,7 +16,7 @@ pub struct IolReply {
     pub octets: [u8; 66],
 }
 
-/// These octets came: 0 and what is sent back, or 252 where the handle is closed.
+/// These octets came: 0 and what is sent back, or 252 where the handle is closed, with `out` as it was.
 #[unsafe(no_mangle)]
 pub extern "C" fn iol_device_hear(
     alloc: Global,
@@ -25,9 +25,12 @@ pub extern "C" fn iol_device_hear(
     out: &mut IolReply,
 ) -> u8
     ensures closed { IsFalse handle.old.is_open → IsRefused result handle.old handle.new }
+    ensures untouched { IsFalse handle.old.is_open → out.new ≡ out.old }
     ensures stays { handle.new.is_open ≡ handle.old.is_open }
     ensures far { IsTrue handle.old.is_open →
         (result ≡ 0) × (far_of handle.new ≡ (hear (far_of handle.old) octets.now).far) }
+    ensures length { IsTrue handle.old.is_open → out.new.length
+        ≡ length (unwrap_or (hear (far_of handle.old) octets.now).reply []) }
     ensures reply { IsTrue handle.old.is_open → take out.new.length out.new.octets
         ≡ unwrap_or (hear (far_of handle.old) octets.now).reply [] }
 {

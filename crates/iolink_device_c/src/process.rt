@@ -1,8 +1,8 @@
 //! Process data.
 ghost use Rattle.std.specs.Prelude.{◌≡◌, length, take, unwrap_or, [], IsTrue, IsFalse};
 ghost use Rattle.iol_image.specs.Image.{IsImage};
-ghost use Rattle.iol_device.specs.Far.{output_of};
-ghost use Rattle.iol_device.specs.Local.{local, is_input, LocalStep};
+ghost use Rattle.iol_far.specs.Far.{output_of};
+ghost use Rattle.iol_far.specs.Local.{local, is_input, LocalStep};
 ghost use Rattle.iolink_device_c.specs.Calls.{far_of, IsRefused};
 
 use crate::held::IolDevice;
@@ -12,8 +12,8 @@ use core::mem::replace_with;
 use iol_image::Image;
 use std::alloc::Global;
 
-/// The process data in from now on: 0, or 252 where the handle is closed, and 29 for another number of octets than the
-/// page has.
+/// The process data in from now on: 0, or 252 where the handle is closed, and then 29, with nothing changed, for
+/// another number of octets than the page has, or where it has none.
 #[unsafe(no_mangle)]
 pub extern "C" fn iol_device_set_input(alloc: Global, handle: &mut IolDevice, octets: &[u8]) -> u8
     ensures closed { IsFalse handle.old.is_open → IsRefused result handle.old handle.new }
@@ -71,12 +71,15 @@ pub struct IolImage {
     pub octets: [u8; 32],
 }
 
-/// The process data out, none while none is valid: 0, or 252 where the handle is closed.
+/// The process data out, none while none is valid: 0, or 252 where the handle is closed, with `out` as it was.
 #[unsafe(no_mangle)]
 pub extern "C" fn iol_device_output(alloc: Global, handle: &mut IolDevice, out: &mut IolImage) -> u8
     ensures closed { IsFalse handle.old.is_open → IsRefused result handle.old handle.new }
     ensures stays { handle.new.is_open ≡ handle.old.is_open }
+    ensures untouched { IsFalse handle.old.is_open → out.new ≡ out.old }
     ensures same { handle.new.held.value ≡ handle.old.held.value }
+    ensures length { IsTrue handle.old.is_open → out.new.length
+        ≡ length (unwrap_or (output_of (far_of handle.old)) []) }
     ensures image { IsTrue handle.old.is_open → (result ≡ 0)
         × (take out.new.length out.new.octets ≡ unwrap_or (output_of (far_of handle.old)) []) }
 {

@@ -1,4 +1,7 @@
-//! The refusals that calls from C have beside those of the library.
+//! The refusals that calls from C have beside those of the library, and the library's that they answer themselves.
+
+/// There is no memory, as the library says it.
+pub(crate) const OUT_OF_MEMORY: u8 = 24;
 
 /// The handle is closed.
 pub(crate) const CLOSED: u8 = 252;

@@ -1,6 +1,6 @@
 //! Requests: the one that is handed over, and its answer.
 ghost use Rattle.std.specs.Prelude.{◌≡◌, ◌≤◌, ◌<◌, length, IsTrue, IsFalse, Some};
-ghost use Rattle.iol_device.specs.Isdu.{handed};
+ghost use Rattle.iol_far.specs.Isdu.{handed};
 ghost use Rattle.iol_isdu.specs.declared.values.Answer.TheVariants as answer;
 ghost use Rattle.iolink_device_c.specs.Calls.{far_of, IsRefused, Answers, read_of};
 ghost use Rattle.iolink_device_c.specs.Shown.{IsShown};
@@ -32,7 +32,7 @@ pub struct IolRequest {
 }
 
 /// The request that is handed over and has no answer yet, of kind 0 where there is none: 0, or 252 where the handle is
-/// closed. It changes nothing.
+/// closed, with `out` as it was. It changes nothing.
 #[unsafe(no_mangle)]
 pub extern "C" fn iol_device_handed(
     alloc: Global,
@@ -41,6 +41,7 @@ pub extern "C" fn iol_device_handed(
 ) -> u8
     ensures closed { IsFalse handle.old.is_open → IsRefused result handle.old handle.new }
     ensures stays { handle.new.is_open ≡ handle.old.is_open }
+    ensures untouched { IsFalse handle.old.is_open → out.new ≡ out.old }
     ensures same { handle.new.held.value ≡ handle.old.held.value }
     ensures done { IsTrue handle.old.is_open → result ≡ 0 }
     ensures shown { IsTrue handle.old.is_open → IsShown (handed (far_of handle.old).isdu) out.new }
@@ -92,6 +93,7 @@ fn answered(alloc: Global, handle: &mut IolDevice, answer: Answer) -> u8
     requires { IsTrue handle.old.is_open }
     ensures stays { handle.new.is_open ≡ handle.old.is_open }
     ensures answer { Answers answer handle.old result handle.new }
+    ensures kept { result ≡ 255 → far_of handle.new ≡ far_of handle.old }
 {
     replace_with(handle, (alloc, answer), |handle, (alloc, answer)| {
         let mut sensor = handle.into_box(alloc);
@@ -106,7 +108,8 @@ fn answered(alloc: Global, handle: &mut IolDevice, answer: Answer) -> u8
 
 /// The read that is handed over gave these octets.
 ///
-/// 0, or 252 where the handle is closed, 9 for more than 232 octets, and 255 where no read is handed over.
+/// 0, or the first of these that holds, with nothing changed: 252 the handle is closed; 9 more than 232 octets; 255 no
+/// read is handed over.
 #[unsafe(no_mangle)]
 pub extern "C" fn iol_device_answer_read(alloc: Global, handle: &mut IolDevice, octets: &[u8]) -> u8
     ensures closed { IsFalse handle.old.is_open → IsRefused result handle.old handle.new }
@@ -115,6 +118,7 @@ pub extern "C" fn iol_device_answer_read(alloc: Global, handle: &mut IolDevice, 
         × (handle.new ≡ handle.old) }
     ensures answer { IsTrue handle.old.is_open → length octets.now ≤ 232 →
         Answers (read_of octets.now) handle.old result handle.new }
+    ensures kept { result ≡ 255 → far_of handle.new ≡ far_of handle.old }
 {
     if !handle.is_open {
         return CLOSED;
@@ -125,13 +129,15 @@ pub extern "C" fn iol_device_answer_read(alloc: Global, handle: &mut IolDevice, 
     }
 }
 
-/// The write that is handed over is done: 0, or 252 where the handle is closed, and 255 where no write is handed over.
+/// The write that is handed over is done: 0, or 252 where the handle is closed, and then 255, with nothing changed,
+/// where no write is handed over.
 #[unsafe(no_mangle)]
 pub extern "C" fn iol_device_answer_written(alloc: Global, handle: &mut IolDevice) -> u8
     ensures closed { IsFalse handle.old.is_open → IsRefused result handle.old handle.new }
     ensures stays { handle.new.is_open ≡ handle.old.is_open }
     ensures answer { IsTrue handle.old.is_open
         → Answers answer.Written handle.old result handle.new }
+    ensures kept { result ≡ 255 → far_of handle.new ≡ far_of handle.old }
 {
     if !handle.is_open {
         return CLOSED;
@@ -140,7 +146,7 @@ pub extern "C" fn iol_device_answer_written(alloc: Global, handle: &mut IolDevic
 }
 
 /// The request that is handed over is refused, with ErrorCode and AdditionalCode: 0, or 252 where the handle is closed,
-/// and 255 where none is handed over.
+/// and then 255, with nothing changed, where none is handed over.
 #[unsafe(no_mangle)]
 pub extern "C" fn iol_device_answer_refused(
     alloc: Global,
@@ -152,6 +158,7 @@ pub extern "C" fn iol_device_answer_refused(
     ensures stays { handle.new.is_open ≡ handle.old.is_open }
     ensures answer { IsTrue handle.old.is_open →
         Answers (answer.Refused code additional) handle.old result handle.new }
+    ensures kept { result ≡ 255 → far_of handle.new ≡ far_of handle.old }
 {
     if !handle.is_open {
         return CLOSED;

@@ -1,15 +1,15 @@
 -- The calls of a port, as C sees them: by a handle, and with numbers in place of answers.
-use Rattle.std.specs.Prelude.{◌≡◌, ◌<◌, ℕ, Bool, true, false, nat_eq, if◌then◌else◌, List, length, take, Option, Some, None, Result, Ok, Err, IsTrue, OnOk, OnErr}
+use Rattle.std.specs.Prelude.{◌≡◌, ℕ, nat_eq, if◌then◌else◌, List, length, Option, Some, None, Result, Ok, Err}
 use Rattle.arrayvec.specs.ArrayVec.{ArrayVec}
-use Rattle.iol_isdu.specs.declared.values.Request.{Request}
-use Rattle.iol_isdu.specs.declared.values.Request.TheVariants as request
 use Rattle.iol_link.specs.declared.wire.Rate.{Rate}
 use Rattle.iol_link.specs.declared.wire.Rate.TheVariants.{Com1, Com2, Com3}
-use Rattle.iol_book.specs.declared.entries.Ticket.{Ticket}
 use Rattle.iol_line.specs.declared.given.Given.{Given}
+use Rattle.iol_line.specs.Told.{is_honest, far_of, silence_of}
+use Rattle.iol_port.specs.declared.call.Call.{Call}
+use Rattle.iol_port.specs.declared.call.Answered.{Answered}
 use Rattle.iol_port.specs.declared.fault.PortFault.{PortFault}
 use Rattle.iol_port.specs.Faults.{fault_number}
-use Rattle.iol_port.specs.View.{Parts}
+use Rattle.iol_port.specs.View.{Parts, Does}
 use Rattle.iolink_port_c.specs.declared.held.IolPort.{IolPort}
 
 -- the parts of the port that a handle holds
@@ -26,15 +26,14 @@ Stays old new =
     (new.is_open ≡ old.is_open)
     × (new.held.value ≡ record old.held.value { port = record old.held.value.port { parts = parts_of new } })
 
+-- the call of C is this call of the abstract port, with this answer
+abbrev pub CallDoes : IolPort → Call → Answered → IolPort → Type 0
+CallDoes old call answered new = Does is_honest far_of silence_of (parts_of old) call answered (parts_of new)
+
 -- the number of an answer: that of its refusal, or 0
 abbrev pub number_of : {X : Type 0} → Result X PortFault → ℕ
 number_of (Ok value) = 0
 number_of (Err why) = fault_number why
-
--- the ticket's number, or 0 for a refusal
-abbrev pub ticket_out : Result Ticket PortFault → ℕ
-ticket_out (Ok ticket) = ticket.0
-ticket_out (Err why) = 0
 
 -- a rate by its number: 0 for no answer, 1 to 3 for COM1 to COM3
 abbrev pub rate_of : ℕ → Option Rate

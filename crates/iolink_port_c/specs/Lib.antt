@@ -1,3 +1,6 @@
 pub mod Heap
 pub mod Calls
 pub mod Shown
+pub mod RequestCalls
+pub mod StateCalls
+pub mod JournalCalls

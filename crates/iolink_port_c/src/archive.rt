@@ -1,8 +1,9 @@
 //! The journal, entry by entry.
-ghost use Rattle.std.specs.Prelude.{◌≡◌, ◌+◌, length, slice_get, IsSome, IsTrue, IsFalse};
+ghost use Rattle.std.specs.Prelude.{◌≡◌, ◌+◌, slice_get, IsSome, IsNone, [], IsTrue, IsFalse};
 ghost use Rattle.iol_book.specs.BookModel.{may_archive, archived};
 ghost use Rattle.iol_port.specs.EveryWire.{IsBookCall};
 ghost use Rattle.iolink_port_c.specs.Calls.{parts_of, IsRefused};
+ghost use Rattle.iolink_port_c.specs.JournalCalls.{Archives, RefusesArchive, KeepsNone};
 ghost use Rattle.iolink_port_c.specs.Shown.{IsRequest, IsEntry, IsNext};
 
 use crate::held::{IolPort, Master};
@@ -53,20 +54,24 @@ pub struct IolEntry {
     pub outcome: IolOutcome,
 }
 
-/// Begins a new journal and keeps the old one for `iol_port_entry`, in place of the one that was kept before: 0 and how
-/// many entries it has, or 252 where the handle is closed, and 28 where a ticket is outstanding or a request that was
-/// cut off may still be carried out.
+/// Begins a new journal and keeps the old one for `iol_port_entry`, in place of the one that was kept before.
+///
+/// 0 and how many entries it has, or the first of 252 where the handle is closed, which leaves `count` as it is, and 28
+/// where a ticket is outstanding or a request that was cut off may still be carried out: `count` is 0 then, and the
+/// journal that was kept before stays.
 #[unsafe(no_mangle)]
 pub extern "C" fn iol_port_archive(alloc: Global, handle: &mut IolPort, count: &mut u32) -> u8
     ensures closed { IsFalse handle.old.is_open → IsRefused result handle.old handle.new }
+    ensures unwritten { IsFalse handle.old.is_open → count.new ≡ count.old }
     ensures stays { handle.new.is_open ≡ handle.old.is_open }
     ensures opening { handle.new.held.value.port ≡
         record handle.old.held.value.port { parts = parts_of handle.new } }
-    ensures refused { IsTrue handle.old.is_open → IsFalse (may_archive (parts_of handle.old).book.state) →
-        (result ≡ 28) × (count.new ≡ 0) }
-    ensures done { IsTrue handle.old.is_open → IsTrue (may_archive (parts_of handle.old).book.state) →
-        (result ≡ 0) × (handle.new.held.value.journal.items ≡ (parts_of handle.old).book.state.journal) ×
-        (handle.new.held.value.read ≡ 0) × (count.new ≡ length (parts_of handle.old).book.state.journal) }
+    ensures refused { IsTrue handle.old.is_open →
+        IsFalse (may_archive (parts_of handle.old).book.state) →
+        RefusesArchive handle.old result count.new handle.new }
+    ensures done { IsTrue handle.old.is_open →
+        IsTrue (may_archive (parts_of handle.old).book.state) →
+        Archives handle.old result count.new handle.new }
     ensures book { IsTrue handle.old.is_open →
         (parts_of handle.new).book.state ≡ archived (parts_of handle.old).book.state }
     ensures rest { IsTrue handle.old.is_open
@@ -93,17 +98,23 @@ pub extern "C" fn iol_port_archive(alloc: Global, handle: &mut IolPort, count: &
 }
 
 /// Hands out the next entry of the journal that was archived last, the oldest first: 0, or 252 where the handle is
-/// closed. At the end the kind is 0, and the memory of that journal is given back.
+/// closed, which leaves `out` as it is. At the end the kind is 0, and the memory of that journal is given back.
 #[unsafe(no_mangle)]
 pub extern "C" fn iol_port_entry(alloc: Global, handle: &mut IolPort, out: &mut IolEntry) -> u8
     ensures closed { IsFalse handle.old.is_open → IsRefused result handle.old handle.new }
+    ensures unwritten { IsFalse handle.old.is_open → out.new ≡ out.old }
     ensures stays { handle.new.is_open ≡ handle.old.is_open }
+    ensures done { IsTrue handle.old.is_open → result ≡ 0 }
     ensures port { handle.new.held.value.port ≡ handle.old.held.value.port }
     ensures shown { IsTrue handle.old.is_open →
         IsNext (slice_get handle.old.held.value.journal.items handle.old.held.value.read) out.new }
     ensures next { IsTrue handle.old.is_open →
         IsSome (slice_get handle.old.held.value.journal.items handle.old.held.value.read) →
-        handle.new.held.value ≡ record handle.old.held.value { read = handle.old.held.value.read + 1 } }
+        handle.new.held.value
+        ≡ record handle.old.held.value { read = handle.old.held.value.read + 1 } }
+    ensures end { IsTrue handle.old.is_open →
+        IsNone (slice_get handle.old.held.value.journal.items handle.old.held.value.read) →
+        KeepsNone handle.new }
 {
     if !handle.is_open {
         return CLOSED;
@@ -127,6 +138,7 @@ fn next_entry(alloc: Global, master: &mut Master) -> Option<Entry>
     ensures port { master.new.port ≡ master.old.port }
     ensures entry { result ≡ slice_get master.old.journal.items master.old.read }
     ensures next { IsSome result → master.new ≡ record master.old { read = master.old.read + 1 } }
+    ensures end { IsNone result → (master.new.journal.items ≡ []) × (master.new.read ≡ 0) }
 {
     match master.journal.get(master.read) {
         Some(entry) => {

@@ -3,11 +3,11 @@ ghost use Rattle.std.specs.Prelude.{◌≡◌, ◌≤◌, ◌<◌, None, Some, l
 ghost use Rattle.iol_app.specs.declared.asked.Asked.{Asked};
 ghost use Rattle.iol_port.specs.declared.call.Call.TheVariants as call;
 ghost use Rattle.iol_port.specs.declared.call.Answered.TheVariants as answered;
-ghost use Rattle.iol_port.specs.View.{Does};
 ghost use Rattle.iol_port.specs.Asks.{asks_of};
 ghost use Rattle.iol_line.specs.Told.{is_honest, far_of, silence_of};
 ghost use Rattle.iol_line.specs.Driving.{TurnWoken, TurnAnswered};
-ghost use Rattle.iolink_port_c.specs.Calls.{parts_of, IsRefused, Stays, rate_of, answer_of};
+ghost use Rattle.iolink_port_c.specs.Calls.{parts_of, IsRefused, Stays, CallDoes};
+ghost use Rattle.iolink_port_c.specs.Calls.{rate_of, answer_of};
 
 use crate::held::IolPort;
 use crate::octets::put;
@@ -26,12 +26,14 @@ pub struct IolMessage {
     pub octets: [u8; 66],
 }
 
-/// Says what the next turn sends, and changes nothing: 0, or 252 where the handle is closed.
+/// Says what the next turn sends, and changes nothing: 0, or 252 where the handle is closed, which leaves `out` as it
+/// is.
 ///
 /// Any other call may change it: ask right before the line is used.
 #[unsafe(no_mangle)]
 pub extern "C" fn iol_port_asks(alloc: Global, handle: &mut IolPort, out: &mut IolMessage) -> u8
     ensures closed { IsFalse handle.old.is_open → IsRefused result handle.old handle.new }
+    ensures unwritten { IsFalse handle.old.is_open → out.new ≡ out.old }
     ensures stays { handle.new.is_open ≡ handle.old.is_open }
     ensures done { IsTrue handle.old.is_open → result ≡ 0 }
     ensures same { handle.new.held.value ≡ handle.old.held.value }
@@ -60,23 +62,24 @@ pub extern "C" fn iol_port_asks(alloc: Global, handle: &mut IolPort, out: &mut I
 }
 
 /// The turn in which the line was woken: `rate` is 1 to 3 for the device that answered at COM1 to COM3, 0 where none
-/// did. 0, or 252 where the handle is closed, 254 for a rate above 3, and 255 where the port asks for no wake; nothing
-/// changed then.
+/// did. 0, or the first of 252 where the handle is closed, 254 for a rate above 3, and 255 where the port asks for no
+/// wake; nothing changed then.
 #[unsafe(no_mangle)]
 pub extern "C" fn iol_port_turn_woken(alloc: Global, handle: &mut IolPort, rate: u8) -> u8
     ensures closed { IsFalse handle.old.is_open → IsRefused result handle.old handle.new }
     ensures stays { Stays handle.old handle.new }
-    ensures range { IsTrue handle.old.is_open → 3 < rate → (result ≡ 254)
-        × (handle.new ≡ handle.old) }
+    ensures range { IsTrue handle.old.is_open → 3 < rate →
+        (result ≡ 254) × (handle.new ≡ handle.old) }
     ensures refused { IsTrue handle.old.is_open → rate ≤ 3 →
         (sent : _) → asks_of (parts_of handle.old) ≡ Asked.Exchange sent →
         (result ≡ 255) × (parts_of handle.new ≡ parts_of handle.old) }
-    ensures turn { IsTrue handle.old.is_open → rate ≤ 3 → asks_of (parts_of handle.old) ≡ Asked.Wake →
+    ensures turn { IsTrue handle.old.is_open → rate ≤ 3 →
+        asks_of (parts_of handle.old) ≡ Asked.Wake →
         (result ≡ 0) × TurnWoken is_honest far_of silence_of
         (rate_of rate) None (parts_of handle.old) (parts_of handle.new) }
-    ensures does { IsTrue handle.old.is_open → rate ≤ 3 → asks_of (parts_of handle.old) ≡ Asked.Wake →
-        Does is_honest far_of silence_of
-        (parts_of handle.old) call.Turn answered.Nothing (parts_of handle.new) }
+    ensures does { IsTrue handle.old.is_open → rate ≤ 3 →
+        asks_of (parts_of handle.old) ≡ Asked.Wake →
+        CallDoes handle.old call.Turn answered.Nothing handle.new }
 {
     if !handle.is_open {
         return CLOSED;
@@ -112,14 +115,14 @@ fn rate_named(number: u8) -> Option<Rate>
 /// The turn in which the octets that the port asks for were sent, and these came back in the time of a reply; none did
 /// where `octets` is empty. Of more than 66 octets give the first 66: a reply of a wrong length as it is.
 ///
-/// 0, or 252 where the handle is closed, 254 for more than 66 octets, and 255 where the port asks for a wake; nothing
-/// changed then.
+/// 0, or the first of 252 where the handle is closed, 254 for more than 66 octets, and 255 where the port asks for a
+/// wake; nothing changed then.
 #[unsafe(no_mangle)]
 pub extern "C" fn iol_port_turn_answered(alloc: Global, handle: &mut IolPort, octets: &[u8]) -> u8
     ensures closed { IsFalse handle.old.is_open → IsRefused result handle.old handle.new }
     ensures stays { Stays handle.old handle.new }
-    ensures long { IsTrue handle.old.is_open → 66 < length octets.now → (result ≡ 254)
-        × (handle.new ≡ handle.old) }
+    ensures long { IsTrue handle.old.is_open → 66 < length octets.now →
+        (result ≡ 254) × (handle.new ≡ handle.old) }
     ensures refused { IsTrue handle.old.is_open → length octets.now ≤ 66 →
         asks_of (parts_of handle.old) ≡ Asked.Wake →
         (result ≡ 255) × (parts_of handle.new ≡ parts_of handle.old) }
@@ -129,8 +132,7 @@ pub extern "C" fn iol_port_turn_answered(alloc: Global, handle: &mut IolPort, oc
         sent (answer_of octets.now) None (parts_of handle.old) (parts_of handle.new) }
     ensures does { IsTrue handle.old.is_open → length octets.now ≤ 66 →
         (sent : _) → asks_of (parts_of handle.old) ≡ Asked.Exchange sent →
-        Does is_honest far_of silence_of
-        (parts_of handle.old) call.Turn answered.Nothing (parts_of handle.new) }
+        CallDoes handle.old call.Turn answered.Nothing handle.new }
 {
     if !handle.is_open {
         return CLOSED;

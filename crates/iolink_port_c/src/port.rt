@@ -1,8 +1,9 @@
 //! Opening and closing.
 ghost use Rattle.std.specs.Prelude.{◌≡◌, true, false, None, IsTrue, IsFalse};
+ghost use Rattle.iol_book.specs.BookModel.{AreLimits};
 ghost use Rattle.iol_port.specs.View.{IsOpened, opening_of};
 ghost use Rattle.iol_line.specs.Told.{is_honest, far_of, silence_of};
-ghost use Rattle.iolink_port_c.specs.Calls.{parts_of};
+ghost use Rattle.iolink_port_c.specs.Calls.{parts_of, IsRefused};
 
 use crate::held::{IolPort, Master};
 use crate::refusal::{CLOSED, IS_OPEN, OUT_OF_RANGE};
@@ -18,10 +19,10 @@ const MOST_JOURNAL: u32 = 1000000;
 
 const LEAST_BUSY: u16 = 2;
 
-/// Opens a port, whose link is down: 0, or 24 where there is no memory, 253 where the handle is open already, 254 where
-/// the journal isn't 4 to 1,000,000 entries or the busy limit isn't 2 to 65,535. The first ticket is `given` + 1.
+/// Opens a port, whose link is down. The first ticket is `given` + 1.
 ///
-/// Where it is refused, nothing changed.
+/// 0, or the first of 253 where the handle is open already, 254 where the journal isn't 4 to 1,000,000 entries or the
+/// busy limit isn't 2 to 65,535, and 24 where there is no memory. Where it is refused, nothing changed.
 #[unsafe(no_mangle)]
 pub extern "C" fn iol_port_open(
     alloc: Global,
@@ -31,8 +32,16 @@ pub extern "C" fn iol_port_open(
     given: u64,
 ) -> u8
     ensures once { IsTrue handle.old.is_open → (result ≡ 253) × (handle.new ≡ handle.old) }
+    ensures range { IsFalse handle.old.is_open →
+        ¬ AreLimits (record { journal = journal; busy = busy; given = given }) →
+        (result ≡ 254) × (handle.new ≡ handle.old) }
+    ensures lacks { IsFalse handle.old.is_open →
+        AreLimits (record { journal = journal; busy = busy; given = given }) →
+        ¬ (result ≡ 0) → result ≡ 24 }
+    ensures refused { ¬ (result ≡ 0) → handle.new ≡ handle.old }
     ensures opened { result ≡ 0 → handle.new.is_open ≡ true }
-    ensures opening { result ≡ 0 → handle.new.held.value.port.opening ≡ opening_of is_honest far_of silence_of
+    ensures opening { result ≡ 0 → handle.new.held.value.port.opening
+        ≡ opening_of is_honest far_of silence_of
         (record { journal = journal; busy = busy; given = given }) None }
     ensures parts { result ≡ 0 → IsOpened handle.new.held.value.port.opening (parts_of handle.new) }
     ensures writer { result ≡ 0 → handle.new.held.value.port.writer ≡ None }
@@ -70,7 +79,7 @@ pub extern "C" fn iol_port_open(
 #[unsafe(no_mangle)]
 pub extern "C" fn iol_port_close(alloc: Global, handle: &mut IolPort) -> u8
     ensures shut { handle.new.is_open ≡ false }
-    ensures once { IsFalse handle.old.is_open → (result ≡ 252) × (handle.new ≡ handle.old) }
+    ensures once { IsFalse handle.old.is_open → IsRefused result handle.old handle.new }
     ensures done { IsTrue handle.old.is_open → result ≡ 0 }
 {
     if !handle.is_open {

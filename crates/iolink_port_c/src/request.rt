@@ -1,12 +1,9 @@
 //! Requests: entered, collected, taken back and cut off.
-ghost use Rattle.std.specs.Prelude.{◌≡◌, ◌≤◌, ◌<◌, Result, length, IsTrue, IsFalse, IfOk};
-ghost use Rattle.iol_isdu.specs.declared.values.Request.{Request};
-ghost use Rattle.iol_book.specs.declared.entries.Ticket.{Ticket};
-ghost use Rattle.iol_book.specs.BookModel.{submitted, submitted_urgent};
-ghost use Rattle.iol_port.specs.declared.fault.PortFault.{PortFault};
-ghost use Rattle.iol_port.specs.EveryWire.{SubmitGives, CollectGives, WithdrawGives, CancelGives};
-ghost use Rattle.iolink_port_c.specs.Shown.{IsOutcome};
-ghost use Rattle.iolink_port_c.specs.Calls.{parts_of, IsRefused, Stays, number_of, ticket_out};
+ghost use Rattle.std.specs.Prelude.{◌≡◌, ◌≤◌, ◌<◌, length, IsTrue, IsFalse};
+ghost use Rattle.iolink_port_c.specs.declared.request.Urgency.{Urgency};
+ghost use Rattle.iolink_port_c.specs.RequestCalls.{Enters, Collects, Withdraws, Cancels};
+ghost use Rattle.iolink_port_c.specs.RequestCalls.{read_at, write_at, ticket_out};
+ghost use Rattle.iolink_port_c.specs.Calls.{IsRefused, Stays, number_of};
 
 use crate::held::IolPort;
 use crate::outcome::{IolOutcome, show_outcome};
@@ -17,30 +14,70 @@ use iol_isdu::{Place, Request};
 use iol_port::PortFault;
 use std::alloc::Global;
 
-fn submit(alloc: Global, handle: &mut IolPort, request: Request) -> Result<Ticket, PortFault>
-    requires { IsTrue handle.old.is_open }
-    ensures stays { Stays handle.old handle.new }
-    ensures gives { SubmitGives (parts_of handle.old)
-        (submitted (parts_of handle.old).book.state request) result (parts_of handle.new) }
-{
-    replace_with(handle, (alloc, request), |handle, (alloc, request)| {
-        let mut master = handle.into_box(alloc);
-        let answer = master.port.submit(request);
-        (IolPort::of(master), answer)
-    })
+/// Before which requests that wait a new one goes.
+#[derive(Clone, Copy)]
+pub enum Urgency {
+    /// Before none.
+    Ordinary,
+    /// Before all that aren't urgent.
+    Urgent,
 }
 
-fn submit_urgent(alloc: Global, handle: &mut IolPort, request: Request) -> Result<Ticket, PortFault>
-    requires { IsTrue handle.old.is_open }
+fn enter(
+    alloc: Global,
+    handle: &mut IolPort,
+    request: Request,
+    urgency: Urgency,
+    ticket: &mut u64,
+) -> u8
+    ensures closed { IsFalse handle.old.is_open → IsRefused result handle.old handle.new }
+    ensures unwritten { IsFalse handle.old.is_open → ticket.new ≡ ticket.old }
     ensures stays { Stays handle.old handle.new }
-    ensures gives { SubmitGives (parts_of handle.old)
-        (submitted_urgent (parts_of handle.old).book.state request) result (parts_of handle.new) }
+    ensures enters { IsTrue handle.old.is_open →
+        Enters urgency request handle.old result ticket.new handle.new }
 {
-    replace_with(handle, (alloc, request), |handle, (alloc, request)| {
+    if !handle.is_open {
+        return CLOSED;
+    }
+    let asked = (alloc, request, urgency);
+    let answer = replace_with(handle, asked, |handle, (alloc, request, urgency)| {
         let mut master = handle.into_box(alloc);
-        let answer = master.port.submit_urgent(request);
+        let answer = match urgency {
+            Urgency::Ordinary => master.port.submit(request),
+            Urgency::Urgent => master.port.submit_urgent(request),
+        };
         (IolPort::of(master), answer)
-    })
+    });
+    told(answer, ticket)
+}
+
+fn enter_write(
+    alloc: Global,
+    handle: &mut IolPort,
+    place: Place,
+    octets: &[u8],
+    urgency: Urgency,
+    ticket: &mut u64,
+) -> u8
+    ensures closed { IsFalse handle.old.is_open → IsRefused result handle.old handle.new }
+    ensures unwritten { IsFalse handle.old.is_open → ticket.new ≡ ticket.old }
+    ensures stays { Stays handle.old handle.new }
+    ensures long { IsTrue handle.old.is_open → 232 < length octets.now →
+        (result ≡ 9) × (ticket.new ≡ 0) × (handle.new ≡ handle.old) }
+    ensures enters { IsTrue handle.old.is_open → length octets.now ≤ 232 →
+        Enters urgency (write_at place.index place.sub octets.now)
+        handle.old result ticket.new handle.new }
+{
+    if !handle.is_open {
+        return CLOSED;
+    }
+    match Request::write(place, octets) {
+        Ok(request) => enter(alloc, handle, request, urgency, ticket),
+        Err(fault) => {
+            *ticket = 0;
+            fault.code()
+        }
+    }
 }
 
 // The ticket, or 0 beside the number of the refusal.
@@ -60,7 +97,8 @@ fn told(answer: Result<Ticket, PortFault>, ticket: &mut u64) -> u8
     }
 }
 
-/// Enters a read: 0 and its ticket, or 252 where the handle is closed, and 21 to 24 as the library refuses it.
+/// Enters a read: 0 and its ticket, or the first of 252 where the handle is closed, and 21 to 24 as the library refuses
+/// it. A closed handle leaves the ticket as it is; each other refusal makes it 0.
 #[unsafe(no_mangle)]
 pub extern "C" fn iol_port_read(
     alloc: Global,
@@ -70,17 +108,13 @@ pub extern "C" fn iol_port_read(
     ticket: &mut u64,
 ) -> u8
     ensures closed { IsFalse handle.old.is_open → IsRefused result handle.old handle.new }
+    ensures unwritten { IsFalse handle.old.is_open → ticket.new ≡ ticket.old }
     ensures stays { Stays handle.old handle.new }
-    ensures gives { IsTrue handle.old.is_open → (answer : Result Ticket PortFault) ×
-        (result ≡ number_of answer) × (ticket.new ≡ ticket_out answer) ×
-        SubmitGives (parts_of handle.old) (submitted (parts_of handle.old).book.state
-        (Request.Read (record { index = index; sub = sub }))) answer (parts_of handle.new) }
+    ensures enters { IsTrue handle.old.is_open →
+        Enters Urgency.Ordinary (read_at index sub) handle.old result ticket.new handle.new }
 {
-    if !handle.is_open {
-        return CLOSED;
-    }
-    let answer = submit(alloc, handle, Request::read(Place { index, sub }));
-    told(answer, ticket)
+    let request = Request::read(Place { index, sub });
+    enter(alloc, handle, request, Urgency::Ordinary, ticket)
 }
 
 /// Enters an urgent read, before all requests that wait and aren't urgent. Answers as `iol_port_read` does.
@@ -93,21 +127,17 @@ pub extern "C" fn iol_port_read_urgent(
     ticket: &mut u64,
 ) -> u8
     ensures closed { IsFalse handle.old.is_open → IsRefused result handle.old handle.new }
+    ensures unwritten { IsFalse handle.old.is_open → ticket.new ≡ ticket.old }
     ensures stays { Stays handle.old handle.new }
-    ensures gives { IsTrue handle.old.is_open → (answer : Result Ticket PortFault) ×
-        (result ≡ number_of answer) × (ticket.new ≡ ticket_out answer) ×
-        SubmitGives (parts_of handle.old) (submitted_urgent (parts_of handle.old).book.state
-        (Request.Read (record { index = index; sub = sub }))) answer (parts_of handle.new) }
+    ensures enters { IsTrue handle.old.is_open →
+        Enters Urgency.Urgent (read_at index sub) handle.old result ticket.new handle.new }
 {
-    if !handle.is_open {
-        return CLOSED;
-    }
-    let answer = submit_urgent(alloc, handle, Request::read(Place { index, sub }));
-    told(answer, ticket)
+    let request = Request::read(Place { index, sub });
+    enter(alloc, handle, request, Urgency::Urgent, ticket)
 }
 
-/// Enters a write: 0 and its ticket, or 252 where the handle is closed, 9 for more than 232 octets, and 21 to 24 as the
-/// library refuses it.
+/// Enters a write: 0 and its ticket, or the first of 252 where the handle is closed, 9 for more than 232 octets, and 21
+/// to 24 as the library refuses it. A closed handle leaves the ticket as it is; each other refusal makes it 0.
 #[unsafe(no_mangle)]
 pub extern "C" fn iol_port_write(
     alloc: Global,
@@ -118,25 +148,16 @@ pub extern "C" fn iol_port_write(
     ticket: &mut u64,
 ) -> u8
     ensures closed { IsFalse handle.old.is_open → IsRefused result handle.old handle.new }
+    ensures unwritten { IsFalse handle.old.is_open → ticket.new ≡ ticket.old }
     ensures stays { Stays handle.old handle.new }
-    ensures long { IsTrue handle.old.is_open → 232 < length octets.now → (result ≡ 9)
-        × (handle.new ≡ handle.old) }
-    ensures gives { IsTrue handle.old.is_open → length octets.now ≤ 232 → (answer : Result Ticket PortFault) ×
-        (result ≡ number_of answer) × (ticket.new ≡ ticket_out answer) ×
-        SubmitGives (parts_of handle.old) (submitted (parts_of handle.old).book.state
-        (Request.Write (record { index = index; sub = sub }) (record { items = octets.now })))
-        answer (parts_of handle.new) }
+    ensures long { IsTrue handle.old.is_open → 232 < length octets.now →
+        (result ≡ 9) × (ticket.new ≡ 0) × (handle.new ≡ handle.old) }
+    ensures enters { IsTrue handle.old.is_open → length octets.now ≤ 232 →
+        Enters Urgency.Ordinary (write_at index sub octets.now)
+        handle.old result ticket.new handle.new }
 {
-    if !handle.is_open {
-        return CLOSED;
-    }
-    match Request::write(Place { index, sub }, octets) {
-        Ok(request) => {
-            let answer = submit(alloc, handle, request);
-            told(answer, ticket)
-        }
-        Err(fault) => fault.code(),
-    }
+    let place = Place { index, sub };
+    enter_write(alloc, handle, place, octets, Urgency::Ordinary, ticket)
 }
 
 /// Enters an urgent write, before all requests that wait and aren't urgent. Answers as `iol_port_write` does.
@@ -150,29 +171,20 @@ pub extern "C" fn iol_port_write_urgent(
     ticket: &mut u64,
 ) -> u8
     ensures closed { IsFalse handle.old.is_open → IsRefused result handle.old handle.new }
+    ensures unwritten { IsFalse handle.old.is_open → ticket.new ≡ ticket.old }
     ensures stays { Stays handle.old handle.new }
-    ensures long { IsTrue handle.old.is_open → 232 < length octets.now → (result ≡ 9)
-        × (handle.new ≡ handle.old) }
-    ensures gives { IsTrue handle.old.is_open → length octets.now ≤ 232 → (answer : Result Ticket PortFault) ×
-        (result ≡ number_of answer) × (ticket.new ≡ ticket_out answer) ×
-        SubmitGives (parts_of handle.old) (submitted_urgent (parts_of handle.old).book.state
-        (Request.Write (record { index = index; sub = sub }) (record { items = octets.now })))
-        answer (parts_of handle.new) }
+    ensures long { IsTrue handle.old.is_open → 232 < length octets.now →
+        (result ≡ 9) × (ticket.new ≡ 0) × (handle.new ≡ handle.old) }
+    ensures enters { IsTrue handle.old.is_open → length octets.now ≤ 232 →
+        Enters Urgency.Urgent (write_at index sub octets.now)
+        handle.old result ticket.new handle.new }
 {
-    if !handle.is_open {
-        return CLOSED;
-    }
-    match Request::write(Place { index, sub }, octets) {
-        Ok(request) => {
-            let answer = submit_urgent(alloc, handle, request);
-            told(answer, ticket)
-        }
-        Err(fault) => fault.code(),
-    }
+    let place = Place { index, sub };
+    enter_write(alloc, handle, place, octets, Urgency::Urgent, ticket)
 }
 
-/// Hands out the outcome of a ticket: 0, or 252 where the handle is closed, 25 where no such ticket is outstanding, and
-/// 26 where it has no outcome yet.
+/// Hands out the outcome of a ticket: 0, or the first of 252 where the handle is closed, 25 where no such ticket is
+/// outstanding, and 26 where it has no outcome yet. Where it is refused, `out` stays as it is.
 #[unsafe(no_mangle)]
 pub extern "C" fn iol_port_collect(
     alloc: Global,
@@ -181,10 +193,10 @@ pub extern "C" fn iol_port_collect(
     out: &mut IolOutcome,
 ) -> u8
     ensures closed { IsFalse handle.old.is_open → IsRefused result handle.old handle.new }
+    ensures unwritten { IsFalse handle.old.is_open → out.new ≡ out.old }
     ensures stays { Stays handle.old handle.new }
-    ensures gives { IsTrue handle.old.is_open → (answer : _) × (result ≡ number_of answer) ×
-        CollectGives (parts_of handle.old) (record { 0 = ticket }) answer (parts_of handle.new) ×
-        IfOk answer (λ outcome. IsOutcome outcome out.new) }
+    ensures collects { IsTrue handle.old.is_open →
+        Collects ticket handle.old result out.old out.new handle.new }
 {
     if !handle.is_open {
         return CLOSED;
@@ -205,13 +217,14 @@ pub extern "C" fn iol_port_collect(
 
 /// Takes back a request that waits.
 ///
-/// 0, or 252 where the handle is closed, 25 where no such ticket is outstanding, and 27 where it waits no longer.
+/// 0, or the first of 252 where the handle is closed, 25 where no such ticket is outstanding, and 27 where it waits no
+/// longer.
 #[unsafe(no_mangle)]
 pub extern "C" fn iol_port_withdraw(alloc: Global, handle: &mut IolPort, ticket: u64) -> u8
     ensures closed { IsFalse handle.old.is_open → IsRefused result handle.old handle.new }
     ensures stays { Stays handle.old handle.new }
-    ensures gives { IsTrue handle.old.is_open → (answer : _) × (result ≡ number_of answer) ×
-        WithdrawGives (parts_of handle.old) (record { 0 = ticket }) answer (parts_of handle.new) }
+    ensures withdraws { IsTrue handle.old.is_open →
+        Withdraws ticket handle.old result handle.new }
 {
     if !handle.is_open {
         return CLOSED;
@@ -227,14 +240,14 @@ pub extern "C" fn iol_port_withdraw(alloc: Global, handle: &mut IolPort, ticket:
     }
 }
 
-/// Asks to cut off the request under way: 0, or 252 where the handle is closed, 25 where no such ticket is outstanding,
-/// and 36 where it waits or has an outcome.
+/// Asks to cut off the request under way: 0, or the first of 252 where the handle is closed, 25 where no such ticket is
+/// outstanding, and 36 where it waits or has an outcome.
 #[unsafe(no_mangle)]
 pub extern "C" fn iol_port_cancel(alloc: Global, handle: &mut IolPort, ticket: u64) -> u8
     ensures closed { IsFalse handle.old.is_open → IsRefused result handle.old handle.new }
     ensures stays { Stays handle.old handle.new }
-    ensures gives { IsTrue handle.old.is_open → (answer : _) × (result ≡ number_of answer) ×
-        CancelGives (parts_of handle.old) (record { 0 = ticket }) answer (parts_of handle.new) }
+    ensures cancels { IsTrue handle.old.is_open →
+        Cancels ticket handle.old result handle.new }
 {
     if !handle.is_open {
         return CLOSED;

@@ -1,10 +1,12 @@
 //! The link, process data and events.
-ghost use Rattle.std.specs.Prelude.{◌≡◌, Some, None, take, length, unwrap_or, [], IsTrue, IsFalse, IfOk};
-ghost use Rattle.iol_port.specs.EveryWire.{TakeEventGives, SetOutputGives, ClearOutputGives, RestartGives};
+ghost use Rattle.std.specs.Prelude.{◌≡◌, take, unwrap_or, [], IsTrue, IsFalse};
+ghost use Rattle.iol_port.specs.declared.call.Call.TheVariants as call;
+ghost use Rattle.iol_port.specs.declared.call.Answered.TheVariants as answered;
 ghost use Rattle.iol_image.specs.Image.{IsImage};
 ghost use Rattle.iol_port.specs.View.{status_of};
 ghost use Rattle.iolink_port_c.specs.Shown.{IsShown};
-ghost use Rattle.iolink_port_c.specs.Calls.{parts_of, IsRefused, Stays, number_of};
+ghost use Rattle.iolink_port_c.specs.Calls.{parts_of, IsRefused, Stays, CallDoes};
+ghost use Rattle.iolink_port_c.specs.StateCalls.{Restarts, SetsOutput, ClearsOutput, TakesEvent};
 
 use crate::held::IolPort;
 use crate::octets::put;
@@ -19,8 +21,7 @@ use std::alloc::Global;
 pub extern "C" fn iol_port_restart(alloc: Global, handle: &mut IolPort) -> u8
     ensures closed { IsFalse handle.old.is_open → IsRefused result handle.old handle.new }
     ensures stays { Stays handle.old handle.new }
-    ensures gives { IsTrue handle.old.is_open →
-        (result ≡ 0) × RestartGives (parts_of handle.old) (parts_of handle.new) }
+    ensures restarts { IsTrue handle.old.is_open → Restarts handle.old result handle.new }
 {
     if !handle.is_open {
         return CLOSED;
@@ -33,15 +34,18 @@ pub extern "C" fn iol_port_restart(alloc: Global, handle: &mut IolPort) -> u8
     0
 }
 
-/// Wants this output of the device, 1 to 32 octets: 0, or 252 where the handle is closed, 29 for another number of
-/// octets than the device has, and 34 where no start-up has told the lengths yet.
+/// Wants this output of the device.
+///
+/// 0, or the first of 252 where the handle is closed, 29 where it isn't 1 to 32 octets, 34 where no start-up has told
+/// the lengths yet, and 29 for another number of octets than the device has.
 #[unsafe(no_mangle)]
 pub extern "C" fn iol_port_set_output(alloc: Global, handle: &mut IolPort, octets: &[u8]) -> u8
     ensures closed { IsFalse handle.old.is_open → IsRefused result handle.old handle.new }
     ensures stays { Stays handle.old handle.new }
-    ensures gives { IsTrue handle.old.is_open → IsImage octets.now →
-        (answer : _) × (result ≡ number_of answer) ×
-        SetOutputGives (parts_of handle.old) octets.now answer (parts_of handle.new) }
+    ensures sized { IsTrue handle.old.is_open → ¬ IsImage octets.now →
+        (result ≡ 29) × (handle.new ≡ handle.old) }
+    ensures sets { IsTrue handle.old.is_open → IsImage octets.now →
+        SetsOutput octets.now handle.old result handle.new }
 {
     if !handle.is_open {
         return CLOSED;
@@ -66,8 +70,7 @@ pub extern "C" fn iol_port_set_output(alloc: Global, handle: &mut IolPort, octet
 pub extern "C" fn iol_port_clear_output(alloc: Global, handle: &mut IolPort) -> u8
     ensures closed { IsFalse handle.old.is_open → IsRefused result handle.old handle.new }
     ensures stays { Stays handle.old handle.new }
-    ensures gives { IsTrue handle.old.is_open →
-        (result ≡ 0) × ClearOutputGives (parts_of handle.old) (parts_of handle.new) }
+    ensures clears { IsTrue handle.old.is_open → ClearsOutput handle.old result handle.new }
 {
     if !handle.is_open {
         return CLOSED;
@@ -87,14 +90,17 @@ pub struct IolImage {
     pub octets: [u8; 32],
 }
 
-/// The device's input: 0, or 252 where the handle is closed.
+/// The device's input: 0, or 252 where the handle is closed, which leaves `out` as it is.
 #[unsafe(no_mangle)]
 pub extern "C" fn iol_port_image(alloc: Global, handle: &mut IolPort, out: &mut IolImage) -> u8
     ensures closed { IsFalse handle.old.is_open → IsRefused result handle.old handle.new }
+    ensures unwritten { IsFalse handle.old.is_open → out.new ≡ out.old }
     ensures stays { handle.new.is_open ≡ handle.old.is_open }
     ensures same { handle.new.held.value ≡ handle.old.held.value }
     ensures image { IsTrue handle.old.is_open → (result ≡ 0) × (take out.new.length out.new.octets
         ≡ unwrap_or (parts_of handle.old).station.session.image []) }
+    ensures does { IsTrue handle.old.is_open → CallDoes handle.old
+        call.Look (answered.Image (parts_of handle.old).station.session.image) handle.new }
 {
     if !handle.is_open {
         return CLOSED;
@@ -124,14 +130,15 @@ pub struct IolEvent {
     pub code: u16,
 }
 
-/// Hands out the event that was kept longest: 0, or 252 where the handle is closed, and 30 where none is kept.
+/// Hands out the event that was kept longest: 0, or the first of 252 where the handle is closed, and 30 where none is
+/// kept. Where it is refused, `out` stays as it is.
 #[unsafe(no_mangle)]
 pub extern "C" fn iol_port_take_event(alloc: Global, handle: &mut IolPort, out: &mut IolEvent) -> u8
     ensures closed { IsFalse handle.old.is_open → IsRefused result handle.old handle.new }
+    ensures unwritten { IsFalse handle.old.is_open → out.new ≡ out.old }
     ensures stays { Stays handle.old handle.new }
-    ensures gives { IsTrue handle.old.is_open → (answer : _) × (result ≡ number_of answer) ×
-        TakeEventGives (parts_of handle.old) answer (parts_of handle.new) ×
-        IfOk answer (λ event. (out.new.qualifier ≡ event.qualifier) × (out.new.code ≡ event.code)) }
+    ensures takes { IsTrue handle.old.is_open →
+        TakesEvent handle.old result out.old out.new handle.new }
 {
     if !handle.is_open {
         return CLOSED;
@@ -162,14 +169,17 @@ pub struct IolStatus {
     pub event_form: bool,
 }
 
-/// The mode of the link, and why it is down: 0, or 252 where the handle is closed.
+/// The mode of the link, and why it is down: 0, or 252 where the handle is closed, which leaves `out` as it is.
 #[unsafe(no_mangle)]
 pub extern "C" fn iol_port_status(alloc: Global, handle: &mut IolPort, out: &mut IolStatus) -> u8
     ensures closed { IsFalse handle.old.is_open → IsRefused result handle.old handle.new }
+    ensures unwritten { IsFalse handle.old.is_open → out.new ≡ out.old }
     ensures stays { handle.new.is_open ≡ handle.old.is_open }
     ensures same { handle.new.held.value ≡ handle.old.held.value }
     ensures status { IsTrue handle.old.is_open →
         (result ≡ 0) × IsShown (status_of (parts_of handle.old).station) out.new }
+    ensures does { IsTrue handle.old.is_open → CallDoes handle.old
+        call.Status (answered.Status (status_of (parts_of handle.old).station)) handle.new }
 {
     if !handle.is_open {
         return CLOSED;

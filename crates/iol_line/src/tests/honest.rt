@@ -1,7 +1,7 @@
 //! A port over a line that claims, with a real device at its far end: the premise can be met, and is at every turn.
 ghost use Rattle.std.specs.Prelude.{◌≡◌, ℕ, Some, true};
 ghost use Rattle.iol_app.specs.declared.asked.Asked.{Asked};
-ghost use Rattle.iol_device.specs.Device.{octets_in};
+ghost use Rattle.iol_far.specs.Octets.{octets_in};
 ghost use Rattle.iol_link.specs.Honest.{HonestExchange, HonestWake, silence_after};
 ghost use Rattle.iol_port.specs.declared.call.Call.TheVariants as call;
 ghost use Rattle.iol_port.specs.declared.call.Answered.TheVariants as answered;

@@ -13,6 +13,6 @@ returns-clause-printed g c =
     let quiet = c.in_ok-wire.ensures.silence in
     let stands = c.in-Ok.ensures.stands (opens_well c.in-Ok.port.opening script.limits wire wire.device.far wire.silence true script.page opening refl new) in
     let more = c.in_ok-play_lines.ensures in
-    script_printed _ _ _ c.in-Ok.port.parts c.play_lines.new.port.parts _ (numbered_lines c.args.input.now) _ c.carried.result.now more.0 (string_bytes c.new-output.result) (string_bytes c.play_lines.new.output) (string_bytes c.print_record.new.output)
-    c.in_ok-script.ensures.script stands (opened_first script.limits wire.device.far wire.silence script.page new quiet) more.2
+    script_printed c.in-Ok.port.parts c.play_lines.new.port.parts _ c.in-Ok.port.opening wire (numbered_lines c.args.input.now) _ c.carried.result.now more.0 (string_bytes c.new-output.result) (string_bytes c.play_lines.new.output) (string_bytes c.print_record.new.output)
+    c.in_ok-script.ensures.script c.in-Ok.ensures.opening c.in_ok-wire.ensures.whole c.in-Ok.ensures.parts stands (opened_first script.limits wire.device.far wire.silence script.page new quiet) more.2
     (search rules) (search rules) more.1 c.in_ok-print_record.ensures

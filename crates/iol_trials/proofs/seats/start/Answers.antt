@@ -2,8 +2,8 @@ use denote.Param.Send.{IsSend, sendable}
 use Rattle.std.proofs.Crossing.{crosses, send, sync, frees}
 use Rattle.std.specs.contracts.alloc.Global as Heap
 use Rattle.std.specs.contracts.impls.GlobalAllocator.TheImpl.{ghosts}
-use Rattle.iol_image.specs.contracts.cell.ImageSeat as Seat
-use Rattle.iol_image.proofs.cell.ImageSeat.TheSendSync as seat
+use Rattle.iol_cell.specs.contracts.cell.ImageSeat as Seat
+use Rattle.iol_cell.proofs.cell.ImageSeat.TheSendSync as seat
 use Rattle.iol_trials.proofs.seats.Flags.TheSendSync as flags
 use Rattle.iol_trials.proofs.seats.start.Goals as goal
 

@@ -1,4 +1,4 @@
-use Rattle.iol_device.specs.Device.{octets_in}
+use Rattle.iol_far.specs.Octets.{octets_in}
 use Rattle.iol_link.specs.Honest.{silence_after}
 use Rattle.iol_line.specs.Driving.{line_of}
 use Rattle.iol_line.proofs.tests.honest.answered_by.Given as goal

@@ -11,7 +11,7 @@ use types.ByLocal.{alloc_all, pass_all, free_all, look_at, get, get_in, sets}
 use contract.Monad.{fact, fact_i}
 use contract.Running.{tables}
 use denote.RattleType.{RattleType, Valss, owns}
-use mathlib.Core.Bool.{Bool, true}
+use mathlib.Core.Bool.{true}
 use denote.RawPtr.{RawPtr, block_ptr}
 use denote.Signature.{types_at, plain}
 use denote.Steps.{nothing}

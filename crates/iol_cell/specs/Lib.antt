@@ -1,0 +1,5 @@
+pub mod Fault
+pub mod Handle
+pub mod Packing
+pub mod Published
+pub mod Steps

@@ -1,5 +1,0 @@
-use Rattle.iol_device.proofs.LawProofs.{level_laws}
-use Rattle.iol_device.proofs.laws.ends_stay_level.Goals as goal
-
-pub returns : goal.returns
-returns c = λ size low. level_laws size (c.requests_are_received.ensures size low)

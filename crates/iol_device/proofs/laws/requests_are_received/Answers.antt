@@ -1,5 +1,0 @@
-use Rattle.iol_device.proofs.Segments.{segment_laws}
-use Rattle.iol_device.proofs.laws.requests_are_received.Goals as goal
-
-pub returns : goal.returns
-returns c = λ size low. segment_laws size (c.texts_join.ensures size low)

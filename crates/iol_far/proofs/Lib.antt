@@ -1,0 +1,11 @@
+mod Pages
+mod Segments
+mod Replies
+mod Once
+mod Standing
+mod Levels
+mod Sized
+mod Eventful
+mod LawProofs
+mod Linking
+mod Regularly

@@ -1,0 +1,5 @@
+use Rattle.iol_far.proofs.Segments.{segment_laws}
+use Rattle.iol_far.proofs.laws.requests_are_received.Goals as goal
+
+pub returns : goal.returns
+returns c = λ size low. segment_laws size (c.texts_join.ensures size low)

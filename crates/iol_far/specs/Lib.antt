@@ -1,0 +1,11 @@
+pub mod Codec
+pub mod Isdu
+pub mod Record
+pub mod Far
+pub mod Local
+pub mod Level
+pub mod SegmentLaws
+pub mod Laws
+pub mod Linked
+pub mod Regular
+pub mod Octets

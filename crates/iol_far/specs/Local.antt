@@ -1,0 +1,73 @@
+-- What happens at the far end by itself, and at a wake.
+use Rattle.std.specs.Prelude.{◌≡◌, ℕ, Bool, true, false, not, ◌&&◌, ◌==◌, if◌then◌else◌, List, [], ◌∷◌, ◌++◌, length, Option, Some, None, IsTrue, MatchBool}
+use Rattle.iol_isdu.specs.declared.values.Request.{Request}
+use Rattle.iol_isdu.specs.declared.values.Answer.{Answer}
+use Rattle.iol_event.specs.declared.event.Event.{Event}
+use Rattle.iol_event.specs.Memory.{no_events, raised, released}
+use Rattle.iol_far.specs.declared.carried.Carried.{Carried}
+use Rattle.iol_far.specs.declared.mode.Mode.TheVariants.{Startup, Operate}
+use Rattle.iol_far.specs.Isdu.{IsduState, Empty, Handed, Answered, fits, handed}
+use Rattle.iol_far.specs.Codec.{layout_in}
+use Rattle.iol_far.specs.Record.{takes_more}
+use Rattle.iol_far.specs.Far.{Far}
+
+pub data LocalStep : Type 0 where
+  -- the application answers the handed request
+  Carry : Answer → LocalStep
+  Raise : Event → LocalStep
+  Input : List ℕ → LocalStep
+  NoInput : LocalStep
+  -- a power cycle
+  Power : LocalStep
+
+-- whether the record takes one more pair
+abbrev pub has_room : Far → Bool
+has_room far = takes_more far.room far.carried
+
+-- a handed request is answered, and the pair goes to the end of the record
+abbrev pub carried_by : IsduState → Far → Answer → Far
+carried_by (Handed request) far answer =
+    if has_room far && fits request answer
+    then record far { isdu = Answered request answer None; carried = far.carried ++ record { request = request; answer = answer } ∷ [] }
+    else far
+carried_by state far answer = far
+
+-- whether this answers a request: it fits one that is handed over
+abbrev pub is_answer : Option Request → Answer → Bool
+is_answer None answer = false
+is_answer (Some request) answer = fits request answer
+
+-- whether an answer is taken from elsewhere
+abbrev pub takes_answer : Far → Answer → Bool
+takes_answer far answer = has_room far && is_answer (handed far.isdu) answer
+
+-- how many octets an input has, 0 where the page has no process data in
+abbrev pub input_size : Far → ℕ
+input_size far = (layout_in far.page Operate).pd_in
+
+-- whether these octets can be the input
+abbrev pub is_input : Far → List ℕ → Bool
+is_input far image = not (input_size far == 0) && (length image == input_size far)
+
+-- the far end after the step, unchanged where that can't be done
+abbrev pub local : Far → LocalStep → Far
+local far (Carry answer) = carried_by far.isdu far answer
+local far (Raise event) = record far { events = raised far.events event }
+local far (Input image) = if is_input far image then record far { input = Some image } else far
+local far NoInput = record far { input = None }
+local far Power = record far { awake = false; isdu = Empty; events = no_events; input = None; valid = false }
+
+abbrev pub locals : Far → List LocalStep → Far
+locals far [] = far
+locals far (step ∷ steps) = locals (local far step) steps
+
+-- the far end after a wake
+abbrev pub woken : Far → Far
+woken far = record far { awake = true; mode = Startup; waits = None; isdu = Empty; events = released far.events; valid = false }
+
+-- Working a handed request off at the far end alone, whatever application stands behind it: where the record has room, with
+-- some answer that fits; else nothing changes
+abbrev pub IsWorkedOff : Option Request → Far → Far → Type 0
+IsWorkedOff None old new = new ≡ old
+IsWorkedOff (Some request) old new =
+    MatchBool (has_room old) ((answer : Answer) × IsTrue (fits request answer) × (new ≡ local old (Carry answer))) (new ≡ old)

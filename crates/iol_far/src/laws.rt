@@ -1,0 +1,100 @@
+//! Laws of the definitions, each carried by a function that does nothing when it runs.
+ghost use Rattle.std.specs.Prelude.{◌≤◌, ℕ, List};
+ghost use Rattle.iol_event.specs.declared.event.Event.{Event};
+ghost use Rattle.iol_far.specs.SegmentLaws.{SegmentLaws};
+ghost use Rattle.iol_far.specs.Laws.{OnceIsEnough, MessagesAreHeard, ModesHaveLayouts, RepliesAreRead, InputStaysSized, MuchStays, OutputStaysInOperate, LevelLaws, EventLaws};
+ghost use Rattle.iol_far.specs.Linked.{LinkLaws, TextsAreHeard};
+ghost use Rattle.iol_far.specs.Regular.{RegularStays};
+
+use iol_event::memory_stays_valid;
+use iol_mseq::what_is_written_is_read;
+use iol_page::pages_ask_for_layouts;
+use iol_segment::{cut_is_whole, texts_join};
+
+/// Hearing the same message again, after whatever the device does by itself, changes nothing: for every message but a
+/// START read.
+#[tactic(auto, using(crate::proofs::LawProofs::once_is_enough))]
+pub fn hearing_again_changes_nothing()
+    ensures { OnceIsEnough }
+{}
+
+/// Octets that spell a message in a layout are heard there as that message.
+#[tactic(auto, unfolding(crate::specs::Codec::message_in))]
+pub fn messages_are_heard()
+    ensures { MessagesAreHeard }
+{
+    what_is_written_is_read();
+}
+
+/// The layout of each mode, whatever the page, is a layout, and has on-request data.
+#[tactic(auto, using(crate::proofs::Pages::modes_have_layouts))]
+pub fn modes_have_layouts()
+    ensures { ModesHaveLayouts }
+{
+    pages_ask_for_layouts();
+}
+
+/// What a device answers, in the layout that it speaks, is read back as that reply.
+#[tactic(auto, using(crate::proofs::Replies::replies_are_read, crate::proofs::LawProofs::input_stays_sized))]
+pub fn replies_are_read()
+    ensures read { RepliesAreRead }
+    ensures sized { InputStaysSized }
+{
+    pages_ask_for_layouts();
+    cut_is_whole();
+    what_is_written_is_read();
+}
+
+/// Hearing carries nothing out, and nothing changes the page or the record's room; the output is valid in OPERATE alone.
+#[tactic(auto, using(crate::proofs::LawProofs::much_stays, crate::proofs::LawProofs::output_stays_in_operate))]
+pub fn page_and_room_stay()
+    ensures much { MuchStays }
+    ensures output { OutputStaysInOperate }
+{}
+
+/// The segments of a request are received one by one, and the last makes it whole; an answer that fits its request has
+/// a text of its kind, which doesn't begin as busy does.
+pub fn requests_are_received()
+    ensures { (size : ℕ) → 1 ≤ size → SegmentLaws size }
+{
+    texts_join();
+}
+
+/// What a master may conclude of the device while a message is out, and from one good reply: where a request stands, which mode
+/// both ends are in, and what the record may have gained.
+pub fn ends_stay_level()
+    ensures { (size : ℕ) → 1 ≤ size → LevelLaws size }
+{
+    requests_are_received();
+}
+
+/// A list of frozen events stays while it is read, and its confirm, however often it is heard, clears nothing else.
+#[tactic(auto, using(crate::proofs::LawProofs::event_laws))]
+pub fn events_stay_until_confirmed()
+    ensures { (first : Event) (rest : List Event) → EventLaws first rest }
+{}
+
+/// What a master may conclude of the device's mode while a message is out, and from one good reply, whatever is under way on the
+/// ISDU channel.
+#[tactic(auto, using(crate::proofs::Linking::link_laws))]
+pub fn links_stay_level()
+    ensures { LinkLaws }
+{}
+
+/// The octets that a master writes for a message are heard as that message.
+#[tactic(auto, unfolding(crate::specs::Codec::message_in))]
+pub fn texts_are_heard()
+    ensures { TextsAreHeard }
+{
+    what_is_written_is_read();
+}
+
+/// The parts of a device stay as they can be, whatever it hears or does by itself, and at a wake-up request: the page has
+/// ten octets, the input the page's length, and the event memory is one that events and messages lead to.
+#[tactic(auto, using(crate::proofs::Regularly::regular_stays))]
+pub fn parts_stay_regular()
+    ensures { RegularStays }
+{
+    memory_stays_valid();
+    modes_have_layouts();
+}

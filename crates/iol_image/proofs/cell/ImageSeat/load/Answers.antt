@@ -1,7 +1,0 @@
-use Rattle.std.proofs.Common.{rules}
-use Rattle.iol_image.proofs.Room.{has_room}
-use Rattle.iol_image.proofs.Rule.{reads}
-use Rattle.iol_image.proofs.cell.ImageSeat.load.Goals as goal
-
-pub load_as-requires : goal.load_as-requires
-load_as-requires g c = (has_room _ _ g.met.A.Handle.is_small, (search rules, (search rules, reads _ _)))

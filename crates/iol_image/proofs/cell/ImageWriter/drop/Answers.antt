@@ -1,5 +1,0 @@
-use Rattle.iol_image.proofs.Room.{has_room}
-use Rattle.iol_image.proofs.cell.ImageWriter.drop.Goals as goal
-
-pub drop-self-inside-requires-room-T-Destruct : goal.drop-self-inside-requires-room-T-Destruct
-drop-self-inside-requires-room-T-Destruct g c κs within = has_room _ _ g.met.A.Handle.is_small

@@ -1,7 +1,0 @@
-use Rattle.std.proofs.Common.{rules}
-use Rattle.iol_image.proofs.Room.{has_room}
-use Rattle.iol_image.proofs.Rule.{splits}
-use Rattle.iol_image.proofs.cell.seats_of.Goals as goal
-
-pub split_pass-pass-requires : goal.split_pass-pass-requires
-split_pass-pass-requires g c = (has_room _ _ g.met.A.Handle.is_small, (search rules, (search rules, splits _ _)))

@@ -1,0 +1,227 @@
+/* How much stack each call takes: what lies below it is painted, the call is made, and what it overwrote is counted.
+ * Each line says that a call stays below the bound of docs/USING.md, in whatever the runs below lead it to, and this is
+ * compared with stack.stdout. `stack measure` prints the octets instead, which differ from one machine to another; 256
+ * means 256 or less. */
+#include "iolink_port.h"
+#include "iolink_device.h"
+#include <stdio.h>
+#include <string.h>
+
+enum { KB = 1024, BOUND = 32 * KB, ROOM = 64 * KB, SKIPPED = 256, LONGEST = 232 };
+
+#define PAINT UINT64_C(0xA5C3A5C3A5C3A5C3)
+
+#define EACH_CALL(X)                                                                                                   \
+    X(iol_port_open) X(iol_port_close) X(iol_port_asks) X(iol_port_turn_woken) X(iol_port_turn_answered)               \
+    X(iol_port_read) X(iol_port_read_urgent) X(iol_port_write) X(iol_port_write_urgent) X(iol_port_collect)            \
+    X(iol_port_withdraw) X(iol_port_cancel) X(iol_port_restart) X(iol_port_set_output) X(iol_port_clear_output)        \
+    X(iol_port_image) X(iol_port_take_event) X(iol_port_status) X(iol_port_archive) X(iol_port_entry)                  \
+    X(iol_device_open) X(iol_device_close) X(iol_device_hear) X(iol_device_wake) X(iol_device_power_cycle)             \
+    X(iol_device_handed) X(iol_device_answer_read) X(iol_device_answer_written) X(iol_device_answer_refused)           \
+    X(iol_device_raise) X(iol_device_set_input) X(iol_device_clear_input) X(iol_device_output)
+
+#define AT(name) at_##name,
+enum { EACH_CALL(AT) CALLS };
+
+#define NAME(name) #name,
+static const char *const names[CALLS] = {EACH_CALL(NAME)};
+
+static size_t deepest[CALLS];
+
+/* Paints what lies below the caller, but for the little that this function stands on itself. */
+static __attribute__((noinline)) void paint(void)
+{
+    uint8_t *top = __builtin_frame_address(0);
+    volatile uint64_t *at = (volatile uint64_t *)(void *)(top - ROOM);
+    while ((uint8_t *)at < top - SKIPPED)
+        *at++ = PAINT;
+}
+
+/* Keeps how far down the paint is gone after this call, and gives back what it answered. */
+static __attribute__((noinline)) uint8_t note(int call, uint8_t answer)
+{
+    uint8_t *top = __builtin_frame_address(0);
+    volatile uint64_t *at = (volatile uint64_t *)(void *)(top - ROOM);
+    size_t depth;
+    while ((uint8_t *)at < top - SKIPPED && *at == PAINT)
+        at++;
+    depth = (size_t)(top - (uint8_t *)at);
+    if (depth > deepest[call])
+        deepest[call] = depth;
+    return answer;
+}
+
+/* Makes the pages of the stack there before they are painted. */
+static __attribute__((noinline)) int reach(void)
+{
+    volatile uint8_t room[ROOM + KB];
+    size_t i;
+    for (i = 0; i < sizeof room; i += KB)
+        room[i] = 1;
+    return room[0];
+}
+
+#define CALL(name, ...) (paint(), note(at_##name, name(__VA_ARGS__)))
+
+static iol_port port;
+static iol_device device;
+static uint8_t longest[LONGEST];
+static uint64_t ticket;
+
+static const uint8_t plain[10] = {0x17, 0x2D, 0x11, 0, 0, 0x12, 0x34, 0, 1, 7};
+static const uint8_t process[10] = {0x17, 1, 0x11, 0x10, 8, 0x12, 0x34, 0, 1, 7};
+static const uint8_t largest[10] = {0x17, 0x0D, 0x11, 0x9F, 0x9F, 0x12, 0x34, 0, 1, 7};
+
+/* The application: parameter 16 has the longest octets, every other is refused. */
+static void work(void)
+{
+    iol_request asked;
+    CALL(iol_device_handed, &device, &asked);
+    if (asked.kind == 1 && asked.index == 16)
+        CALL(iol_device_answer_read, &device, longest, LONGEST);
+    else if (asked.kind == 2 && asked.index == 16)
+        CALL(iol_device_answer_written, &device);
+    else if (asked.kind != 0)
+        CALL(iol_device_answer_refused, &device, 0x80, 0x11);
+}
+
+/* The reply is lost in one of so many turns, in none for 0. */
+static void turns(int count, int lost)
+{
+    iol_message asked;
+    iol_reply reply;
+    iol_status status;
+    while (count-- > 0) {
+        CALL(iol_port_status, &port, &status);
+        CALL(iol_port_asks, &port, &asked);
+        if (asked.length == 0) {
+            CALL(iol_device_wake, &device);
+            CALL(iol_port_turn_woken, &port, 2);
+            continue;
+        }
+        CALL(iol_device_hear, &device, asked.octets, asked.length, &reply);
+        work();
+        if (lost && count % lost == 0)
+            reply.length = 0;
+        CALL(iol_port_turn_answered, &port, reply.octets, reply.length);
+    }
+}
+
+static void outcomes(void)
+{
+    iol_outcome outcome;
+    uint64_t i;
+    for (i = 0; i <= ticket; i++)
+        CALL(iol_port_collect, &port, i, &outcome);
+}
+
+static void journal(void)
+{
+    iol_entry entry;
+    uint32_t count;
+    CALL(iol_port_archive, &port, &count);
+    do
+        CALL(iol_port_entry, &port, &entry);
+    while (entry.kind);
+}
+
+static void requests(int lost)
+{
+    CALL(iol_port_read, &port, 16, 0, &ticket);
+    CALL(iol_port_write, &port, 16, 0, longest, LONGEST, &ticket);
+    CALL(iol_port_read_urgent, &port, 17, 0, &ticket);
+    CALL(iol_port_write_urgent, &port, 16, 1, longest, LONGEST, &ticket);
+    CALL(iol_port_withdraw, &port, ticket);
+    turns(1000, lost);
+    CALL(iol_port_read, &port, 16, 0, &ticket);
+    turns(2, lost);
+    CALL(iol_port_cancel, &port, ticket);
+    turns(100, lost);
+    outcomes();
+}
+
+static void process_data(void)
+{
+    iol_image image;
+    size_t i;
+    for (i = 0; i <= 32; i++) {
+        CALL(iol_port_set_output, &port, longest, i);
+        CALL(iol_device_set_input, &device, longest, i);
+        turns(1, 0);
+        CALL(iol_port_image, &port, &image);
+        CALL(iol_device_output, &device, &image);
+    }
+    CALL(iol_port_clear_output, &port);
+    CALL(iol_device_clear_input, &device);
+    turns(2, 0);
+}
+
+static void events(void)
+{
+    iol_event event;
+    int i;
+    for (i = 0; i < 40; i++)
+        CALL(iol_device_raise, &device, 0xF4, 0x4210);
+    turns(300, 0);
+    while (CALL(iol_port_take_event, &port, &event) == 0)
+        continue;
+}
+
+/* Replies and messages of octets that no one means. */
+static void noise(void)
+{
+    uint8_t octets[66];
+    iol_message asked;
+    iol_reply reply;
+    size_t count = 0, i;
+    int turn;
+    for (turn = 0; turn < 500; turn++) {
+        count = (count * 5 + 3) % 67;
+        for (i = 0; i < count; i++)
+            octets[i] = (uint8_t)(turn * 7 + (int)i * 31);
+        CALL(iol_device_hear, &device, octets, count, &reply);
+        CALL(iol_port_asks, &port, &asked);
+        CALL(iol_port_turn_answered, &port, octets, count);
+        CALL(iol_port_turn_woken, &port, 3);
+    }
+}
+
+static void run(const uint8_t page[10])
+{
+    ticket = 0;
+    CALL(iol_device_open, &device, page);
+    CALL(iol_port_open, &port, 1000, 100, 0);
+    turns(20, 0);
+    requests(0);
+    process_data();
+    events();
+    requests(5);
+    CALL(iol_port_read, &port, 16, 0, &ticket);
+    turns(3, 0);
+    CALL(iol_port_restart, &port);
+    CALL(iol_device_power_cycle, &device);
+    turns(20, 0);
+    noise();
+    turns(20, 0);
+    outcomes();
+    journal();
+    CALL(iol_port_close, &port);
+    CALL(iol_device_close, &device);
+}
+
+int main(int count, char **words)
+{
+    int measures = count > 1 && strcmp(words[1], "measure") == 0, call;
+    if (!reach())
+        return 1;
+    run(plain);
+    run(process);
+    run(largest);
+    for (call = 0; call < CALLS; call++) {
+        if (measures)
+            printf("%s %zu\n", names[call], deepest[call]);
+        else
+            printf("%s %s %d KB\n", names[call], deepest[call] < BOUND ? "below" : "NOT below", BOUND / KB);
+    }
+    return 0;
+}
