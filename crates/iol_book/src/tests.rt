@@ -1,8 +1,10 @@
 mod generated;
+mod named;
 mod plain;
 
 use super::*;
 use iol_isdu::{Answer, Cause};
+use named::{Call, Ending, Said, ended, reply_to, taken};
 use plain::read;
 use scarce::{Refusal, Scarce};
 use std::alloc::{AllocError, Global};
@@ -14,22 +16,31 @@ const LIMITS: Limits = Limits {
     given: 0,
 };
 
+/// Makes the calls of the rows in turn, each of which has to say what stands beside it.
+macro_rules! says {
+    ($rt:expr; $book:expr; $rows:expr) => {
+        for (call, expected) in $rows {
+            assert_eq!($rt; reply_to(&mut $book, call), expected);
+        }
+    };
+}
+
 #[test]
 fn sixty_four_are_outstanding(rt: HostRuntime) -> Result<(), Fail> {
     let mut book = Book::open(rt.alloc(), &LIMITS)?;
     for number in 1..65u64 {
         assert_eq!(rt; book.submit(read(16)), Ok(Ticket(number)));
     }
-    assert_eq!(rt; book.submit(read(16)), Err(BookFault::Full));
-    assert_eq!(rt; book.collect(Ticket(1)), Err(BookFault::NotYet));
-    assert_eq!(rt; book.take(), Some((Ticket(1), read(16))));
-    book.post(Outcome::Done(Answer::Refused(0x80, 0x11)));
-    assert_eq!(rt;
-        book.collect(Ticket(1)),
-        Ok(Outcome::Done(Answer::Refused(0x80, 0x11)))
-    );
-    assert_eq!(rt; book.collect(Ticket(1)), Err(BookFault::UnknownTicket));
-    assert_eq!(rt; book.submit(read(16)), Ok(Ticket(65)));
+    let rows = [
+        (Call::Submit(16), Said::Refused(BookFault::Full)),
+        (Call::Collect(1), Said::Refused(BookFault::NotYet)),
+        (Call::Take, taken(1, 16)),
+        (Call::Post(1, Ending::Refused), Said::Nothing),
+        (Call::Collect(1), ended(Ending::Refused)),
+        (Call::Collect(1), Said::Refused(BookFault::UnknownTicket)),
+        (Call::Submit(16), Said::Ticket(65)),
+    ];
+    says!(rt; book; rows);
     Ok(())
 }
 
@@ -41,23 +52,23 @@ fn the_journal_fills(rt: HostRuntime) -> Result<(), Fail> {
         given: 0,
     };
     let mut book = Book::open(rt.alloc(), &limits)?;
-    assert_eq!(rt; book.submit(read(16)), Ok(Ticket(1)));
-    assert_eq!(rt; book.submit(read(16)), Err(BookFault::JournalFull));
-    assert_eq!(rt; book.archive().err(), Some(BookFault::Outstanding));
-    assert_eq!(rt; book.take(), Some((Ticket(1), read(16))));
-    book.post(Outcome::Done(Answer::Written));
-    assert_eq!(rt; book.collect(Ticket(1)), Ok(Outcome::Done(Answer::Written)));
-    assert_eq!(rt; book.submit(read(16)), Err(BookFault::JournalFull));
-    assert_eq!(rt;
-        book.archive()?.as_slice(),
-        [
-            Entry::Submitted(Ticket(1), read(16)),
-            Entry::Taken(Ticket(1)),
-            Entry::Answered(Ticket(1), Outcome::Done(Answer::Written)),
-            Entry::Collected(Ticket(1)),
-        ]
-        .as_slice()
-    );
+    let rows = [
+        (Call::Submit(16), Said::Ticket(1)),
+        (Call::Submit(16), Said::Refused(BookFault::JournalFull)),
+        (Call::Archive, Said::Refused(BookFault::Outstanding)),
+        (Call::Take, taken(1, 16)),
+        (Call::Post(1, Ending::Written), Said::Nothing),
+        (Call::Collect(1), ended(Ending::Written)),
+        (Call::Submit(16), Said::Refused(BookFault::JournalFull)),
+    ];
+    says!(rt; book; rows);
+    let entries = [
+        Entry::Submitted(Ticket(1), read(16)),
+        Entry::Taken(Ticket(1)),
+        Entry::Answered(Ticket(1), Outcome::Done(Answer::Written)),
+        Entry::Collected(Ticket(1)),
+    ];
+    assert_eq!(rt; book.archive()?.as_slice(), entries.as_slice());
     assert_eq!(rt; book.journal().len(), 0);
     assert_eq!(rt; book.submit(read(16)), Ok(Ticket(2)));
     Ok(())
@@ -66,94 +77,100 @@ fn the_journal_fills(rt: HostRuntime) -> Result<(), Fail> {
 #[test]
 fn a_waiting_request_is_withdrawn(rt: HostRuntime) -> Result<(), Fail> {
     let mut book = Book::open(rt.alloc(), &LIMITS)?;
-    assert_eq!(rt; book.submit(read(16)), Ok(Ticket(1)));
-    assert_eq!(rt; book.submit(read(16)), Ok(Ticket(2)));
-    assert_eq!(rt; book.withdraw(Ticket(2)), Ok(()));
-    assert_eq!(rt; book.withdraw(Ticket(2)), Err(BookFault::TakenAlready));
-    assert_eq!(rt; book.collect(Ticket(2)), Ok(Outcome::Withdrawn));
-    assert_eq!(rt; book.collect(Ticket(2)), Err(BookFault::UnknownTicket));
-    assert_eq!(rt; book.take(), Some((Ticket(1), read(16))));
-    assert_eq!(rt; book.withdraw(Ticket(1)), Err(BookFault::TakenAlready));
+    let rows = [
+        (Call::Submit(16), Said::Ticket(1)),
+        (Call::Submit(16), Said::Ticket(2)),
+        (Call::Withdraw(2), Said::Nothing),
+        (Call::Withdraw(2), Said::Refused(BookFault::TakenAlready)),
+        (Call::Collect(2), Said::Ended(Outcome::Withdrawn)),
+        (Call::Collect(2), Said::Refused(BookFault::UnknownTicket)),
+        (Call::Take, taken(1, 16)),
+        (Call::Withdraw(1), Said::Refused(BookFault::TakenAlready)),
+    ];
+    says!(rt; book; rows);
     Ok(())
 }
 
 #[test]
 fn a_waiting_request_is_denied(rt: HostRuntime) -> Result<(), Fail> {
     let mut book = Book::open(rt.alloc(), &LIMITS)?;
-    assert_eq!(rt; book.deny(), None);
-    assert_eq!(rt; book.submit(read(16)), Ok(Ticket(1)));
-    assert_eq!(rt; book.submit(read(17)), Ok(Ticket(2)));
-    assert_eq!(rt; book.deny(), Some(Ticket(1)));
-    assert_eq!(rt; book.withdraw(Ticket(1)), Err(BookFault::TakenAlready));
-    assert_eq!(rt; book.take(), Some((Ticket(2), read(17))));
-    assert_eq!(rt; book.deny(), None);
-    assert_eq!(rt; book.collect(Ticket(1)), Ok(Outcome::NoIsdu));
-    assert_eq!(rt; book.collect(Ticket(1)), Err(BookFault::UnknownTicket));
-    assert_eq!(rt;
-        book.journal(),
-        [
-            Entry::Submitted(Ticket(1), read(16)),
-            Entry::Submitted(Ticket(2), read(17)),
-            Entry::Answered(Ticket(1), Outcome::NoIsdu),
-            Entry::Taken(Ticket(2)),
-            Entry::Collected(Ticket(1)),
-        ]
-        .as_slice()
-    );
+    let rows = [
+        (Call::Deny, Said::Nothing),
+        (Call::Submit(16), Said::Ticket(1)),
+        (Call::Submit(17), Said::Ticket(2)),
+        (Call::Deny, Said::Ticket(1)),
+        (Call::Withdraw(1), Said::Refused(BookFault::TakenAlready)),
+        (Call::Take, taken(2, 17)),
+        (Call::Deny, Said::Nothing),
+        (Call::Collect(1), Said::Ended(Outcome::NoIsdu)),
+        (Call::Collect(1), Said::Refused(BookFault::UnknownTicket)),
+    ];
+    says!(rt; book; rows);
+    let entries = [
+        Entry::Submitted(Ticket(1), read(16)),
+        Entry::Submitted(Ticket(2), read(17)),
+        Entry::Answered(Ticket(1), Outcome::NoIsdu),
+        Entry::Taken(Ticket(2)),
+        Entry::Collected(Ticket(1)),
+    ];
+    assert_eq!(rt; book.journal(), entries.as_slice());
     Ok(())
 }
 
 #[test]
 fn urgent_requests_are_taken_first(rt: HostRuntime) -> Result<(), Fail> {
     let mut book = Book::open(rt.alloc(), &LIMITS)?;
-    assert_eq!(rt; book.submit(read(16)), Ok(Ticket(1)));
-    assert_eq!(rt; book.submit(read(17)), Ok(Ticket(2)));
-    assert_eq!(rt; book.submit_urgent(read(18)), Ok(Ticket(3)));
-    assert_eq!(rt; book.submit_urgent(read(19)), Ok(Ticket(4)));
-    assert_eq!(rt; book.in_flight(Ticket(3)), Err(BookFault::NotInFlight));
-    assert_eq!(rt; book.withdraw(Ticket(4)), Ok(()));
-    assert_eq!(rt; book.take(), Some((Ticket(3), read(18))));
-    assert_eq!(rt; book.in_flight(Ticket(3)), Ok(()));
-    assert_eq!(rt; book.withdraw(Ticket(3)), Err(BookFault::TakenAlready));
-    assert_eq!(rt; book.submit_urgent(read(20)), Ok(Ticket(5)));
-    assert_eq!(rt; book.take(), None);
-    book.post(Outcome::Unknown(Cause::Cancelled));
-    assert_eq!(rt; book.in_flight(Ticket(3)), Err(BookFault::NotInFlight));
-    assert_eq!(rt; book.in_flight(Ticket(6)), Err(BookFault::UnknownTicket));
+    let rows = [
+        (Call::Submit(16), Said::Ticket(1)),
+        (Call::Submit(17), Said::Ticket(2)),
+        (Call::Urgent(18), Said::Ticket(3)),
+        (Call::Urgent(19), Said::Ticket(4)),
+        (Call::InFlight(3), Said::Refused(BookFault::NotInFlight)),
+        (Call::Withdraw(4), Said::Nothing),
+        (Call::Take, taken(3, 18)),
+        (Call::InFlight(3), Said::Nothing),
+        (Call::Withdraw(3), Said::Refused(BookFault::TakenAlready)),
+        (Call::Urgent(20), Said::Ticket(5)),
+        (Call::Take, Said::Nothing),
+        (Call::Post(3, Ending::Cancelled), Said::Nothing),
+        (Call::InFlight(3), Said::Refused(BookFault::NotInFlight)),
+        (Call::InFlight(6), Said::Refused(BookFault::UnknownTicket)),
+        (Call::Take, taken(5, 20)),
+        (Call::Post(5, Ending::Written), Said::Nothing),
+        (Call::Take, taken(1, 16)),
+    ];
+    says!(rt; book; rows);
     assert_eq!(rt; BookFault::NotInFlight.code(), 36);
-    assert_eq!(rt; book.take(), Some((Ticket(5), read(20))));
-    book.post(Outcome::Done(Answer::Written));
-    assert_eq!(rt; book.take(), Some((Ticket(1), read(16))));
     Ok(())
 }
 
 #[test]
 fn an_urgent_request_is_denied_first(rt: HostRuntime) -> Result<(), Fail> {
     let mut book = Book::open(rt.alloc(), &LIMITS)?;
-    assert_eq!(rt; book.submit(read(16)), Ok(Ticket(1)));
-    assert_eq!(rt; book.submit_urgent(read(17)), Ok(Ticket(2)));
-    assert_eq!(rt; book.submit_urgent(read(18)), Ok(Ticket(3)));
-    assert_eq!(rt; book.deny(), Some(Ticket(2)));
-    assert_eq!(rt; book.in_flight(Ticket(2)), Err(BookFault::NotInFlight));
-    assert_eq!(rt; book.take(), Some((Ticket(3), read(18))));
-    assert_eq!(rt; book.deny(), None);
-    book.post(Outcome::Done(Answer::Written));
-    assert_eq!(rt; book.deny(), Some(Ticket(1)));
-    assert_eq!(rt; book.collect(Ticket(2)), Ok(Outcome::NoIsdu));
-    assert_eq!(rt;
-        book.journal(),
-        [
-            Entry::Submitted(Ticket(1), read(16)),
-            Entry::Urgent(Ticket(2), read(17)),
-            Entry::Urgent(Ticket(3), read(18)),
-            Entry::Answered(Ticket(2), Outcome::NoIsdu),
-            Entry::Taken(Ticket(3)),
-            Entry::Answered(Ticket(3), Outcome::Done(Answer::Written)),
-            Entry::Answered(Ticket(1), Outcome::NoIsdu),
-            Entry::Collected(Ticket(2)),
-        ]
-        .as_slice()
-    );
+    let rows = [
+        (Call::Submit(16), Said::Ticket(1)),
+        (Call::Urgent(17), Said::Ticket(2)),
+        (Call::Urgent(18), Said::Ticket(3)),
+        (Call::Deny, Said::Ticket(2)),
+        (Call::InFlight(2), Said::Refused(BookFault::NotInFlight)),
+        (Call::Take, taken(3, 18)),
+        (Call::Deny, Said::Nothing),
+        (Call::Post(3, Ending::Written), Said::Nothing),
+        (Call::Deny, Said::Ticket(1)),
+        (Call::Collect(2), Said::Ended(Outcome::NoIsdu)),
+    ];
+    says!(rt; book; rows);
+    let entries = [
+        Entry::Submitted(Ticket(1), read(16)),
+        Entry::Urgent(Ticket(2), read(17)),
+        Entry::Urgent(Ticket(3), read(18)),
+        Entry::Answered(Ticket(2), Outcome::NoIsdu),
+        Entry::Taken(Ticket(3)),
+        Entry::Answered(Ticket(3), Outcome::Done(Answer::Written)),
+        Entry::Answered(Ticket(1), Outcome::NoIsdu),
+        Entry::Collected(Ticket(2)),
+    ];
+    assert_eq!(rt; book.journal(), entries.as_slice());
     Ok(())
 }
 
