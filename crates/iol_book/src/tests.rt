@@ -44,6 +44,14 @@ fn sixty_four_are_outstanding(rt: HostRuntime) -> Result<(), Fail> {
     Ok(())
 }
 
+/// Whether an archive hands out just these entries, and leaves none.
+fn archives(book: &mut Book<Global>, expected: &[Entry]) -> bool {
+    match book.archive() {
+        Ok(entries) => entries.as_slice() == expected && book.journal().is_empty(),
+        Err(_) => false,
+    }
+}
+
 #[test]
 fn the_journal_fills(rt: HostRuntime) -> Result<(), Fail> {
     let limits = Limits {
@@ -68,9 +76,8 @@ fn the_journal_fills(rt: HostRuntime) -> Result<(), Fail> {
         Entry::Answered(Ticket(1), Outcome::Done(Answer::Written)),
         Entry::Collected(Ticket(1)),
     ];
-    assert_eq!(rt; book.archive()?.as_slice(), entries.as_slice());
-    assert_eq!(rt; book.journal().len(), 0);
-    assert_eq!(rt; book.submit(read(16)), Ok(Ticket(2)));
+    assert!(rt; archives(&mut book, entries.as_slice()));
+    says!(rt; book; [(Call::Submit(16), Said::Ticket(2))]);
     Ok(())
 }
 
@@ -213,9 +220,13 @@ fn tickets_end(rt: HostRuntime) -> Result<(), Fail> {
     let mut book = Book::open(rt.alloc(), &limits)?;
     assert_eq!(rt; book.submit(read(16)), Err(BookFault::TicketsSpent));
     assert_eq!(rt; BookFault::TicketsSpent.code(), 23);
+    Ok(())
+}
+
+#[test]
+fn laws_speak_of_each_journal() {
     takings_of_calls();
     records_fit();
-    Ok(())
 }
 
 #[derive(Clone, Copy, Drop)]
