@@ -90,20 +90,42 @@ fn a_wire_that_is_given_back_serves_another_port(rt: HostRuntime) -> Result<(), 
     is_read(&rt, &mut port)
 }
 
+/// What changes on the wire: its device's input, or what becomes of a call.
+#[derive(Clone, Copy)]
+enum Change {
+    Input([u8; 2]),
+    NoInput,
+    Call(Fate),
+}
+
+impl Change {
+    fn step(self) -> Result<Step, Fail> {
+        Ok(match self {
+            Change::Input(octets) => Step::Input(Image::new(&octets)?),
+            Change::NoInput => Step::NoInput,
+            Change::Call(fate) => Step::Fate(fate),
+        })
+    }
+}
+
 /// Input 12 34 for 17 calls of the wire, none for one, 56 78 from then on; the last three replies are lost.
+const CHANGES: [(u32, Change); 8] = [
+    (1, Change::Input([0x12, 0x34])),
+    (16, Change::Call(Fate::Clean)),
+    (1, Change::Call(Fate::BackLost)),
+    (1, Change::NoInput),
+    (1, Change::Call(Fate::Clean)),
+    (1, Change::Input([0x56, 0x78])),
+    (1, Change::Call(Fate::Clean)),
+    (3, Change::Call(Fate::OutLost)),
+];
+
 fn changing_input(alloc: Global) -> Result<Vec<Step>, Fail> {
     let mut steps = Vec::new(alloc);
-    steps.push(Step::Input(Image::new(&[0x12, 0x34])?))?;
-    for _ in 0..16 {
-        steps.push(Step::Fate(Fate::Clean))?;
-    }
-    steps.push(Step::Fate(Fate::BackLost))?;
-    steps.push(Step::NoInput)?;
-    steps.push(Step::Fate(Fate::Clean))?;
-    steps.push(Step::Input(Image::new(&[0x56, 0x78])?))?;
-    steps.push(Step::Fate(Fate::Clean))?;
-    for _ in 0..3 {
-        steps.push(Step::Fate(Fate::OutLost))?;
+    for (count, change) in CHANGES {
+        for _ in 0..count {
+            steps.push(change.step()?)?;
+        }
     }
     Ok(steps)
 }
