@@ -2,6 +2,8 @@ ghost use Rattle.std.specs.Prelude.{IfOk};
 ghost use Rattle.iol_mseq.specs.Master.{HasMasterParts};
 ghost use Rattle.iol_mseq.specs.Shape.{startup_shape};
 
+mod named;
+
 use super::*;
 use iol_device::{App, Device, Kept};
 use iol_event::Event;
@@ -10,8 +12,10 @@ use iol_isdu::{Answer, Octets, Place, Request};
 use iol_link::{Attempt, Handler, Rate, Wire};
 use iol_mseq::{Layout, MasterMsg, Message, MseqFault, Part, Reply, read_master};
 use iol_page::Page;
+use named::{Asked, Replied};
 use scarce::{Refusal, Scarce};
 use std::alloc::{Allocator, Global};
+use std::ops::Range;
 use std::test::Fail;
 
 /// Type 1 with 8 octets of on-request data, no process data.
@@ -37,59 +41,52 @@ fn params() -> Result<Params, SimFault> {
     Ok(params)
 }
 
+/// Requests, one after another, and what is answered.
+const ANSWERED: [(Asked, Replied); 11] = [
+    (Asked::Read(18, 0), Replied::Refused(0x11)),
+    (Asked::Read(17, 0), Replied::Refused(0x12)),
+    (Asked::Read(16, 0), Replied::Read(&[0x41, 0x42])),
+    (Asked::Write(18, 0, &[1]), Replied::Refused(0x11)),
+    (Asked::Write(16, 1, &[1]), Replied::Refused(0x12)),
+    (Asked::Write(16, 0, &[1]), Replied::Refused(0x23)),
+    (Asked::Write(17, 1, &[1, 2, 3]), Replied::Refused(0x33)),
+    (Asked::Write(17, 1, &[1]), Replied::Refused(0x34)),
+    (Asked::Read(17, 1), Replied::Read(&[0x10, 0x20])),
+    (Asked::Write(17, 1, &[1, 2]), Replied::Written),
+    (Asked::Read(17, 1), Replied::Read(&[1, 2])),
+];
+
 #[test]
 fn params_answer_the_first_that_holds(rt: HostRuntime) -> Result<(), Fail> {
     let mut params = params()?;
-    let read = |index, sub| Request::Read(Place { index, sub });
-    let write = |index, sub, value: &[u8]| Request::write(Place { index, sub }, value);
-    assert_eq!(rt; params.carry_out(&read(18, 0)), Answer::Refused(0x80, 0x11));
-    assert_eq!(rt; params.carry_out(&read(17, 0)), Answer::Refused(0x80, 0x12));
-    assert_eq!(rt;
-        params.carry_out(&read(16, 0)),
-        Answer::Read(octets(&[0x41, 0x42])?)
-    );
-    assert_eq!(rt;
-        params.carry_out(&write(18, 0, &[1])?),
-        Answer::Refused(0x80, 0x11)
-    );
-    assert_eq!(rt;
-        params.carry_out(&write(16, 1, &[1])?),
-        Answer::Refused(0x80, 0x12)
-    );
-    assert_eq!(rt;
-        params.carry_out(&write(16, 0, &[1])?),
-        Answer::Refused(0x80, 0x23)
-    );
-    assert_eq!(rt;
-        params.carry_out(&write(17, 1, &[1, 2, 3])?),
-        Answer::Refused(0x80, 0x33)
-    );
-    assert_eq!(rt;
-        params.carry_out(&write(17, 1, &[1])?),
-        Answer::Refused(0x80, 0x34)
-    );
-    assert_eq!(rt;
-        params.carry_out(&read(17, 1)),
-        Answer::Read(octets(&[0x10, 0x20])?)
-    );
-    assert_eq!(rt; params.carry_out(&write(17, 1, &[1, 2])?), Answer::Written);
-    assert_eq!(rt;
-        params.carry_out(&read(17, 1)),
-        Answer::Read(octets(&[1, 2])?)
-    );
+    for (asked, replied) in ANSWERED {
+        let request = asked.request()?;
+        assert_eq!(rt; params.carry_out(&request), replied.answer()?);
+    }
+    Ok(())
+}
+
+/// Parameters without octets, at these indexes.
+fn add_each(params: &mut Params, indexes: Range<u16>) -> Result<(), SimFault> {
+    for index in indexes {
+        params.add(Place { index, sub: 0 }, true, &[])?;
+    }
     Ok(())
 }
 
 #[test]
 fn params_are_refused(rt: HostRuntime) -> Result<(), Fail> {
     let mut params = params()?;
-    assert_eq!(rt; params.add(PLACE, true, &[1]), Err(SimFault::BadParam));
     let long = Place { index: 16, sub: 1 };
-    assert_eq!(rt; params.add(long, true, &[0; 233]), Err(SimFault::BadParam));
-    assert_eq!(rt; params.add(long, true, &[0; 232]), Ok(()));
-    for index in 100..129 {
-        params.add(Place { index, sub: 0 }, true, &[])?;
+    let rows: [(Place, &[u8], Result<(), SimFault>); 3] = [
+        (PLACE, &[1], Err(SimFault::BadParam)),
+        (long, &[0; 233], Err(SimFault::BadParam)),
+        (long, &[0; 232], Ok(())),
+    ];
+    for (place, value, expected) in rows {
+        assert_eq!(rt; params.add(place, true, value), expected);
     }
+    add_each(&mut params, 100..129)?;
     let one_more = params.add(Place { index: 129, sub: 0 }, true, &[]);
     assert_eq!(rt; one_more, Err(SimFault::BadParam));
     assert_eq!(rt; SimFault::BadParam.code(), 35);
@@ -160,22 +157,34 @@ fn brings(sim: &mut Sim<Params>, sent: &[u8], replies: &[&[u8]]) -> bool {
     })
 }
 
+const TAKEN: &[u8] = &[0x2D];
+
+const BUSY: &[u8] = &[0x01, 0, 0, 0, 0, 0, 0, 0, 0x3C];
+
+const WRITTEN: &[u8] = &[0x52, 0x52, 0, 0, 0, 0, 0, 0, 0x2D];
+
+const VALUE: &[u8] = &[0xD4, 0x0A, 0x0B, 0xD5, 0, 0, 0, 0, 0x2D];
+
+/// The start-up, a write and a read: each message, and what comes back each time that it is sent.
+const WRITE_AND_READ: [(&[u8], &[&[u8]]); 6] = [
+    (&[0x20, 0x36, 0x9A], &[TAKEN]),
+    (&[0x20, 0x5E, 0x99, 0, 0, 0, 0, 0, 0, 0], &[TAKEN]),
+    (
+        &[0x70, 0x5D, 0x26, 0x11, 0x01, 0x0A, 0x0B, 0x37, 0, 0],
+        &[TAKEN, TAKEN],
+    ),
+    (&[0xF0, 0x75], &[BUSY, WRITTEN, WRITTEN]),
+    (&[0x70, 0x5D, 0xA4, 0x11, 0x01, 0xB4, 0, 0, 0, 0], &[TAKEN]),
+    (&[0xF0, 0x75], &[BUSY, VALUE]),
+];
+
 #[test]
 fn what_is_written_is_read_back(rt: HostRuntime) -> Result<(), Fail> {
     let mut sim = wired(rt.alloc(), &[])?;
-    let taken: &[u8] = &[0x2D];
-    let busy: &[u8] = &[0x01, 0, 0, 0, 0, 0, 0, 0, 0x3C];
-    let written: &[u8] = &[0x52, 0x52, 0, 0, 0, 0, 0, 0, 0x2D];
-    let value: &[u8] = &[0xD4, 0x0A, 0x0B, 0xD5, 0, 0, 0, 0, 0x2D];
     assert_eq!(rt; sim.wake(), Some(Rate::Com2));
-    assert!(rt; brings(&mut sim, &[0x20, 0x36, 0x9A], &[taken]));
-    assert!(rt; brings(&mut sim, &[0x20, 0x5E, 0x99, 0, 0, 0, 0, 0, 0, 0], &[taken]));
-    let write = [0x70, 0x5D, 0x26, 0x11, 0x01, 0x0A, 0x0B, 0x37, 0, 0];
-    assert!(rt; brings(&mut sim, &write, &[taken, taken]));
-    assert!(rt; brings(&mut sim, &[0xF0, 0x75], &[busy, written, written]));
-    let read = [0x70, 0x5D, 0xA4, 0x11, 0x01, 0xB4, 0, 0, 0, 0];
-    assert!(rt; brings(&mut sim, &read, &[taken]));
-    assert!(rt; brings(&mut sim, &[0xF0, 0x75], &[busy, value]));
+    for (sent, replies) in WRITE_AND_READ {
+        assert!(rt; brings(&mut sim, sent, replies));
+    }
     assert_eq!(rt; sim.device().carried().len(), 2);
     sim.app_follows_record();
     sim.record_is_answered_by_params();
@@ -209,30 +218,44 @@ fn silence_lasts_until_it_is_mended(rt: HostRuntime) -> Result<(), Fail> {
     Ok(())
 }
 
+/// What became of a wire for which memory was refused so: whether memory was refused, and the wire's answer to a wake, or
+/// why there is none and whether the device and the script came back as they were.
+#[derive(PartialEq, Debug, Drop)]
+enum Made {
+    Wire(bool, Option<Rate>),
+    Nothing(bool, SimFault, bool),
+}
+
+fn make(scarce: &Scarce<Global>, steps: &[Step], refusal: Refusal) -> Result<Made, Fail> {
+    scarce.order(Refusal::Never);
+    let device = opened(scarce)?;
+    let given = Vec::from_clones(scarce, steps)?;
+    let expected = params()?;
+    scarce.order(refusal);
+    let made = Sim::new(scarce, device, given);
+    let has_refused = scarce.has_refused();
+    Ok(match made {
+        Ok(mut sim) => Made::Wire(has_refused, sim.wake()),
+        Err((fault, device, back)) => {
+            let is_same = device.app() == &expected && back.as_slice() == steps;
+            Made::Nothing(has_refused, fault, is_same)
+        }
+    })
+}
+
 #[test]
 fn each_request_for_memory_is_refused(rt: HostRuntime) -> Result<(), Fail> {
     let scarce = Scarce::new(rt.alloc());
     let steps = [Step::Fate(Fate::Clean), Step::Input(Image::new(&[1])?)];
     for number in 0..64 {
         for refusal in [Refusal::From(number), Refusal::Only(number)] {
-            scarce.order(Refusal::Never);
-            let device = opened(&scarce)?;
-            let given = Vec::from_clones(&scarce, &steps)?;
-            scarce.order(refusal);
-            match Sim::new(&scarce, device, given) {
-                Ok(mut sim) => {
-                    assert!(rt; !scarce.has_refused());
-                    assert!(rt; number > 0);
-                    assert_eq!(rt; sim.wake(), Some(Rate::Com2));
-                    return Ok(());
-                }
-                Err((fault, device, back)) => {
-                    assert!(rt; scarce.has_refused());
-                    assert_eq!(rt; fault, SimFault::OutOfMemory);
-                    assert_eq!(rt; device.app(), &params()?);
-                    assert_eq!(rt; back.as_slice(), steps.as_slice());
-                }
+            let made = make(&scarce, &steps, refusal)?;
+            if matches!(made, Made::Wire(..)) {
+                assert_eq!(rt; made, Made::Wire(false, Some(Rate::Com2)));
+                assert!(rt; number > 0);
+                return Ok(());
             }
+            assert_eq!(rt; made, Made::Nothing(true, SimFault::OutOfMemory, true));
         }
     }
     Err(Fail::from(SimFault::OutOfMemory))
