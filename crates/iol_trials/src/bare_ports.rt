@@ -155,11 +155,7 @@ fn has_empty_journal(port: &mut Port<Bare, &Scarce>) -> bool {
     }
 }
 
-fn submit_under(
-    scarce: &Scarce,
-    urgency: Urgency,
-    refusal: Refusal,
-) -> Result<Submitted, Fail> {
+fn submit_under(scarce: &Scarce, urgency: Urgency, refusal: Refusal) -> Result<Submitted, Fail> {
     scarce.order(Refusal::Never);
     let mut port = opened_port(scarce)?;
     scarce.order(refusal);
