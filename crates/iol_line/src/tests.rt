@@ -1,18 +1,22 @@
 mod honest;
+mod named;
 mod store;
+mod told;
 
 use super::*;
-use crate::tests::store::{Fate, Store, opened_device};
 use iol_app::{Asked, Mode};
 use iol_book::{Limits, Outcome, Ticket};
 use iol_device::Device;
 use iol_isdu::{Answer, Cause, Octets, Place, Request};
-use iol_link::{Rate, Wire};
+use iol_link::Rate;
 use iol_mode::Why;
 use iol_mseq::Message;
 use iol_port::Port;
+use named::{Call, Said, reply_to};
 use std::alloc::Global;
 use std::test::Fail;
+use store::{Fate, Store, opened_device};
+use told::{Brought, LineCall, bring_both};
 
 const LIMITS: Limits = Limits {
     journal: 1_000,
@@ -69,26 +73,32 @@ fn fate_at(kind: u32, turn: u32) -> Fate {
     }
 }
 
+/// What the writes set the parameter to.
+const VALUE: [u8; 3] = [0x41, 0x42, 0x43];
+
 #[test]
 fn requests_are_done_over_losses_and_repeats(rt: HostRuntime) -> Result<(), Fail> {
     for kind in 0..6 {
         let mut device = opened_device(rt.alloc())?;
         let mut port = opened_port(rt.alloc())?;
-        let write = Request::write(PARAMETER, &[0x41, 0x42, 0x43])?;
-        assert_eq!(rt; port.submit(write), Ok(Ticket(1)));
-        assert_eq!(rt; port.submit(Request::read(PARAMETER)), Ok(Ticket(2)));
-        for turn_number in 0..150 {
-            turn(&mut port, &mut device, fate_at(kind, turn_number));
+        let value = Answer::Read(octets(&VALUE)?);
+        let rows = [
+            (Call::Write(VALUE), Said::Ticket(1)),
+            (Call::Read, Said::Ticket(2)),
+            (Call::Turns(kind, 150), Said::Nothing),
+            (Call::Mode, Said::Mode(Mode::Operate)),
+            (
+                Call::Collect(1),
+                Said::Ended(Outcome::Done(Answer::Written)),
+            ),
+            (Call::Collect(2), Said::Ended(Outcome::Done(value))),
+            // Each once.
+            (Call::Carried, Said::Count(2)),
+        ];
+        for (call, expected) in rows {
+            let said = reply_to(&mut port, &mut device, call);
+            assert_eq!(rt; said, expected, "on a line of kind {kind}");
         }
-        assert_eq!(rt; port.status().mode, Mode::Operate);
-        assert_eq!(rt; port.collect(Ticket(1)), Ok(Outcome::Done(Answer::Written)));
-        let answer = Answer::Read(octets(&[0x41, 0x42, 0x43])?);
-        assert_eq!(rt; port.collect(Ticket(2)), Ok(Outcome::Done(answer)));
-        assert_eq!(rt;
-            device.carried().len(),
-            2,
-            "each once, on a line of kind {kind}"
-        );
     }
     Ok(())
 }
@@ -121,57 +131,56 @@ fn a_request_on_a_line_that_falls_silent_is_cut_off(rt: HostRuntime) -> Result<(
     Ok(())
 }
 
-/// The answer has no right checksum, whatever its length: the message goes out again, twice, and then the link is lost.
-fn is_refused(rt: &impl std::process::Abort, port: &mut Port<Line>, came: &Message) {
-    let first = port.asks();
-    for _ in 0..3 {
-        assert_eq!(rt; port.asks(), first);
-        if let Asked::Exchange(sent) = port.asks() {
-            turn_answered(port, sent, came.clone().ok());
-        }
-    }
-    assert_eq!(rt; port.status().why, Some(Why::Lost));
-}
-
+/// An answer of zeros has no right checksum, whatever its length: the message goes out again, twice, and then the link is
+/// lost.
 #[test]
 fn replies_of_a_wrong_length_count_as_none(rt: HostRuntime) -> Result<(), Fail> {
     for length in [0usize, 1, 65, 66] {
-        let came = message(&[0; 66][..length])?;
         let mut device = opened_device(rt.alloc())?;
         let mut port = opened_port(rt.alloc())?;
-        turn(&mut port, &mut device, Fate::Clean);
-        assert_eq!(rt; port.status().mode, Mode::Startup);
-        is_refused(&rt, &mut port, &came);
-        for _ in 0..16 {
-            turn(&mut port, &mut device, Fate::Clean);
+        let rows = [
+            (Call::Turns(0, 1), Said::Nothing),
+            (Call::Mode, Said::Mode(Mode::Startup)),
+            (Call::Zeros(length), Said::Asked(true, Some(Why::Lost))),
+            (Call::Turns(0, 16), Said::Nothing),
+            (Call::Mode, Said::Mode(Mode::Operate)),
+            (Call::Zeros(length), Said::Asked(true, Some(Why::Lost))),
+        ];
+        for (call, expected) in rows {
+            assert_eq!(rt; reply_to(&mut port, &mut device, call), expected);
         }
-        assert_eq!(rt; port.status().mode, Mode::Operate);
-        is_refused(&rt, &mut port, &came);
     }
     Ok(())
 }
 
+const SENT: [u8; 2] = [0xA2, 0x00];
+
+fn told_of_an_exchange() -> Result<Line, Fail> {
+    Ok(Line::answered(message(&SENT)?, Some(message(&[0x2D])?)))
+}
+
+fn told_of_a_wake() -> Line {
+    Line::woken(Some(Rate::Com3))
+}
+
 #[test]
 fn what_was_told_is_given_once_and_to_its_call_alone(rt: HostRuntime) -> Result<(), Fail> {
-    let sent = [0xA2u8, 0x00];
-    let mut line = Line::answered(message(&sent)?, Some(message(&[0x2D])?));
-    assert_eq!(rt; line.exchange(&sent), Some(message(&[0x2D])?));
-    assert_eq!(rt; line.exchange(&sent), None);
-
-    let mut line = Line::answered(message(&sent)?, Some(message(&[0x2D])?));
-    assert_eq!(rt; line.exchange(&[0xA3, 0x00]), None);
-    assert_eq!(rt; line.exchange(&sent), None);
-
-    let mut line = Line::answered(message(&sent)?, Some(message(&[0x2D])?));
-    assert_eq!(rt; line.wake(), None);
-    assert_eq!(rt; line.exchange(&sent), None);
-
-    let mut line = Line::woken(Some(Rate::Com3));
-    assert_eq!(rt; line.exchange(&sent), None);
-    assert_eq!(rt; line.wake(), None);
-
-    let mut line = Line::woken(Some(Rate::Com3));
-    assert_eq!(rt; line.wake(), Some(Rate::Com3));
-    assert_eq!(rt; line.wake(), None);
+    let wake = LineCall::Wake;
+    let same = LineCall::Exchange(SENT);
+    let other = LineCall::Exchange([0xA3, 0x00]);
+    let no_rate = || Brought::Rate(None);
+    let nothing = || Brought::Octets(None);
+    let reply = Brought::Octets(Some(message(&[0x2D])?));
+    let rate = Brought::Rate(Some(Rate::Com3));
+    let rows = [
+        (told_of_an_exchange()?, same, same, [reply, nothing()]),
+        (told_of_an_exchange()?, other, same, [nothing(), nothing()]),
+        (told_of_an_exchange()?, wake, same, [no_rate(), nothing()]),
+        (told_of_a_wake(), same, wake, [nothing(), no_rate()]),
+        (told_of_a_wake(), wake, wake, [rate, no_rate()]),
+    ];
+    for (line, first, second, expected) in rows {
+        assert_eq!(rt; bring_both(line, first, second), expected);
+    }
     Ok(())
 }

@@ -1,6 +1,8 @@
 //! A device with one parameter, and what becomes of an exchange with it.
-ghost use Rattle.std.specs.Prelude.{⊤};
+ghost use Rattle.std.specs.Prelude.{true, false, ⊤};
+ghost use Rattle.iol_isdu.specs.Answers.{AnswersKind};
 
+use crate::tests::PARAMETER;
 use iol_device::{App, Device};
 use iol_isdu::{Answer, Octets, Place, Request};
 use iol_mseq::Message;
@@ -17,21 +19,43 @@ pub(crate) struct Store {
     octets: Octets,
 }
 
+impl Store {
+    fn read(&self, place: Place) -> Answer
+        ensures { AnswersKind true result }
+    {
+        match place {
+            PARAMETER => Answer::Read(copy_of(&self.octets)),
+            // Index not available.
+            _ => Answer::Refused(0x80, 0x11),
+        }
+    }
+
+    fn write(&mut self, place: Place, octets: &Octets) -> Answer
+        ensures { AnswersKind false result }
+    {
+        match place {
+            PARAMETER => {
+                self.octets = copy_of(octets);
+                Answer::Written
+            }
+            // Access denied.
+            _ => Answer::Refused(0x80, 0x23),
+        }
+    }
+}
+
+/// It takes no memory, since the octets lie in place.
+fn copy_of(octets: &Octets) -> Octets {
+    octets.clone().unwrap()
+}
+
 impl App for Store {
     ghost carry_out_gives = { λ before request answer after. ⊤ };
 
     fn carry_out(&mut self, request: &Request) -> Answer {
         match request {
-            Request::Read(Place { index: 16, sub: 0 }) => {
-                Answer::Read(self.octets.clone().unwrap())
-            }
-            Request::Write(Place { index: 16, sub: 0 }, octets) => {
-                self.octets = octets.clone().unwrap();
-                Answer::Written
-            }
-            // Index not available; access denied.
-            Request::Read(_) => Answer::Refused(0x80, 0x11),
-            Request::Write(_, _) => Answer::Refused(0x80, 0x23),
+            Request::Read(place) => self.read(*place),
+            Request::Write(place, octets) => self.write(*place, octets),
         }
     }
 }
