@@ -7,12 +7,13 @@ use Rattle.iol_mseq.specs.declared.master.MasterMsg.{MasterMsg}
 use Rattle.iol_mseq.specs.declared.reply.Reply.{Reply}
 use Rattle.iol_far.specs.Far.{Far}
 use Rattle.iol_link.specs.declared.wire.Rate.{Rate}
-use Rattle.iol_mode.specs.declared.states.Outcome.{Outcome}
+use Rattle.iol_mode.specs.States.{Outcome}
 use Rattle.iol_steps.specs.declared.said.Said.{Said}
 use Rattle.iol_app.specs.declared.asked.Asked.{Asked}
 use Rattle.iol_app.specs.declared.asked.Asked.TheVariants.{Exchange}
-use Rattle.iol_app.specs.declared.station.AnyLink.{AnyLink}
-use Rattle.iol_app.specs.declared.station.AnyLink.TheVariants.{Down as InDown, Startup as InStartup, Preoperate as InPreoperate, Operate as InOperate}
+use Rattle.iol_mode.specs.Kept.{over}
+use Rattle.iol_mode.specs.declared.states.State.{State}
+use Rattle.iol_mode.specs.declared.states.State.TheVariants.{Down as AtDown, Startup as AtStartup, Preoperate as AtPreoperate, Operate as AtOperate}
 use Rattle.iol_app.specs.State.{SessionState}
 use Rattle.iol_app.specs.StationState.{StationState, LinkFits, IsTurn, IsLinkTurn, IsExchange}
 use Rattle.iol_app.specs.Asking.{asked_of, asked_in}
@@ -31,10 +32,10 @@ module _ {W : Type 0} (honest : W → Bool) (far : W → Far) (silence : W → �
     both = record { honesty = x.both.honesty; stands = x.both.stands; met = x.both.met; lost = x.both.lost; fits = x.both.fits };
   }
 
-  link_asked : (link : AnyLink W) (s : SessionState) (room : Bool) (said : Said) (new : StationState W) → LinkFits link s
-      → IsLinkTurn honest far silence wakes gives link s room said new
-      → IsLinkTurn honest far silence (AskedWakes wakes (asked_in link s room)) (AskedGives gives (asked_in link s room)) link s room said new
-  link_asked (InDown link) s room said new fits t = record {
+  link_asked : (wire : W) (state : State) (s : SessionState) (room : Bool) (said : Said) (new : StationState W) → LinkFits (over wire state) s
+      → IsLinkTurn honest far silence wakes gives (over wire state) s room said new
+      → IsLinkTurn honest far silence (AskedWakes wakes (asked_in state s room)) (AskedGives gives (asked_in state s room)) (over wire state) s room said new
+  link_asked wire (AtDown state) s room said new fits t = record {
     answer = t.answer;
     called = (refl, t.called);
     passes = t.passes;
@@ -43,18 +44,18 @@ module _ {W : Type 0} (honest : W → Bool) (far : W → Far) (silence : W → �
     stands = t.stands;
     settled = t.settled;
   }
-  link_asked (InStartup link) s room said new fits t = record {
+  link_asked wire (AtStartup state) s room said new fits t = record {
     exchange = exchange_asked _ _ _ _ _ _ _ _ refl t.exchange;
     fault = t.fault;
   }
-  link_asked (InPreoperate link) s room said new fits t = exchange_asked _ _ _ _ _ _ _ _ refl t
-  link_asked (InOperate link) s room said new fits t = record {
+  link_asked wire (AtPreoperate state) s room said new fits t = exchange_asked _ _ _ _ _ _ _ _ refl t
+  link_asked wire (AtOperate state) s room said new fits t = record {
     message = t.message;
     is_for = t.is_for;
     parts = t.parts;
     carries = t.carries;
     exchange = exchange_asked _ _ _ _ _ _ _ _
-        (ap (λ (octets : List ℕ). Exchange (record { items = octets })) (sym (sent_is link.state.layouts.run link.state.out t.message s room fits.out_for t.is_for t.carries)))
+        (ap (λ (octets : List ℕ). Exchange (record { items = octets })) (sym (sent_is state.layouts.run state.out t.message s room fits.out_for t.is_for t.carries)))
         t.exchange;
     fits = t.fits;
     stood = t.stood;
@@ -64,4 +65,4 @@ module _ {W : Type 0} (honest : W → Bool) (far : W → Far) (silence : W → �
 
   pub turn_asked : (old : StationState W) (room : Bool) (said : Said) (new : StationState W) → LinkFits old.link old.session → IsTurn honest far silence wakes gives room old said new
       → IsTurn honest far silence (AskedWakes wakes (asked_of old room)) (AskedGives gives (asked_of old room)) room old said new
-  turn_asked old room said new fits t = link_asked old.link old.session room said new fits t
+  turn_asked old room said new fits t = link_asked old.link.wire old.link.state old.session room said new fits t

@@ -14,8 +14,9 @@ use Rattle.iol_isdu.specs.declared.values.Request.{Request}
 use Rattle.iol_app.specs.declared.request.Current.{Current}
 use Rattle.iol_app.specs.declared.session.Exchange as purpose
 use Rattle.iol_app.specs.declared.session.Exchange.TheVariants.{TellOutput, DropOutput, Abort, ReadEvent, ConfirmEvents, Request as NextMessage}
-use Rattle.iol_app.specs.declared.station.AnyLink.{AnyLink}
-use Rattle.iol_app.specs.declared.station.AnyLink.TheVariants.{Down as InDown, Startup as InStartup, Preoperate as InPreoperate, Operate as InOperate}
+use Rattle.iol_mode.specs.Kept.{over}
+use Rattle.iol_mode.specs.declared.states.State.{State}
+use Rattle.iol_mode.specs.declared.states.State.TheVariants.{Down as AtDown, Startup as AtStartup, Preoperate as AtPreoperate, Operate as AtOperate}
 use Rattle.iol_app.specs.Outputs.{carried_by}
 use Rattle.iol_app.specs.Messages.{Head, head_of, head_for, data_for}
 use Rattle.iol_app.specs.State.{SessionState, od_size, begun_in, sent, sent_by, IsOutBy, IsOutFor}
@@ -73,17 +74,17 @@ module _ {W : Type 0} (honest : W → Bool) (far : W → Far) (silence : W → �
         → IsExchange honest far silence wakes gives wire layout message turned s said new → (answer : Option (ArrayVec ℕ)) × gives wire (master_text layout message) answer (wire_of new.link)
     called wire layout message turned s said new e = (e.answer, e.called)
 
-    call_by : (link : AnyLink W) (s : SessionState) (room : Bool) (said : Said) (new : StationState W) → LinkFits link s
-        → IsTurn honest far silence wakes gives room (record { link = link; session = s }) said new
-        → IsCall wakes gives (asked_of (record { link = link; session = s }) room) (wire_of link) (wire_of new.link)
-    call_by (InDown link) s room said new fits turn = (turn.answer, turn.called)
-    call_by (InStartup link) s room said new fits turn = called _ _ _ _ _ _ _ turn.exchange
-    call_by (InPreoperate link) s room said new fits turn = called _ _ _ _ _ _ _ turn
-    call_by (InOperate link) s room said new fits turn =
+    call_by : (wire : W) (state : State) (s : SessionState) (room : Bool) (said : Said) (new : StationState W) → LinkFits (over wire state) s
+        → IsTurn honest far silence wakes gives room (record { link = (over wire state); session = s }) said new
+        → IsCall wakes gives (asked_of (record { link = (over wire state); session = s }) room) (wire_of (over wire state)) (wire_of new.link)
+    call_by wire (AtDown state) s room said new fits turn = (turn.answer, turn.called)
+    call_by wire (AtStartup state) s room said new fits turn = called _ _ _ _ _ _ _ turn.exchange
+    call_by wire (AtPreoperate state) s room said new fits turn = called _ _ _ _ _ _ _ turn
+    call_by wire (AtOperate state) s room said new fits turn =
         subst (λ (t : List ℕ). (answer : Option (ArrayVec ℕ)) × gives link.wire t answer (wire_of new.link))
         (sent_is link.state.layouts.run link.state.out turn.message s room fits.out_for turn.is_for turn.carries)
         (called _ _ _ _ _ _ _ turn.exchange)
 
     pub turn_call : (old : StationState W) (room : Bool) (said : Said) (new : StationState W) → LinkFits old.link old.session → IsTurn honest far silence wakes gives room old said new
         → IsCall wakes gives (asked_of old room) (wire_of old.link) (wire_of new.link)
-    turn_call old room said new fits turn = call_by old.link old.session room said new fits turn
+    turn_call old room said new fits turn = call_by old.link.wire old.link.state old.session room said new fits turn

@@ -6,14 +6,15 @@ use Rattle.iol_isdu.specs.declared.values.Request.{Request}
 use Rattle.iol_event.specs.declared.event.Event.{Event}
 use Rattle.iol_far.specs.Far.{Far}
 use Rattle.iol_link.specs.declared.wire.Rate.{Rate}
-use Rattle.iol_mode.specs.declared.states.Outcome.{Outcome}
-use Rattle.iol_mode.specs.declared.states.Outcome.TheVariants.{Down as OutDown, Startup as OutStartup, Preoperate as OutPreoperate, Operate as OutOperate}
+use Rattle.iol_mode.specs.States.{Outcome}
+use Rattle.iol_mode.specs.States.{InDown as OutDown, InStartup as OutStartup, InPreoperate as OutPreoperate, InOperate as OutOperate}
 use Rattle.iol_steps.specs.declared.said.Said.{Said}
 use Rattle.iol_steps.specs.declared.said.Said.TheVariants.{Idle, Busy, Answered, Cut, Reported}
 use Rattle.iol_app.specs.declared.request.Current.{Current}
 use Rattle.iol_app.specs.declared.session.Exchange.{Exchange}
-use Rattle.iol_app.specs.declared.station.AnyLink.{AnyLink}
-use Rattle.iol_app.specs.declared.station.AnyLink.TheVariants.{Down as InDown, Startup as InStartup, Preoperate as InPreoperate, Operate as InOperate}
+use Rattle.iol_mode.specs.Kept.{over}
+use Rattle.iol_mode.specs.declared.states.State.{State}
+use Rattle.iol_mode.specs.declared.states.State.TheVariants.{Down as AtDown, Startup as AtStartup, Preoperate as AtPreoperate, Operate as AtOperate}
 use Rattle.iol_app.specs.EventReading.{list_read}
 use Rattle.iol_app.specs.Requests.{IsSaid, request_in, EndsRequest}
 use Rattle.iol_app.specs.Due.{due_of}
@@ -58,12 +59,12 @@ waked_current true s = refl
 waked_current false s = refl
 
 module _ {W : Type 0} (honest : W → Bool) (far : W → Far) (silence : W → ℕ) (wakes : W → Option Rate → W → Type 0) (gives : W → List ℕ → Option (ArrayVec ℕ) → W → Type 0) where
-  link_ends : (link : AnyLink W) (s : SessionState) (room : Bool) (said : Said) (new : StationState W) → IsLinkTurn honest far silence wakes gives link s room said new → EndsRequest said (request_in s.current)
-  link_ends (InDown link) s room said new turn = settled_ends (waked_session (is_some turn.answer) s) _ said s.current (waked_current (is_some turn.answer) s) turn.settled.said_is
-  link_ends (InStartup link) s room said new turn = settled_ends s _ said s.current refl turn.exchange.settled.said_is
-  link_ends (InPreoperate link) s room said new turn = settled_ends s _ said s.current refl turn.settled.said_is
-  link_ends (InOperate link) s room said new turn =
+  link_ends : (wire : W) (state : State) (s : SessionState) (room : Bool) (said : Said) (new : StationState W) → IsLinkTurn honest far silence wakes gives (over wire state) s room said new → EndsRequest said (request_in s.current)
+  link_ends wire (AtDown state) s room said new turn = settled_ends (waked_session (is_some turn.answer) s) _ said s.current (waked_current (is_some turn.answer) s) turn.settled.said_is
+  link_ends wire (AtStartup state) s room said new turn = settled_ends s _ said s.current refl turn.exchange.settled.said_is
+  link_ends wire (AtPreoperate state) s room said new turn = settled_ends s _ said s.current refl turn.settled.said_is
+  link_ends wire (AtOperate state) s room said new turn =
       settled_ends (sent (due_of s room) s) _ said s.current (sent_current (due_of s room) s) turn.exchange.settled.said_is
 
   pub turn_ends : (room : Bool) (old : StationState W) (said : Said) (new : StationState W) → IsTurn honest far silence wakes gives room old said new → EndsRequest said (request_in old.session.current)
-  turn_ends room old said new turn = link_ends old.link old.session room said new turn
+  turn_ends room old said new turn = link_ends old.link.wire old.link.state old.session room said new turn

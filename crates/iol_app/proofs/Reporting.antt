@@ -16,8 +16,8 @@ use Rattle.iol_link.specs.declared.handler.Attempt.TheVariants.{Got, Again, Lost
 use Rattle.iol_link.specs.declared.wire.Rate.{Rate}
 use Rattle.iol_link.specs.Attempts.{Sending}
 use Rattle.iol_page.specs.declared.page.Layouts.{Layouts}
-use Rattle.iol_mode.specs.declared.states.Outcome.{Outcome}
-use Rattle.iol_mode.specs.declared.states.Outcome.TheVariants.{Down as OutDown, Startup as OutStartup, Preoperate as OutPreoperate, Operate as OutOperate}
+use Rattle.iol_mode.specs.States.{Outcome}
+use Rattle.iol_mode.specs.States.{InDown as OutDown, InStartup as OutStartup, InPreoperate as OutPreoperate, InOperate as OutOperate}
 use Rattle.iol_mode.specs.Next.{told_by}
 use Rattle.iol_mode.specs.States.{waked, operate_by}
 use Rattle.iol_steps.specs.declared.said.Said.{Said}
@@ -28,8 +28,9 @@ use Rattle.iol_app.specs.declared.output.Output.{Output}
 use Rattle.iol_app.specs.declared.request.Current.{Current}
 use Rattle.iol_app.specs.declared.session.Exchange.{Exchange}
 use Rattle.iol_app.specs.declared.session.Exchange.TheVariants.{TellOutput, DropOutput, Abort, ReadEvent, ConfirmEvents, Request as NextMessage, Idle}
-use Rattle.iol_app.specs.declared.station.AnyLink.{AnyLink}
-use Rattle.iol_app.specs.declared.station.AnyLink.TheVariants.{Down as InDown, Startup as InStartup, Preoperate as InPreoperate, Operate as InOperate}
+use Rattle.iol_mode.specs.Kept.{over}
+use Rattle.iol_mode.specs.declared.states.State.{State}
+use Rattle.iol_mode.specs.declared.states.State.TheVariants.{Down as AtDown, Startup as AtStartup, Preoperate as AtPreoperate, Operate as AtOperate}
 use Rattle.iol_app.specs.EventReading.{reading_by, list_by, reading_after, list_after, read_on, list_read}
 use Rattle.iol_app.specs.Requests.{Outcome as RequestOutcome, GoesOn, HasText, replied, IsOutcomeSaid, IsSaidOf, IsSaid, Suits}
 use Rattle.iol_app.specs.Outputs.{carrying}
@@ -222,21 +223,21 @@ sent_reading room s sending_out layouts attempt said valid (Some exchange) is_ou
     subst (λ (t : SessionState). IsSettledSaid (operate_by sending_out layouts attempt) t said → ReadingAfter room (is_reading s) said (is_reading (settled_session (operate_by sending_out layouts attempt) t))) (sym here) after said_is
 
 module _ {W : Type 0} (honest : W → Bool) (far : W → Far) (silence : W → ℕ) (wakes : W → Option Rate → W → Type 0) (gives : W → List ℕ → Option (ArrayVec ℕ) → W → Type 0) where
-  link_reading : (link : AnyLink W) (session : SessionState) (room : Bool) (said : Said) (new : StationState W) → IsSession session → LinkFits link session
-      → IsLinkTurn honest far silence wakes gives link session room said new → ReadingAfter room (is_reading session) said (is_reading new.session)
-  link_reading (InDown link) session room said new valid fits turn =
+  link_reading : (wire : W) (state : State) (session : SessionState) (room : Bool) (said : Said) (new : StationState W) → IsSession session → LinkFits (over wire state) session
+      → IsLinkTurn honest far silence wakes gives (over wire state) session room said new → ReadingAfter room (is_reading session) said (is_reading new.session)
+  link_reading wire (AtDown state) session room said new valid fits turn =
       subst (λ (t : SessionState). ReadingAfter room (is_reading session) said (is_reading t)) (sym turn.settled.session)
       (woken_reading room session (is_some turn.answer) said fits turn.settled.said_is)
-  link_reading (InStartup link) session room said new valid fits turn =
+  link_reading wire (AtStartup state) session room said new valid fits turn =
       let settled = turn.exchange.settled in
       subst (λ (t : SessionState). ReadingAfter room (is_reading session) said (is_reading t)) (sym settled.session) (still_reading room session _ said fits.0 settled.said_is)
-  link_reading (InPreoperate link) session room said new valid fits turn =
+  link_reading wire (AtPreoperate state) session room said new valid fits turn =
       subst (λ (t : SessionState). ReadingAfter room (is_reading session) said (is_reading t)) (sym turn.settled.session) (still_reading room session _ said fits.0 turn.settled.said_is)
-  link_reading (InOperate link) session room said new valid fits turn =
+  link_reading wire (AtOperate state) session room said new valid fits turn =
       let settled = turn.exchange.settled in
       subst (λ (t : SessionState). ReadingAfter room (is_reading session) said (is_reading t)) (sym settled.session)
-      (sent_reading room session _ link.state.layouts _ said valid session.exchange refl settled.said_is)
+      (sent_reading room session _ state.layouts _ said valid session.exchange refl settled.said_is)
 
   pub turn_reading : (room : Bool) (old : StationState W) (said : Said) (new : StationState W) → IsSession old.session → LinkFits old.link old.session
       → IsTurn honest far silence wakes gives room old said new → ReadingAfter room (is_reading old.session) said (is_reading new.session)
-  turn_reading room old said new valid fits turn = link_reading old.link old.session room said new valid fits turn
+  turn_reading room old said new valid fits turn = link_reading old.link.wire old.link.state old.session room said new valid fits turn

@@ -2,78 +2,23 @@
 use Rattle.std.proofs.Common.{◌≡◌, ◌∙◌, sym, subst, ℕ, Bool}
 use Rattle.iol_far.specs.Far.{Far}
 use Rattle.iol_steps.specs.Station.{Station}
-use Rattle.iol_app.specs.declared.station.AnyLink.{AnyLink}
-use Rattle.iol_app.specs.declared.station.AnyLink.TheVariants.{Down as InDown, Startup as InStartup, Preoperate as InPreoperate, Operate as InOperate}
+use Rattle.iol_mode.specs.Next.{AnyLink}
 use Rattle.iol_app.specs.State.{SessionState}
 use Rattle.iol_app.specs.StationState.{StationState, wire_of}
-use Rattle.iol_app.specs.Seen.{IsSeen, StartupSeen, PreoperateSeen}
+use Rattle.iol_app.specs.Seen.{IsSeen, StateStart}
 use Rattle.iol_app.specs.Rewire.{rewired, RewireSteps}
 
 module _ {W : Type 0} (honest : W → Bool) (far : W → Far) (silence : W → ℕ) where
   seen_by : (wire : W) (link : AnyLink W) (session : SessionState) (s : Station) → honest wire ≡ honest (wire_of link) → far wire ≡ far (wire_of link) → silence wire ≡ silence (wire_of link)
       → IsSeen honest far silence (record { link = link; session = session }) s → IsSeen honest far silence (record { link = rewired wire link; session = session }) s
-  seen_by wire (InDown link) session s h f q seen = record {
+  seen_by wire link session s h f q seen = record {
     is_honest = seen.is_honest ∙ sym h;
     far_is = seen.far_is ∙ sym f;
     silence_is = seen.silence_is ∙ sym q;
     mode = seen.mode;
     why = seen.why;
     link = seen.link;
-    start = tt;
-    out = seen.out;
-    busy_limit = seen.busy_limit;
-    request = seen.request;
-    busy = seen.busy;
-    progress = seen.progress;
-    reading = seen.reading;
-    event_form = seen.event_form;
-    shown = seen.shown;
-    output_told = seen.output_told;
-  }
-  seen_by wire (InStartup link) session s h f q seen = record {
-    is_honest = seen.is_honest ∙ sym h;
-    far_is = seen.far_is ∙ sym f;
-    silence_is = seen.silence_is ∙ sym q;
-    mode = seen.mode;
-    why = seen.why;
-    link = seen.link;
-    start = subst (λ (x : ℕ). StartupSeen link.state x (far wire)) (sym q) (subst (λ (x : Far). StartupSeen link.state (silence link.wire) x) (sym f) seen.start);
-    out = seen.out;
-    busy_limit = seen.busy_limit;
-    request = seen.request;
-    busy = seen.busy;
-    progress = seen.progress;
-    reading = seen.reading;
-    event_form = seen.event_form;
-    shown = seen.shown;
-    output_told = seen.output_told;
-  }
-  seen_by wire (InPreoperate link) session s h f q seen = record {
-    is_honest = seen.is_honest ∙ sym h;
-    far_is = seen.far_is ∙ sym f;
-    silence_is = seen.silence_is ∙ sym q;
-    mode = seen.mode;
-    why = seen.why;
-    link = seen.link;
-    start = subst (λ (x : ℕ). PreoperateSeen link.state x (far wire)) (sym q) (subst (λ (x : Far). PreoperateSeen link.state (silence link.wire) x) (sym f) seen.start);
-    out = seen.out;
-    busy_limit = seen.busy_limit;
-    request = seen.request;
-    busy = seen.busy;
-    progress = seen.progress;
-    reading = seen.reading;
-    event_form = seen.event_form;
-    shown = seen.shown;
-    output_told = seen.output_told;
-  }
-  seen_by wire (InOperate link) session s h f q seen = record {
-    is_honest = seen.is_honest ∙ sym h;
-    far_is = seen.far_is ∙ sym f;
-    silence_is = seen.silence_is ∙ sym q;
-    mode = seen.mode;
-    why = seen.why;
-    link = seen.link;
-    start = tt;
+    start = subst (λ (x : ℕ). StateStart link.state x (far wire)) (sym q) (subst (λ (x : Far). StateStart link.state (silence link.wire) x) (sym f) seen.start);
     out = seen.out;
     busy_limit = seen.busy_limit;
     request = seen.request;

@@ -23,8 +23,8 @@ use Rattle.iol_link.specs.Attempts.{Sending, good_reply}
 use Rattle.iol_link.specs.Honest.{HonestExchange}
 use Rattle.iol_mode.specs.Kept.{Kept}
 use Rattle.iol_mode.specs.declared.states.Operate.{Operate}
-use Rattle.iol_mode.specs.declared.states.Outcome.{Outcome}
-use Rattle.iol_mode.specs.declared.states.Outcome.TheVariants.{Operate as OutOperate}
+use Rattle.iol_mode.specs.States.{Outcome}
+use Rattle.iol_mode.specs.States.{InOperate as OutOperate}
 use Rattle.iol_mode.specs.Next.{message_out}
 use Rattle.iol_mode.specs.States.{operate_by, operate_turned, sending_of}
 use Rattle.iol_mode.specs.Stands.{entering_link, operate_link, IsOperating, IsAccepted}
@@ -39,7 +39,7 @@ use Rattle.iol_app.specs.declared.output.Output.{Output}
 use Rattle.iol_app.specs.declared.request.Current.{Current}
 use Rattle.iol_app.specs.declared.session.Exchange.{Exchange}
 use Rattle.iol_app.specs.declared.session.Exchange.TheVariants.{TellOutput, DropOutput}
-use Rattle.iol_app.specs.declared.station.AnyLink.TheVariants.{Operate as InOperate}
+use Rattle.iol_mode.specs.Next.{in_operate as InOperate}
 use Rattle.iol_app.specs.Outputs.{carried_by, carrying, output_after}
 use Rattle.iol_app.specs.Requests.{request_in, Suits as SuitsCurrent}
 use Rattle.iol_app.specs.Due.{due_of}

@@ -30,7 +30,7 @@ use Rattle.iol_mode.specs.declared.states.Startup.{Startup}
 use Rattle.iol_mode.specs.declared.states.Told.{Told}
 use Rattle.iol_mode.specs.declared.states.Step.{Step}
 use Rattle.iol_mode.specs.declared.states.Step.TheVariants.{Read, Ident, Leave, Cycle, Enter}
-use Rattle.iol_mode.specs.declared.states.Outcome.{Outcome}
+use Rattle.iol_mode.specs.States.{Outcome}
 use Rattle.iol_mode.specs.Next.{told_by, FaultFits}
 use Rattle.iol_mode.specs.Why.{why_of as fault_why}
 use Rattle.iol_mode.specs.Messages.{unsent}
@@ -47,7 +47,7 @@ use Rattle.iol_steps.specs.Exchange.{IsStarted, missed, rising, downed, started,
 use Rattle.iol_steps.specs.Promises.{MissedGives, LostGives, StartedGives, Exchanges}
 use Rattle.iol_steps.specs.Turn.{TurnGives}
 use Rattle.iol_app.specs.declared.output.Output.{Output}
-use Rattle.iol_app.specs.declared.station.AnyLink.TheVariants.{Startup as InStartup}
+use Rattle.iol_mode.specs.Next.{in_startup as InStartup}
 use Rattle.iol_app.specs.declared.session.Exchange.{Exchange}
 use Rattle.iol_app.specs.declared.event_work.Reading.{Reading}
 use Rattle.iol_app.specs.State.{SessionState, IsSession, lost_said, told, quiet_said as session_quiet_said, heard, heard_by, entered, IsHeard, IsHeardBy}

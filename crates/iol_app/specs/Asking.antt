@@ -12,8 +12,8 @@ use Rattle.iol_mode.specs.Next.{message_out}
 use Rattle.iol_app.specs.declared.asked.Asked.{Asked}
 use Rattle.iol_app.specs.declared.asked.Asked.TheVariants.{Wake, Exchange}
 use Rattle.iol_app.specs.declared.session.Exchange as purpose
-use Rattle.iol_app.specs.declared.station.AnyLink.{AnyLink}
-use Rattle.iol_app.specs.declared.station.AnyLink.TheVariants.{Down as InDown, Startup as InStartup, Preoperate as InPreoperate, Operate as InOperate}
+use Rattle.iol_mode.specs.declared.states.State.{State}
+use Rattle.iol_mode.specs.declared.states.State.TheVariants.{Down as AtDown, Startup as AtStartup, Preoperate as AtPreoperate, Operate as AtOperate}
 use Rattle.iol_app.specs.Outputs.{carried_by}
 use Rattle.iol_app.specs.Messages.{Head, head_for, data_for}
 use Rattle.iol_app.specs.State.{SessionState, od_size, begun_in}
@@ -51,19 +51,19 @@ takes_requests s = unwrap_or s.isdu true
 abbrev pub beginning : Option Request → SessionState → Bool → SessionState
 beginning next s room = begin_where (is_ready s room && takes_requests s) next s
 
+abbrev pub asked_in : State → SessionState → Bool → Asked
+asked_in (AtDown state) s room = Wake
+asked_in (AtStartup state) s room = Exchange (record { items = master_text startup_shape state.sent.message })
+asked_in (AtPreoperate state) s room = Exchange (record { items = master_text state.pre state.sent.message })
+asked_in (AtOperate state) s room = Exchange (record { items = text_of state.layouts.run (message_out state.out) s room })
+
 module _ {W : Type 0} where
   abbrev pub prepared : Option Request → StationState W → Bool → StationState W
   prepared next s room = record s { session = begin_where (is_operating s.link && is_ready s.session room && takes_requests s.session) next s.session }
 
-  abbrev pub asked_in : AnyLink W → SessionState → Bool → Asked
-  asked_in (InDown link) s room = Wake
-  asked_in (InStartup link) s room = Exchange (record { items = master_text startup_shape link.state.sent.message })
-  asked_in (InPreoperate link) s room = Exchange (record { items = master_text link.state.pre link.state.sent.message })
-  asked_in (InOperate link) s room = Exchange (record { items = text_of link.state.layouts.run (message_out link.state.out) s room })
-
   -- the call that the next turn makes, where there is room for events or not
   abbrev pub asked_of : StationState W → Bool → Asked
-  asked_of s room = asked_in s.link s.session room
+  asked_of s room = asked_in s.link.state s.session room
 
   -- one call of the wire is the one that was asked
   module _ (wakes : W → Option Rate → W → Type 0) (gives : W → List ℕ → Option (ArrayVec ℕ) → W → Type 0) where

@@ -2,18 +2,14 @@
 use Rattle.std.specs.Prelude.{ℕ, Bool}
 use Rattle.iol_far.specs.Far.{Far}
 use Rattle.iol_steps.specs.Station.{Station}
-use Rattle.iol_app.specs.declared.station.AnyLink.{AnyLink}
-use Rattle.iol_app.specs.declared.station.AnyLink.TheVariants.{Down as InDown, Startup as InStartup, Preoperate as InPreoperate, Operate as InOperate}
+use Rattle.iol_mode.specs.Next.{AnyLink}
 use Rattle.iol_app.specs.StationState.{StationState}
 use Rattle.iol_app.specs.Seen.{IsSeen}
 
 module _ {W : Type 0} where
   -- the same link over this wire
   abbrev pub rewired : W → AnyLink W → AnyLink W
-  rewired wire (InDown link) = InDown (record link { wire = wire })
-  rewired wire (InStartup link) = InStartup (record link { wire = wire })
-  rewired wire (InPreoperate link) = InPreoperate (record link { wire = wire })
-  rewired wire (InOperate link) = InOperate (record link { wire = wire })
+  rewired wire link = record link { wire = wire }
 
   -- What is seen of a station stays
   module _ (honest : W → Bool) (far : W → Far) (silence : W → ℕ) where

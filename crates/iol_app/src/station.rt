@@ -2,9 +2,7 @@
 ghost use Rattle.std.specs.Prelude.{◌≡◌, None, Some, Bool, true, false, is_some, IsSome, IfSome, IsTrue, OnOk, OnErr, ◌&&◌, ◌≢◌};
 ghost use Rattle.std.specs.Result.{result_err};
 ghost use Rattle.std.specs.Option.{option_copied};
-ghost use Rattle.iol_mode.specs.Next.{wire_of as wire_in, outcome_of};
-ghost use Rattle.iol_mode.specs.Stands.{OutcomeStands};
-ghost use Rattle.iol_mode.specs.States.{waked};
+ghost use Rattle.iol_mode.specs.States.{waked, is_starting, outcome_with};
 ghost use Rattle.iol_app.specs.EventReading.{is_refused};
 ghost use Rattle.iol_app.specs.State.{opened, aborted_in, begun_in, wanting, output_refusal, left, IsSession, IsHearable};
 ghost use Rattle.iol_app.specs.Requests.{request_in, request_after, EndsRequest};
@@ -14,18 +12,17 @@ ghost use Rattle.iol_app.specs.Seen.{TurnSteps, NewSteps, BeginSteps, AbortSteps
 ghost use Rattle.iol_app.specs.Asking.{asked_of, prepared, IsCall};
 ghost use Rattle.iol_app.specs.AskedCalls.{AskedWakes, AskedGives};
 ghost use Rattle.iol_app.specs.Rewire.{rewired, RewireSteps};
-ghost use Rattle.iol_app.specs.StationState.{wire_of, mode_of, why_of, is_operating, is_starting, linked, started_up, waked_session, settled_session, reply_session, IsReplySaid, fallen, attempt_session, IsAttemptSaid, IsReplyHearable, LinkFits, NextFits, IsSettledSaid, IsTurn};
+ghost use Rattle.iol_app.specs.StationState.{wire_of, mode_of, why_of, is_operating, waked_session, settled_session, attempt_session, IsAttemptSaid, IsReplyHearable, LinkFits, NextFits, IsSettledSaid, IsTurn};
 
 use crate::asked::Asked;
 use crate::laws::station_laws;
 use crate::output::OutputFault;
 use crate::session::Session;
-use core::mem::replace_with;
 use iol_image::Image;
 use iol_isdu::{Cause, Request};
 use iol_link::{Attempt, Rate, Wire};
-use iol_mode::{Down, Link, Next, Operate, Preoperate, Startup, Why};
-use iol_mseq::{Reply, encode_master};
+use iol_mode::{AnyLink, Link, State, Why};
+use iol_mseq::encode_master;
 use iol_steps::{
     Mode, Said, begin_takes_the_request, cancel_marks_the_request, denial_changes_nothing,
     new_station_stands, restart_cuts_the_request, wanted_output_stands,
@@ -42,15 +39,6 @@ pub struct Status {
     pub event_form: bool,
 }
 
-/// The link in one of its modes.
-#[derive(Drop)]
-pub(crate) enum AnyLink<W: Wire> {
-    Down(Link<W, Down>),
-    Startup(Link<W, Startup>),
-    Preoperate(Link<W, Preoperate>),
-    Operate(Link<W, Operate>),
-}
-
 /// The master's end of one port: a link, and the session over it.
 ///
 /// A clause sees the link in its mode, and the session. Over an honest wire it also sees the station as a record of the
@@ -63,7 +51,7 @@ pub struct Station<W: Wire> {
 }
 
 impl<W: Wire> Model for Station<W> {
-    ghost use Rattle.iol_app.specs.StationState.{StationState, LinkFits};
+    ghost use Rattle.iol_app.specs.StationState.{wire_of, mode_of, why_of, is_operating, waked_session, settled_session, attempt_session, IsAttemptSaid, IsReplyHearable, LinkFits, NextFits, IsSettledSaid, IsTurn};
 
     ghost Value = { StationState W };
 
@@ -83,7 +71,7 @@ impl<W: Wire> Station<W> {
     {
         new_station_stands();
         Station {
-            link: AnyLink::Down(Link::new(wire)),
+            link: Link::open(wire),
             session: Session::new(busy),
         }
     }
@@ -92,25 +80,14 @@ impl<W: Wire> Station<W> {
     pub fn wire(&self) -> &W
         ensures { result.now ≡ wire_of self.now.link }
     {
-        match &self.link {
-            AnyLink::Down(link) => link.wire(),
-            AnyLink::Startup(link) => link.wire(),
-            AnyLink::Preoperate(link) => link.wire(),
-            AnyLink::Operate(link) => link.wire(),
-        }
+        self.link.wire()
     }
 
     /// The wire, given back.
     pub fn into_wire(self) -> W
         ensures { result ≡ wire_of self.link }
     {
-        let Station { link, session: _ } = self;
-        match link {
-            AnyLink::Down(link) => link.into_wire(),
-            AnyLink::Startup(link) => link.down().into_wire(),
-            AnyLink::Preoperate(link) => link.down().into_wire(),
-            AnyLink::Operate(link) => link.down().into_wire(),
-        }
+        self.link.close()
     }
 
     /// The mode, why the link is down, and whether a StatusCode was refused since the last start-up.
@@ -119,11 +96,11 @@ impl<W: Wire> Station<W> {
         ensures why { result.why ≡ why_of self.now.link }
         ensures event_form { result.event_form ≡ is_refused self.now.session.events.reading }
     {
-        let (mode, why) = match &self.link {
-            AnyLink::Down(link) => (Mode::Down, link.why()),
-            AnyLink::Startup(_) => (Mode::Startup, None),
-            AnyLink::Preoperate(_) => (Mode::Preoperate, None),
-            AnyLink::Operate(_) => (Mode::Operate, None),
+        let (mode, why) = match self.link.state() {
+            State::Down(down) => (Mode::Down, down.why),
+            State::Startup(_) => (Mode::Startup, None),
+            State::Preoperate(_) => (Mode::Preoperate, None),
+            State::Operate(_) => (Mode::Operate, None),
         };
         Status {
             mode,
@@ -145,20 +122,20 @@ impl<W: Wire> Station<W> {
         ensures free { IsTrue result → (mode_of self.now.link ≡ Mode.Operate)
             × (self.now.session.current ≡ None) }
     {
-        matches!(self.link, AnyLink::Operate(_)) && self.session.ready(room)
+        matches!(self.link.state(), State::Operate(_)) && self.session.ready(room)
     }
 
     /// What the one call of the wire in the next turn will be, if this request is begun before it where it may be.
     pub fn asks(&self, room: bool, next: Option<&Request>) -> Asked
         ensures { result ≡ asked_of (prepared (option_copied next.entry) self.now room) room }
     {
-        match &self.link {
-            AnyLink::Down(_) => Asked::Wake,
-            AnyLink::Startup(link) => Asked::Exchange(link.octets()),
-            AnyLink::Preoperate(link) => Asked::Exchange(link.octets()),
-            AnyLink::Operate(link) => Asked::Exchange(match link.out() {
-                Some(message) => encode_master(&link.layout(), message),
-                None => self.session.octets_due(&link.layout(), room, next),
+        match self.link.state() {
+            State::Down(_) => Asked::Wake,
+            State::Startup(startup) => Asked::Exchange(startup.octets()),
+            State::Preoperate(preoperate) => Asked::Exchange(preoperate.octets()),
+            State::Operate(operate) => Asked::Exchange(match operate.out() {
+                Some(message) => encode_master(&operate.layouts.run, message),
+                None => self.session.octets_due(&operate.layouts.run, room, next),
             }),
         }
     }
@@ -246,7 +223,8 @@ impl<W: Wire> Station<W> {
         ensures steps { RestartSteps W.honest W.far W.silence self.old self.new }
     {
         restart_cuts_the_request();
-        replace_with(self, (), Station::restarted)
+        self.link.leave();
+        self.session.leave()
     }
 
     /// One turn: at most one wake or one exchange.
@@ -273,25 +251,6 @@ impl<W: Wire> Station<W> {
         self.turned(room)
     }
 
-    fn restarted(self, _: ()) -> (Station<W>, bool)
-        ensures wire { wire_of result.0.link ≡ wire_of self.link }
-        ensures mode { mode_of result.0.link ≡ Mode.Down }
-        ensures why { why_of result.0.link ≡ None }
-        ensures session { result.0.session ≡ left self.session }
-        ensures cut { result.1 ≡ is_some self.session.current }
-    {
-        let Station { link, mut session } = self;
-        let cut = session.leave();
-        let link = match link {
-            AnyLink::Down(link) => Link::new(link.into_wire()),
-            AnyLink::Startup(link) => link.down(),
-            AnyLink::Preoperate(link) => link.down(),
-            AnyLink::Operate(link) => link.down(),
-        };
-        let link = AnyLink::Down(link);
-        (Station { link, session }, cut)
-    }
-
     fn turned(&mut self, room: bool) -> Said
         ensures request { request_in self.new.session.current
             ≡ request_after (request_in self.old.session.current) result }
@@ -301,24 +260,11 @@ impl<W: Wire> Station<W> {
         ensures valid { IsSession self.old.session }
     {
         self.session.is_valid();
-        match &self.link {
-            AnyLink::Down(_) => waked(&mut self.link, &mut self.session),
-            AnyLink::Operate(_) => operated(&mut self.link, &mut self.session, room),
-            _ => replace_with(self, room, Station::risen),
+        match self.link.state() {
+            State::Down(_) => waked(&mut self.link, &mut self.session),
+            State::Startup(_) | State::Preoperate(_) => risen(&mut self.link, &mut self.session),
+            State::Operate(_) => operated(&mut self.link, &mut self.session, room),
         }
-    }
-
-    /// A turn of a start-up.
-    fn risen(self, room: bool) -> (Station<W>, Said)
-        requires { is_starting self.link ≡ true }
-        ensures request { request_in result.0.session.current
-            ≡ request_after (request_in self.session.current) result.1 }
-        ensures turn { IsTurn W.honest W.far W.silence W.wake_gives W.exchange_gives room self
-            result.1 result.0 }
-    {
-        let Station { link, mut session } = self;
-        let (link, said) = rise(link, &mut session, room);
-        (Station { link, session }, said)
     }
 
     /// Goes on over this wire, which stands to the same device as the one before; that one is handed back.
@@ -330,39 +276,7 @@ impl<W: Wire> Station<W> {
         ensures before { result ≡ wire_of self.old.link }
         ensures steps { RewireSteps W.honest W.far W.silence self.old self.new }
     {
-        self.link_over(wire)
-    }
-
-    fn link_over(&mut self, wire: W) -> W
-        requires honest { W.honest wire ≡ W.honest (wire_of self.old.link) }
-        requires far { W.far wire ≡ W.far (wire_of self.old.link) }
-        requires silence { W.silence wire ≡ W.silence (wire_of self.old.link) }
-        ensures station { self.new ≡ record self.old { link = rewired wire self.old.link } }
-        ensures before { result ≡ wire_of self.old.link }
-    {
-        match &mut self.link {
-            AnyLink::Down(link) => link.rewire(wire),
-            AnyLink::Startup(link) => link.rewire(wire),
-            AnyLink::Preoperate(link) => link.rewire(wire),
-            AnyLink::Operate(link) => link.rewire(wire),
-        }
-    }
-}
-
-/// A turn of a start-up.
-fn rise<W: Wire>(link: AnyLink<W>, session: &mut Session, room: bool) -> (AnyLink<W>, Said)
-    requires mode { is_starting link ≡ true }
-    requires fits { LinkFits link session.old }
-    ensures request { request_in session.new.current
-        ≡ request_after (request_in session.old.current) result.1 }
-    ensures turn { IsTurn W.honest W.far W.silence W.wake_gives W.exchange_gives room
-        (record { link = link; session = session.old }) result.1 (record { link = result.0; session = session.new }) }
-    ensures fits { LinkFits result.0 session.new }
-{
-    match link {
-        AnyLink::Startup(link) => settled(link.turn(), session),
-        AnyLink::Preoperate(link) => settled(link.turn(), session),
-        AnyLink::Down(_) | AnyLink::Operate(_) => unreachable!(),
+        self.link.rewire(wire)
     }
 }
 
@@ -377,36 +291,8 @@ fn waked<W: Wire>(link: &mut AnyLink<W>, session: &mut Session) -> Said
         (record { link = link.old; session = session.old }) result (record { link = link.new; session = session.new }) }
     ensures fits { LinkFits link.new session.new }
 {
-    let AnyLink::Down(down) = link else {
-        unreachable!()
-    };
-    let rate = down.wake();
-    start_up(link, rate);
+    let rate = link.wake();
     follow_wake(session, rate)
-}
-
-/// The link comes to STARTUP, where a device answered the wake.
-fn start_up<W: Wire>(link: &mut AnyLink<W>, rate: Option<Rate>)
-    requires mode { mode_of link.old ≡ Mode.Down }
-    requires awake { IsTrue (is_some rate) → IsTrue (W.honest (wire_of link.old))
-        → OutcomeStands (waked true) (W.silence (wire_of link.old)) (W.far (wire_of link.old)) }
-    ensures { link.new ≡ started_up (is_some rate) link.old }
-{
-    if rate.is_some() {
-        replace_with(link, (), awake_link);
-    }
-}
-
-fn awake_link<W: Wire>(link: AnyLink<W>, _: ()) -> (AnyLink<W>, ())
-    requires mode { mode_of link ≡ Mode.Down }
-    requires awake { IsTrue (W.honest (wire_of link))
-        → OutcomeStands (waked true) (W.silence (wire_of link)) (W.far (wire_of link)) }
-    ensures { result.0 ≡ started_up true link }
-{
-    match link {
-        AnyLink::Down(link) => (AnyLink::Startup(link.rise()), ()),
-        AnyLink::Startup(_) | AnyLink::Preoperate(_) | AnyLink::Operate(_) => unreachable!(),
-    }
 }
 
 /// Takes up what a wake brought: a start-up begins, or the link is still down.
@@ -427,6 +313,46 @@ fn follow_wake(session: &mut Session, rate: Option<Rate>) -> Said
     }
 }
 
+/// A turn of a start-up, in place.
+fn risen<W: Wire>(link: &mut AnyLink<W>, session: &mut Session) -> Said
+    requires mode { is_starting link.old.state ≡ true }
+    requires fits { LinkFits link.old session.old }
+    ensures request { request_in session.new.current
+        ≡ request_after (request_in session.old.current) result }
+    ensures turn { (room : Bool)
+        → IsTurn W.honest W.far W.silence W.wake_gives W.exchange_gives room
+        (record { link = link.old; session = session.old }) result (record { link = link.new; session = session.new }) }
+    ensures fits { LinkFits link.new session.new }
+{
+    let attempt = link.rise();
+    settled(link.state(), &attempt, session)
+}
+
+/// Takes up the mode after a turn of a start-up, in OPERATE with the reply that led there.
+fn settled(state: &State, attempt: &Attempt, session: &mut Session) -> Said
+    requires { NextFits (outcome_with attempt.now state.now) session.old }
+    ensures session { session.new
+        ≡ settled_session (outcome_with attempt.now state.now) session.old }
+    ensures said { IsSettledSaid (outcome_with attempt.now state.now) session.old result }
+    ensures request { request_in session.new.current
+        ≡ request_after (request_in session.old.current) result }
+{
+    match state {
+        State::Down(_) => session.lose(),
+        State::Startup(startup) => {
+            if let Some(layouts) = startup.told() {
+                session.take_layout(&layouts.run, layouts.isdu);
+            }
+            Said::Idle
+        }
+        State::Preoperate(_) => Said::Idle,
+        State::Operate(_) => match attempt {
+            Attempt::Got(first) => session.hear(first),
+            Attempt::Again | Attempt::Lost => session.quiet(),
+        },
+    }
+}
+
 /// A turn in OPERATE, in place: the message out again, or a new one for what is due.
 fn operated<W: Wire>(link: &mut AnyLink<W>, session: &mut Session, room: bool) -> Said
     requires mode { is_operating link.old ≡ true }
@@ -437,33 +363,12 @@ fn operated<W: Wire>(link: &mut AnyLink<W>, session: &mut Session, room: bool) -
         (record { link = link.old; session = session.old }) result (record { link = link.new; session = session.new }) }
     ensures fits { LinkFits link.new session.new }
 {
-    let AnyLink::Operate(up) = link else {
+    let State::Operate(operate) = link.state() else {
         unreachable!()
     };
-    let message = session.next_message(up.out(), room);
-    let attempt = up.exchange(&message);
-    fall(link, &attempt);
+    let message = session.next_message(operate.out(), room);
+    let attempt = link.exchange(&message);
     taken_up(session, &attempt)
-}
-
-/// The link goes down, where the attempt lost it.
-fn fall<W: Wire>(link: &mut AnyLink<W>, attempt: &Attempt)
-    requires { is_operating link.old ≡ true }
-    ensures { link.new ≡ fallen attempt.now link.old }
-{
-    if matches!(attempt, Attempt::Lost) {
-        replace_with(link, (), lost_link);
-    }
-}
-
-fn lost_link<W: Wire>(link: AnyLink<W>, _: ()) -> (AnyLink<W>, ())
-    requires { is_operating link ≡ true }
-    ensures { result.0 ≡ fallen Attempt.Lost link }
-{
-    match link {
-        AnyLink::Operate(link) => (AnyLink::Down(link.lost()), ()),
-        AnyLink::Down(_) | AnyLink::Startup(_) | AnyLink::Preoperate(_) => unreachable!(),
-    }
 }
 
 /// Takes up how the attempt of a turn in OPERATE ended.
@@ -478,48 +383,5 @@ fn taken_up(session: &mut Session, attempt: &Attempt) -> Said
         Attempt::Got(reply) => session.hear(reply),
         Attempt::Again => session.quiet(),
         Attempt::Lost => session.lose(),
-    }
-}
-
-/// The link after its turn, taken up by the session, and what the turn says.
-fn settled<W: Wire>(next: Next<W>, session: &mut Session) -> (AnyLink<W>, Said)
-    requires { NextFits (outcome_of next) session.old }
-    ensures link { result.0 ≡ linked (wire_in next) (outcome_of next) }
-    ensures session { session.new ≡ settled_session (outcome_of next) session.old }
-    ensures said { IsSettledSaid (outcome_of next) session.old result.1 }
-    ensures request { request_in session.new.current
-        ≡ request_after (request_in session.old.current) result.1 }
-    ensures fits { LinkFits result.0 session.new }
-{
-    match next {
-        Next::Down(link) => {
-            let said = session.lose();
-            (AnyLink::Down(link), said)
-        }
-        Next::Startup(link) => {
-            if let Some(layouts) = link.told() {
-                session.take_layout(&layouts.run, layouts.isdu);
-            }
-            (AnyLink::Startup(link), Said::Idle)
-        }
-        Next::Preoperate(link) => (AnyLink::Preoperate(link), Said::Idle),
-        Next::Operate(link, reply) => {
-            let said = heard(session, reply);
-            (AnyLink::Operate(link), said)
-        }
-    }
-}
-
-/// Takes up the good reply of a turn in OPERATE, where it brought one.
-fn heard(session: &mut Session, reply: Option<Reply>) -> Said
-    requires { IfSome reply (λ r. IsHearable session.old r) }
-    ensures session { session.new ≡ reply_session reply session.old }
-    ensures said { IsReplySaid reply session.old result }
-    ensures request { request_in session.new.current
-        ≡ request_after (request_in session.old.current) result }
-{
-    match reply {
-        Some(reply) => session.hear(&reply),
-        None => session.quiet(),
     }
 }

@@ -12,14 +12,16 @@ use Rattle.iol_far.specs.Far.{Far}
 use Rattle.iol_far.specs.Level.{Link as FarLink}
 use Rattle.iol_link.specs.Honest.{HonestExchange, HonestWake}
 use Rattle.iol_link.specs.declared.wire.Rate.{Rate}
-use Rattle.iol_mode.specs.declared.states.Outcome.{Outcome}
+use Rattle.iol_mode.specs.States.{Outcome}
 use Rattle.iol_mode.specs.Stands.{OperateStands, IsOperating, IsAccepted}
 use Rattle.iol_mode.specs.States.{sending_of}
 use Rattle.iol_steps.specs.declared.said.Said.{Said}
 use Rattle.iol_app.specs.declared.asked.Asked.{Asked}
 use Rattle.iol_app.specs.declared.asked.Asked.TheVariants.{Wake, Exchange}
-use Rattle.iol_app.specs.declared.station.AnyLink.{AnyLink}
-use Rattle.iol_app.specs.declared.station.AnyLink.TheVariants.{Down as InDown, Startup as InStartup, Preoperate as InPreoperate, Operate as InOperate}
+use Rattle.iol_mode.specs.Kept.{over}
+use Rattle.iol_mode.specs.Next.{AnyLink}
+use Rattle.iol_mode.specs.declared.states.State.{State}
+use Rattle.iol_mode.specs.declared.states.State.TheVariants.{Down as AtDown, Startup as AtStartup, Preoperate as AtPreoperate, Operate as AtOperate}
 use Rattle.iol_app.specs.State.{SessionState}
 use Rattle.iol_app.specs.StationState.{StationState, wire_of, IsLinkTurn, IsTurn, IsWake, IsExchange}
 use Rattle.iol_app.specs.AskedCalls.{AskedWakes, AskedGives}
@@ -73,26 +75,26 @@ module _ {W : Type 0} (honest : W → Bool) (far : W → Far) (silence : W → �
       };
     }
 
-  link_over : (line : W) (link : AnyLink W) → Stands line (wire_of link) → (s : SessionState) (room : Bool) (said : Said) (new : StationState W)
-      → IsLinkTurn honest far silence wakes gives (rewired line link) s room said new → IsLinkTurn honest far silence wakes' gives' link s room said new
-  link_over line (InDown link) same s room said new t = wake_over line link.wire same s said new t
-  link_over line (InStartup link) same s room said new t = record {
-    exchange = exchange_over line link.wire same _ _ _ _ _ _ t.exchange;
-    fault = λ c. t.fault (claims line link.wire same c);
+  link_over : (line : W) (wire : W) (state : State) → Stands line (wire_of (over wire state)) → (s : SessionState) (room : Bool) (said : Said) (new : StationState W)
+      → IsLinkTurn honest far silence wakes gives (rewired line (over wire state)) s room said new → IsLinkTurn honest far silence wakes' gives' (over wire state) s room said new
+  link_over line wire (AtDown state) same s room said new t = wake_over line wire same s said new t
+  link_over line wire (AtStartup state) same s room said new t = record {
+    exchange = exchange_over line wire same _ _ _ _ _ _ t.exchange;
+    fault = λ c. t.fault (claims line wire same c);
   }
-  link_over line (InPreoperate link) same s room said new t = exchange_over line link.wire same _ _ _ _ _ _ t
-  link_over line (InOperate link) same s room said new t = record {
+  link_over line wire (AtPreoperate state) same s room said new t = exchange_over line wire same _ _ _ _ _ _ t
+  link_over line wire (AtOperate state) same s room said new t = record {
     message = t.message;
     is_for = t.is_for;
     parts = t.parts;
     carries = t.carries;
-    exchange = exchange_over line link.wire same _ _ _ _ _ _ t.exchange;
+    exchange = exchange_over line wire same _ _ _ _ _ _ t.exchange;
     fits = t.fits;
-    stood = λ c. subst (λ (q : ℕ). OperateStands link.state q (far link.wire)) same.quiet
-        (subst (λ (f : Far). OperateStands link.state (silence line) f) same.device (t.stood (claims line link.wire same c)));
+    stood = λ c. subst (λ (q : ℕ). OperateStands state q (far wire)) same.quiet
+        (subst (λ (f : Far). OperateStands state (silence line) f) same.device (t.stood (claims line wire same c)));
     few = t.few;
-    accepted = λ c. subst (λ (f : Far). (there : FarLink) → IsOperating link.state.layouts there → IsAccepted link.state.layouts f.page there (sending_of link.state.out t.message).message) same.device
-        (t.accepted (claims line link.wire same c));
+    accepted = λ c. subst (λ (f : Far). (there : FarLink) → IsOperating state.layouts there → IsAccepted state.layouts f.page there (sending_of state.out t.message).message) same.device
+        (t.accepted (claims line wire same c));
   }
 
 module _ {W : Type 0} (honest : W → Bool) (far : W → Far) (silence : W → ℕ) (wakes : W → Option Rate → W → Type 0) (gives : W → List ℕ → Option (ArrayVec ℕ) → W → Type 0)
@@ -119,30 +121,9 @@ module _ {W : Type 0} (honest : W → Bool) (far : W → Far) (silence : W → �
       → Brings (asks_of (record { station = record { link = link; session = s }; book = book; kept = kept })) line (wire_of link)
       → TurnGives honest far silence wakes gives (record { station = record { link = rewired line link; session = s }; book = book; kept = kept }) next
       → TurnGives honest far silence wakes' gives' (record { station = record { link = link; session = s }; book = book; kept = kept }) next
-  turn_by line (InDown link) s book kept next b t = record {
+  turn_by line link s book kept next b t = record {
     said = t.said;
-    turn = link_over honest far silence _ _ _ _ line (InDown link) (stands _ line link.wire b) _ (has_room kept) _ _ t.turn;
-    book = t.book;
-    kept = t.kept;
-    denies = λ ticket has. ⊎_elim inl (λ d. inr (record { told = d.told; waited = d.waited; free = d.free; book = d.book })) (t.denies ticket has);
-  }
-  turn_by line (InStartup link) s book kept next b t = record {
-    said = t.said;
-    turn = link_over honest far silence _ _ _ _ line (InStartup link) (stands _ line link.wire b) _ (has_room kept) _ _ t.turn;
-    book = t.book;
-    kept = t.kept;
-    denies = λ ticket has. ⊎_elim inl (λ d. inr (record { told = d.told; waited = d.waited; free = d.free; book = d.book })) (t.denies ticket has);
-  }
-  turn_by line (InPreoperate link) s book kept next b t = record {
-    said = t.said;
-    turn = link_over honest far silence _ _ _ _ line (InPreoperate link) (stands _ line link.wire b) _ (has_room kept) _ _ t.turn;
-    book = t.book;
-    kept = t.kept;
-    denies = λ ticket has. ⊎_elim inl (λ d. inr (record { told = d.told; waited = d.waited; free = d.free; book = d.book })) (t.denies ticket has);
-  }
-  turn_by line (InOperate link) s book kept next b t = record {
-    said = t.said;
-    turn = link_over honest far silence _ _ _ _ line (InOperate link) (stands _ line link.wire b) _ (has_room kept) _ _ t.turn;
+    turn = link_over honest far silence _ _ _ _ line link.wire link.state (stands _ line link.wire b) _ (has_room kept) _ _ t.turn;
     book = t.book;
     kept = t.kept;
     denies = λ ticket has. ⊎_elim inl (λ d. inr (record { told = d.told; waited = d.waited; free = d.free; book = d.book })) (t.denies ticket has);

@@ -5,3 +5,4 @@ pub mod Stands
 pub mod Kept
 pub mod Next
 pub mod Laws
+pub mod Turns

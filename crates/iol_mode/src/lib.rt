@@ -10,8 +10,8 @@ mod messages;
 mod states;
 mod why;
 
-pub use links::{Link, Next};
-pub use states::{Down, Mode, Operate, Outcome, Preoperate, Startup, Step, Told, Up};
+pub use links::{AnyLink, Link, Next};
+pub use states::{Down, Mode, Operate, Preoperate, Startup, State, Step, Told, Up};
 pub use why::Why;
 
 #[cfg(test)]

@@ -10,21 +10,22 @@ ghost use Rattle.iol_link.specs.declared.wire.Rate.{Rate};
 ghost use Rattle.iol_link.specs.Attempts.{good_reply, attempt_of};
 ghost use Rattle.iol_link.specs.Honest.{HonestExchange, HonestWake};
 ghost use Rattle.iol_mode.specs.Messages.{stays};
-ghost use Rattle.iol_mode.specs.States.{OperateFits, OutcomeFits, waked, left_down, startup_turned, preoperate_turned, operate_turned, sending_of, counted, left_by, exchanged};
+ghost use Rattle.iol_mode.specs.States.{OperateFits, OutcomeFits, StateFits, IsDown, IsStartup, IsPreoperate, Takes, is_starting, waked, state_of, outcome_with, startup_turned, preoperate_turned, operate_turned, sending_of, counted, left_by};
 ghost use Rattle.iol_far.specs.Level.{Link as FarLink};
-ghost use Rattle.iol_mode.specs.Stands.{OperateStands, OutcomeStands, IsTold, IsOperating, IsAccepted};
+ghost use Rattle.iol_mode.specs.Stands.{OperateStands, OutcomeStands, StateStands, IsTold, IsOperating, IsAccepted};
 ghost use Rattle.iol_mode.specs.Next.{wire_of, outcome_of, told_by, message_out, MetFits, LostFits, FaultFits, EnteredFits};
+ghost use Rattle.iol_mode.specs.Turns.{IsStartTurn, IsOperateTurn, IsRise, IsCycle, IsEnd};
 ghost use Rattle.iol_mode.specs.Laws.{Laws};
 
 use crate::messages::copy_of;
 use crate::states::{
-    Down, Mode, Operate, Outcome, Preoperate, Startup, Step, Up, awake, preoperate_done,
-    startup_done,
+    Down, Mode, Operate, Preoperate, Startup, State, Up, operate_done, preoperate_done,
+    startup_done, woken,
 };
 use crate::why::Why;
 use iol_far::{ends_stay_level, links_stay_level, texts_are_heard};
 use iol_link::{Attempt, Handler, Rate, Wire, exchanges_keep_ends_level};
-use iol_mseq::{Layout, MasterMsg, Message, Reply, encode_master};
+use iol_mseq::{Layout, MasterMsg, Message, Reply};
 use iol_page::{Layouts, pages_ask_for_layouts};
 use std::marker::Model;
 use std::mem::replace;
@@ -74,21 +75,6 @@ fn laws()
     exchanges_keep_ends_level();
 }
 
-/// The wire in the link of that mode.
-fn linked<W: Wire>(wire: W, outcome: Outcome) -> Next<W>
-    requires fits { OutcomeFits outcome }
-    requires stands { IsTrue (W.honest wire) → OutcomeStands outcome (W.silence wire) (W.far wire) }
-    ensures wire { wire_of result ≡ wire }
-    ensures outcome { outcome_of result ≡ outcome }
-{
-    match outcome {
-        Outcome::Down(state) => Next::Down(Link { wire, state }),
-        Outcome::Startup(state) => Next::Startup(Link { wire, state }),
-        Outcome::Preoperate(state) => Next::Preoperate(Link { wire, state }),
-        Outcome::Operate(state, reply) => Next::Operate(Link { wire, state }, reply),
-    }
-}
-
 /// Sends once the message that is out, where there is one, else this one; it is out afterwards only where it is to be
 /// sent again.
 fn send<W: Wire>(
@@ -122,6 +108,187 @@ fn send<W: Wire>(
                 *out = Some(sent);
             }
             attempt
+        }
+    }
+}
+
+/// The turn of STARTUP: its message is sent once.
+fn startup_turn<W: Wire>(state: &mut State, wire: &mut W) -> Attempt
+    requires fits { IsStartup state.old }
+    requires stands { IsTrue (W.honest wire.old)
+        → StateStands state.old (W.silence wire.old) (W.far wire.old) }
+    ensures { IsStartTurn W.honest W.far W.silence W.exchange_gives wire.old state.old
+        (outcome_with result state.new) wire.new }
+{
+    laws();
+    let State::Startup(Startup { sent, .. }) = state else {
+        unreachable!()
+    };
+    let attempt = sent.attempt(wire, &Layout::startup());
+    startup_done(state, &attempt);
+    attempt
+}
+
+/// The turn of PREOPERATE: its message is sent once.
+fn preoperate_turn<W: Wire>(state: &mut State, wire: &mut W) -> Attempt
+    requires fits { IsPreoperate state.old }
+    requires stands { IsTrue (W.honest wire.old)
+        → StateStands state.old (W.silence wire.old) (W.far wire.old) }
+    ensures { IsStartTurn W.honest W.far W.silence W.exchange_gives wire.old state.old
+        (outcome_with result state.new) wire.new }
+{
+    laws();
+    let State::Preoperate(preoperate) = state else {
+        unreachable!()
+    };
+    let attempt = preoperate.sent.attempt(wire, &preoperate.pre);
+    preoperate_done(state, &attempt);
+    attempt
+}
+
+/// The turn of a start-up.
+fn start_turn<W: Wire>(state: &mut State, wire: &mut W) -> Attempt
+    requires mode { is_starting state.old ≡ true }
+    requires fits { StateFits state.old }
+    requires stands { IsTrue (W.honest wire.old)
+        → StateStands state.old (W.silence wire.old) (W.far wire.old) }
+    ensures { IsStartTurn W.honest W.far W.silence W.exchange_gives wire.old state.old
+        (outcome_with result state.new) wire.new }
+{
+    match state {
+        State::Startup(_) => startup_turn(state, wire),
+        State::Preoperate(_) => preoperate_turn(state, wire),
+        State::Down(_) | State::Operate(_) => unreachable!(),
+    }
+}
+
+/// The turn of OPERATE: the message that is out, else this one, is sent once.
+fn operate_turn<W: Wire>(state: &mut State, message: &MasterMsg, wire: &mut W) -> Attempt
+    requires fits { StateFits state.old }
+    requires takes { Takes state.old message.now }
+    requires stays { IsTrue (stays message.now) }
+    requires stands { IsTrue (W.honest wire.old)
+        → StateStands state.old (W.silence wire.old) (W.far wire.old) }
+    ensures turn { IsOperateTurn W.honest W.far W.silence W.exchange_gives wire.old state.old
+        message.now (outcome_with result state.new) wire.new }
+    ensures ends { IsEnd result (outcome_with result state.new) }
+{
+    laws();
+    let State::Operate(operate) = state else {
+        unreachable!()
+    };
+    let attempt = send(&mut operate.out, message, wire, &operate.layouts.run);
+    operate_done(state, &attempt);
+    attempt
+}
+
+/// A link in any mode, which goes from one to the next in place.
+pub type AnyLink<W> = Link<W, State>;
+
+impl<W: Wire> Link<W, State> {
+    /// A link over this wire, which no turn was made on.
+    pub fn open(wire: W) -> AnyLink<W>
+        ensures wire { result.wire ≡ wire }
+        ensures state { result.state ≡ State.Down (record { why = None }) }
+    {
+        Link {
+            wire,
+            state: State::Down(Down { why: None }),
+        }
+    }
+
+    /// The mode, with what is kept in it.
+    pub fn state(&self) -> &State
+        ensures state { result.now ≡ self.now.state }
+        ensures fits { StateFits self.now.state }
+    {
+        &self.state
+    }
+
+    /// The wire, given back.
+    pub fn close(self) -> W
+        ensures { result ≡ self.wire }
+    {
+        let Link { wire, state: _ } = self;
+        wire
+    }
+
+    /// Takes the link down, without a reason.
+    pub fn leave(&mut self)
+        ensures wire { self.new.wire ≡ self.old.wire }
+        ensures state { self.new.state ≡ State.Down (record { why = None }) }
+    {
+        self.state = State::Down(Down { why: None });
+    }
+
+    /// Makes a wake-up request, in Down: STARTUP, where the device answers it, else Down with `NoWake`. Answers the rate
+    /// of that device.
+    pub fn wake(&mut self) -> Option<Rate>
+        requires { IsDown self.old.state }
+        ensures honest { W.honest self.new.wire ≡ W.honest self.old.wire }
+        ensures quiet { W.silence self.new.wire ≡ W.silence self.old.wire }
+
+        // the wire is woken once; its answer alone says what becomes of the mode
+        ensures called { W.wake_gives self.old.wire result self.new.wire }
+        ensures passes { IsTrue (W.honest self.old.wire)
+            → HonestWake (W.far self.old.wire) (is_some result) (W.far self.new.wire) }
+        ensures state { self.new.state ≡ state_of (waked (is_some result)) }
+
+        // on an honest wire
+        ensures stands { IsTrue (W.honest self.old.wire) → OutcomeStands (waked (is_some result))
+            (W.silence self.new.wire) (W.far self.new.wire) }
+    {
+        laws();
+        let rate = self.wire.wake();
+        woken(&mut self.state, rate.is_some());
+        rate
+    }
+
+    /// Sends the message of a start-up's step once, in STARTUP and in PREOPERATE.
+    ///
+    /// With its good reply the next step begins: the page is read from 0x02 to 0x0B and then checked, MasterIdent and
+    /// DevicePreoperate are written; then, in PREOPERATE, MasterCycleTime and DeviceOperate. To a device of V1.0
+    /// MasterCycleTime and DeviceOperate are written in STARTUP (profile). With the good reply to DeviceOperate the mode
+    /// is OPERATE. Down with a fault of the page, or with `Lost` at the third attempt in a row that had no good reply.
+    pub fn rise(&mut self) -> Attempt
+        requires { is_starting self.old.state ≡ true }
+        ensures turn { IsStartTurn W.honest W.far W.silence W.exchange_gives self.old.wire self.old.state
+            (outcome_with result self.new.state) self.new.wire }
+    {
+        start_turn(&mut self.state, &mut self.wire)
+    }
+
+    /// Sends once the message that is out, where there is one, else this one, in OPERATE.
+    ///
+    /// The message has the sizes of the layout, and is no command that leaves OPERATE. Down with `Lost` at the third
+    /// attempt in a row that had no good reply.
+    pub fn exchange(&mut self, message: &MasterMsg) -> Attempt
+        requires takes { Takes self.old.state message.now }
+        requires stays { IsTrue (stays message.now) }
+        ensures turn { IsOperateTurn W.honest W.far W.silence W.exchange_gives self.old.wire self.old.state message.now
+            (outcome_with result self.new.state) self.new.wire }
+        ensures ends { IsEnd result (outcome_with result self.new.state) }
+    {
+        operate_turn(&mut self.state, message, &mut self.wire)
+    }
+
+    /// The link in its mode, after a turn whose attempt ended so.
+    fn next(self, attempt: Attempt) -> Next<W>
+        ensures wire { wire_of result ≡ self.wire }
+        ensures outcome { outcome_of result ≡ outcome_with attempt self.state }
+    {
+        let Link { wire, state } = self;
+        match state {
+            State::Down(state) => Next::Down(Link { wire, state }),
+            State::Startup(state) => Next::Startup(Link { wire, state }),
+            State::Preoperate(state) => Next::Preoperate(Link { wire, state }),
+            State::Operate(state) => {
+                let link = Link { wire, state };
+                match attempt {
+                    Attempt::Got(reply) => Next::Operate(link, Some(reply)),
+                    Attempt::Again | Attempt::Lost => Next::Operate(link, None),
+                }
+            }
         }
     }
 }
@@ -182,47 +349,6 @@ impl<W: Wire> Link<W, Down> {
         self.wire
     }
 
-    /// Makes a wake-up request: the rate of the device that answered it, none where none did. The link stays where it
-    /// is.
-    ///
-    /// Where none did, it is down with `NoWake`. Where a device answered, the caller takes it up, by `rise`.
-    pub fn wake(&mut self) -> Option<Rate>
-        ensures honest { W.honest self.new.wire ≡ W.honest self.old.wire }
-        ensures quiet { W.silence self.new.wire ≡ W.silence self.old.wire }
-
-        // the wire is woken once, and its answer is handed on
-        ensures called { W.wake_gives self.old.wire result self.new.wire }
-        ensures passes { IsTrue (W.honest self.old.wire)
-            → HonestWake (W.far self.old.wire) (is_some result) (W.far self.new.wire) }
-        ensures left { self.new.state ≡ left_down (is_some result) self.old.state }
-
-        // on an honest wire
-        ensures stands { IsTrue (W.honest self.old.wire) → OutcomeStands (waked (is_some result))
-            (W.silence self.new.wire) (W.far self.new.wire) }
-    {
-        laws();
-        let rate = self.wire.wake();
-        if rate.is_none() {
-            self.state = Down {
-                why: Some(Why::NoWake),
-            };
-        }
-        rate
-    }
-
-    /// Takes the link into STARTUP, at a device that answered the wake; no message was sent to it yet.
-    pub fn rise(self) -> Link<W, Startup>
-        requires awake { IsTrue (W.honest self.wire)
-            → OutcomeStands (waked true) (W.silence self.wire) (W.far self.wire) }
-        ensures wire { result.wire ≡ self.wire }
-        ensures state { Outcome.Startup result.state ≡ waked true }
-    {
-        Link {
-            wire: self.wire,
-            state: awake(),
-        }
-    }
-
     /// Makes a wake-up request: STARTUP, where the device answers it, else Down with `NoWake`.
     pub fn turn(self) -> Next<W>
         ensures honest { W.honest (wire_of result) ≡ W.honest self.wire }
@@ -237,11 +363,12 @@ impl<W: Wire> Link<W, Down> {
         ensures stands { IsTrue (W.honest self.wire)
             → OutcomeStands (outcome_of result) (W.silence (wire_of result)) (W.far (wire_of result)) }
     {
-        let mut link = self;
-        match link.wake() {
-            Some(_) => Next::Startup(link.rise()),
-            None => Next::Down(link),
-        }
+        let mut link = Link {
+            wire: self.wire,
+            state: State::Down(self.state),
+        };
+        link.wake();
+        link.next(Attempt::Again)
     }
 }
 
@@ -253,43 +380,22 @@ impl<W: Wire> Link<W, Startup> {
     /// and with the good reply to DeviceOperate the mode is OPERATE (profile). Down with a fault of the page, or with
     /// `Lost` at the third attempt in a row that had no good reply.
     pub fn turn(self) -> Next<W>
-        ensures honest { W.honest (wire_of result) ≡ W.honest self.wire }
-
-        // the wire is called once, with the octets of the message; its answer alone says what becomes of the mode
-        ensures exchange { (answer : Option (ArrayVec ℕ))
-            × W.exchange_gives self.wire (master_text startup_shape self.state.sent.message) answer (wire_of result)
-            × (IsTrue (W.honest self.wire) → HonestExchange (W.far self.wire) (W.silence self.wire)
-            (master_text startup_shape self.state.sent.message) (octets_in answer) (W.far (wire_of result)) (W.silence (wire_of result)))
-            × (outcome_of result ≡ startup_turned self.state (good_reply startup_shape self.state.sent.message (octets_in answer))) }
-
-        ensures fits { OutcomeFits (outcome_of result) }
-
-        // on an honest wire
-        ensures stands { IsTrue (W.honest self.wire)
-            → OutcomeStands (outcome_of result) (W.silence (wire_of result)) (W.far (wire_of result)) }
-        ensures met { IsTrue (W.honest self.wire)
-            → MetFits (outcome_of result) (W.far (wire_of result)) }
-        ensures lost { IsTrue (W.honest self.wire)
-            → LostFits (outcome_of result) (W.silence (wire_of result)) }
-        ensures still { IsTrue (W.honest self.wire) → (W.far (wire_of result)).carried
-            ≡ (W.far self.wire).carried }
-        ensures fault { IsTrue (W.honest self.wire)
-            → FaultFits (outcome_of result) (W.far (wire_of result)) }
-        ensures entered { IsTrue (W.honest self.wire)
-            → EnteredFits (outcome_of result) (W.silence (wire_of result)) (W.far (wire_of result)) }
+        ensures { IsRise W.honest W.far W.silence W.exchange_gives self.wire startup_shape
+            self.state.sent.message (startup_turned self.state) (outcome_of result) (wire_of result) }
     {
-        laws();
-        let Link { mut wire, state } = self;
-        let Startup { mut sent, step } = state;
-        let attempt = sent.attempt(&mut wire, &Layout::startup());
-        linked(wire, startup_done(Startup { sent, step }, attempt))
+        let mut link = Link {
+            wire: self.wire,
+            state: State::Startup(self.state),
+        };
+        let attempt = link.rise();
+        link.next(attempt)
     }
 
     /// The octets that the next turn sends.
     pub fn octets(&self) -> Message
         ensures { result.items ≡ master_text startup_shape self.now.state.sent.message }
     {
-        encode_master(&Layout::startup(), self.state.sent.message())
+        self.state.octets()
     }
 
     /// The layouts that the page asks for, once this start-up has checked it.
@@ -298,12 +404,7 @@ impl<W: Wire> Link<W, Startup> {
         ensures page { IsTrue (W.honest self.now.wire)
             → IfSome result (λ t. IsTold t.now (W.far self.now.wire)) }
     {
-        match &self.state.step {
-            Step::Read(_) => None,
-            Step::Ident(told, _) | Step::Leave(told, _) | Step::Cycle(told) | Step::Enter(told) => {
-                Some(&told.layouts)
-            }
-        }
+        self.state.told()
     }
 }
 
@@ -313,54 +414,22 @@ impl<W: Wire> Link<W, Preoperate> {
     /// With the good reply to DeviceOperate the mode is OPERATE. Down with `Lost` at the third attempt in a row that
     /// had no good reply.
     pub fn turn(self) -> Next<W>
-        ensures honest { W.honest (wire_of result) ≡ W.honest self.wire }
-
-        // the wire is called once, with the octets of the message; its answer alone says what becomes of the mode
-        ensures exchange { (answer : Option (ArrayVec ℕ))
-            × W.exchange_gives self.wire (master_text self.state.pre self.state.sent.message) answer (wire_of result)
-            × (IsTrue (W.honest self.wire) → HonestExchange (W.far self.wire) (W.silence self.wire)
-            (master_text self.state.pre self.state.sent.message) (octets_in answer)
-            (W.far (wire_of result)) (W.silence (wire_of result)))
-            × (outcome_of result ≡ preoperate_turned self.state
-            (good_reply self.state.pre self.state.sent.message (octets_in answer))) }
-
-        ensures fits { OutcomeFits (outcome_of result) }
-
-        // on an honest wire
-        ensures stands { IsTrue (W.honest self.wire)
-            → OutcomeStands (outcome_of result) (W.silence (wire_of result)) (W.far (wire_of result)) }
-        ensures met { IsTrue (W.honest self.wire)
-            → MetFits (outcome_of result) (W.far (wire_of result)) }
-        ensures lost { IsTrue (W.honest self.wire)
-            → LostFits (outcome_of result) (W.silence (wire_of result)) }
-        ensures still { IsTrue (W.honest self.wire) → (W.far (wire_of result)).carried
-            ≡ (W.far self.wire).carried }
-        ensures entered { IsTrue (W.honest self.wire)
-            → EnteredFits (outcome_of result) (W.silence (wire_of result)) (W.far (wire_of result)) }
+        ensures { IsRise W.honest W.far W.silence W.exchange_gives self.wire self.state.pre
+            self.state.sent.message (preoperate_turned self.state) (outcome_of result) (wire_of result) }
     {
-        laws();
-        let Link { mut wire, state } = self;
-        let Preoperate {
-            mut sent,
-            cycle_written,
-            pre,
-            layouts,
-        } = state;
-        let attempt = sent.attempt(&mut wire, &pre);
-        let state = Preoperate {
-            sent,
-            cycle_written,
-            pre,
-            layouts,
+        let mut link = Link {
+            wire: self.wire,
+            state: State::Preoperate(self.state),
         };
-        linked(wire, preoperate_done(state, attempt))
+        let attempt = link.rise();
+        link.next(attempt)
     }
 
     /// The octets that the next turn sends.
     pub fn octets(&self) -> Message
         ensures { result.items ≡ master_text self.now.state.pre self.now.state.sent.message }
     {
-        encode_master(&self.state.pre, self.state.sent.message())
+        self.state.octets()
     }
 
     /// The layouts that the page asks for.
@@ -374,63 +443,6 @@ impl<W: Wire> Link<W, Preoperate> {
 }
 
 impl<W: Wire> Link<W, Operate> {
-    /// Sends once the message that is out, where there is one, else this one. The link stays where it is.
-    ///
-    /// The message has the sizes of the layout, and is no command that leaves OPERATE. After `Lost`, at the third attempt in
-    /// a row that had no good reply, no message is out, and both ends still stand in OPERATE: the caller takes the link
-    /// down, by `lost`.
-    pub fn exchange(&mut self, message: &MasterMsg) -> Attempt
-        requires fits { HasMasterParts self.old.state.layouts.run message.now }
-        requires stays { IsTrue (stays message.now) }
-        ensures honest { W.honest self.new.wire ≡ W.honest self.old.wire }
-
-        // the wire is called once, with the octets of the message; its answer alone says what becomes of the mode
-        ensures exchange { (answer : Option (ArrayVec ℕ))
-            × W.exchange_gives self.old.wire (master_text self.old.state.layouts.run (sending_of self.old.state.out message.now).message) answer self.new.wire
-            × (IsTrue (W.honest self.old.wire) → HonestExchange (W.far self.old.wire) (W.silence self.old.wire)
-            (master_text self.old.state.layouts.run (sending_of self.old.state.out message.now).message) (octets_in answer) (W.far self.new.wire) (W.silence self.new.wire))
-            × (exchanged result self.new.state ≡ operate_turned self.old.state message.now
-            (good_reply self.old.state.layouts.run (sending_of self.old.state.out message.now).message (octets_in answer))) }
-        ensures left { result ≡ Attempt.Lost → self.new.state
-            ≡ record { out = None; layouts = self.old.state.layouts } }
-
-        ensures fits { OutcomeFits (exchanged result self.new.state) }
-
-        // how the link stood before, and on an honest wire how it stands now
-        ensures stood { OperateFits self.old.state
-            × (IsTrue (W.honest self.old.wire) → OperateStands self.old.state (W.silence self.old.wire) (W.far self.old.wire)) }
-        ensures few { (sending_of self.old.state.out message.now).tries < 3 }
-        ensures accepted { IsTrue (W.honest self.old.wire) → (link : FarLink) → IsOperating self.old.state.layouts link
-            → IsAccepted self.old.state.layouts (W.far self.old.wire).page link (sending_of self.old.state.out message.now).message }
-        ensures stands { IsTrue (W.honest self.old.wire)
-            → OutcomeStands (exchanged result self.new.state) (W.silence self.new.wire) (W.far self.new.wire) }
-        ensures met { IsTrue (W.honest self.old.wire)
-            → MetFits (exchanged result self.new.state) (W.far self.new.wire) }
-        ensures lost { IsTrue (W.honest self.old.wire)
-            → LostFits (exchanged result self.new.state) (W.silence self.new.wire) }
-    {
-        laws();
-        send(
-            &mut self.state.out,
-            message,
-            &mut self.wire,
-            &self.state.layouts.run,
-        )
-    }
-
-    /// Takes the link down, as one that is lost.
-    pub fn lost(self) -> Link<W, Down>
-        ensures wire { result.wire ≡ self.wire }
-        ensures why { result.state.why ≡ Some Why.Lost }
-    {
-        Link {
-            wire: self.wire,
-            state: Down {
-                why: Some(Why::Lost),
-            },
-        }
-    }
-
     /// Sends once the message that is out, where there is one, else this one.
     ///
     /// The message has the sizes of the layout, and is no command that leaves OPERATE. Down with `Lost` at the third
@@ -438,37 +450,15 @@ impl<W: Wire> Link<W, Operate> {
     pub fn turn(self, message: &MasterMsg) -> Next<W>
         requires fits { HasMasterParts self.state.layouts.run message.now }
         requires stays { IsTrue (stays message.now) }
-        ensures honest { W.honest (wire_of result) ≡ W.honest self.wire }
-
-        // the wire is called once, with the octets of the message; its answer alone says what becomes of the mode
-        ensures exchange { (answer : Option (ArrayVec ℕ))
-            × W.exchange_gives self.wire (master_text self.state.layouts.run (sending_of self.state.out message.now).message) answer (wire_of result)
-            × (IsTrue (W.honest self.wire) → HonestExchange (W.far self.wire) (W.silence self.wire)
-            (master_text self.state.layouts.run (sending_of self.state.out message.now).message) (octets_in answer) (W.far (wire_of result)) (W.silence (wire_of result)))
-            × (outcome_of result ≡ operate_turned self.state message.now
-            (good_reply self.state.layouts.run (sending_of self.state.out message.now).message (octets_in answer))) }
-
-        ensures fits { OutcomeFits (outcome_of result) }
-
-        // how the link stood before, and on an honest wire how it stands now
-        ensures stood { OperateFits self.state
-            × (IsTrue (W.honest self.wire) → OperateStands self.state (W.silence self.wire) (W.far self.wire)) }
-        ensures few { (sending_of self.state.out message.now).tries < 3 }
-        ensures accepted { IsTrue (W.honest self.wire) → (link : FarLink) → IsOperating self.state.layouts link
-            → IsAccepted self.state.layouts (W.far self.wire).page link (sending_of self.state.out message.now).message }
-        ensures stands { IsTrue (W.honest self.wire)
-            → OutcomeStands (outcome_of result) (W.silence (wire_of result)) (W.far (wire_of result)) }
-        ensures met { IsTrue (W.honest self.wire)
-            → MetFits (outcome_of result) (W.far (wire_of result)) }
-        ensures lost { IsTrue (W.honest self.wire)
-            → LostFits (outcome_of result) (W.silence (wire_of result)) }
+        ensures { IsCycle W.honest W.far W.silence W.exchange_gives self.wire self.state
+            message.now (outcome_of result) (wire_of result) }
     {
-        let mut link = self;
-        match link.exchange(message) {
-            Attempt::Got(reply) => Next::Operate(link, Some(reply)),
-            Attempt::Again => Next::Operate(link, None),
-            Attempt::Lost => Next::Down(link.lost()),
-        }
+        let mut link = Link {
+            wire: self.wire,
+            state: State::Operate(self.state),
+        };
+        let attempt = link.exchange(message);
+        link.next(attempt)
     }
 
     /// The message that had no good reply yet.
@@ -477,10 +467,7 @@ impl<W: Wire> Link<W, Operate> {
         ensures fits { IfSome result (λ m. HasMasterParts self.now.state.layouts.run m.now
             × IsTrue (stays m.now)) }
     {
-        match &self.state.out {
-            Some(sent) => Some(sent.message()),
-            None => None,
-        }
+        self.state.out()
     }
 
     /// The layout of OPERATE.

@@ -11,7 +11,7 @@ use Rattle.iol_far.specs.Isdu.{answer_text}
 use Rattle.iol_far.specs.Far.{Far}
 use Rattle.iol_far.specs.Level.{grown_by}
 use Rattle.iol_book.specs.declared.entries.Ticket.{Ticket}
-use Rattle.iol_app.specs.declared.station.AnyLink.{AnyLink}
+use Rattle.iol_mode.specs.Next.{AnyLink}
 use Rattle.iol_app.specs.StationState.{wire_of}
 use Rattle.iol_port.specs.declared.call.Call.{Call}
 use Rattle.iol_port.specs.declared.call.Call.TheVariants as call

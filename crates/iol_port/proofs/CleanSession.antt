@@ -18,7 +18,7 @@ use Rattle.iol_far.specs.Local.{Carry, local, carried_by, has_room, IsWorkedOff}
 use Rattle.iol_far.specs.Level.{Link, link_of}
 use Rattle.iol_far.specs.Laws.{IsSized, RepliesAreRead, InputStaysSized}
 use Rattle.iol_link.specs.declared.wire.Rate.{Rate}
-use Rattle.iol_mode.specs.declared.states.Outcome.TheVariants.{Operate as OutOperate}
+use Rattle.iol_mode.specs.States.{InOperate as OutOperate}
 use Rattle.iol_mode.specs.Stands.{operate_link, IsOperating, IsAccepted}
 use Rattle.iol_mode.specs.States.{operate_turned}
 use Rattle.iol_steps.specs.Step.{Image}
@@ -28,7 +28,7 @@ use Rattle.iol_app.specs.declared.request.Progress.{Progress}
 use Rattle.iol_app.specs.declared.request.Progress.TheVariants.{Sending, Asking, Receiving, Refused}
 use Rattle.iol_app.specs.declared.session.Exchange.{Exchange}
 use Rattle.iol_app.specs.declared.session.Exchange.TheVariants.{TellOutput, DropOutput, Abort, ReadEvent, ConfirmEvents, Request as NextMessage, Idle}
-use Rattle.iol_app.specs.declared.station.AnyLink.{AnyLink}
+use Rattle.iol_mode.specs.Next.{AnyLink}
 use Rattle.iol_app.specs.Requests.{aborts, current_after, IsSaid}
 use Rattle.iol_app.specs.Due.{is_under_way, is_confirm_due, is_resting, due_of, is_idle, is_ready}
 use Rattle.iol_app.specs.Messages.{Head, head_of, progress_head, progress_data, request_head, request_data}

@@ -3,8 +3,7 @@ use Rattle.std.proofs.Common.{◌≡◌, ◌∙◌, ℕ, Bool, refl, sym, ap, su
 use Rattle.iol_isdu.specs.declared.values.Request.{Request}
 use Rattle.iol_far.specs.Far.{Far}
 use Rattle.iol_app.specs.StationState.{wire_of}
-use Rattle.iol_app.specs.declared.station.AnyLink.{AnyLink}
-use Rattle.iol_app.specs.declared.station.AnyLink.TheVariants.{Down as InDown, Startup as InStartup, Preoperate as InPreoperate, Operate as InOperate}
+use Rattle.iol_mode.specs.Next.{AnyLink}
 use Rattle.iol_app.specs.State.{SessionState}
 use Rattle.iol_app.specs.Asking.{asked_of, prepared}
 use Rattle.iol_app.specs.Rewire.{rewired, RewireSteps}
@@ -15,20 +14,14 @@ use Rattle.iol_port.specs.Rewire.{rewired_parts, StandsStill}
 
 module _ {W : Type 0} where
   wire_is_by : (wire : W) (link : AnyLink W) → wire_of (rewired wire link) ≡ wire
-  wire_is_by wire (InDown link) = refl
-  wire_is_by wire (InStartup link) = refl
-  wire_is_by wire (InPreoperate link) = refl
-  wire_is_by wire (InOperate link) = refl
+  wire_is_by wire link = refl
 
   pub wire_is : (wire : W) (p next : Parts W) → next ≡ rewired_parts wire p → wire_of next.station.link ≡ wire
   wire_is wire p next e = subst (λ (q : Parts W). wire_of q.station.link ≡ wire) (sym e) (wire_is_by wire p.station.link)
 
   asks_same_by : (wire : W) (link : AnyLink W) (s : SessionState) (next : Option Request) (room : Bool)
       → asked_of (prepared next (record { link = rewired wire link; session = s }) room) room ≡ asked_of (prepared next (record { link = link; session = s }) room) room
-  asks_same_by wire (InDown link) s next room = refl
-  asks_same_by wire (InStartup link) s next room = refl
-  asks_same_by wire (InPreoperate link) s next room = refl
-  asks_same_by wire (InOperate link) s next room = refl
+  asks_same_by wire link s next room = refl
 
   pub asks_same : (wire : W) (p next : Parts W) → next ≡ rewired_parts wire p → asks_of next ≡ asks_of p
   asks_same wire p next e = subst (λ (q : Parts W). asks_of q ≡ asks_of p) (sym e) (asks_same_by wire p.station.link p.station.session _ _)

@@ -24,7 +24,7 @@ use Rattle.iol_link.specs.Honest.{CleanExchange}
 use Rattle.iol_book.specs.declared.entries.Ticket.{Ticket}
 use Rattle.iol_book.specs.declared.entries.Outcome.TheVariants.{Done}
 use Rattle.iol_book.specs.BookModel.{BookState, next_taken, took, posted}
-use Rattle.iol_app.specs.declared.station.AnyLink.TheVariants.{Operate as InOperate}
+use Rattle.iol_mode.specs.Next.{in_operate as InOperate}
 use Rattle.iol_app.specs.Due.{is_under_way, is_confirm_due, is_resting, is_ready}
 use Rattle.iol_app.specs.State.{SessionState}
 use Rattle.iol_app.specs.StationState.{StationState, wire_of}

@@ -1,10 +1,11 @@
 -- A station that is made stands with its device.
-use Rattle.std.proofs.Common.{refl}
-use Rattle.iol_app.specs.declared.station.AnyLink.TheVariants.{Down}
+use Rattle.std.proofs.Common.{ap}
+use Rattle.iol_app.specs.StationState.{mode_in, why_in}
 use Rattle.iol_app.proofs.SeenCalls.{new_steps}
 use Rattle.iol_app.proofs.station.Station.new.Goals as goal
 
 pub returns-clause-steps : goal.returns-clause-steps
 returns-clause-steps g c =
     let wire = g.W.Wire in
-    new_steps wire.honest wire.far wire.silence c.new_station_stands.ensures c.args.busy (record { link = Down c.new.result; session = c.new-2.result }) refl c.new.ensures.why c.new-2.ensures
+    let down = c.open.ensures.state in
+    new_steps wire.honest wire.far wire.silence c.new_station_stands.ensures c.args.busy (record { link = c.open.result; session = c.new.result }) (ap mode_in down) (ap why_in down) c.new.ensures

@@ -1,6 +1,18 @@
+use Rattle.std.proofs.Common.{ap, sym, subst, ◌∙◌}
+use Rattle.iol_app.specs.Rewire.{RewireSteps}
+use Rattle.iol_app.specs.StationState.{StationState}
 use Rattle.iol_app.proofs.Rewiring.{rewire_steps}
 use Rattle.iol_app.proofs.station.Station.rewire.Goals as goal
 
 pub returns-clause-steps : goal.returns-clause-steps
 returns-clause-steps g c =
-    rewire_steps g.W.Wire.honest g.W.Wire.far g.W.Wire.silence c.args.wire c.args.self.now c.link_over.new.self c.requires.honest c.requires.far c.requires.silence c.link_over.ensures.station
+    let wire = g.W.Wire in
+    let i = c.self.inside in
+    let old : StationState _ = record { link = i.link; session = i.session } in
+    let new : StationState _ = record { link = c.rewire.new.self; session = i.session } in
+    let is = c.self.view_is in
+    subst (λ (t : StationState _). RewireSteps wire.honest wire.far wire.silence t new) is
+    (rewire_steps wire.honest wire.far wire.silence c.args.wire old new
+    (c.requires.honest ∙ sym (ap (λ (t : StationState _). wire.honest t.link.wire) is)) (c.requires.far ∙ sym (ap (λ (t : StationState _). wire.far t.link.wire) is))
+    (c.requires.silence ∙ sym (ap (λ (t : StationState _). wire.silence t.link.wire) is))
+    (ap (λ l. let n : StationState _ = record { link = l; session = i.session } in n) c.rewire.ensures.link))

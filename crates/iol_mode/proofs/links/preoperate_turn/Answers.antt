@@ -1,0 +1,46 @@
+-- A turn of PREOPERATE.
+use Rattle.std.proofs.Common.{◌∙◌, refl, sym, ap, subst}
+use Rattle.iol_far.specs.Octets.{octets_in}
+use Rattle.iol_link.specs.Attempts.{good_reply}
+use Rattle.iol_mseq.specs.Master.{HasMasterParts}
+use Rattle.iol_mode.specs.States.{PreoperateSends}
+use Rattle.iol_mode.specs.declared.states.State.{State}
+use Rattle.iol_mode.specs.States.{Outcome, IsPreoperate, PreoperateFits, StateFits, outcome_with, preoperate_turned}
+use Rattle.iol_mode.specs.Stands.{StateStands}
+use Rattle.iol_mode.specs.Turns.{IsRisen, IsStartTurn}
+use Rattle.iol_mode.proofs.Outs.{preoperate_is, outcome_state}
+use Rattle.iol_mode.proofs.Preoperates.{preoperate_risen}
+use Rattle.iol_mode.proofs.links.preoperate_turn.Goals as goal
+
+pub preoperate_done-requires : goal.preoperate_done-requires
+preoperate_done-requires g c =
+    let s = c.in-Preoperate.preoperate in
+    let was : PreoperateFits s = subst IsPreoperate c.in-Preoperate.is c.requires.fits in
+    record { sends = subst (PreoperateSends s.cycle_written s.pre) (sym c.attempt-attempt.ensures.message) was.sends; parts = subst (HasMasterParts s.pre) (sym c.attempt-attempt.ensures.message) was.parts; layouts = was.layouts }
+
+pub returns : goal.returns
+returns g c =
+    let wire = g.W.Wire in
+    let s = c.in-Preoperate.preoperate in
+    let old = c.args.wire.now in
+    let new = c.attempt-attempt.new.wire in
+    let attempt = c.attempt-attempt.result in
+    let next = c.preoperate_done.new.state in
+    let was : PreoperateFits s = subst IsPreoperate c.in-Preoperate.is c.requires.fits in
+    let called = c.attempt-attempt.ensures.called in
+    let reply = good_reply s.pre s.sent.message (octets_in called.0) in
+    let is = ap (outcome_with attempt) c.preoperate_done.ensures.is ∙ preoperate_is s (octets_in called.0) attempt c.attempt-attempt.new.self called.3 in
+    subst (λ (t : State). IsStartTurn wire.honest wire.far wire.silence wire.exchange_gives old t (outcome_with attempt next) new) (sym c.in-Preoperate.is) (record {
+      exchange = record {
+        answer = called.0;
+        called = called.1;
+        passes = called.2;
+        honesty = c.attempt-attempt.ensures.honesty;
+        outcome_is = is;
+        fits = subst StateFits (sym (outcome_state attempt next)) c.preoperate_done.ensures.fits;
+      };
+      risen = λ honest.
+          subst (λ (o : Outcome). IsRisen o (wire.silence new) (wire.far old) (wire.far new)) (sym is)
+          (preoperate_risen c.laws.ensures s (wire.silence old) (wire.silence new) (wire.far old) (wire.far new) (octets_in called.0) was c.attempt-attempt.ensures.few
+          (subst (λ (t : State). StateStands t (wire.silence old) (wire.far old)) c.in-Preoperate.is (c.requires.stands honest)) (called.2 honest) reply refl);
+    })
