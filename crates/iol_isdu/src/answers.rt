@@ -6,7 +6,8 @@ ghost use Rattle.iol_isdu.specs.Texts.{answer_text};
 ghost use Rattle.iol_isdu.specs.declared.values.Answer.{Answer};
 
 use crate::fault::IsduFault;
-use crate::frame::{frame_of, framed, xor_of};
+use crate::frame::{frame_of, xor_of};
+use crate::front::answer_front;
 use crate::service::Service;
 use crate::values::{Answer, Octets, Request, Text};
 
@@ -18,23 +19,7 @@ pub fn encode_answer(request: &Request, answer: &Answer) -> Text
     ensures spells { IsAnswerText (is_read request.now) answer.now result.items }
     ensures text { result.items ≡ answer_text (is_read request.now) answer.now }
 {
-    text_to(request, answer)
-}
-
-fn text_to(request: &Request, answer: &Answer) -> Text
-    requires { AnswersKind (is_read request.now) answer.now }
-    ensures { IsAnswerText (is_read request.now) answer.now result.items }
-{
-    match (answer, request) {
-        (Answer::Read(octets), _) => framed(Service::ReadDone, octets, &[]),
-        (Answer::Written, _) => framed(Service::WriteDone, &[], &[]),
-        (Answer::Refused(error, additional), Request::Read(_)) => {
-            framed(Service::ReadRefused, &[*error, *additional], &[])
-        }
-        (Answer::Refused(error, additional), Request::Write(_, _)) => {
-            framed(Service::WriteRefused, &[*error, *additional], &[])
-        }
-    }
+    answer_front(request, answer).text()
 }
 
 /// The answer to this request whose text the octets begin with; what stands behind the text is

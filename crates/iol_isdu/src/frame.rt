@@ -1,24 +1,27 @@
-ghost use Rattle.std.specs.Prelude.{◌≡◌, ◌≤◌, ◌+◌, ◌++◌, IfOk, length};
+ghost use Rattle.std.specs.Prelude.{◌≡◌, IfOk, fold, bit_xor};
 ghost use Rattle.std.specs.Result.{result_err};
-ghost use Rattle.arrayvec.specs.ArrayVec.{array_vec_len};
-ghost use Rattle.iol_isdu.specs.Services.{service_number};
-ghost use Rattle.iol_isdu.specs.Frame.{total_at, frame_fault, Frames, IsFrame, xor_of};
+ghost use Rattle.iol_isdu.specs.Frame.{total_at, frame_fault, Frames, xor_of};
 
 use crate::fault::IsduFault;
-use crate::service::Service;
-use crate::values::Text;
 
 /// The longest total length that stands in the low four bits of the first octet.
-const LONGEST_PLAIN: usize = 15;
+pub(crate) const LONGEST_PLAIN: usize = 15;
 
 /// The low four bits of a first octet behind which an ExtLength stands.
-const EXTENDED: u8 = 1;
+pub(crate) const EXTENDED: u8 = 1;
 
 /// The XOR of all octets.
 pub(crate) fn xor_of(octets: &[u8]) -> u8
     ensures { result ≡ xor_of octets.now }
 {
-    octets.iter().fold(0, |sum, octet| sum ^ *octet)
+    xor_on(0, octets)
+}
+
+/// The XOR of all octets, from this one on.
+pub(crate) fn xor_on(sum: u8, octets: &[u8]) -> u8
+    ensures { result ≡ fold bit_xor sum octets.now }
+{
+    octets.iter().fold(sum, |sum, octet| sum ^ *octet)
 }
 
 /// The total length of the text that the octets begin with, in octets, as its first octet or its
@@ -70,32 +73,4 @@ pub(crate) fn frame_of(octets: &[u8]) -> Result<Frame<'_>, IsduFault>
         body: &text[head..total - 1],
         text,
     })
-}
-
-/// The text of a service and a body, which is given in two pieces.
-pub(crate) fn framed(service: Service, front: &[u8], rest: &[u8]) -> Text
-    requires { length front.now + length rest.now ≤ 235 }
-    ensures { IsFrame (service_number service) (front.now ++ rest.now) result.items }
-{
-    let plain = 1 + front.len() + rest.len() + 1;
-    let high = service.bits() << 4;
-    let mut text = Text::new();
-    if plain <= LONGEST_PLAIN {
-        text.push(high + plain as u8);
-    } else {
-        text.push(high + EXTENDED);
-        text.push(plain as u8 + 1);
-    }
-    append(&mut text, front);
-    append(&mut text, rest);
-    let chkpdu = xor_of(&text);
-    text.push(chkpdu);
-    text
-}
-
-fn append(text: &mut Text, octets: &[u8])
-    requires { array_vec_len text.old + length octets.now ≤ 238 }
-    ensures { text.new.items ≡ text.old.items ++ octets.now }
-{
-    text.try_extend_from_slice(octets).unwrap();
 }

@@ -8,6 +8,7 @@
 mod answers;
 mod fault;
 mod frame;
+mod front;
 mod laws;
 mod requests;
 mod service;
@@ -16,6 +17,7 @@ mod values;
 pub use answers::{encode_answer, read_answer};
 pub use fault::IsduFault;
 pub use frame::total_of;
+pub use front::{Front, answer_front, request_front};
 pub use laws::{one_text_each, one_text_in_front};
 pub use requests::{encode_request, read_request};
 pub use values::{Answer, Cause, Octets, Place, Request, Text};

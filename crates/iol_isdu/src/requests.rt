@@ -7,7 +7,8 @@ ghost use Rattle.iol_isdu.specs.Parse.{request_of};
 ghost use Rattle.iol_isdu.specs.declared.values.Request.{Request};
 
 use crate::fault::IsduFault;
-use crate::frame::{frame_of, framed, xor_of};
+use crate::frame::{frame_of, xor_of};
+use crate::front::request_front;
 use crate::service::{Form, Service};
 use crate::values::{Octets, Place, Request, Text};
 
@@ -17,22 +18,7 @@ pub fn encode_request(request: &Request) -> Text
     ensures short { IsShortText request.now result.items }
     ensures text { result.items ≡ request_text request.now }
 {
-    short_text(request)
-}
-
-fn short_text(request: &Request) -> Text
-    ensures { IsShortText request.now result.items }
-{
-    match request {
-        Request::Read(place) => {
-            let form = Form::shortest(place);
-            framed(Service::Read(form), &form.index_part(place), &[])
-        }
-        Request::Write(place, octets) => {
-            let form = Form::shortest(place);
-            framed(Service::Write(form), &form.index_part(place), octets)
-        }
-    }
+    request_front(request).text()
 }
 
 /// The request whose text the octets begin with; what stands behind the text is ignored

@@ -44,7 +44,7 @@ pairs_from-get size text i zero k less = absurd (omega arith)
 pairs_from-get size text i (suc n) zero less = ap (λ at. Some (pair size text at)) (omega arith)
 pairs_from-get size text i (suc n) (suc k) less = pairs_from-get size text (suc i) n k (omega arith) ∙ ap (λ at. Some (pair size text at)) (omega arith)
 
-pair_at-within : (size : ℕ) (text : List ℕ) (i : ℕ) → i * size < length text → pair_at size text i ≡ Some (pair size text i)
+pub pair_at-within : (size : ℕ) (text : List ℕ) (i : ℕ) → i * size < length text → pair_at size text i ≡ Some (pair size text i)
 pair_at-within size text i less = ap (λ b. if b then Some (pair size text i) else None) (lt-ltb (i * size) (length text) less)
 
 pair_at-past : (size : ℕ) (text : List ℕ) (i : ℕ) → length text ≤ i * size → pair_at size text i ≡ None

@@ -1,7 +1,6 @@
 -- A text cut into segments (IEC 61131-9, 7.3.6).
 use Rattle.std.specs.Prelude.{◌≡◌, ◌≤◌, ◌<◌, ℕ, zero, suc, ◌+◌, ◌-◌, ◌*◌, ◌/◌, ◌%◌, ◌==◌, nat_lt, if◌then◌else◌, List, [], ◌∷◌, ◌++◌, length, take, drop, replicate, Option, Some, None, slice_get}
 use Rattle.arrayvec.specs.ArrayVec.{ArrayVec}
-use Rattle.iol_isdu.specs.Frame.{xor_of}
 use Rattle.iol_octets.specs.declared.flow_control.Flow.{Flow}
 use Rattle.iol_octets.specs.declared.flow_control.Flow.TheVariants.{Start, Count}
 
@@ -48,14 +47,12 @@ pub record Cutting (S : Type 0) : Type 0 where
   pub size : ℕ
   pub given : ℕ
 
--- what always holds of a cutter of a text: the last segment given begins within it, and two XORs run with it
-pub record IsBeingCut (text : List ℕ) (size given sum sum_before : ℕ) : Type 0 where
+-- what always holds of a cutter of a text: the last segment given begins within it
+pub record IsBeingCut (text : List ℕ) (size given : ℕ) : Type 0 where
   pub low : 1 ≤ size
   pub high : size ≤ 32
   pub begins : (given - 1) * size ≤ 237
   pub within : (given - 1) * size < length text
-  pub sum_next : sum ≡ xor_of (take (given * size) text)
-  pub sum_last : sum_before ≡ xor_of (take ((given - 1) * size) text)
 
 -- how many are given after one more call
 abbrev pub after_next : ℕ → List ℕ → ℕ → ℕ

@@ -12,7 +12,6 @@ mod laws;
 mod parts;
 mod services;
 mod source;
-mod text;
 mod took;
 mod whole;
 
