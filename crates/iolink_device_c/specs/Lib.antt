@@ -1,3 +1,2 @@
-pub mod Heap
 pub mod Calls
 pub mod Shown

@@ -8,11 +8,11 @@ ghost use Rattle.iol_far.specs.Local.{local, woken, LocalStep};
 ghost use Rattle.iolink_device_c.specs.Calls.{far_of, IsRefused};
 
 use crate::held::{IolDevice, Sensor};
-use crate::refusal::{CLOSED, IS_OPEN, OUT_OF_MEMORY};
 use core::mem::replace_with;
 use iol_device::{Apart, Device};
 use iol_event::Event;
 use iol_page::Page;
+use iolink_handle::{CLOSED, IS_OPEN, OUT_OF_MEMORY};
 use std::alloc::Global;
 
 /// Opens a device with this direct parameter page 1, asleep. It takes no memory after this.

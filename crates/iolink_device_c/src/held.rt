@@ -2,8 +2,8 @@
 ghost use Rattle.std.specs.Prelude.{◌≡◌, Bool, true, false};
 ghost use Rattle.iolink_device_c.specs.declared.held.Sensor.{Sensor};
 
-use crate::loose::Loose;
 use iol_device::{Apart, Device, Unkept};
+use iolink_handle::Loose;
 use std::alloc::Global;
 use std::marker::Model;
 use std::ptr::null_mut;
@@ -24,7 +24,7 @@ pub struct Held {
 }
 
 impl Model for Held {
-    ghost use Rattle.iolink_device_c.specs.Heap.{held};
+    ghost use Rattle.iolink_handle.specs.Heap.{held};
     ghost use Rattle.iolink_device_c.specs.contracts.held.Sensor.{the_row};
 
     ghost also_owns = { λ h. held the_row h.is_held h.at h.value };

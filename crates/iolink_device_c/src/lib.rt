@@ -6,14 +6,11 @@
 //! of a device that keeps no record, so that it takes no memory once it is open.
 //!
 //! Each export answers the number of a refusal, or 0. The numbers are those of the library, 1 to 36, and three of its
-//! own (`refusal`).
+//! own ([`iolink_handle`]).
 #![tactic(auto)]
 
 mod device;
 mod held;
 mod line;
-mod loose;
-mod octets;
 mod process;
-mod refusal;
 mod request;

@@ -4,9 +4,8 @@ ghost use Rattle.iol_far.specs.Far.{hear};
 ghost use Rattle.iolink_device_c.specs.Calls.{far_of, IsRefused};
 
 use crate::held::IolDevice;
-use crate::octets::put;
-use crate::refusal::CLOSED;
 use core::mem::replace_with;
+use iolink_handle::{CLOSED, put};
 use std::alloc::Global;
 
 /// A reply: `length` octets, none where that is 0.

@@ -6,10 +6,9 @@ ghost use Rattle.iol_far.specs.Local.{local, is_input, LocalStep};
 ghost use Rattle.iolink_device_c.specs.Calls.{far_of, IsRefused};
 
 use crate::held::IolDevice;
-use crate::octets::put;
-use crate::refusal::CLOSED;
 use core::mem::replace_with;
 use iol_image::Image;
+use iolink_handle::{CLOSED, put};
 use std::alloc::Global;
 
 /// The process data in from now on: 0, or 252 where the handle is closed, and then 29, with nothing changed, for

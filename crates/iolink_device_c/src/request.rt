@@ -6,10 +6,9 @@ ghost use Rattle.iolink_device_c.specs.Calls.{far_of, IsRefused, Answers, read_o
 ghost use Rattle.iolink_device_c.specs.Shown.{IsShown};
 
 use crate::held::IolDevice;
-use crate::octets::put;
-use crate::refusal::{CLOSED, NOT_ASKED};
 use core::mem::replace_with;
 use iol_isdu::{Answer, Octets, Place, Request};
+use iolink_handle::{CLOSED, NOT_ASKED, put};
 use std::alloc::Global;
 
 const NONE: u8 = 0;

@@ -1,4 +1,3 @@
-pub mod Heap
 pub mod Calls
 pub mod Shown
 pub mod RequestCalls

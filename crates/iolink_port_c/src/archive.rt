@@ -7,12 +7,11 @@ ghost use Rattle.iolink_port_c.specs.JournalCalls.{Archives, RefusesArchive, Kee
 ghost use Rattle.iolink_port_c.specs.Shown.{IsRequest, IsEntry, IsNext};
 
 use crate::held::{IolPort, Master};
-use crate::octets::put;
 use crate::outcome::{IolOutcome, show_outcome};
-use crate::refusal::CLOSED;
 use core::mem::replace_with;
 use iol_book::{Entry, Ticket};
 use iol_isdu::{Place, Request};
+use iolink_handle::{CLOSED, put};
 use std::alloc::Global;
 
 /// The request was entered, among those that aren't urgent.

@@ -2,10 +2,10 @@
 ghost use Rattle.std.specs.Prelude.{◌≡◌, Bool, true, false};
 ghost use Rattle.iolink_port_c.specs.declared.held.Master.{Master};
 
-use crate::loose::Loose;
 use iol_book::Entry;
 use iol_line::Line;
 use iol_port::Port;
+use iolink_handle::Loose;
 use std::alloc::Global;
 use std::marker::Model;
 use std::ptr::null_mut;
@@ -29,7 +29,7 @@ pub struct Held {
 }
 
 impl Model for Held {
-    ghost use Rattle.iolink_port_c.specs.Heap.{held};
+    ghost use Rattle.iolink_handle.specs.Heap.{held};
     ghost use Rattle.iolink_port_c.specs.contracts.held.Master.{the_row};
 
     ghost also_owns = { λ h. held the_row h.is_held h.at h.value };

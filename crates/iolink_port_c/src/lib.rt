@@ -5,16 +5,13 @@
 //! a [`iol_line::Line`]: C asks what goes out, makes the exchange, and brings what came. Nothing is asked of what came.
 //!
 //! Each export answers the number of a refusal, or 0. The numbers are those of the library, 1 to 36, and four of its
-//! own (`refusal`).
+//! own ([`iolink_handle`]).
 #![tactic(auto)]
 
 mod archive;
 mod held;
 mod line;
-mod loose;
-mod octets;
 mod outcome;
 mod port;
-mod refusal;
 mod request;
 mod state;

@@ -10,13 +10,12 @@ ghost use Rattle.iolink_port_c.specs.Calls.{parts_of, IsRefused, Stays, CallDoes
 ghost use Rattle.iolink_port_c.specs.Calls.{rate_of, answer_of};
 
 use crate::held::IolPort;
-use crate::octets::put;
-use crate::refusal::{CLOSED, NOT_ASKED, OUT_OF_RANGE};
 use core::mem::replace_with;
 use iol_app::Asked;
 use iol_line::{turn_answered, turn_woken};
 use iol_link::Rate;
 use iol_mseq::Message;
+use iolink_handle::{CLOSED, NOT_ASKED, OUT_OF_RANGE, put};
 use std::alloc::Global;
 
 /// What the next turn sends: `length` octets, or a wake-up request where that is 0.

@@ -2,9 +2,9 @@
 ghost use Rattle.std.specs.Prelude.{◌≡◌, take};
 ghost use Rattle.iolink_port_c.specs.Shown.{IsOutcome, answer_kind, answer_octets, cause_number};
 
-use crate::octets::put;
 use iol_book::Outcome;
 use iol_isdu::{Answer, Cause};
+use iolink_handle::put;
 
 /// The device answered the read, and these are its octets.
 const READ: u8 = 1;

@@ -6,11 +6,11 @@ ghost use Rattle.iol_line.specs.Told.{is_honest, far_of, silence_of};
 ghost use Rattle.iolink_port_c.specs.Calls.{parts_of, IsRefused};
 
 use crate::held::{IolPort, Master};
-use crate::refusal::{CLOSED, IS_OPEN, OUT_OF_RANGE};
 use core::mem::replace_with;
 use iol_book::Limits;
 use iol_line::Line;
 use iol_port::Port;
+use iolink_handle::{CLOSED, IS_OPEN, OUT_OF_MEMORY, OUT_OF_RANGE};
 use std::alloc::Global;
 
 const LEAST_JOURNAL: u32 = 4;
@@ -71,7 +71,7 @@ pub extern "C" fn iol_port_open(
             *handle = IolPort::of(master);
             0
         }
-        Err(_) => 24,
+        Err(_) => OUT_OF_MEMORY,
     }
 }
 

@@ -7,11 +7,11 @@ ghost use Rattle.iolink_port_c.specs.Calls.{IsRefused, Stays, number_of};
 
 use crate::held::IolPort;
 use crate::outcome::{IolOutcome, show_outcome};
-use crate::refusal::CLOSED;
 use core::mem::replace_with;
 use iol_book::Ticket;
 use iol_isdu::{Place, Request};
 use iol_port::PortFault;
+use iolink_handle::CLOSED;
 use std::alloc::Global;
 
 /// Before which requests that wait a new one goes.

@@ -9,11 +9,10 @@ ghost use Rattle.iolink_port_c.specs.Calls.{parts_of, IsRefused, Stays, CallDoes
 ghost use Rattle.iolink_port_c.specs.StateCalls.{Restarts, SetsOutput, ClearsOutput, TakesEvent};
 
 use crate::held::IolPort;
-use crate::octets::put;
-use crate::refusal::CLOSED;
 use core::mem::replace_with;
 use iol_app::{Mode, Status};
 use iol_image::Image;
+use iolink_handle::{CLOSED, put};
 use std::alloc::Global;
 
 /// Cuts off the request under way, if any, and leaves the link in down: 0, or 252 where the handle is closed.
