@@ -11,6 +11,7 @@
 #![tactic(auto)]
 
 mod book;
+mod copies;
 mod entries;
 mod fault;
 mod laws;
