@@ -81,8 +81,8 @@ module _ {W : Type 0} (honest : W → Bool) (far : W → Far) (silence : W → �
     call_by wire (AtStartup state) s room said new fits turn = called _ _ _ _ _ _ _ turn.exchange
     call_by wire (AtPreoperate state) s room said new fits turn = called _ _ _ _ _ _ _ turn
     call_by wire (AtOperate state) s room said new fits turn =
-        subst (λ (t : List ℕ). (answer : Option (ArrayVec ℕ)) × gives link.wire t answer (wire_of new.link))
-        (sent_is link.state.layouts.run link.state.out turn.message s room fits.out_for turn.is_for turn.carries)
+        subst (λ (t : List ℕ). (answer : Option (ArrayVec ℕ)) × gives wire t answer (wire_of new.link))
+        (sent_is state.layouts.run state.out turn.message s room fits.out_for turn.is_for turn.carries)
         (called _ _ _ _ _ _ _ turn.exchange)
 
     pub turn_call : (old : StationState W) (room : Bool) (said : Said) (new : StationState W) → LinkFits old.link old.session → IsTurn honest far silence wakes gives room old said new

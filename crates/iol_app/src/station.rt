@@ -51,7 +51,7 @@ pub struct Station<W: Wire> {
 }
 
 impl<W: Wire> Model for Station<W> {
-    ghost use Rattle.iol_app.specs.StationState.{wire_of, mode_of, why_of, is_operating, waked_session, settled_session, attempt_session, IsAttemptSaid, IsReplyHearable, LinkFits, NextFits, IsSettledSaid, IsTurn};
+    ghost use Rattle.iol_app.specs.StationState.{StationState, LinkFits};
 
     ghost Value = { StationState W };
 
