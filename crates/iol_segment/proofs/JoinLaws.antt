@@ -15,7 +15,7 @@ use Rattle.iol_segment.specs.TextLaws.{HoldsLength, joined}
 use Rattle.arrayvec.specs.ArrayVec.{ArrayVec}
 use Rattle.iol_segment.specs.JoinLaws.{count_at, standing, took_at, first_took, repeated, answers_behind, expected, results, fed, JoinLaws}
 use Rattle.iol_segment.proofs.CutLaws.{segments-high, segments-low, length-pairs_from}
-use Rattle.iol_segment.proofs.Parting.{total-bounds}
+use Rattle.iol_segment.proofs.Growing.{total-bounds}
 use Rattle.iol_segment.proofs.TextLaws.{grows, ends, joined-is, joined-front, front-open}
 
 taken_of : Bool → Option ℕ → Took → List ℕ → Taken

@@ -1,6 +1,5 @@
 pub mod Pieces
 pub mod CutLaws
-pub mod Parting
-pub mod Wholes
+pub mod Growing
 pub mod TextLaws
 pub mod JoinLaws

@@ -18,7 +18,7 @@ use Rattle.iol_segment.specs.Join.{Open, Complete, stage_by, stage}
 use Rattle.iol_segment.specs.TextLaws.{HoldsLength, joined, IsBefore, IsLast, TextLaws}
 use Rattle.iol_segment.proofs.CutLaws.{segments-low, segments-past}
 use Rattle.iol_segment.proofs.Pieces.{segment-is}
-use Rattle.iol_segment.proofs.Parting.{total_at-more, total-bounds}
+use Rattle.iol_segment.proofs.Growing.{total_at-more, total-bounds}
 
 short-open : (n : ℕ) (r : Result ℕ IsduFault) (xs : List ℕ) → r ≡ Ok n → length xs < n → stage_by r xs ≡ Open
 short-open n (Ok m) xs e less =

@@ -1,5 +1,5 @@
 -- A text joined from its segments (IEC 61131-9, 7.3.6).
-use Rattle.std.specs.Prelude.{ℕ, ◌+◌, ◌%◌, Bool, true, false, not, ◌&&◌, ◌==◌, nat_le, if◌then◌else◌, List, [], ◌++◌, length, take, Option, Some, None, Result, Ok, Err}
+use Rattle.std.specs.Prelude.{◌≡◌, ℕ, ◌+◌, ◌%◌, Bool, true, false, not, ◌&&◌, ◌==◌, nat_le, if◌then◌else◌, List, [], ◌++◌, length, take, Option, Some, None, Result, Ok, Err}
 use Rattle.iol_octets.specs.declared.flow_control.Flow.{Flow}
 use Rattle.iol_octets.specs.declared.flow_control.Flow.TheVariants.{Start, Count}
 use Rattle.iol_isdu.specs.declared.fault.IsduFault.{IsduFault}
@@ -24,6 +24,12 @@ stage_by (Ok n) octets = if nat_le n (length octets) then Complete (take n octet
 
 abbrev pub stage : List ℕ → Stage
 stage octets = stage_by (total_at octets) octets
+
+-- a text grown by octets: the octets, or the text that they begin with
+abbrev pub Grown : Stage → List ℕ → Result Took JoinFault → List ℕ → Type 0
+Grown Open octets result text = (result ≡ Ok More) × (text ≡ octets)
+Grown (Complete whole) octets result text = (result ≡ Ok Whole) × (text ≡ whole)
+Grown Wrong octets result text = result ≡ Err BadIsduLength
 
 -- there are as many octets as that length
 abbrev pub is_whole_by : Result ℕ IsduFault → List ℕ → Bool

@@ -1,7 +1,6 @@
 pub mod Fault
 pub mod Cut
 pub mod Join
-pub mod Parts
 pub mod SourceLaws
 pub mod TextLaws
 pub mod JoinLaws

@@ -6,38 +6,42 @@ ghost use Rattle.iol_isdu.specs.Frame.{isdu_fault};
 ghost use Rattle.iol_isdu.specs.Requests.{BeginsWithRequest, request_accepts};
 ghost use Rattle.iol_isdu.specs.Answers.{BeginsWithAnswer, answer_fault, is_read};
 ghost use Rattle.iol_isdu.specs.Parse.{request_of};
-ghost use Rattle.iol_segment.specs.Join.{Joining, empty, taken, counted, staged, stage, is_whole, next_count};
+ghost use Rattle.iol_segment.specs.Join.{Joining, Grown, empty, taken, counted, staged, stage, is_whole, next_count};
 ghost use Rattle.iol_segment.specs.declared.took.Took.TheVariants.{Whole};
 ghost use Rattle.iol_segment.specs.declared.took.JoinFault.TheVariants.{WrongCount};
 
-use crate::parts::Parts;
+use crate::append::append;
 use crate::took::{JoinFault, Took};
-use iol_isdu::{Answer, IsduFault, Request};
+use iol_isdu::{Answer, IsduFault, Request, Text, read_answer, read_request, total_of};
 use iol_octets::Flow;
 use std::marker::Model;
+
+/// How many octets the longest text has.
+const LONGEST: usize = 238;
 
 /// The text of a request or of an answer, joined from its segments (IEC 61131-9, 7.3.6).
 ///
 /// Contracts see what it joins, whether START was taken, the last COUNT taken behind it, and the text
-/// so far. The data of the text are kept where the value has them, so they are not copied.
+/// so far.
 #[derive(Drop)]
 pub struct Joiner {
+    /// Whether it joins requests, else answers.
+    requests: bool,
     started: bool,
     /// The last COUNT taken, none right behind START.
     count: Option<u8>,
-    parts: Parts,
+    text: Text,
 }
 
 impl Model for Joiner {
     ghost use Rattle.std.specs.Prelude.{◌<◌, IfSome};
     ghost use Rattle.iol_segment.specs.Join.{Joining};
-    ghost use Rattle.iol_segment.specs.Parts.{IsParted, text_of};
 
     ghost Value = { Joining };
 
-    ghost view = { λ j. record { requests = j.parts.requests; started = j.started; count = j.count; text = text_of j.parts } };
+    ghost view = { λ j. record { requests = j.requests; started = j.started; count = j.count; text = j.text.items } };
 
-    ghost invariant = { λ j. IsParted j.parts.requests j.parts × IfSome j.count (λ c. c < 16) };
+    ghost invariant = { λ j. IfSome j.count (λ c. c < 16) };
 }
 
 impl Joiner {
@@ -73,7 +77,7 @@ impl Joiner {
     {
         match flow {
             Flow::Start => {
-                *self = Joiner::empty(self.parts.requests);
+                *self = Joiner::empty(self.requests);
                 self.add(None, octets)
             }
             Flow::Count(count) if self.started => self.take_count(count, octets),
@@ -85,7 +89,7 @@ impl Joiner {
     pub fn is_whole(&self) -> bool
         ensures { result ≡ is_whole self.now.text }
     {
-        self.parts.is_whole()
+        is_whole(&self.text)
     }
 
     /// The request whose text was taken, as `iol_isdu::read_request` reads it. A refusal gives the joiner
@@ -102,7 +106,7 @@ impl Joiner {
         ensures only { (r : Request) → BeginsWithRequest self.text r → result ≡ Ok r }
         ensures value { result_ok result ≡ request_of self.text }
     {
-        self.parts.into_request()
+        read_request(&self.text)
     }
 
     /// The answer to this request whose text was taken, as `iol_isdu::read_answer` reads it. A refusal
@@ -120,16 +124,17 @@ impl Joiner {
         ensures only { (a : Answer) → BeginsWithAnswer (is_read request.now) self.text a → result
             ≡ Ok a }
     {
-        self.parts.into_answer(is_read(request))
+        read_answer(request, &self.text)
     }
 
     fn empty(requests: bool) -> Joiner
         ensures { result ≡ empty requests }
     {
         Joiner {
+            requests,
             started: false,
             count: None,
-            parts: Parts::new(requests),
+            text: Text::new(),
         }
     }
 
@@ -137,7 +142,7 @@ impl Joiner {
         ensures took { result ≡ Err WrongCount }
         ensures joining { self.new ≡ empty self.old.requests }
     {
-        *self = Joiner::empty(self.parts.requests);
+        *self = Joiner::empty(self.requests);
         Err(JoinFault::WrongCount)
     }
 
@@ -151,7 +156,7 @@ impl Joiner {
         if self.count == Some(count) {
             return Ok(Took::Repeat);
         }
-        if count == self.next_count() && !self.parts.is_whole() {
+        if count == self.next_count() && !self.is_whole() {
             self.add(Some(count), octets)
         } else {
             self.refuse()
@@ -171,7 +176,6 @@ impl Joiner {
     /// Takes the next segment, the COUNT of which is kept.
     fn add(&mut self, count: Option<u8>, octets: &[u8]) -> Result<Took, JoinFault>
         requires count { IfSome count (λ c. c < 16) }
-        requires room { is_whole self.old.text ≡ false }
         ensures took { result
             ≡ (staged self.old.requests count (self.old.text ++ octets.now)
             (stage (self.old.text ++ octets.now))).took }
@@ -183,16 +187,40 @@ impl Joiner {
     {
         self.started = true;
         self.count = count;
-        let took = self.parts.grow(octets);
+        let took = grow(&mut self.text, octets);
         if took.is_err() {
-            *self = Joiner::empty(self.parts.requests);
+            *self = Joiner::empty(self.requests);
         }
         took
     }
 }
 
-fn is_read(request: &Request) -> bool
-    ensures { result ≡ is_read request.now }
+/// Whether there are as many octets as the total length that they begin with.
+fn is_whole(octets: &[u8]) -> bool
+    ensures { result ≡ is_whole octets.now }
 {
-    matches!(request, Request::Read(_))
+    match total_of(octets) {
+        Ok(total) => total <= octets.len(),
+        Err(_) => false,
+    }
+}
+
+/// Takes the octets of a segment, as far as they belong to the text.
+fn grow(text: &mut Text, octets: &[u8]) -> Result<Took, JoinFault>
+    ensures grown { Grown (stage (text.old.items ++ octets.now)) (text.old.items ++ octets.now)
+        result text.new.items }
+    ensures whole { result ≡ Ok Whole → IsTrue (is_whole text.new.items) }
+{
+    // To the proof this says that the text has no more than its longest.
+    let _ = text.len();
+    append(text, LONGEST, octets);
+    match total_of(text) {
+        Err(IsduFault::Truncated) => Ok(Took::More),
+        Err(_) => Err(JoinFault::BadIsduLength),
+        Ok(total) if total <= text.len() => {
+            text.truncate(total);
+            Ok(Took::Whole)
+        }
+        Ok(_) => Ok(Took::More),
+    }
 }

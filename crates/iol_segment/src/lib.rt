@@ -6,14 +6,12 @@
 //! request or the answer. Nothing allocates.
 #![tactic(auto)]
 
+mod append;
 mod cutter;
 mod joiner;
 mod laws;
-mod parts;
-mod services;
 mod source;
 mod took;
-mod whole;
 
 pub use cutter::{Cutter, Segment};
 pub use joiner::Joiner;
