@@ -1,9 +1,9 @@
 //! What a device is without its application.
-ghost use Rattle.std.specs.Prelude.{◌≡◌, ℕ, ◌+◌, ◌-◌, ◌<◌, ◌≤◌, ◌↔◌, ◌∷◌, ◌==◌, replicate, length, slice_index, List, Option, Some, None, MatchOption, IsTrue, IsErr, IfErr, OnErr, option_copied, IfOk, bytes_eq, option_map, IfNone, OnSome, false, is_some, IsOk, unwrap_or, [], if◌then◌else◌};
+ghost use Rattle.std.specs.Prelude.{◌≡◌, ℕ, ◌+◌, ◌-◌, ◌<◌, ◌≤◌, ◌↔◌, ◌∷◌, ◌==◌, replicate, ◌++◌, length, slice_index, List, Option, Some, None, MatchOption, IsTrue, IsErr, IfErr, OnErr, option_copied, IfOk, bytes_eq, option_map, IfNone, OnSome, false, is_some, IsOk, unwrap_or, [], if◌then◌else◌};
 
 use crate::app::App;
 use crate::commands::{Waiting, command_in, is_confirm, mode_asked};
-use crate::data::{copy_of, flow_of, image_of, message_in, message_of, octets_of, size_of};
+use crate::data::{copy_of, flow_of, image_of, message_in, message_of, size_of};
 use crate::fault::DeviceFault;
 use crate::isdu::{IsduSide, answer_of, is_kind_of};
 use crate::record::{Kept, Record};
@@ -11,7 +11,9 @@ use iol_event::{Event, EventMemory};
 use iol_far::{Carried, Mode};
 use iol_image::Image;
 use iol_isdu::{Answer, Request};
-use iol_mseq::{Layout, MasterMsg, Message, Part, Reply, first, first_of_zeros, part_of, zeros};
+use iol_mseq::{
+    Layout, MasterView, Message, append, append_first, append_zeros, close_reply, first,
+};
 use iol_octets::{Channel, Mc};
 use iol_page::{Layouts, MasterCommand, Page, pages_ask_for_layouts};
 use std::alloc::Allocator;
@@ -132,7 +134,7 @@ impl<R: Record> FarEnd<R> {
     }
 
     /// The message that the octets are, once it is in the layout in which it accepts them.
-    fn accept(&mut self, octets: &[u8]) -> Option<MasterMsg>
+    fn accept<'a>(&mut self, octets: &'a [u8]) -> Option<MasterView<'a>>
         ensures length { OnSome result (length octets.now ≤ 66) }
         ensures accepts { far.accepted self.old octets.now ≡ option_map (λ m. (self.new, m)) result }
         ensures none { IfNone result (self.new ≡ self.old) }
@@ -150,26 +152,30 @@ impl<R: Record> FarEnd<R> {
         }
     }
 
-    /// What the far end does on hearing these octets.
-    pub fn hear(&mut self, octets: &[u8]) -> Option<Message>
+    /// What the far end does on hearing these octets. Answers whether it replies; the reply is put into the buffer.
+    pub fn hear(&mut self, octets: &[u8], reply: &mut Message) -> bool
+        requires { reply.old.items ≡ [] }
         ensures far { self.new ≡ (far.hear self.old octets.now).far }
-        ensures reply { octets_in result ≡ (far.hear self.old octets.now).reply }
-        ensures answers { is_some result ≡ is_some (far.accepted self.old octets.now) }
-        ensures silent { IfNone result (self.new ≡ self.old) }
+        ensures reply { (if result then Some reply.new.items else None) ≡ (far.hear self.old octets.now).reply }
+        ensures answers { result ≡ is_some (far.accepted self.old octets.now) }
+        ensures silent { result ≡ false → self.new ≡ self.old }
     {
-        let message = self.accept(octets)?;
+        let Some(message) = self.accept(octets) else {
+            return false;
+        };
         self.work_message(octets, &message);
-        Some(self.reply(&message))
+        self.reply(&message, reply);
+        true
     }
 
-    fn work_message(&mut self, octets: &[u8], message: &MasterMsg)
+    fn work_message(&mut self, octets: &[u8], message: &MasterView<'_>)
         requires { length octets.now ≤ 66 }
         ensures { self.new ≡ far.worked self.old octets.now message.now }
     {
         self.work_command(octets, command_in(message));
         self.work_isdu(message);
-        self.work_events(message.mc);
-        self.work_output(&message.out);
+        self.work_events(message.mc());
+        self.work_output(message.out());
         self.work_cycle_time(message);
     }
 
@@ -208,22 +214,23 @@ impl<R: Record> FarEnd<R> {
         }
     }
 
-    fn work_isdu(&mut self, message: &MasterMsg)
+    fn work_isdu(&mut self, message: &MasterView<'_>)
         ensures { self.new ≡ record self.old {
           isdu = far.isdu_after (knows_isdu self.old.page) (layout_of self.old).od self.old.isdu
               message.now.mc.channel message.now.mc.read (flow_of message.now.mc.address) message.now.od.items;
         } }
     {
-        if message.mc.channel != Channel::Isdu {
+        let mc = message.mc();
+        if mc.channel != Channel::Isdu {
             return;
         }
-        let flow = flow_of(message.mc);
+        let flow = flow_of(mc);
         if !self.layouts.isdu {
             self.isdu.clear();
-        } else if message.mc.read {
+        } else if mc.read {
             self.isdu.read(flow);
         } else {
-            self.isdu.write(flow, message.od.as_slice());
+            self.isdu.write(flow, message.od());
         }
     }
 
@@ -237,56 +244,57 @@ impl<R: Record> FarEnd<R> {
         }
     }
 
-    fn work_output(&mut self, out: &Part)
-        ensures { self.new ≡ record self.old { out = far.out_after self.old.mode self.old.out out.now.items } }
+    fn work_output(&mut self, out: &[u8])
+        requires { length out.now ≤ 32 }
+        ensures { self.new ≡ record self.old { out = far.out_after self.old.mode self.old.out out.now } }
     {
         if self.mode == Mode::Operate {
             self.out = image_of(out);
         }
     }
 
-    fn work_cycle_time(&mut self, message: &MasterMsg)
+    fn work_cycle_time(&mut self, message: &MasterView<'_>)
         ensures { self.new ≡ record self.old {
           cycle_time = far.cycle_time_after self.old.cycle_time
               message.now.mc.channel message.now.mc.read message.now.mc.address (slice_index message.now.od.items 0);
         } }
     {
-        let mc = message.mc;
+        let mc = message.mc();
         if mc.channel == Channel::Page && !mc.read && mc.address == 1 {
-            self.cycle_time = first(&message.od);
+            self.cycle_time = first(message.od());
         }
     }
 
     /// The reply, read off the far end as it is after the message.
-    fn reply(&self, message: &MasterMsg) -> Message
-        ensures { Some result.items ≡ (far.replied self.now message.now).reply }
+    #[tactic(auto, unfolding(iol_far::specs::Codec::octets_of))]
+    fn reply(&self, message: &MasterView<'_>, reply: &mut Message)
+        requires { reply.old.items ≡ [] }
+        ensures { Some reply.new.items ≡ (far.replied self.now message.now).reply }
     {
         let layout = self.layout_in(self.mode);
-        let od = if message.mc.read {
-            self.data(message.mc.channel, message.mc.address)
-        } else {
-            Part::new()
-        };
-        let reply = Reply {
-            od,
-            input: self.input_part(),
-            event: self.events.flag(),
-            invalid: layout.pd_in() != 0 && self.input.is_none(),
-        };
-        octets_of(&layout, &reply)
+        let mc = message.mc();
+        if mc.read {
+            self.append_data(reply, size_of(&layout), mc.channel, mc.address);
+        }
+        self.append_input(reply, layout.pd_in());
+        let invalid = layout.pd_in() != 0 && self.input.is_none();
+        close_reply(reply, self.events.flag(), invalid);
     }
 
-    /// The on-request data of the reply to a read.
-    fn data(&self, channel: Channel, address: u8) -> Part
-        ensures value { result.items ≡ far.data_of self.now (layout_of self.now).od channel address }
-        ensures size { length result.items ≡ (layout_of self.now).od }
+    /// Puts the on-request data of the reply to a read at the end.
+    fn append_data(&self, octets: &mut Message, size: u8, channel: Channel, address: u8)
+        requires size { size ≡ (layout_of self.now).od }
+        requires some { 1 ≤ size }
+        requires most { size ≤ 32 }
+        requires empty { octets.old.items ≡ [] }
+        ensures value { octets.new.items ≡ octets.old.items ++ far.data_of self.now size channel address }
+        ensures length { length octets.new.items ≡ size }
     {
-        let size = size_of(&self.layout_in(self.mode));
         match channel {
-            Channel::Process => zeros(size),
-            Channel::Page => first_of_zeros(size, self.page_octet(address)),
-            Channel::Diagnosis => first_of_zeros(size, self.events.octet(address)),
-            Channel::Isdu => self.isdu.data(),
+            Channel::Process => append_zeros(octets, size),
+            Channel::Page => append_first(octets, size, self.page_octet(address)),
+            Channel::Diagnosis => append_first(octets, size, self.events.octet(address)),
+            Channel::Isdu => self.isdu.append_data(octets),
         }
     }
 
@@ -301,15 +309,17 @@ impl<R: Record> FarEnd<R> {
         }
     }
 
-    /// The process data in.
-    fn input_part(&self) -> Part
-        ensures value { result.items ≡ far.input_of self.now (layout_of self.now).pd_in }
-        ensures size { length result.items ≡ (layout_of self.now).pd_in }
+    /// Puts the process data in at the end.
+    fn append_input(&self, octets: &mut Message, size: u8)
+        requires size { size ≡ (layout_of self.now).pd_in }
+        requires most { size ≤ 32 }
+        requires room { length octets.old.items ≤ 32 }
+        ensures value { octets.new.items ≡ octets.old.items ++ far.input_of self.now size }
+        ensures length { length octets.new.items ≤ 64 }
     {
-        let size = self.layout_in(self.mode).pd_in();
         match &self.input {
-            Some(image) if size != 0 => part_of(image.octets()),
-            _ => zeros(size),
+            Some(image) if size != 0 => append(octets, image.octets()),
+            _ => append_zeros(octets, size),
         }
     }
 

@@ -1,5 +1,5 @@
 //! The request under way, and the answer to it (IEC 61131-9, 7.3.6).
-ghost use Rattle.std.specs.Prelude.{◌≡◌, ◌<◌, ◌≤◌, ◌+◌, ◌%◌, true, false, None, Some, List, ℕ, IsTrue, IfSome, option_copied, length};
+ghost use Rattle.std.specs.Prelude.{◌≡◌, ◌<◌, ◌≤◌, ◌+◌, ◌++◌, ◌%◌, true, false, None, Some, List, ℕ, IsTrue, IfSome, option_copied, length};
 ghost use Rattle.iol_segment.specs.Join.{is_whole};
 ghost use Rattle.iol_segment.specs.Cut.{flow_at};
 ghost use Rattle.iol_octets.specs.Flow.{IsFlow};
@@ -10,7 +10,7 @@ ghost use Rattle.iol_device.specs.Inside.{IsduValue, IsKept, IsReceiving, GoesOn
 
 use crate::app::App;
 use iol_isdu::{Answer, Request};
-use iol_mseq::{Part, first_of_zeros, zeros};
+use iol_mseq::{Message, append, append_first, append_zeros};
 use iol_octets::Flow;
 use iol_segment::{Cutter, Joiner, Reaction, cut_is_whole};
 use std::marker::Model;
@@ -81,19 +81,20 @@ impl IsduSide {
         read_from(&mut self.stage, self.size, flow);
     }
 
-    /// The on-request data of the reply to a read.
-    pub fn data(&self) -> Part
-        ensures value { result.items ≡ isdu_data self.now.size self.now.state }
-        ensures size { length result.items ≡ self.now.size }
+    /// Puts the on-request data of the reply to a read at the end.
+    pub fn append_data(&self, octets: &mut Message)
+        requires { length octets.old.items ≤ 32 }
+        ensures value { octets.new.items ≡ octets.old.items ++ isdu_data self.now.size self.now.state }
+        ensures size { length (isdu_data self.now.size self.now.state) ≡ self.now.size }
     {
         cut_is_whole();
         match &self.stage {
-            Stage::Handed(_) => first_of_zeros(self.size, 1),
+            Stage::Handed(_) => append_first(octets, self.size, 1),
             Stage::Answered(cutter) => match cutter.again() {
-                Some((_, segment)) => segment,
-                None => zeros(self.size),
+                Some((_, segment)) => append(octets, &segment),
+                None => append_zeros(octets, self.size),
             },
-            _ => zeros(self.size),
+            _ => append_zeros(octets, self.size),
         }
     }
 

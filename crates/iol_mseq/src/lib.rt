@@ -16,9 +16,11 @@ mod reply;
 pub use fault::MseqFault;
 pub use laws::{one_flip_is_refused, what_is_written_is_read};
 pub use layouts::Layout;
-pub use master::{MasterMsg, encode_master, read_master};
-pub use parts::{Message, Part, first, first_of_zeros, part_of, zeros};
-pub use reply::{Reply, encode_reply, read_reply};
+pub use master::{MasterMsg, MasterView, encode_master, read_master, view_master, write_master};
+pub use parts::{
+    Message, Part, append, append_first, append_zeros, first, first_of_zeros, part_of, zeros,
+};
+pub use reply::{Reply, ReplyView, close_reply, encode_reply, read_reply, view_reply};
 
 #[cfg(test)]
 mod tests;

@@ -19,7 +19,21 @@ pub fn part_of(octets: &[u8]) -> Part
     requires { length octets.now ≤ 32 }
     ensures { result.items ≡ octets.now }
 {
-    ArrayVec::try_from(octets).unwrap()
+    let mut part = Part::new();
+    fill(&mut part, octets);
+    part
+}
+
+/// Puts these octets, at most 32, into a part that is empty.
+pub(crate) fn fill(part: &mut Part, octets: &[u8])
+    requires empty { part.old.items ≡ [] }
+    requires most { length octets.now ≤ 32 }
+    ensures { part.new.items ≡ octets.now }
+{
+    // Many a part has no octet.
+    if !octets.is_empty() {
+        part.try_extend_from_slice(octets).unwrap();
+    }
 }
 
 /// So many zeros, at most 32.
@@ -57,11 +71,34 @@ pub fn first(octets: &[u8]) -> u8
 }
 
 /// Puts a part at the end.
-pub(crate) fn append(message: &mut Message, part: &[u8])
+pub fn append(message: &mut Message, part: &[u8])
     requires { array_vec_len message.old + length part.now ≤ 66 }
     ensures { message.new.items ≡ message.old.items ++ part.now }
 {
-    message.try_extend_from_slice(part).unwrap();
+    // Many a part has no octet.
+    if !part.is_empty() {
+        message.try_extend_from_slice(part).unwrap();
+    }
+}
+
+/// Puts so many zeros at the end.
+pub fn append_zeros(message: &mut Message, size: u8)
+    requires { array_vec_len message.old + size ≤ 66 }
+    ensures { message.new.items ≡ message.old.items ++ replicate size 0 }
+{
+    for _i in 0..size {
+        message.push(0);
+    }
+}
+
+/// Puts the on-request data of the page and diagnosis channels at the end: the first octet is meant, the others are 0.
+pub fn append_first(message: &mut Message, size: u8, octet: u8)
+    requires most { array_vec_len message.old + size ≤ 66 }
+    requires some { 1 ≤ size }
+    ensures { message.new.items ≡ message.old.items ++ first_of_zeros size octet }
+{
+    message.push(octet);
+    append_zeros(message, size - 1);
 }
 
 /// Puts an octet into a place.

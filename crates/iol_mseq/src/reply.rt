@@ -1,14 +1,17 @@
-ghost use Rattle.std.specs.Prelude.{◌≡◌, Bool, ◌%◌, ◌≤◌, ◌↔◌, IsOk, IfOk, Ok};
+ghost use Rattle.std.specs.Prelude.{◌≡◌, Bool, ◌%◌, ◌<◌, ◌≤◌, ◌↔◌, [], ◌∷◌, ◌++◌, length, IsOk, IfOk, IsTrue, Ok};
+ghost use Rattle.arrayvec.specs.ArrayVec.{array_vec_len};
 ghost use Rattle.std.specs.Result.{result_err, result_ok};
 ghost use Rattle.iol_octets.specs.CheckOctets.{status_bits};
+ghost use Rattle.iol_octets.specs.Checksum.{checksum_of, has_checksum};
 ghost use Rattle.iol_mseq.specs.Replies.{answered_od, reply_fault, reply_in, reply_of, HasReplyParts, FitsReply, SpellsReply, IsGoodReply};
-ghost use Rattle.iol_mseq.specs.Texts.{reply_text};
+ghost use Rattle.iol_mseq.specs.Texts.{closed_by, reply_text};
 ghost use Rattle.iol_mseq.specs.declared.reply.Reply.{Reply};
 
 use crate::fault::MseqFault;
 use crate::layouts::Layout;
-use crate::parts::{Message, Part, append, part_of, push_sealed};
+use crate::parts::{Message, Part, append, fill, push_sealed};
 use iol_octets::{Cks, has_checksum6};
+use std::marker::Model;
 
 /// What a device says in one reply.
 #[derive(Clone, Debug, PartialEq, Eq, Drop)]
@@ -23,11 +26,94 @@ pub struct Reply {
     pub invalid: bool,
 }
 
-/// Reads a reply in a layout, to a read or to a write (IEC 61131-9, A.2).
+/// A reply read in place: its parts are octets of what was read.
+///
+/// A clause sees the reply that it shows.
+#[derive(Drop)]
+pub struct ReplyView<'a> {
+    od: &'a [u8],
+    input: &'a [u8],
+    event: bool,
+    invalid: bool,
+}
+
+impl<'a> Model for ReplyView<'a> {
+    ghost use Rattle.std.specs.Prelude.{length, ◌≤◌};
+    ghost use Rattle.iol_mseq.specs.declared.reply.Reply.{Reply};
+
+    ghost Value = { Reply };
+
+    ghost view = { λ v. record {
+      od = record { items = v.od.now };
+      input = record { items = v.input.now };
+      event = v.event;
+      invalid = v.invalid;
+    } };
+
+    ghost invariant = { λ v. (length v.od.now ≤ 32) × (length v.input.now ≤ 32) };
+}
+
+impl<'a> ReplyView<'a> {
+    /// The on-request data, to a read: at most 32 octets.
+    pub fn od(&self) -> &'a [u8]
+        ensures value { result.now ≡ self.now.od.items }
+        ensures most { length result.now ≤ 32 }
+    {
+        self.od
+    }
+
+    /// The process data in, at most 32 octets.
+    pub fn input(&self) -> &'a [u8]
+        ensures value { result.now ≡ self.now.input.items }
+        ensures most { length result.now ≤ 32 }
+    {
+        self.input
+    }
+
+    /// The Event flag.
+    pub fn event(&self) -> bool
+        ensures { result ≡ self.now.event }
+    {
+        self.event
+    }
+
+    /// PD status 1: the process data in is invalid.
+    pub fn invalid(&self) -> bool
+        ensures { result ≡ self.now.invalid }
+    {
+        self.invalid
+    }
+}
+
+/// Reads a reply in a layout, to a read or to a write (IEC 61131-9, A.2), and copies its parts.
 ///
 /// Octets that are well-formed there spell one reply, and that is the answer. Refusals, the first that
 /// holds: 4 WrongLength; 6 BadChecksum.
 pub fn read_reply(layout: &Layout, read: bool, octets: &[u8]) -> Result<Reply, MseqFault>
+    ensures good { IsOk result ↔ IsGoodReply layout.now read octets.now }
+    ensures refused { result_err result ≡ reply_fault layout.now read octets.now }
+    ensures spelled { IfOk result (λ r. SpellsReply layout.now read r octets.now) }
+    ensures only { (r : Reply) → SpellsReply layout.now read r octets.now → result ≡ Ok r }
+    ensures value { result_ok result ≡ reply_in layout.now read octets.now }
+{
+    let view = view_reply(layout, read, octets)?;
+    let mut reply = Reply {
+        od: Part::new(),
+        input: Part::new(),
+        event: view.event,
+        invalid: view.invalid,
+    };
+    fill(&mut reply.od, view.od);
+    fill(&mut reply.input, view.input);
+    Ok(reply)
+}
+
+/// Reads a reply in a layout, as [`read_reply`] does, and copies nothing.
+pub fn view_reply<'a>(
+    layout: &Layout,
+    read: bool,
+    octets: &'a [u8],
+) -> Result<ReplyView<'a>, MseqFault>
     ensures good { IsOk result ↔ IsGoodReply layout.now read octets.now }
     ensures refused { result_err result ≡ reply_fault layout.now read octets.now }
     ensures spelled { IfOk result (λ r. SpellsReply layout.now read r octets.now) }
@@ -51,8 +137,18 @@ pub fn encode_reply(layout: &Layout, reply: &Reply) -> Message
     let mut octets = Message::new();
     append(&mut octets, &reply.od);
     append(&mut octets, &reply.input);
-    push_sealed(&mut octets, status_of(reply.event, reply.invalid));
+    close_reply(&mut octets, reply.event, reply.invalid);
     octets
+}
+
+/// Puts the check octet of a reply behind its on-request data and its process data in.
+pub fn close_reply(octets: &mut Message, event: bool, invalid: bool)
+    requires { array_vec_len octets.old < 66 }
+    ensures text { octets.new.items ≡ closed_by octets.old.items (status_bits event invalid) }
+    ensures small { checksum_of (octets.old.items ++ status_bits event invalid ∷ []) < 64 }
+    ensures sealed { IsTrue (has_checksum (array_vec_len octets.old) octets.new.items) }
+{
+    push_sealed(octets, status_of(event, invalid));
 }
 
 /// The two bits above the checksum.
@@ -91,7 +187,7 @@ fn fault_of(layout: &Layout, read: bool, octets: &[u8]) -> Option<MseqFault>
 }
 
 /// The reply that well-formed octets spell.
-fn spelled_by(layout: &Layout, read: bool, octets: &[u8]) -> Reply
+fn spelled_by<'a>(layout: &Layout, read: bool, octets: &'a [u8]) -> ReplyView<'a>
     requires { IsGoodReply layout.now read octets.now }
     ensures spelled { SpellsReply layout.now read result octets.now }
     ensures value { result ≡ reply_of layout.now read octets.now }
@@ -99,9 +195,9 @@ fn spelled_by(layout: &Layout, read: bool, octets: &[u8]) -> Reply
     let (od, rest) = octets.split_at(answered_od(layout, read));
     let (input, check) = rest.split_at(layout.pd_in() as usize);
     let cks = Cks::from_octet(check[0]);
-    Reply {
-        od: part_of(od),
-        input: part_of(input),
+    ReplyView {
+        od,
+        input,
         event: cks.event,
         invalid: cks.invalid,
     }

@@ -1,4 +1,4 @@
-ghost use Rattle.std.specs.Prelude.{◌≡◌, ℕ, [], true, false, List, Some, IfOk, IfErr, IfSome, IsTrue, MatchBool, is_some, length, min, ◌+◌, ◌≤◌, if◌then◌else◌, ◌∷◌};
+ghost use Rattle.std.specs.Prelude.{◌≡◌, ℕ, [], true, None, Option, false, List, Some, IfOk, IfErr, IfSome, IsTrue, MatchBool, is_some, length, min, ◌+◌, ◌≤◌, if◌then◌else◌, ◌∷◌};
 ghost use Rattle.arrayvec.specs.ArrayVec.{ArrayVec};
 ghost use Rattle.std.specs.Vec.Iter.{into_iter_items};
 ghost use Rattle.iol_octets.specs.Checksum.{has_checksum, AreOctets};
@@ -220,9 +220,9 @@ impl<P: App, A: Allocator + Copy> Sim<P, A> {
         }
     }
 
-    /// The octets are sent, and what comes back is answered.
-    fn pass(&mut self, fate: Fate, sent: &[u8]) -> Option<Message>
-        ensures answer { octets_in result ≡ (exchanged fate self.old.device.far sent.now).reply }
+    /// The octets are sent. Answers whether a reply comes back; it is put into the buffer.
+    fn pass(&mut self, fate: Fate, sent: &[u8], reply: &mut Message) -> bool
+        ensures answer { (if result then Some reply.new.items else None) ≡ (exchanged fate self.old.device.far sent.now).reply }
         ensures device { self.new
             ≡ record self.old {
               device =
@@ -232,32 +232,43 @@ impl<P: App, A: Allocator + Copy> Sim<P, A> {
             → IfSome (hear self.old.device.far sent.now).reply AreOctets }
     {
         match fate {
-            Fate::Clean => self.device.hear(sent),
+            Fate::Clean => self.device.hear_into(sent, reply),
             Fate::BackLost => {
-                let _ = self.device.hear(sent);
-                None
+                self.device.hear_into(sent, reply);
+                false
             }
             Fate::BackDamaged => {
-                let reply = self.device.hear(sent)?;
-                Some(damaged(reply.as_slice()))
+                let comes = self.device.hear_into(sent, reply);
+                damage(reply);
+                comes
             }
-            Fate::OutDamaged if sent.len() <= LONGEST => {
-                self.device.hear(damaged(sent).as_slice())
-            }
-            Fate::OutDamaged | Fate::OutLost | Fate::NoWake | Fate::Silent => None,
+            Fate::OutDamaged if sent.len() <= LONGEST => self.pass_damaged(sent, reply),
+            Fate::OutDamaged | Fate::OutLost | Fate::NoWake | Fate::Silent => false,
         }
     }
 
-    /// Counts an exchange that ended so.
-    fn count(&mut self, fate: Fate, answer: &Option<Message>)
-        ensures { self.new
+    /// The octets are sent, and come damaged.
+    fn pass_damaged(&mut self, sent: &[u8], reply: &mut Message) -> bool
+        requires { length sent.now ≤ LONGEST }
+        ensures answer { (if result then Some reply.new.items else None) ≡ (hear self.old.device.far (damaged sent.now)).reply }
+        ensures device { self.new
             ≡ record self.old {
-              silence = silence_by fate self.old.silence
-                  (octets_in answer.now);
+              device = record self.old.device { far = (hear self.old.device.far (damaged sent.now)).far };
             } }
     {
-        self.line.silence = match (fate, answer) {
-            (Fate::Clean, Some(_)) => 0,
+        let mut message = Message::try_from(sent).unwrap();
+        damage(&mut message);
+        self.device.hear_into(message.as_slice(), reply)
+    }
+
+    /// Counts an exchange that ended so.
+    fn count(&mut self, fate: Fate, answered: bool)
+        ensures { (reply : List ℕ) → self.new ≡ record self.old {
+          silence = silence_by fate self.old.silence (if answered then Some reply else None);
+        } }
+    {
+        self.line.silence = match (fate, answered) {
+            (Fate::Clean, true) => 0,
             _ => 3.min(self.line.silence + 1),
         };
     }
@@ -276,17 +287,29 @@ impl<A: Allocator + Copy> Sim<Params, A> {
     }
 }
 
-/// The octets of a message with bit 0 of the last one flipped.
-fn damaged(octets: &[u8]) -> Message
-    requires { length octets.now ≤ LONGEST }
-    ensures value { result.items ≡ damaged octets.now }
-    ensures octets { AreOctets octets.now }
+/// What a wire answers.
+fn answer_of(answered: bool, reply: Message) -> Option<Message>
+    ensures { octets_in result ≡ (if answered then Some reply.items else None) }
 {
-    let mut message = Message::try_from(octets).unwrap();
+    if answered { Some(reply) } else { None }
+}
+
+/// Flips bit 0 of the last octet of a message.
+fn damage(message: &mut Message)
+    ensures value { message.new.items ≡ damaged message.old.items }
+    ensures octets { AreOctets message.old.items }
+{
+    are_octets(message);
     if let Some(octet) = message.last_mut() {
         *octet ^= 1;
     }
-    message
+}
+
+/// A law without code of its own: octets are below 256.
+fn are_octets(octets: &[u8])
+    ensures { AreOctets octets.now }
+{
+    let _ = octets;
 }
 
 impl<P: App, A: Allocator + Copy> Wire for Sim<P, A> {
@@ -319,9 +342,10 @@ impl<P: App, A: Allocator + Copy> Wire for Sim<P, A> {
         damaged_replies_are_unread();
         one_flip_is_seen();
         self.device.parts_are_regular();
+        let mut reply = Message::new();
         let fate = self.prepare();
-        let answer = self.pass(fate, sent);
-        self.count(fate, &answer);
-        answer
+        let answered = self.pass(fate, sent, &mut reply);
+        self.count(fate, answered);
+        answer_of(answered, reply)
     }
 }

@@ -1,6 +1,6 @@
 use Rattle.std.proofs.Common.{ap, Ok}
 use Rattle.iol_mseq.proofs.Messages.{one_reply}
-use Rattle.iol_mseq.proofs.reply.read_reply.Goals as goal
+use Rattle.iol_mseq.proofs.reply.view_reply.Goals as goal
 
 pub returns-in-None-clause-only : goal.returns-in-None-clause-only
 returns-in-None-clause-only c =
