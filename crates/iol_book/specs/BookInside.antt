@@ -1,6 +1,5 @@
 -- What callers see of a book's fields, and what holds of them.
 use Rattle.std.specs.Prelude.{ℕ, ◌+◌, ◌-◌, ◌/◌, ◌≤◌, min, length}
-use Rattle.std.specs.Option.{option_map}
 use Rattle.std.specs.Vec.{vec_capacity}
 use Rattle.std.specs.VecDeque.{deque_capacity}
 use Rattle.indexmap.specs.IndexMap.{spare}
@@ -16,7 +15,7 @@ unanswered standing = waiting_count standing + taken_count standing
 module _ {A : Type 0} where
   -- what the queues, the request that is taken and the map hold
   abbrev pub standing_of : Inside A → Standing
-  standing_of fields = record { urgent = fields.urgent.items; waiting = fields.waiting.items; taken = option_map (λ t. (t.0, t.1.value)) fields.taken; outcomes = fields.outcomes.entries }
+  standing_of fields = record { urgent = fields.urgent.items; waiting = fields.waiting.items; taken = fields.taken; outcomes = fields.outcomes.entries }
 
   -- the book without its memory
   abbrev pub state_of : Inside A → BookState

@@ -11,7 +11,6 @@
 #![tactic(auto)]
 
 mod book;
-mod copies;
 mod entries;
 mod fault;
 mod laws;
