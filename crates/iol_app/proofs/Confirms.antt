@@ -32,13 +32,8 @@ request_none None = refl
 request_none (Some current) = progress_none current.progress
 
 pub confirms_by_head : (exchange : Exchange) (reading : Reading) (current : Option Current) → is_confirm_head (head_for exchange reading current) ≡ confirms_events exchange
-confirms_by_head TellOutput _ current = refl
-confirms_by_head DropOutput _ current = refl
-confirms_by_head Abort _ current = refl
-confirms_by_head ReadEvent _ current = refl
-confirms_by_head ConfirmEvents _ current = refl
 confirms_by_head NextMessage _ current = request_none current
-confirms_by_head Idle _ current = refl
+confirms_by_head other _ current = refl
 
 some_message : (b : Bool) (m n : MasterMsg) → (if b then None else Some m) ≡ Some n → m ≡ n
 some_message true m n e = absurd (let k : None ≡ Some n = e in cc)

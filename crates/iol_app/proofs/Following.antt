@@ -104,20 +104,13 @@ idle_quiet cutter (Receiving joining had) h = absurd h
 idle_quiet cutter Refused h = absurd h
 
 reply_follows : (exchange : Exchange) (limit : ℕ) (od : List ℕ) (current : Option Current) → IfSome current IsCurrent → Suits exchange current → ReplyFollows exchange limit od current
-reply_follows TellOutput limit od None h suits = refl
-reply_follows DropOutput limit od None h suits = refl
-reply_follows Abort limit od None h suits = refl
-reply_follows ReadEvent limit od None h suits = refl
-reply_follows ConfirmEvents limit od None h suits = refl
-reply_follows NextMessage limit od None h suits = refl
-reply_follows Idle limit od None h suits = refl
-reply_follows TellOutput limit od (Some current) h suits = refl
-reply_follows DropOutput limit od (Some current) h suits = refl
-reply_follows Abort limit od (Some current) h suits = refl
-reply_follows ReadEvent limit od (Some current) h suits = refl
-reply_follows ConfirmEvents limit od (Some current) h suits = refl
 reply_follows NextMessage limit od (Some current) h suits = request_follows current current.progress limit od h refl
 reply_follows Idle limit od (Some current) h suits = idle_quiet current.cutter current.progress suits
+reply_follows other limit od (Some current) h suits = refl
+reply_follows exchange limit od None h suits = by_exchange exchange
+  where
+    by_exchange : (e : Exchange) → ReplyFollows e limit od None
+    by_exchange any = refl
 
 pub replies_follow : RepliesFollow
 replies_follow s exchange od h suits = reply_follows exchange s.limit od s.current h.current suits

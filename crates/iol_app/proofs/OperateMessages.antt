@@ -43,13 +43,8 @@ request_reads None = refl
 request_reads (Some current) = progress_reads current.progress
 
 reads_by_head : (exchange : Exchange) (reading : Reading) (current : Option Current) → reads_head (head_for exchange reading current) ≡ reads_for exchange
-reads_by_head TellOutput _ current = refl
-reads_by_head DropOutput _ current = refl
-reads_by_head Abort _ current = refl
-reads_by_head ReadEvent _ current = refl
-reads_by_head ConfirmEvents _ current = refl
 reads_by_head NextMessage _ current = request_reads current
-reads_by_head Idle _ current = refl
+reads_by_head other _ current = refl
 
 pub exchange_reads : (exchange : Exchange) (reading : Reading) (current : Option Current) (message : MasterMsg) → head_of message.mc ≡ head_for exchange reading current
     → reads_events message ≡ reads_for exchange
@@ -71,13 +66,8 @@ request_command None octet = refl
 request_command (Some current) octet = progress_command current.progress octet
 
 command_is : (exchange : Exchange) (reading : Reading) (current : Option Current) (size : ℕ) → command_by (head_for exchange reading current) (slice_index (data_for exchange size current) 0) ≡ output_for exchange
-command_is TellOutput _ current size = refl
-command_is DropOutput _ current size = refl
-command_is Abort _ current size = refl
-command_is ReadEvent _ current size = refl
-command_is ConfirmEvents _ current size = refl
 command_is NextMessage _ current size = request_command current _
-command_is Idle _ current size = refl
+command_is other _ current size = refl
 
 pub exchange_command : (exchange : Exchange) (reading : Reading) (current : Option Current) (size : ℕ) (message : MasterMsg) → head_of message.mc ≡ head_for exchange reading current
     → message.od.items ≡ data_for exchange size current → output_by Operate (command_in message) ≡ output_for exchange

@@ -72,13 +72,9 @@ cut_plain None said waits h = absurd (let k : false ≡ true = waits in cc)
 cut_plain (Some cause) said waits h = said_plain said (Cut cause) h tt
 
 one_plain : (exchange : Exchange) (limit : ℕ) (od : List ℕ) (current : Current) (said : Said) → Suits exchange (Some current) → IsSaidOf exchange limit od current said → IsPlain said
-one_plain TellOutput limit od current said suits h = said_plain said SaidBusy h tt
-one_plain DropOutput limit od current said suits h = said_plain said SaidBusy h tt
 one_plain Abort limit od current said suits h = cut_plain current.abort said suits h
-one_plain ReadEvent limit od current said suits h = said_plain said SaidBusy h tt
-one_plain ConfirmEvents limit od current said suits h = said_plain said SaidBusy h tt
 one_plain NextMessage limit od current said suits h = outcome_plain (is_read current.cutter.source) (replied limit od current) said h
-one_plain Idle limit od current said suits h = said_plain said SaidBusy h tt
+one_plain other limit od current said suits h = said_plain said SaidBusy h tt
 
 request_plain : (exchange : Exchange) (limit : ℕ) (od : List ℕ) (current : Option Current) (said : Said) → Suits exchange current → IsSaid exchange limit od current said → IsPlain said
 request_plain exchange limit od None said suits h = said_plain said SaidIdle h tt

@@ -64,14 +64,10 @@ aborted_request request (Some cause) said suits h = ap (request_after (Some requ
 
 one_request : (exchange : Exchange) (limit : ℕ) (od : List ℕ) (current : Current) (said : Said) → Suits exchange (Some current) → IsSaidOf exchange limit od current said
     → request_in (one_after exchange limit od current) ≡ request_after (Some current.cutter.source) said
-one_request TellOutput limit od current said suits h = ap (request_after (Some current.cutter.source)) (sym h)
-one_request DropOutput limit od current said suits h = ap (request_after (Some current.cutter.source)) (sym h)
 one_request Abort limit od current said suits h = aborted_request current.cutter.source current.abort said suits h
-one_request ReadEvent limit od current said suits h = ap (request_after (Some current.cutter.source)) (sym h)
-one_request ConfirmEvents limit od current said suits h = ap (request_after (Some current.cutter.source)) (sym h)
 one_request NextMessage limit od current said suits h =
     outcome_request current.cutter.source (is_read current.cutter.source) (replied limit od current) said (replied_source current.progress limit od current) h
-one_request Idle limit od current said suits h = ap (request_after (Some current.cutter.source)) (sym h)
+one_request other limit od current said suits h = ap (request_after (Some current.cutter.source)) (sym h)
 
 -- what is said of a reply where no list was read: how the request is
 pub current_request : (exchange : Exchange) (limit : ℕ) (od : List ℕ) (current : Option Current) (said : Said) → Suits exchange current → IsSaid exchange limit od current said

@@ -94,13 +94,8 @@ request_moves fit laws size (Some current) h same =
 messages_move : AnswersFit → (laws : (size : ℕ) → 1 ≤ size → TextLaws size) (exchange : Exchange) (size : ℕ) (reading : Reading) (current : Option Current) → IfSome current IsCurrent → IfSome current (λ c. c.cutter.size ≡ size)
     → IsMoveOf size exchange current (head_for exchange reading current) (data_for exchange size current)
 unfolding flow_of
-messages_move fit laws TellOutput size _ current h same = tt
-messages_move fit laws DropOutput size _ current h same = tt
-messages_move fit laws Abort size _ current h same = tt
-messages_move fit laws ReadEvent size _ current h same = tt
-messages_move fit laws ConfirmEvents size _ current h same = tt
 messages_move fit laws NextMessage size _ current h same = request_moves fit laws size current h same
-messages_move fit laws Idle size _ current h same = tt
+messages_move fit laws other size _ current h same = tt
 
 pub messages_are_moves : AnswersFit → ((size : ℕ) → 1 ≤ size → TextLaws size) → MessagesAreMoves
 messages_are_moves fit laws s layout exchange h told =

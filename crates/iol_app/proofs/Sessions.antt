@@ -77,23 +77,15 @@ going_stays size (HasText text) h = (tt, tt)
 
 one_stays : (exchange : Exchange) (limit : ℕ) (od : List ℕ) (current : Current) → IsCurrent current → (exchange ≡ NextMessage → IsAnswered current.cutter.size current.progress od)
     → StaysGoing current.cutter.size (one_after exchange limit od current)
-one_stays TellOutput limit od current h size = (h, refl)
-one_stays DropOutput limit od current h size = (h, refl)
 one_stays Abort limit od current h size = (tt, tt)
-one_stays ReadEvent limit od current h size = (h, refl)
-one_stays ConfirmEvents limit od current h size = (h, refl)
 one_stays NextMessage limit od current h size =
     going_stays current.cutter.size (replied limit od current) (replied_stays current current.progress limit od h refl (size refl))
-one_stays Idle limit od current h size = (h, refl)
+one_stays other limit od current h size = (h, refl)
 
 output_stays : (size : ℕ) (exchange : Exchange) (output : Output) → IsOutput size output → IsOutput size (output_after exchange output)
 output_stays size TellOutput output h = record { carried = h.carried; wanted = h.wanted }
 output_stays size DropOutput output h = record { carried = h.carried; wanted = h.wanted }
-output_stays size Abort output h = h
-output_stays size ReadEvent output h = h
-output_stays size ConfirmEvents output h = h
-output_stays size NextMessage output h = h
-output_stays size Idle output h = h
+output_stays size other output h = h
 
 -- the reply has on-request data of the layout's size where the request's message was a read
 answered_as : (layout : Option Shape) (size : ℕ) (p : Progress) (reading : Reading) (od : List ℕ) (current : Current) → current.progress ≡ p → 1 ≤ size → size ≡ od_size layout
@@ -164,11 +156,9 @@ data_length : (exchange : Exchange) (size : ℕ) (reading : Reading) (current : 
     → IsData size (head_for exchange reading current).read (data_for exchange size current)
 data_length TellOutput size _ current some h same = length-first_of_zeros size (command_octet ProcessDataOutputOperate) some
 data_length DropOutput size _ current some h same = length-first_of_zeros size (command_octet DeviceOperate) some
-data_length Abort size _ current some h same = refl
-data_length ReadEvent size _ current some h same = refl
 data_length ConfirmEvents size _ current some h same = length-first_of_zeros size 0 some
 data_length NextMessage size _ current some h same = request_data_length size current h same
-data_length Idle size _ current some h same = refl
+data_length other size _ current some h same = refl
 
 od_some : (layout : Shape) → IsLayout layout → 1 ≤ layout.od
 od_some layout h = by_size layout.od h.od
