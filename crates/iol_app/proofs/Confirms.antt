@@ -3,6 +3,8 @@ use Rattle.std.proofs.Common.{◌≡◌, ℕ, Bool, true, false, if◌then◌els
 use Rattle.std.specs.Prelude.{slice_index, is_some}
 use Rattle.iol_octets.specs.Control.{control_of}
 use Rattle.iol_octets.specs.declared.control.Mc.{Mc}
+use Rattle.iol_octets.specs.declared.control.Channel.{Channel}
+use Rattle.iol_octets.specs.declared.control.Channel.TheVariants.{Isdu}
 use Rattle.iol_mseq.specs.Shape.{Shape}
 use Rattle.iol_mseq.specs.Master.{SpellsMaster, master_fault, message_of}
 use Rattle.iol_mseq.specs.declared.master.MasterMsg.{MasterMsg}
@@ -14,25 +16,26 @@ use Rattle.iol_app.specs.declared.request.Current.{Current}
 use Rattle.iol_app.specs.declared.request.Progress.{Progress}
 use Rattle.iol_app.specs.declared.request.Progress.TheVariants.{Sending, Asking, Receiving, Refused}
 use Rattle.iol_app.specs.declared.session.Exchange.{Exchange}
-use Rattle.iol_app.specs.declared.session.Exchange.TheVariants.{TellOutput, DropOutput, Abort, ReadEvent, ConfirmEvents, Request as NextMessage, Idle}
+use Rattle.iol_app.specs.declared.session.Exchange.TheVariants.{Request as NextMessage}
 use Rattle.iol_app.specs.Messages.{Head, head_for, progress_head, request_head}
 use Rattle.iol_app.specs.Moves.{confirms_events, ConfirmsConfirm}
 
 abbrev pub is_confirm_head : Head → Bool
 is_confirm_head head = is_confirm head.channel head.read head.address
 
-progress_none : (p : Progress) → is_confirm_head (progress_head p) ≡ false
-progress_none (Sending flow segment) = refl
-progress_none (Asking busy) = refl
-progress_none (Receiving joining had) = refl
-progress_none Refused = refl
+-- the request's messages are on the ISDU channel
+progress_channel : (p : Progress) → (progress_head p).channel ≡ Isdu
+progress_channel (Sending flow segment) = refl
+progress_channel (Asking busy) = refl
+progress_channel (Receiving joining had) = refl
+progress_channel Refused = refl
 
-request_none : (current : Option Current) → is_confirm_head (request_head current) ≡ false
-request_none None = refl
-request_none (Some current) = progress_none current.progress
+pub request_channel : (current : Option Current) → (request_head current).channel ≡ Isdu
+request_channel None = refl
+request_channel (Some current) = progress_channel current.progress
 
 pub confirms_by_head : (exchange : Exchange) (reading : Reading) (current : Option Current) → is_confirm_head (head_for exchange reading current) ≡ confirms_events exchange
-confirms_by_head NextMessage _ current = request_none current
+confirms_by_head NextMessage _ current = ap (λ (c : Channel). is_confirm c (request_head current).read (request_head current).address) (request_channel current)
 confirms_by_head other _ current = refl
 
 some_message : (b : Bool) (m n : MasterMsg) → (if b then None else Some m) ≡ Some n → m ≡ n

@@ -9,7 +9,6 @@ pub mod TakingUp
 pub mod Stations
 pub mod Turns
 pub mod Settling
-pub mod Requesting
 pub mod Seeing
 pub mod SeenWake
 pub mod StartMessages

@@ -1,6 +1,7 @@
 -- What the messages of OPERATE are for the device.
-use Rattle.std.proofs.Common.{◌≡◌, inl, inr, ℕ, zero, suc, ◌-◌, ◌≤◌, Bool, false, List, [], ◌∷◌, ◌++◌, length, replicate, drop, refl, sym, ap, ◌∙◌, arith, Option, Some, None}
+use Rattle.std.proofs.Common.{◌≡◌, inl, inr, ℕ, zero, suc, ◌-◌, ◌≤◌, Bool, true, false, List, [], ◌∷◌, ◌++◌, length, replicate, drop, refl, sym, ap, ◌∙◌, arith, Option, None}
 use Rattle.std.specs.Prelude.{◌⊎◌, slice_index}
+use Rattle.iol_octets.specs.declared.control.Channel.{Channel}
 use Rattle.iol_octets.specs.declared.control.Channel.TheVariants.{Page, Diagnosis, Isdu}
 use Rattle.iol_mseq.specs.Shape.{Shape}
 use Rattle.iol_mseq.specs.Texts.{master_text}
@@ -14,13 +15,11 @@ use Rattle.iol_steps.specs.declared.mode.Mode.TheVariants.{Operate}
 use Rattle.iol_steps.specs.Station.{confirms, reads_events, is_diagnosis_read, output_by}
 use Rattle.iol_app.specs.declared.event_work.Reading.{Reading}
 use Rattle.iol_app.specs.declared.request.Current.{Current}
-use Rattle.iol_app.specs.declared.request.Progress.{Progress as Cursor}
-use Rattle.iol_app.specs.declared.request.Progress.TheVariants.{Sending, Asking, Receiving, Refused}
 use Rattle.iol_app.specs.declared.session.Exchange.{Exchange}
 use Rattle.iol_app.specs.declared.session.Exchange.TheVariants.{TellOutput, DropOutput, Abort, ReadEvent, ConfirmEvents, Request as NextMessage, Idle}
-use Rattle.iol_app.specs.Messages.{Head, head_of, head_for, data_for, progress_head, request_head}
+use Rattle.iol_app.specs.Messages.{Head, head_of, head_for, data_for, request_head, request_data}
 use Rattle.iol_app.specs.Moves.{confirms_events}
-use Rattle.iol_app.proofs.Confirms.{is_confirm_head, confirms_by_head}
+use Rattle.iol_app.proofs.Confirms.{request_channel, is_confirm_head, confirms_by_head}
 use Rattle.iol_app.proofs.DueFacts.{output_for, reads_for}
 
 -- a confirm, a read of events
@@ -32,18 +31,8 @@ exchange_confirms exchange reading current message e = ap is_confirm_head e ∙ 
 abbrev reads_head : Head → Bool
 reads_head head = is_diagnosis_read head.channel head.read
 
-progress_reads : (p : Cursor) → reads_head (progress_head p) ≡ false
-progress_reads (Sending flow segment) = refl
-progress_reads (Asking busy) = refl
-progress_reads (Receiving joining had) = refl
-progress_reads Refused = refl
-
-request_reads : (current : Option Current) → reads_head (request_head current) ≡ false
-request_reads None = refl
-request_reads (Some current) = progress_reads current.progress
-
 reads_by_head : (exchange : Exchange) (reading : Reading) (current : Option Current) → reads_head (head_for exchange reading current) ≡ reads_for exchange
-reads_by_head NextMessage _ current = request_reads current
+reads_by_head NextMessage _ current = ap (λ (c : Channel). is_diagnosis_read c (request_head current).read) (request_channel current)
 reads_by_head other _ current = refl
 
 pub exchange_reads : (exchange : Exchange) (reading : Reading) (current : Option Current) (message : MasterMsg) → head_of message.mc ≡ head_for exchange reading current
@@ -55,18 +44,15 @@ exchange_reads exchange reading current message e = ap reads_head e ∙ reads_by
 abbrev command_by : Head → ℕ → Option Bool
 command_by head octet = output_by Operate (command_at head.read head.channel head.address octet)
 
-progress_command : (p : Cursor) (octet : ℕ) → command_by (progress_head p) octet ≡ None
-progress_command (Sending flow segment) octet = refl
-progress_command (Asking busy) octet = refl
-progress_command (Receiving joining had) octet = refl
-progress_command Refused octet = refl
-
-request_command : (current : Option Current) (octet : ℕ) → command_by (request_head current) octet ≡ None
-request_command None octet = refl
-request_command (Some current) octet = progress_command current.progress octet
+-- other channels have none
+isdu_command : (read : Bool) (address octet : ℕ) → output_by Operate (command_at read Isdu address octet) ≡ None
+isdu_command true address octet = refl
+isdu_command false address octet = refl
 
 command_is : (exchange : Exchange) (reading : Reading) (current : Option Current) (size : ℕ) → command_by (head_for exchange reading current) (slice_index (data_for exchange size current) 0) ≡ output_for exchange
-command_is NextMessage _ current size = request_command current _
+command_is NextMessage _ current size =
+    ap (λ (c : Channel). output_by Operate (command_at (request_head current).read c (request_head current).address (slice_index (request_data current) 0))) (request_channel current)
+    ∙ isdu_command (request_head current).read (request_head current).address (slice_index (request_data current) 0)
 command_is other _ current size = refl
 
 pub exchange_command : (exchange : Exchange) (reading : Reading) (current : Option Current) (size : ℕ) (message : MasterMsg) → head_of message.mc ≡ head_for exchange reading current
@@ -103,16 +89,6 @@ tell_differs run pre message size low od e =
     (ap (λ (o : List ℕ). message.out.items ++ o) (sym od) ∙ sym (text_parts run message) ∙ ap (drop 2) e ∙ text_parts pre (command_message pre DeviceOperate))
 
 -- only output commands are of the page
-
-progress_channel : (p : Cursor) → (progress_head p).channel ≡ Isdu
-progress_channel (Sending flow segment) = refl
-progress_channel (Asking busy) = refl
-progress_channel (Receiving joining had) = refl
-progress_channel Refused = refl
-
-request_channel : (current : Option Current) → (request_head current).channel ≡ Isdu
-request_channel None = refl
-request_channel (Some current) = progress_channel current.progress
 
 pub page_command : (exchange : Exchange) (reading : Reading) (current : Option Current) → (head_for exchange reading current).channel ≡ Page → (exchange ≡ TellOutput) ⊎ (exchange ≡ DropOutput)
 page_command TellOutput _ current e = inl refl

@@ -36,16 +36,15 @@ use Rattle.iol_steps.specs.Station.{Station, Unseen, Out, Shown, Stands, Suits, 
 use Rattle.iol_steps.specs.Exchange.{Sends, IsNew, missed, had, made, image_had, told_by, reading_had}
 use Rattle.iol_steps.specs.Promises.{MissedGives, LostGives, HadGives, ReplyTells, TextNamesAnswer, Exchanges, Tells}
 use Rattle.iol_app.specs.declared.output.Output.{Output}
-use Rattle.iol_app.specs.declared.request.Current.{Current}
 use Rattle.iol_app.specs.declared.session.Exchange.{Exchange}
 use Rattle.iol_app.specs.declared.session.Exchange.TheVariants.{TellOutput, DropOutput}
 use Rattle.iol_app.specs.declared.station.AnyLink.TheVariants.{Operate as InOperate}
 use Rattle.iol_app.specs.Outputs.{carried_by, carrying, output_after}
-use Rattle.iol_app.specs.Requests.{request_in, Suits as SuitsCurrent}
+use Rattle.iol_app.specs.Requests.{Suits as SuitsCurrent}
 use Rattle.iol_app.specs.Due.{due_of}
 use Rattle.iol_app.specs.Messages.{data_for}
-use Rattle.iol_app.specs.Moves.{MessagesAreMoves, RepliesFollow, AnswersAreTakenUp}
-use Rattle.iol_app.specs.State.{SessionState, IsSession, od_size, sending, sent, sent_by, image_in, lost_said, quiet_said as session_quiet_said, OutSuits, IsMessageFor, IsOutBy, IsOutFor}
+use Rattle.iol_app.specs.Moves.{MessagesAreMoves, AnswersAreTakenUp}
+use Rattle.iol_app.specs.State.{SessionState, IsSession, od_size, sending, sent, sent_by, image_in, OutSuits, IsMessageFor, IsOutBy, IsOutFor}
 use Rattle.iol_app.specs.StationState.{StationState, wire_of, LinkFits, IsSettled, IsMet, IsExchange, IsOperateTurn}
 use Rattle.iol_app.specs.Seen.{SentSeen, ShownSeen, move_out, out_in, IsSeen}
 use Rattle.iol_app.proofs.Turns.{some_reply}
@@ -66,7 +65,6 @@ pub record OperateLaws : Type 0 where
   pub tells : ReplyTells
   pub names : TextNamesAnswer
   pub moves : MessagesAreMoves
-  pub follows : RepliesFollow
   pub taken : AnswersAreTakenUp
 
 -- The image of a good reply
@@ -108,14 +106,6 @@ output_told : (exchange : Exchange) (output : Output) (told : Bool) → told ≡
 output_told TellOutput output told e = refl
 output_told DropOutput output told e = refl
 output_told other output told e = e
-
-same_lost : (current : Option Current) → lost_said current ≡ link_lost_said (request_in current)
-same_lost None = refl
-same_lost (Some current) = refl
-
-same_quiet : (current : Option Current) → session_quiet_said current ≡ quiet_said (request_in current)
-same_quiet None = refl
-same_quiet (Some current) = refl
 
 module _ {W : Type 0} (honest : W → Bool) (far : W → Far) (silence : W → ℕ) (wakes : W → Option Rate → W → Type 0) (gives : W → List ℕ → Option (ArrayVec ℕ) → W → Type 0)
     (laws : OperateLaws) (link : Kept W Operate) (session : SessionState) (valid : IsSession session) (fits : LinkFits {W = W} (InOperate link) session) (said : Said) (new : StationState W)
@@ -194,7 +184,7 @@ module _ {W : Type 0} (honest : W → Bool) (far : W → Far) (silence : W → �
         → IsMet honest far silence wakes gives link.wire (unanswered b) (wire_of new.link) → Steps honest far silence s u said new
     by_tries true two exchange_is settled both =
         lost_steps honest far silence laws.lost s u out (out_session exchange output) said new exchange_is (grind (arith, nat_tests)) (seen.is_honest ∙ sym both.honesty) seen.busy_limit seen.event_form
-        goes.shown (seen.output_told ∙ sym goes.told) settled (settled.said_is ∙ same_lost session.current ∙ ap link_lost_said (sym seen.request))
+        goes.shown (seen.output_told ∙ sym goes.told) settled (settled.said_is ∙ ap link_lost_said (sym seen.request))
     by_tries false two exchange_is settled both =
         let again : suc tries ≤ 2 = grind (arith, nat_tests) in
         let next : Station = missed s out next_far next_silence in
@@ -217,7 +207,7 @@ module _ {W : Type 0} (honest : W → Bool) (far : W → Far) (silence : W → �
           shown = goes.shown;
           output_told = seen.output_told ∙ sym goes.told;
         }))
-        (laws.missed s u out next_far next_silence exchange_is again) (settled.said_is ∙ same_quiet session.current ∙ ap quiet_said (sym seen.request))
+        (laws.missed s u out next_far next_silence exchange_is again) (settled.said_is ∙ ap quiet_said (sym seen.request))
 
     -- A good reply
 
@@ -244,7 +234,7 @@ module _ {W : Type 0} (honest : W → Bool) (far : W → Far) (silence : W → �
         read_on_seen session.events.reading session.events.flag s.reading seen.reading session.current message reply goes.wants tells.events exchange goes.is_for.head in
         let reads : reads_events message ≡ reads_for exchange = exchange_reads exchange session.events.reading session.current message goes.is_for.head in
         let brought : BringsSome s out reply session.limit _ said =
-        exchange_brings laws.names laws.taken laws.follows s session valid ready message layouts.run fits.told.0 at tries reply next_far next_silence said exchange goes.suits tells reads on.list settled.said_is in
+        exchange_brings laws.names laws.taken s session valid ready message layouts.run fits.told.0 at tries reply next_far next_silence said exchange goes.suits tells reads on.list settled.said_is in
         let brings = brought.1 in
         let next : Station = had brought.0 s out reply next_far next_silence in
         let image : image_had (layout_at s).pd_in reply ≡ image_in reply = same_image (layout_at s).pd_in reply (sized ∙ ap (λ (l : Shape). l.pd_in) (sym at)) in

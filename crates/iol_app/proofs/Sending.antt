@@ -24,15 +24,13 @@ use Rattle.iol_app.specs.declared.request.Current.{Current}
 use Rattle.iol_app.specs.declared.request.Progress.{Progress as Cursor}
 use Rattle.iol_app.specs.declared.request.Progress.TheVariants.{Sending, Asking, Receiving, Refused}
 use Rattle.iol_app.specs.declared.session.Exchange.{Exchange}
-use Rattle.iol_app.specs.declared.session.Exchange.TheVariants.{TellOutput, DropOutput, Abort, ReadEvent, ConfirmEvents, Request as NextMessage, Idle}
+use Rattle.iol_app.specs.declared.session.Exchange.TheVariants.{Request as NextMessage}
 use Rattle.iol_app.specs.Requests.{text_of, ProgressFits, IsAllGiven, IsJoining, IsCurrent}
 use Rattle.iol_app.specs.State.{od_size}
 use Rattle.iol_app.specs.Messages.{head_for, data_for, progress_head, progress_data, request_head, request_data}
 use Rattle.iol_app.specs.Moves.{written, before_last, asked_for, progress_of, progress_at, segment_move, move_at, request_move, IsMoveOf, MessagesAreMoves}
 use Rattle.iol_app.proofs.Staging.{more_follow}
 use Rattle.iol_app.proofs.Cutting.{is_pair}
-
--- An answer that fits is one that the type holds
 
 -- The flow of a COUNT
 
