@@ -2,9 +2,7 @@ pub mod Staging
 pub mod Cutting
 pub mod Joining
 pub mod Sessions
-pub mod Sending
-pub mod Confirms
-pub mod Following
+pub mod Moving
 pub mod TakingUp
 pub mod Stations
 pub mod Turns

@@ -1,50 +1,89 @@
 -- A station over another wire that stands to the same device is seen as before.
-use Rattle.std.proofs.Common.{◌≡◌, ◌∙◌, refl, sym, ap, subst, ℕ, Bool}
+use Rattle.std.proofs.Common.{◌≡◌, ◌∙◌, sym, subst, ℕ, Bool}
 use Rattle.iol_far.specs.Far.{Far}
 use Rattle.iol_steps.specs.Station.{Station}
 use Rattle.iol_app.specs.declared.station.AnyLink.{AnyLink}
 use Rattle.iol_app.specs.declared.station.AnyLink.TheVariants.{Down as InDown, Startup as InStartup, Preoperate as InPreoperate, Operate as InOperate}
 use Rattle.iol_app.specs.State.{SessionState}
-use Rattle.iol_app.specs.StationState.{StationState, wire_of, mode_of, why_of}
-use Rattle.iol_app.specs.Seen.{LinkSeen, StartSeen, OutSeen, ReadingSeen, IsSeen, StartupSeen, PreoperateSeen}
+use Rattle.iol_app.specs.StationState.{StationState, wire_of}
+use Rattle.iol_app.specs.Seen.{IsSeen, StartupSeen, PreoperateSeen}
 use Rattle.iol_app.specs.Rewire.{rewired, RewireSteps}
 
 module _ {W : Type 0} (honest : W → Bool) (far : W → Far) (silence : W → ℕ) where
-  -- in every mode
-  over : (wire : W) (link : AnyLink W) (session : SessionState) (s : Station) → honest wire ≡ honest (wire_of link) → far wire ≡ far (wire_of link) → silence wire ≡ silence (wire_of link)
-      → wire_of (rewired wire link) ≡ wire → mode_of (rewired wire link) ≡ mode_of link → why_of (rewired wire link) ≡ why_of link
-      → LinkSeen honest far silence (rewired wire link) s.progress s.link → StartSeen honest far silence (rewired wire link)
-      → OutSeen honest far silence (rewired wire link) session.exchange session.current s.out → ReadingSeen honest far silence (rewired wire link) session.events s.reading
+  seen_by : (wire : W) (link : AnyLink W) (session : SessionState) (s : Station) → honest wire ≡ honest (wire_of link) → far wire ≡ far (wire_of link) → silence wire ≡ silence (wire_of link)
       → IsSeen honest far silence (record { link = link; session = session }) s → IsSeen honest far silence (record { link = rewired wire link; session = session }) s
-  over wire link session s h f q wire_is mode why linked start out reading seen = record {
-    is_honest = seen.is_honest ∙ sym h ∙ ap honest (sym wire_is);
-    far_is = seen.far_is ∙ sym f ∙ ap far (sym wire_is);
-    silence_is = seen.silence_is ∙ sym q ∙ ap silence (sym wire_is);
-    mode = seen.mode ∙ sym mode;
-    why = seen.why ∙ sym why;
-    link = linked;
-    start = start;
-    out = out;
+  seen_by wire (InDown link) session s h f q seen = record {
+    is_honest = seen.is_honest ∙ sym h;
+    far_is = seen.far_is ∙ sym f;
+    silence_is = seen.silence_is ∙ sym q;
+    mode = seen.mode;
+    why = seen.why;
+    link = seen.link;
+    start = tt;
+    out = seen.out;
     busy_limit = seen.busy_limit;
     request = seen.request;
     busy = seen.busy;
     progress = seen.progress;
-    reading = reading;
+    reading = seen.reading;
     event_form = seen.event_form;
     shown = seen.shown;
     output_told = seen.output_told;
   }
-
-  seen_by : (wire : W) (link : AnyLink W) (session : SessionState) (s : Station) → honest wire ≡ honest (wire_of link) → far wire ≡ far (wire_of link) → silence wire ≡ silence (wire_of link)
-      → IsSeen honest far silence (record { link = link; session = session }) s → IsSeen honest far silence (record { link = rewired wire link; session = session }) s
-  seen_by wire (InDown link) session s h f q seen = over wire (InDown link) session s h f q refl refl refl seen.link tt seen.out seen.reading seen
-  seen_by wire (InStartup link) session s h f q seen =
-      let start = subst (λ (x : ℕ). StartupSeen link.state x (far wire)) (sym q) (subst (λ (x : Far). StartupSeen link.state (silence link.wire) x) (sym f) seen.start) in
-      over wire (InStartup link) session s h f q refl refl refl seen.link start seen.out seen.reading seen
-  seen_by wire (InPreoperate link) session s h f q seen =
-      let start = subst (λ (x : ℕ). PreoperateSeen link.state x (far wire)) (sym q) (subst (λ (x : Far). PreoperateSeen link.state (silence link.wire) x) (sym f) seen.start) in
-      over wire (InPreoperate link) session s h f q refl refl refl seen.link start seen.out seen.reading seen
-  seen_by wire (InOperate link) session s h f q seen = over wire (InOperate link) session s h f q refl refl refl seen.link tt seen.out seen.reading seen
+  seen_by wire (InStartup link) session s h f q seen = record {
+    is_honest = seen.is_honest ∙ sym h;
+    far_is = seen.far_is ∙ sym f;
+    silence_is = seen.silence_is ∙ sym q;
+    mode = seen.mode;
+    why = seen.why;
+    link = seen.link;
+    start = subst (λ (x : ℕ). StartupSeen link.state x (far wire)) (sym q) (subst (λ (x : Far). StartupSeen link.state (silence link.wire) x) (sym f) seen.start);
+    out = seen.out;
+    busy_limit = seen.busy_limit;
+    request = seen.request;
+    busy = seen.busy;
+    progress = seen.progress;
+    reading = seen.reading;
+    event_form = seen.event_form;
+    shown = seen.shown;
+    output_told = seen.output_told;
+  }
+  seen_by wire (InPreoperate link) session s h f q seen = record {
+    is_honest = seen.is_honest ∙ sym h;
+    far_is = seen.far_is ∙ sym f;
+    silence_is = seen.silence_is ∙ sym q;
+    mode = seen.mode;
+    why = seen.why;
+    link = seen.link;
+    start = subst (λ (x : ℕ). PreoperateSeen link.state x (far wire)) (sym q) (subst (λ (x : Far). PreoperateSeen link.state (silence link.wire) x) (sym f) seen.start);
+    out = seen.out;
+    busy_limit = seen.busy_limit;
+    request = seen.request;
+    busy = seen.busy;
+    progress = seen.progress;
+    reading = seen.reading;
+    event_form = seen.event_form;
+    shown = seen.shown;
+    output_told = seen.output_told;
+  }
+  seen_by wire (InOperate link) session s h f q seen = record {
+    is_honest = seen.is_honest ∙ sym h;
+    far_is = seen.far_is ∙ sym f;
+    silence_is = seen.silence_is ∙ sym q;
+    mode = seen.mode;
+    why = seen.why;
+    link = seen.link;
+    start = tt;
+    out = seen.out;
+    busy_limit = seen.busy_limit;
+    request = seen.request;
+    busy = seen.busy;
+    progress = seen.progress;
+    reading = seen.reading;
+    event_form = seen.event_form;
+    shown = seen.shown;
+    output_told = seen.output_told;
+  }
 
   pub rewire_steps : (wire : W) (old new : StationState W) → honest wire ≡ honest (wire_of old.link) → far wire ≡ far (wire_of old.link) → silence wire ≡ silence (wire_of old.link)
       → new ≡ record old { link = rewired wire old.link } → RewireSteps honest far silence old new
