@@ -1,14 +1,12 @@
 -- A turn in OPERATE, as it is seen.
-use Rattle.std.proofs.Common.{◌≡◌, ◌≢◌, inr, ⊎_elim, ℕ, suc, ◌+◌, ◌≤◌, ◌<◌, Bool, true, false, ◌==◌, List, length, drop, refl, sym, ap, ◌∙◌, subst, arith, Option, Some, None, Ok}
+use Rattle.std.proofs.Common.{◌≡◌, ◌≢◌, inr, ⊎_elim, ℕ, suc, ◌+◌, ◌≤◌, ◌<◌, Bool, true, false, ◌==◌, List, length, refl, sym, ap, ◌∙◌, subst, arith, Option, Some, None, Ok}
 use Rattle.std.specs.Prelude.{IsTrue, if◌then◌else◌}
 use Rattle.std.proofs.lemmas.Bool.Decides.{nat_tests}
-use Rattle.std.proofs.lemmas.List.{length-take-le, length-drop}
 use Rattle.std.proofs.Math.Numerals.{add-one}
 use Rattle.arrayvec.specs.ArrayVec.{ArrayVec}
 use Rattle.iol_octets.specs.declared.control.Channel.TheVariants.{Page}
 use Rattle.iol_mseq.specs.Shape.{Shape}
 use Rattle.iol_mseq.specs.Texts.{master_text}
-use Rattle.iol_mseq.specs.Replies.{answered_od, has_reply_length, is_checked, reply_of, reply_in}
 use Rattle.iol_mseq.specs.declared.master.MasterMsg.{MasterMsg}
 use Rattle.iol_mseq.specs.declared.reply.Reply.{Reply}
 use Rattle.iol_page.specs.Page.{layouts_of}
@@ -47,7 +45,7 @@ use Rattle.iol_app.specs.Moves.{MessagesAreMoves, AnswersAreTakenUp}
 use Rattle.iol_app.specs.State.{SessionState, IsSession, od_size, sending, sent, sent_by, image_in, OutSuits, IsMessageFor, IsOutBy, IsOutFor}
 use Rattle.iol_app.specs.StationState.{StationState, wire_of, LinkFits, IsSettled, IsMet, IsExchange, IsOperateTurn}
 use Rattle.iol_app.specs.Seen.{SentSeen, ShownSeen, move_out, out_in, IsSeen}
-use Rattle.iol_app.proofs.Turns.{some_reply}
+use Rattle.iol_app.proofs.Turns.{good_parts}
 use Rattle.iol_app.proofs.Seeing.{Steps, steps_by, settled_seen, honest_by}
 use Rattle.iol_app.proofs.StartSending.{lost_steps}
 use Rattle.iol_app.proofs.DueFacts.{IsDue, due_is, output_for, reads_for}
@@ -67,45 +65,12 @@ pub record OperateLaws : Type 0 where
   pub moves : MessagesAreMoves
   pub taken : AnswersAreTakenUp
 
--- The image of a good reply
+-- The output after a good reply
 
-input_size : (layout : Shape) (read : Bool) (octets : List ℕ) (reply : Reply) → reply_in layout read octets ≡ Some reply → length reply.input.items ≡ layout.pd_in
-input_size layout read octets reply e =
-    let parts = some_reply (has_reply_length layout read octets) (is_checked octets) (reply_of layout read octets) reply e in
-    let test : has_reply_length layout read octets ≡ true = parts.0 in
-    let long : length octets ≡ answered_od layout read + layout.pd_in + 1 = grind (arith, nat_tests) in
-    let behind = length-drop (answered_od layout read) octets in
-    ap (λ r. length r.input.items) (sym parts.1) ∙ length-take-le layout.pd_in (drop (answered_od layout read) octets) (omega (arith, behind))
-
-good_input : (layout : Shape) (message : MasterMsg) (answer : Option (List ℕ)) (reply : Reply) → good_reply layout message answer ≡ Some reply → length reply.input.items ≡ layout.pd_in
-good_input layout message None reply e = absurd (let k : None ≡ Some reply = e in cc)
-good_input layout message (Some octets) reply e = input_size layout message.mc.read octets reply e
-
-same_image : (size : ℕ) (reply : Reply) → length reply.input.items ≡ size → image_had size reply ≡ image_in reply
-same_image size reply e = ap (λ (n : ℕ). image_had n reply) (sym e) ∙ by_tests (length reply.input.items == 0) reply.invalid
-  where
-    by_tests : (zero_is invalid : Bool) → ◌≡◌ {A = Option (List ℕ)} (if zero_is then None else if invalid then None else Some reply.input.items) (if invalid then None else if zero_is then None else Some reply.input.items)
-    by_tests true true = refl
-    by_tests true false = refl
-    by_tests false true = refl
-    by_tests false false = refl
-
--- The output after it
-
-output_wanted : (exchange : Exchange) (output : Output) → (output_after exchange output).wanted ≡ output.wanted
-output_wanted TellOutput output = refl
-output_wanted DropOutput output = refl
-output_wanted other output = refl
-
-output_carried : (exchange : Exchange) (output : Output) → (output_after exchange output).carried ≡ output.carried
-output_carried TellOutput output = refl
-output_carried DropOutput output = refl
-output_carried other output = refl
-
-output_told : (exchange : Exchange) (output : Output) (told : Bool) → told ≡ output.told → told_by (output_for exchange) told ≡ (output_after exchange output).told
-output_told TellOutput output told e = refl
-output_told DropOutput output told e = refl
-output_told other output told e = e
+same_output : (exchange : Exchange) (output : Output) → output_after exchange output ≡ record output { told = told_by (output_for exchange) output.told }
+same_output TellOutput output = refl
+same_output DropOutput output = refl
+same_output other output = refl
 
 module _ {W : Type 0} (honest : W → Bool) (far : W → Far) (silence : W → ℕ) (wakes : W → Option Rate → W → Type 0) (gives : W → List ℕ → Option (ArrayVec ℕ) → W → Type 0)
     (laws : OperateLaws) (link : Kept W Operate) (session : SessionState) (valid : IsSession session) (fits : LinkFits {W = W} (InOperate link) session) (said : Said) (new : StationState W)
@@ -223,7 +188,7 @@ module _ {W : Type 0} (honest : W → Bool) (far : W → Far) (silence : W → �
     commands = ap (λ (m : Mode). output_by m (command_in message)) seen.mode ∙ exchange_command exchange session.events.reading session.current layouts.run.od message goes.is_for.head od_is
 
     carried_on : (layout : Option Shape) (shown : Shown) → SentSeen layout output.carried.items shown.sent → SentSeen layout (output_after exchange output).carried.items shown.sent
-    carried_on layout shown h = subst (λ (c : List ℕ). SentSeen layout c shown.sent) (ap (λ (p : ArrayVec ℕ). p.items) (sym (output_carried exchange output))) h
+    carried_on layout shown h = subst (λ (c : List ℕ). SentSeen layout c shown.sent) (ap (λ (o : Output). o.carried.items) (sym (same_output exchange output))) h
 
     by_brought : (reply : Reply) → length reply.input.items ≡ layouts.run.pd_in → Exchanges s u out next_far next_silence (Some reply)
         → IsSettled (OutOperate (record { out = None; layouts = layouts }) (Some reply)) (out_session exchange output) said new
@@ -237,7 +202,7 @@ module _ {W : Type 0} (honest : W → Bool) (far : W → Far) (silence : W → �
         exchange_brings laws.names laws.taken s session valid ready message layouts.run fits.told.0 at tries reply next_far next_silence said exchange goes.suits tells reads on.list settled.said_is in
         let brings = brought.1 in
         let next : Station = had brought.0 s out reply next_far next_silence in
-        let image : image_had (layout_at s).pd_in reply ≡ image_in reply = same_image (layout_at s).pd_in reply (sized ∙ ap (λ (l : Shape). l.pd_in) (sym at)) in
+        let image : image_had (layout_at s).pd_in reply ≡ image_in reply = ap (λ (n : ℕ). image_had n reply) (ap (λ (l : Shape). l.pd_in) at ∙ sym sized) in
         steps_by honest far silence s u said (said_of brought.0 s.seen.request) new next
         (settled_seen honest far silence (OutOperate (record { out = None; layouts = layouts }) (Some reply)) (out_session exchange output) said new next settled (record {
           is_honest = seen.is_honest ∙ sym both.honesty;
@@ -256,12 +221,12 @@ module _ {W : Type 0} (honest : W → Bool) (far : W → Far) (silence : W → �
           event_form = stands.no_event_form ∙ sym on.form;
           shown = record {
             image = image;
-            wanted = goes.shown.wanted ∙ sym (output_wanted exchange output);
+            wanted = goes.shown.wanted ∙ ap (λ (o : Output). o.wanted) (sym (same_output exchange output));
             sent = carried_on session.layout (made s).shown goes.shown.sent;
             told = goes.shown.told;
             isdu = goes.shown.isdu;
           };
-          output_told = ap (λ (c : Option Bool). told_by c s.output_told) commands ∙ output_told exchange output s.output_told (seen.output_told ∙ sym goes.told);
+          output_told = ap (λ (c : Option Bool). told_by c s.output_told) commands ∙ ap (told_by (output_for exchange)) (seen.output_told ∙ sym goes.told) ∙ ap (λ (o : Output). o.told) (sym (same_output exchange output));
         }))
         (laws.had s u out next_far next_silence reply brought.0 exchange_is seen.mode brings.is) brings.said_is
 
@@ -270,7 +235,7 @@ module _ {W : Type 0} (honest : W → Bool) (far : W → Far) (silence : W → �
         → IsMet honest far silence wakes gives link.wire (operate_turned (record { out = Some (record { message = message; tries = tries }); layouts = layouts }) message reply) (wire_of new.link)
         → Steps honest far silence s u said new
     by_reply answer None good passes settled both = by_tries (tries == 2) refl (exchanges answer None passes good) settled both
-    by_reply answer (Some reply) good passes settled both = by_brought reply (good_input layouts.run message answer reply good) (exchanges answer (Some reply) passes good) settled both
+    by_reply answer (Some reply) good passes settled both = by_brought reply (good_parts layouts.run message answer reply good).input (exchanges answer (Some reply) passes good) settled both
 
   -- The message of the turn: the one that is out, else a new one for what is due
 

@@ -1,13 +1,13 @@
 -- What the octets of a text say that isn't whole yet.
-use Rattle.std.proofs.Common.{◌≡◌, inl, inr, ⊎_elim, ℕ, zero, suc, ◌*◌, ◌%◌, ◌<◌, ◌≤◌, Bool, true, false, ◌&&◌, nat_le, ◌==◌, if◌then◌else◌, List, [], ◌∷◌, ◌++◌, length, take, refl, sym, ap, ◌∙◌, arith, Result, Ok, Err}
+use Rattle.std.proofs.Common.{◌≡◌, inl, inr, ⊎_elim, ℕ, zero, suc, ◌*◌, ◌%◌, ◌<◌, ◌≤◌, Bool, true, false, nat_le, ◌==◌, if◌then◌else◌, List, [], ◌∷◌, ◌++◌, length, take, refl, sym, ap, ◌∙◌, arith, Result, Ok, Err}
 use Rattle.std.specs.Prelude.{◌⊎◌}
 use Rattle.std.proofs.lemmas.Bool.{cases_Bool, cases_lt}
 use Rattle.std.proofs.lemmas.Bool.Decides.{nat_tests}
 use Rattle.std.proofs.lemmas.List.{length-append}
 use Rattle.iol_isdu.specs.declared.fault.IsduFault.{IsduFault}
-use Rattle.iol_isdu.specs.declared.fault.IsduFault.TheVariants.{Truncated, BadIsduLength}
+use Rattle.iol_isdu.specs.declared.fault.IsduFault.TheVariants.{Truncated}
 use Rattle.iol_isdu.specs.Frame.{total_at}
-use Rattle.iol_segment.specs.Join.{Open, Complete, Wrong, stage_by, stage, is_whole_by, is_whole}
+use Rattle.iol_segment.specs.Join.{Open, Complete, stage_by, stage, is_whole_by, is_whole}
 use Rattle.iol_segment.specs.TextLaws.{HoldsLength, TextLaws, joined}
 
 -- more octets behind them change nothing of the total length once it is known
@@ -41,14 +41,14 @@ open_by (Ok n) xs ys e =
     rw less refl
 
 -- octets before them aren't whole either
-pub open_before : (xs ys : List ℕ) → stage (xs ++ ys) ≡ Open → stage xs ≡ Open
+open_before : (xs ys : List ℕ) → stage (xs ++ ys) ≡ Open → stage xs ≡ Open
 open_before xs ys e =
     ⊎_elim
     (λ (short : total_at xs ≡ Err Truncated). ap (λ total. stage_by total xs) short)
     (λ (same : total_at (xs ++ ys) ≡ total_at xs). open_by (total_at xs) xs ys (sym (ap (λ total. stage_by total (xs ++ ys)) same) ∙ e))
     (total_more xs ys)
 
-pub total_low : (text : List ℕ) → HoldsLength text → 0 < length text
+total_low : (text : List ℕ) → HoldsLength text → 0 < length text
 total_low [] e = absurd (let k : Err Truncated ≡ Ok 0 = e in cc)
 total_low (x ∷ xs) e = omega arith
 
@@ -68,30 +68,9 @@ more_follow size laws text holds zero e =
 more_follow size laws text holds (suc i) e =
     not_last size laws text holds (suc i) (more_follow size laws text holds i (open_before (joined size text i) _ e)) e
 
-pub open_not_whole_by : (total : Result ℕ IsduFault) (xs : List ℕ) → stage_by total xs ≡ Open → is_whole_by total xs ≡ false
+open_not_whole_by : (total : Result ℕ IsduFault) (xs : List ℕ) → stage_by total xs ≡ Open → is_whole_by total xs ≡ false
 open_not_whole_by (Err fault) xs e = refl
 open_not_whole_by (Ok n) xs e = open_test (nat_le n (length xs)) (take n xs) e
 
 pub open_not_whole : (xs : List ℕ) → stage xs ≡ Open → is_whole xs ≡ false
 open_not_whole xs e = open_not_whole_by (total_at xs) xs e
-
--- a total length is at most 238, and there are fewer octets
-short_by : (n : ℕ) (xs : List ℕ) → n ≤ 238 → stage_by (Ok n) xs ≡ Open → length xs < 238
-short_by n xs low e =
-    let less : nat_le n (length xs) ≡ false = open_test (nat_le n (length xs)) (take n xs) e in
-    grind (arith, nat_tests)
-
-bound : (y : ℕ) → (nat_le 17 y && nat_le y 238) ≡ true → y ≤ 238
-bound y k = grind (arith, nat_tests)
-
-pub open_short : (xs : List ℕ) → stage xs ≡ Open → length xs < 238
-open_short [] e = omega arith
-open_short (x ∷ []) e = omega arith
-open_short (x ∷ y ∷ xs) e = by_first (x % 16 == 0) (x % 16 == 1) (nat_le 17 y && nat_le y 238) refl e
-  where
-    by_first : (zero_is one_is long : Bool) → (nat_le 17 y && nat_le y 238) ≡ long
-        → stage_by (if zero_is then Err BadIsduLength else if one_is then (if long then Ok y else Err BadIsduLength) else Ok (x % 16)) (x ∷ y ∷ xs) ≡ Open → length (x ∷ y ∷ xs) < 238
-    by_first true o l k e = absurd (let z : Wrong ≡ Open = e in cc)
-    by_first false true false k e = absurd (let z : Wrong ≡ Open = e in cc)
-    by_first false true true k e = short_by y (x ∷ y ∷ xs) (bound y k) e
-    by_first false false l k e = short_by (x % 16) (x ∷ y ∷ xs) (omega arith) e
