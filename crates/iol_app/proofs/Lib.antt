@@ -1,4 +1,3 @@
-pub mod Staging
 pub mod Cutting
 pub mod Joining
 pub mod Sessions
@@ -16,7 +15,6 @@ pub mod SeenStartup
 pub mod SeenPreoperate
 pub mod DueFacts
 pub mod OperateMessages
-pub mod OperateSending
 pub mod OperateReading
 pub mod OperateRequest
 pub mod SeenOperate

@@ -29,7 +29,7 @@ use Rattle.iol_app.specs.Requests.{text_of, ProgressFits, IsAllGiven, IsJoining,
 use Rattle.iol_app.specs.State.{od_size}
 use Rattle.iol_app.specs.Messages.{head_for, data_for, progress_head, progress_data, request_head, request_data}
 use Rattle.iol_app.specs.Moves.{written, before_last, asked_for, progress_of, progress_at, segment_move, move_at, request_move, IsMoveOf, MessagesAreMoves}
-use Rattle.iol_app.proofs.Staging.{more_follow}
+use Rattle.iol_app.proofs.Joining.{more_follow}
 use Rattle.iol_app.proofs.Cutting.{is_pair}
 use Rattle.iol_isdu.specs.declared.values.Cause.{Cause}
 

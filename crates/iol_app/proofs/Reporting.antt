@@ -23,11 +23,11 @@ use Rattle.iol_mode.specs.States.{waked, operate_by}
 use Rattle.iol_steps.specs.declared.said.Said.{Said}
 use Rattle.iol_steps.specs.declared.said.Said.TheVariants.{Idle as SaidIdle, Busy as SaidBusy, Answered, Cut, Reported}
 use Rattle.iol_app.specs.declared.event_work.Reading.{Reading}
-use Rattle.iol_app.specs.declared.event_work.Reading.TheVariants.{Resting, UnderWay, ConfirmDue, Refused}
+use Rattle.iol_app.specs.declared.event_work.Reading.TheVariants.{UnderWay}
 use Rattle.iol_app.specs.declared.output.Output.{Output}
 use Rattle.iol_app.specs.declared.request.Current.{Current}
 use Rattle.iol_app.specs.declared.session.Exchange.{Exchange}
-use Rattle.iol_app.specs.declared.session.Exchange.TheVariants.{TellOutput, DropOutput, Abort, ReadEvent, ConfirmEvents, Request as NextMessage, Idle}
+use Rattle.iol_app.specs.declared.session.Exchange.TheVariants.{Abort, ReadEvent, ConfirmEvents, Request as NextMessage}
 use Rattle.iol_app.specs.declared.station.AnyLink.{AnyLink}
 use Rattle.iol_app.specs.declared.station.AnyLink.TheVariants.{Down as InDown, Startup as InStartup, Preoperate as InPreoperate, Operate as InOperate}
 use Rattle.iol_app.specs.EventReading.{reading_by, list_by, reading_after, list_after, read_on, list_read}
@@ -46,11 +46,8 @@ IsPlain (Reported events) = ⊥
 IsPlain said = Unit {0}
 
 plain : (room before after : Bool) (said : Said) → IsPlain said → (after ≡ true → (before ≡ true) ⊎ (room ≡ true)) → ReadingAfter room before said after
-plain room before after SaidIdle h begun = begun
-plain room before after SaidBusy h begun = begun
-plain room before after (Answered answer) h begun = begun
-plain room before after (Cut cause) h begun = begun
 plain room before after (Reported events) h begun = absurd h
+plain room before after other h begun = begun
 
 lost_plain : (current : Option Current) → IsPlain (lost_said current)
 lost_plain None = tt
@@ -103,9 +100,7 @@ by_answer (Err form) reader list e = absurd (let k : None ≡ Some list = e in c
 
 list_ends : (reading : Reading) (octet : ℕ) (list : List Event) → list_after reading octet ≡ Some list → (is_under_way reading ≡ true) × (is_under_way (reading_after reading octet) ≡ false)
 list_ends (UnderWay reader) octet list e = (refl, (by_answer (taken reader octet).answer (taken reader octet).reader list e).1)
-list_ends Resting octet list e = absurd (first_answer octet list (by_answer (taken [] octet).answer [] list e).0)
-list_ends ConfirmDue octet list e = absurd (first_answer octet list (by_answer (taken [] octet).answer [] list e).0)
-list_ends Refused octet list e = absurd (first_answer octet list (by_answer (taken [] octet).answer [] list e).0)
+list_ends other octet list e = absurd (first_answer octet list (by_answer (taken [] octet).answer [] list e).0)
 
 -- Tests
 
