@@ -9,7 +9,7 @@ use Rattle.iol_link.specs.declared.wire.Rate.{Rate}
 use Rattle.iol_mode.specs.States.{Outcome}
 use Rattle.iol_mode.specs.States.{InDown as OutDown, InStartup as OutStartup, InPreoperate as OutPreoperate, InOperate as OutOperate}
 use Rattle.iol_steps.specs.declared.said.Said.{Said}
-use Rattle.iol_steps.specs.declared.said.Said.TheVariants.{Idle, Busy, Answered, Cut, Reported}
+use Rattle.iol_steps.specs.declared.said.Said.TheVariants.{Idle, Answered, Cut, Reported}
 use Rattle.iol_app.specs.declared.request.Current.{Current}
 use Rattle.iol_app.specs.declared.session.Exchange.{Exchange}
 use Rattle.iol_mode.specs.Kept.{over}
@@ -23,11 +23,9 @@ use Rattle.iol_app.specs.StationState.{StationState, waked_session, IsSettledSai
 use Rattle.iol_app.proofs.Settling.{sent_current}
 
 some_ends : (said : Said) (request : Request) → EndsRequest said (Some request)
-some_ends Idle request = tt
-some_ends Busy request = tt
 some_ends (Answered answer) request = refl
 some_ends (Cut cause) request = refl
-some_ends (Reported events) request = tt
+some_ends other request = tt
 
 quiet_ends : (said : Said) → said ≡ Idle → EndsRequest said None
 quiet_ends said e = subst (λ (x : Said). EndsRequest x None) (sym e) tt

@@ -1,15 +1,11 @@
-pub mod Staging
 pub mod Cutting
 pub mod Joining
 pub mod Sessions
-pub mod Sending
-pub mod Confirms
-pub mod Following
+pub mod Moving
 pub mod TakingUp
 pub mod Stations
 pub mod Turns
 pub mod Settling
-pub mod Requesting
 pub mod Seeing
 pub mod SeenWake
 pub mod StartMessages
@@ -19,7 +15,6 @@ pub mod SeenStartup
 pub mod SeenPreoperate
 pub mod DueFacts
 pub mod OperateMessages
-pub mod OperateSending
 pub mod OperateReading
 pub mod OperateRequest
 pub mod SeenOperate

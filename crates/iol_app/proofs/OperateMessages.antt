@@ -1,27 +1,66 @@
 -- What the messages of OPERATE are for the device.
-use Rattle.std.proofs.Common.{◌≡◌, inl, inr, ℕ, zero, suc, ◌-◌, ◌≤◌, Bool, false, List, [], ◌∷◌, ◌++◌, length, replicate, drop, refl, sym, ap, ◌∙◌, arith, Option, Some, None}
-use Rattle.std.specs.Prelude.{◌⊎◌, slice_index}
-use Rattle.iol_octets.specs.declared.control.Channel.TheVariants.{Page, Diagnosis, Isdu}
+use Rattle.std.proofs.Common.{◌≡◌, ℕ, Bool, true, false, if◌then◌else◌, List, refl, ap, ◌∙◌, Option, Some, None, inl, inr, zero, suc, ◌-◌, ◌≤◌, [], ◌∷◌, ◌++◌, length, replicate, drop, sym, arith}
+use Rattle.std.specs.Prelude.{slice_index, is_some, ◌⊎◌}
+use Rattle.iol_octets.specs.Control.{control_of}
+use Rattle.iol_octets.specs.declared.control.Mc.{Mc}
+use Rattle.iol_octets.specs.declared.control.Channel.{Channel}
+use Rattle.iol_octets.specs.declared.control.Channel.TheVariants.{Isdu, Page, Diagnosis}
 use Rattle.iol_mseq.specs.Shape.{Shape}
-use Rattle.iol_mseq.specs.Texts.{master_text}
+use Rattle.iol_mseq.specs.Master.{SpellsMaster, master_fault, message_of}
 use Rattle.iol_mseq.specs.declared.master.MasterMsg.{MasterMsg}
+use Rattle.iol_far.specs.Codec.{message_in}
+use Rattle.iol_far.specs.Far.{is_confirm, command_at, command_in}
+use Rattle.iol_far.specs.Laws.{MessagesAreHeard}
+use Rattle.iol_app.specs.declared.event_work.Reading.{Reading}
+use Rattle.iol_app.specs.declared.request.Current.{Current}
+use Rattle.iol_app.specs.declared.request.Progress.{Progress}
+use Rattle.iol_app.specs.declared.request.Progress.TheVariants.{Sending, Asking, Receiving, Refused}
+use Rattle.iol_app.specs.declared.session.Exchange.{Exchange}
+use Rattle.iol_app.specs.declared.session.Exchange.TheVariants.{Request as NextMessage, TellOutput, DropOutput, Abort, ReadEvent, ConfirmEvents, Idle}
+use Rattle.iol_app.specs.Messages.{Head, head_for, progress_head, request_head, head_of, data_for, request_data}
+use Rattle.iol_app.specs.Moves.{confirms_events, ConfirmsConfirm}
+use Rattle.iol_mseq.specs.Texts.{master_text}
 use Rattle.iol_page.specs.Commands.{command_octet}
 use Rattle.iol_page.specs.declared.master_command.MasterCommand.TheVariants.{ProcessDataOutputOperate, DeviceOperate}
 use Rattle.iol_mseq.specs.Parts.{first_of_zeros}
-use Rattle.iol_far.specs.Far.{command_at, command_in}
 use Rattle.iol_mode.specs.Messages.{command_message}
 use Rattle.iol_steps.specs.declared.mode.Mode.TheVariants.{Operate}
 use Rattle.iol_steps.specs.Station.{confirms, reads_events, is_diagnosis_read, output_by}
-use Rattle.iol_app.specs.declared.event_work.Reading.{Reading}
-use Rattle.iol_app.specs.declared.request.Current.{Current}
-use Rattle.iol_app.specs.declared.request.Progress.{Progress as Cursor}
-use Rattle.iol_app.specs.declared.request.Progress.TheVariants.{Sending, Asking, Receiving, Refused}
-use Rattle.iol_app.specs.declared.session.Exchange.{Exchange}
-use Rattle.iol_app.specs.declared.session.Exchange.TheVariants.{TellOutput, DropOutput, Abort, ReadEvent, ConfirmEvents, Request as NextMessage, Idle}
-use Rattle.iol_app.specs.Messages.{Head, head_of, head_for, data_for, progress_head, request_head}
-use Rattle.iol_app.specs.Moves.{confirms_events}
-use Rattle.iol_app.proofs.Confirms.{is_confirm_head, confirms_by_head}
 use Rattle.iol_app.proofs.DueFacts.{output_for, reads_for}
+
+abbrev pub is_confirm_head : Head → Bool
+is_confirm_head head = is_confirm head.channel head.read head.address
+
+-- the request's messages are on the ISDU channel
+progress_channel : (p : Progress) → (progress_head p).channel ≡ Isdu
+progress_channel (Sending flow segment) = refl
+progress_channel (Asking busy) = refl
+progress_channel (Receiving joining had) = refl
+progress_channel Refused = refl
+
+pub request_channel : (current : Option Current) → (request_head current).channel ≡ Isdu
+request_channel None = refl
+request_channel (Some current) = progress_channel current.progress
+
+pub confirms_by_head : (exchange : Exchange) (reading : Reading) (current : Option Current) → is_confirm_head (head_for exchange reading current) ≡ confirms_events exchange
+confirms_by_head NextMessage _ current = ap (λ (c : Channel). is_confirm c (request_head current).read (request_head current).address) (request_channel current)
+confirms_by_head other _ current = refl
+
+some_message : (b : Bool) (m n : MasterMsg) → (if b then None else Some m) ≡ Some n → m ≡ n
+some_message true m n e = absurd (let k : None ≡ Some n = e in cc)
+some_message false m n e = cc
+
+-- the control octet of a message is its first
+control_is : MessagesAreHeard → (layout : Shape) (message : MasterMsg) (octets : List ℕ) → SpellsMaster layout message octets → control_of (slice_index octets 0) ≡ message.mc
+unfolding message_in
+control_is heard layout message octets spells =
+    ap (λ m. m.mc) (some_message (is_some (master_fault layout octets)) (message_of layout octets) message (heard layout message octets spells))
+
+pub confirms_confirm : MessagesAreHeard → ConfirmsConfirm
+confirms_confirm heard exchange reading current layout message octets head spells =
+    ap (λ (mc : Mc). is_confirm mc.channel mc.read mc.address) (control_is heard layout message octets spells)
+    ∙ ap is_confirm_head head
+    ∙ confirms_by_head exchange reading current
 
 -- a confirm, a read of events
 
@@ -32,24 +71,9 @@ exchange_confirms exchange reading current message e = ap is_confirm_head e ∙ 
 abbrev reads_head : Head → Bool
 reads_head head = is_diagnosis_read head.channel head.read
 
-progress_reads : (p : Cursor) → reads_head (progress_head p) ≡ false
-progress_reads (Sending flow segment) = refl
-progress_reads (Asking busy) = refl
-progress_reads (Receiving joining had) = refl
-progress_reads Refused = refl
-
-request_reads : (current : Option Current) → reads_head (request_head current) ≡ false
-request_reads None = refl
-request_reads (Some current) = progress_reads current.progress
-
 reads_by_head : (exchange : Exchange) (reading : Reading) (current : Option Current) → reads_head (head_for exchange reading current) ≡ reads_for exchange
-reads_by_head TellOutput _ current = refl
-reads_by_head DropOutput _ current = refl
-reads_by_head Abort _ current = refl
-reads_by_head ReadEvent _ current = refl
-reads_by_head ConfirmEvents _ current = refl
-reads_by_head NextMessage _ current = request_reads current
-reads_by_head Idle _ current = refl
+reads_by_head NextMessage _ current = ap (λ (c : Channel). is_diagnosis_read c (request_head current).read) (request_channel current)
+reads_by_head other _ current = refl
 
 pub exchange_reads : (exchange : Exchange) (reading : Reading) (current : Option Current) (message : MasterMsg) → head_of message.mc ≡ head_for exchange reading current
     → reads_events message ≡ reads_for exchange
@@ -60,24 +84,16 @@ exchange_reads exchange reading current message e = ap reads_head e ∙ reads_by
 abbrev command_by : Head → ℕ → Option Bool
 command_by head octet = output_by Operate (command_at head.read head.channel head.address octet)
 
-progress_command : (p : Cursor) (octet : ℕ) → command_by (progress_head p) octet ≡ None
-progress_command (Sending flow segment) octet = refl
-progress_command (Asking busy) octet = refl
-progress_command (Receiving joining had) octet = refl
-progress_command Refused octet = refl
-
-request_command : (current : Option Current) (octet : ℕ) → command_by (request_head current) octet ≡ None
-request_command None octet = refl
-request_command (Some current) octet = progress_command current.progress octet
+-- other channels have none
+isdu_command : (read : Bool) (address octet : ℕ) → output_by Operate (command_at read Isdu address octet) ≡ None
+isdu_command true address octet = refl
+isdu_command false address octet = refl
 
 command_is : (exchange : Exchange) (reading : Reading) (current : Option Current) (size : ℕ) → command_by (head_for exchange reading current) (slice_index (data_for exchange size current) 0) ≡ output_for exchange
-command_is TellOutput _ current size = refl
-command_is DropOutput _ current size = refl
-command_is Abort _ current size = refl
-command_is ReadEvent _ current size = refl
-command_is ConfirmEvents _ current size = refl
-command_is NextMessage _ current size = request_command current _
-command_is Idle _ current size = refl
+command_is NextMessage _ current size =
+    ap (λ (c : Channel). output_by Operate (command_at (request_head current).read c (request_head current).address (slice_index (request_data current) 0))) (request_channel current)
+    ∙ isdu_command (request_head current).read (request_head current).address (slice_index (request_data current) 0)
+command_is other _ current size = refl
 
 pub exchange_command : (exchange : Exchange) (reading : Reading) (current : Option Current) (size : ℕ) (message : MasterMsg) → head_of message.mc ≡ head_for exchange reading current
     → message.od.items ≡ data_for exchange size current → output_by Operate (command_in message) ≡ output_for exchange
@@ -113,16 +129,6 @@ tell_differs run pre message size low od e =
     (ap (λ (o : List ℕ). message.out.items ++ o) (sym od) ∙ sym (text_parts run message) ∙ ap (drop 2) e ∙ text_parts pre (command_message pre DeviceOperate))
 
 -- only output commands are of the page
-
-progress_channel : (p : Cursor) → (progress_head p).channel ≡ Isdu
-progress_channel (Sending flow segment) = refl
-progress_channel (Asking busy) = refl
-progress_channel (Receiving joining had) = refl
-progress_channel Refused = refl
-
-request_channel : (current : Option Current) → (request_head current).channel ≡ Isdu
-request_channel None = refl
-request_channel (Some current) = progress_channel current.progress
 
 pub page_command : (exchange : Exchange) (reading : Reading) (current : Option Current) → (head_for exchange reading current).channel ≡ Page → (exchange ≡ TellOutput) ⊎ (exchange ≡ DropOutput)
 page_command TellOutput _ current e = inl refl

@@ -9,13 +9,13 @@ use Rattle.iol_mseq.specs.declared.reply.Reply.{Reply}
 use Rattle.iol_event.specs.declared.event.Event.{Event}
 use Rattle.iol_event.specs.declared.faults.EventForm.{EventForm}
 use Rattle.iol_event.specs.Reading.{taken, taken_all, is_readable, places_size, events_of}
-use Rattle.iol_steps.specs.Station.{Reading as SeenReading, Resting as SeenResting, Flagged, Under, Due, confirms, reads_events, is_due, wants_octet, read_so_far}
+use Rattle.iol_steps.specs.Station.{Reading as SeenReading, Due, confirms, reads_events, is_due, wants_octet, read_so_far}
 use Rattle.iol_steps.specs.Exchange.{reading_with, reading_read, reading_after, reading_kept, reading_flagged, list_of}
 use Rattle.iol_app.specs.declared.event_work.Reading.{Reading}
 use Rattle.iol_app.specs.declared.event_work.Reading.TheVariants.{Resting, UnderWay, ConfirmDue, Refused}
 use Rattle.iol_app.specs.declared.request.Current.{Current}
 use Rattle.iol_app.specs.declared.session.Exchange.{Exchange}
-use Rattle.iol_app.specs.declared.session.Exchange.TheVariants.{TellOutput, DropOutput, Abort, ReadEvent, ConfirmEvents, Request as NextMessage, Idle}
+use Rattle.iol_app.specs.declared.session.Exchange.TheVariants.{ReadEvent, ConfirmEvents}
 use Rattle.iol_app.specs.Messages.{head_of, head_for}
 use Rattle.iol_app.specs.Moves.{confirms_events}
 use Rattle.iol_app.specs.EventReading.{reader_of, is_refused, reading_by, list_by, read_on, list_read}
@@ -78,17 +78,13 @@ same_reader Resting flag seen h wants = sym (ap read_so_far h ∙ by_flag flag)
     by_flag true = refl
     by_flag false = refl
 same_reader (UnderWay octets) flag seen h wants = sym (ap read_so_far h)
-same_reader ConfirmDue flag SeenResting h wants = absurd (let k : false ≡ true = h in cc)
-same_reader ConfirmDue flag Flagged h wants = absurd (let k : false ≡ true = h in cc)
-same_reader ConfirmDue flag (Under octets) h wants = absurd (let k : false ≡ true = h in cc)
 same_reader ConfirmDue flag (Due first rest) h wants = absurd (let k : false ≡ true = wants in cc)
+same_reader ConfirmDue flag other h wants = absurd (let k : false ≡ true = h in cc)
 same_reader Refused flag seen h wants = absurd h
 
 kept_due : (seen : SeenReading) (event : Bool) → is_due seen ≡ true → is_due (reading_kept seen event) ≡ true
-kept_due SeenResting event h = absurd (let k : false ≡ true = h in cc)
-kept_due Flagged event h = absurd (let k : false ≡ true = h in cc)
-kept_due (Under octets) event h = absurd (let k : false ≡ true = h in cc)
 kept_due (Due first rest) event h = refl
+kept_due other event h = absurd (let k : false ≡ true = h in cc)
 
 kept_at : (reading : Reading) (flag event : Bool) (seen : SeenReading) → ReadingAt reading flag seen → ReadingAt reading event (reading_kept seen event)
 kept_at Resting flag event seen h = ap (λ (r : SeenReading). reading_kept r event) h ∙ kept_flagged flag event
@@ -97,10 +93,8 @@ kept_at ConfirmDue flag event seen h = kept_due seen event h
 kept_at Refused flag event seen h = absurd h
 
 unrefused : (reading : Reading) (flag : Bool) (seen : SeenReading) → ReadingAt reading flag seen → is_refused reading ≡ false
-unrefused Resting flag seen h = refl
-unrefused (UnderWay octets) flag seen h = refl
-unrefused ConfirmDue flag seen h = refl
 unrefused Refused flag seen h = absurd h
+unrefused other flag seen h = refl
 
 module _ (reading : Reading) (flag : Bool) (seen : SeenReading) (h : ReadingAt reading flag seen) (current : Option Current) (message : MasterMsg) (reply : Reply)
     (wants : reads_events message ≡ true → wants_octet seen ≡ true) (ok : reads_events message ≡ true → IsOk (taken (read_so_far seen) (slice_index reply.od.items 0)).answer) where
@@ -133,12 +127,8 @@ module _ (reading : Reading) (flag : Bool) (seen : SeenReading) (h : ReadingAt r
       }
 
   pub read_on_seen : (exchange : Exchange) → head_of message.mc ≡ head_for exchange reading current → ReadOn exchange reply.od.items reading reply.event next
-  read_on_seen TellOutput head = record { at = kept TellOutput head refl refl; form = form; list = λ e. absurd (cc) }
-  read_on_seen DropOutput head = record { at = kept DropOutput head refl refl; form = form; list = λ e. absurd (cc) }
-  read_on_seen Abort head = record { at = kept Abort head refl refl; form = form; list = λ e. absurd (cc) }
   read_on_seen ReadEvent head = read head
   read_on_seen ConfirmEvents head =
       let confirm : confirms message ≡ true = exchange_confirms ConfirmEvents reading current message head in
       record { at = rw confirm refl; form = refl; list = λ e. absurd (cc) }
-  read_on_seen NextMessage head = record { at = kept NextMessage head refl refl; form = form; list = λ e. absurd (cc) }
-  read_on_seen Idle head = record { at = kept Idle head refl refl; form = form; list = λ e. absurd (cc) }
+  read_on_seen other head = record { at = kept other head refl refl; form = form; list = λ e. absurd (cc) }

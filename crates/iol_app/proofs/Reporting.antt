@@ -23,11 +23,11 @@ use Rattle.iol_mode.specs.States.{waked, operate_by}
 use Rattle.iol_steps.specs.declared.said.Said.{Said}
 use Rattle.iol_steps.specs.declared.said.Said.TheVariants.{Idle as SaidIdle, Busy as SaidBusy, Answered, Cut, Reported}
 use Rattle.iol_app.specs.declared.event_work.Reading.{Reading}
-use Rattle.iol_app.specs.declared.event_work.Reading.TheVariants.{Resting, UnderWay, ConfirmDue, Refused}
+use Rattle.iol_app.specs.declared.event_work.Reading.TheVariants.{UnderWay}
 use Rattle.iol_app.specs.declared.output.Output.{Output}
 use Rattle.iol_app.specs.declared.request.Current.{Current}
 use Rattle.iol_app.specs.declared.session.Exchange.{Exchange}
-use Rattle.iol_app.specs.declared.session.Exchange.TheVariants.{TellOutput, DropOutput, Abort, ReadEvent, ConfirmEvents, Request as NextMessage, Idle}
+use Rattle.iol_app.specs.declared.session.Exchange.TheVariants.{Abort, ReadEvent, ConfirmEvents, Request as NextMessage}
 use Rattle.iol_mode.specs.Kept.{over}
 use Rattle.iol_mode.specs.declared.states.State.{State}
 use Rattle.iol_mode.specs.declared.states.State.TheVariants.{Down as AtDown, Startup as AtStartup, Preoperate as AtPreoperate, Operate as AtOperate}
@@ -47,11 +47,8 @@ IsPlain (Reported events) = ⊥
 IsPlain said = Unit {0}
 
 plain : (room before after : Bool) (said : Said) → IsPlain said → (after ≡ true → (before ≡ true) ⊎ (room ≡ true)) → ReadingAfter room before said after
-plain room before after SaidIdle h begun = begun
-plain room before after SaidBusy h begun = begun
-plain room before after (Answered answer) h begun = begun
-plain room before after (Cut cause) h begun = begun
 plain room before after (Reported events) h begun = absurd h
+plain room before after other h begun = begun
 
 lost_plain : (current : Option Current) → IsPlain (lost_said current)
 lost_plain None = tt
@@ -73,13 +70,9 @@ cut_plain None said waits h = absurd (let k : false ≡ true = waits in cc)
 cut_plain (Some cause) said waits h = said_plain said (Cut cause) h tt
 
 one_plain : (exchange : Exchange) (limit : ℕ) (od : List ℕ) (current : Current) (said : Said) → Suits exchange (Some current) → IsSaidOf exchange limit od current said → IsPlain said
-one_plain TellOutput limit od current said suits h = said_plain said SaidBusy h tt
-one_plain DropOutput limit od current said suits h = said_plain said SaidBusy h tt
 one_plain Abort limit od current said suits h = cut_plain current.abort said suits h
-one_plain ReadEvent limit od current said suits h = said_plain said SaidBusy h tt
-one_plain ConfirmEvents limit od current said suits h = said_plain said SaidBusy h tt
 one_plain NextMessage limit od current said suits h = outcome_plain (is_read current.cutter.source) (replied limit od current) said h
-one_plain Idle limit od current said suits h = said_plain said SaidBusy h tt
+one_plain other limit od current said suits h = said_plain said SaidBusy h tt
 
 request_plain : (exchange : Exchange) (limit : ℕ) (od : List ℕ) (current : Option Current) (said : Said) → Suits exchange current → IsSaid exchange limit od current said → IsPlain said
 request_plain exchange limit od None said suits h = said_plain said SaidIdle h tt
@@ -108,9 +101,7 @@ by_answer (Err form) reader list e = absurd (let k : None ≡ Some list = e in c
 
 list_ends : (reading : Reading) (octet : ℕ) (list : List Event) → list_after reading octet ≡ Some list → (is_under_way reading ≡ true) × (is_under_way (reading_after reading octet) ≡ false)
 list_ends (UnderWay reader) octet list e = (refl, (by_answer (taken reader octet).answer (taken reader octet).reader list e).1)
-list_ends Resting octet list e = absurd (first_answer octet list (by_answer (taken [] octet).answer [] list e).0)
-list_ends ConfirmDue octet list e = absurd (first_answer octet list (by_answer (taken [] octet).answer [] list e).0)
-list_ends Refused octet list e = absurd (first_answer octet list (by_answer (taken [] octet).answer [] list e).0)
+list_ends other octet list e = absurd (first_answer octet list (by_answer (taken [] octet).answer [] list e).0)
 
 -- Tests
 

@@ -1,25 +1,57 @@
 -- A turn in OPERATE, as it is seen.
-use Rattle.std.proofs.Common.{◌≡◌, ◌≢◌, inr, ⊎_elim, ℕ, suc, ◌+◌, ◌≤◌, ◌<◌, Bool, true, false, ◌==◌, List, length, drop, refl, sym, ap, ◌∙◌, subst, arith, Option, Some, None, Ok}
-use Rattle.std.specs.Prelude.{IsTrue, if◌then◌else◌}
-use Rattle.std.proofs.lemmas.Bool.Decides.{nat_tests}
-use Rattle.std.proofs.lemmas.List.{length-take-le, length-drop}
-use Rattle.std.proofs.Math.Numerals.{add-one}
-use Rattle.arrayvec.specs.ArrayVec.{ArrayVec}
+use Rattle.std.proofs.Common.{◌≡◌, ◌≢◌, inl, inr, ⊎_elim, ℕ, zero, suc, ◌≤◌, Bool, true, false, List, length, refl, sym, ap, ◌∙◌, subst, Option, Some, None, Ok, ◌+◌, ◌<◌, ◌==◌, arith}
+use Rattle.std.specs.Prelude.{◌⊎◌, IfSome, IsSome, is_some, bytes_eq, unwrap_or, IsTrue, if◌then◌else◌}
+use Rattle.std.proofs.lemmas.Bool.{cases_Bool}
+use Rattle.std.proofs.lemmas.Slice.Eq.{bytes_eq-Decides}
 use Rattle.iol_octets.specs.declared.control.Channel.TheVariants.{Page}
 use Rattle.iol_mseq.specs.Shape.{Shape}
 use Rattle.iol_mseq.specs.Texts.{master_text}
-use Rattle.iol_mseq.specs.Replies.{answered_od, has_reply_length, is_checked, reply_of, reply_in}
 use Rattle.iol_mseq.specs.declared.master.MasterMsg.{MasterMsg}
-use Rattle.iol_mseq.specs.declared.reply.Reply.{Reply}
 use Rattle.iol_page.specs.Page.{layouts_of}
 use Rattle.iol_page.specs.declared.page.Layouts.{Layouts}
-use Rattle.iol_far.specs.Octets.{octets_in}
-use Rattle.iol_far.specs.Far.{Far, command_in}
-use Rattle.iol_far.specs.Level.{Link, taken, turned}
+use Rattle.iol_page.specs.declared.master_command.MasterCommand.TheVariants.{DeviceOperate}
+use Rattle.iol_image.specs.Image.{IsImage}
+use Rattle.iol_isdu.specs.declared.values.Request.{Request}
 use Rattle.iol_far.specs.declared.mode.Mode.TheVariants.{Operate as FarOperate}
+use Rattle.iol_far.specs.Codec.{layout_in, message_in, flow_of}
+use Rattle.iol_far.specs.Far.{command_in, Far}
+use Rattle.iol_far.specs.Level.{Progress, Quiet, Move, Begin, Link, taken, turned, IsMove, MayBegin, IsSent}
+use Rattle.iol_far.specs.declared.carried.Carried.{Carried}
+use Rattle.iol_mode.specs.Messages.{command_message}
+use Rattle.iol_mode.specs.Stands.{entering_mode, entering_layout, entering_link, operate_link, IsOperating, IsAccepted}
+use Rattle.iol_event.specs.Reading.{next_address}
+use Rattle.iol_steps.specs.declared.mode.Mode.{Mode}
+use Rattle.iol_steps.specs.declared.mode.Mode.TheVariants.{Down as ModeDown, Operate as ModeOperate}
+use Rattle.iol_steps.specs.Step.{Image}
+use Rattle.iol_steps.specs.Images.{image_or}
+use Rattle.iol_steps.specs.Station.{Station, Unseen, Out, Shown, Stands, IsUp, LevelAt, far_mode, layout_at, confirms, reads_events, is_due, wants_octet, read_so_far, output_by, output_command, output_out, Reading as SeenReading, Flagged, Suits, OutFits}
+use Rattle.iol_steps.specs.Exchange.{IsNew, is_new, shown_made, made, output_due, reading_flagged, Sends, missed, had, image_had, told_by, reading_had}
+use Rattle.iol_app.specs.declared.event_work.Reading.{Reading}
+use Rattle.iol_app.specs.declared.event_work.Reading.TheVariants.{Resting, UnderWay, ConfirmDue, Refused}
+use Rattle.iol_app.specs.declared.request.Current.{Current}
+use Rattle.iol_app.specs.declared.request.Progress.{Progress as Cursor}
+use Rattle.iol_app.specs.declared.request.Progress.TheVariants.{Sending}
+use Rattle.iol_app.specs.declared.session.Exchange.{Exchange}
+use Rattle.iol_app.specs.declared.session.Exchange.TheVariants.{TellOutput, DropOutput, ReadEvent, ConfirmEvents, Request as NextMessage}
+use Rattle.iol_app.specs.Outputs.{carried_by, carrying, output_after}
+use Rattle.iol_app.specs.EventReading.{reader_of}
+use Rattle.iol_app.specs.Requests.{request_in, Suits as SuitsCurrent}
+use Rattle.iol_app.specs.Due.{is_under_way, is_confirm_due, is_resting, due_of}
+use Rattle.iol_app.specs.Messages.{Head, head_of, head_for, data_for}
+use Rattle.iol_app.specs.Moves.{progress_of, segment_move, move_at, move_for, confirms_events, MessagesAreMoves, AnswersAreTakenUp}
+use Rattle.iol_app.specs.State.{SessionState, IsSession, sending, od_size, sent, sent_by, image_in, OutSuits, IsMessageFor, IsOutBy, IsOutFor}
+use Rattle.iol_app.specs.Seen.{SentSeen, ShownSeen, ReadingAt, OperateLink, move_out, out_in, IsSeen}
+use Rattle.iol_app.proofs.DueFacts.{IsDue, output_for, reads_for, due_is}
+use Rattle.iol_app.proofs.OperateMessages.{exchange_confirms, exchange_reads, exchange_command, tell_differs, page_command}
+use Rattle.iol_app.proofs.Telling.{told_layout}
+use Rattle.std.proofs.lemmas.Bool.Decides.{nat_tests}
+use Rattle.std.proofs.Math.Numerals.{add-one}
+use Rattle.arrayvec.specs.ArrayVec.{ArrayVec}
+use Rattle.iol_mseq.specs.declared.reply.Reply.{Reply}
+use Rattle.iol_far.specs.Octets.{octets_in}
 use Rattle.iol_link.specs.declared.handler.Attempt.TheVariants.{Again, Lost}
 use Rattle.iol_link.specs.declared.wire.Rate.{Rate}
-use Rattle.iol_link.specs.Attempts.{Sending, good_reply}
+use Rattle.iol_link.specs.Attempts.{Sending as Sent, good_reply}
 use Rattle.iol_link.specs.Honest.{HonestExchange}
 use Rattle.iol_mode.specs.Kept.{Kept}
 use Rattle.iol_mode.specs.declared.states.Operate.{Operate}
@@ -27,36 +59,114 @@ use Rattle.iol_mode.specs.States.{Outcome}
 use Rattle.iol_mode.specs.States.{InOperate as OutOperate}
 use Rattle.iol_mode.specs.Next.{message_out}
 use Rattle.iol_mode.specs.States.{operate_by, operate_turned, sending_of}
-use Rattle.iol_mode.specs.Stands.{entering_link, operate_link, IsOperating, IsAccepted}
-use Rattle.iol_steps.specs.declared.mode.Mode.{Mode}
-use Rattle.iol_steps.specs.declared.mode.Mode.TheVariants.{Down as ModeDown, Operate as ModeOperate}
 use Rattle.iol_steps.specs.declared.said.Said.{Said}
 use Rattle.iol_steps.specs.Kinds.{said_of, quiet_said, lost_said as link_lost_said}
-use Rattle.iol_steps.specs.Station.{Station, Unseen, Out, Shown, Stands, Suits, OutFits, far_mode, layout_at, reads_events, wants_octet, output_by}
-use Rattle.iol_steps.specs.Exchange.{Sends, IsNew, missed, had, made, image_had, told_by, reading_had}
 use Rattle.iol_steps.specs.Promises.{MissedGives, LostGives, HadGives, ReplyTells, TextNamesAnswer, Exchanges, Tells}
 use Rattle.iol_app.specs.declared.output.Output.{Output}
-use Rattle.iol_app.specs.declared.request.Current.{Current}
-use Rattle.iol_app.specs.declared.session.Exchange.{Exchange}
-use Rattle.iol_app.specs.declared.session.Exchange.TheVariants.{TellOutput, DropOutput}
 use Rattle.iol_mode.specs.Next.{in_operate as InOperate}
-use Rattle.iol_app.specs.Outputs.{carried_by, carrying, output_after}
-use Rattle.iol_app.specs.Requests.{request_in, Suits as SuitsCurrent}
-use Rattle.iol_app.specs.Due.{due_of}
-use Rattle.iol_app.specs.Messages.{data_for}
-use Rattle.iol_app.specs.Moves.{MessagesAreMoves, RepliesFollow, AnswersAreTakenUp}
-use Rattle.iol_app.specs.State.{SessionState, IsSession, od_size, sending, sent, sent_by, image_in, lost_said, quiet_said as session_quiet_said, OutSuits, IsMessageFor, IsOutBy, IsOutFor}
 use Rattle.iol_app.specs.StationState.{StationState, wire_of, LinkFits, IsSettled, IsMet, IsExchange, IsOperateTurn}
-use Rattle.iol_app.specs.Seen.{SentSeen, ShownSeen, move_out, out_in, IsSeen}
-use Rattle.iol_app.proofs.Turns.{some_reply}
+use Rattle.iol_app.proofs.Turns.{good_parts}
 use Rattle.iol_app.proofs.Seeing.{Steps, steps_by, settled_seen, honest_by}
 use Rattle.iol_app.proofs.StartSending.{lost_steps}
-use Rattle.iol_app.proofs.DueFacts.{IsDue, due_is, output_for, reads_for}
-use Rattle.iol_app.proofs.OperateMessages.{exchange_reads, exchange_command}
-use Rattle.iol_app.proofs.OperateSending.{Ready, operate_out, made_out, made_seen, accepted_here, operate_new, not_operate}
 use Rattle.iol_app.proofs.OperateReading.{ReadOn, read_on_seen}
-use Rattle.iol_app.proofs.OperateRequest.{BringsSome, exchange_brings}
-use Rattle.iol_app.proofs.Telling.{told_layout}
+use Rattle.iol_app.proofs.OperateRequest.{BringsSome, operate_out, message_brings}
+
+-- The output that a new message carries
+
+made_shown : (mode : Mode) (out : Option Out) (shown : Shown) → mode ≡ ModeOperate → out ≡ None → shown_made (is_new mode out) shown ≡ shown_made true shown
+made_shown mode out shown e f = ap (λ (m : Mode). shown_made (is_new m out) shown) e ∙ ap (λ (o : Option Out). shown_made (is_new ModeOperate o) shown) f
+
+made_out : (s : Station) (w : Out) → s.out ≡ Some w → (made s).shown ≡ s.shown
+made_out s w e = ap (λ (o : Option Out). shown_made (is_new s.seen.mode o) s.shown) e ∙ by_mode s.seen.mode
+  where
+    by_mode : (m : Mode) → shown_made (is_new m (Some w)) s.shown ≡ s.shown
+    by_mode ModeOperate = refl
+    by_mode m = refl
+
+sent_made : (wanted sent : Option Image) (carried : List ℕ) → IfSome sent (λ image. image ≡ carried) → IfSome (image_or wanted sent) (λ image. image ≡ unwrap_or wanted carried)
+sent_made None sent carried h = h
+sent_made (Some image) sent carried h = refl
+
+same_carried : (sent : Option Image) (octets carried : List ℕ) → octets ≡ carried → IfSome sent (λ image. image ≡ carried) → IfSome sent (λ image. octets ≡ image)
+same_carried None octets carried e h = tt
+same_carried (Some image) octets carried e h = e ∙ sym h
+
+made_seen : (s : Station) (session : SessionState) (exchange : Exchange) (run : Shape) → session.layout ≡ Some run → s.seen.mode ≡ ModeOperate → s.out ≡ None → ShownSeen session s.shown
+    → ShownSeen (sending exchange session) (made s).shown
+made_seen s session exchange run told mode out seen =
+    let carried : IfSome s.shown.sent (λ image. image ≡ session.output.carried.items) = subst (λ (l : Option Shape). SentSeen l session.output.carried.items s.shown.sent) told seen.sent in
+    let here : IfSome (image_or s.shown.wanted s.shown.sent) (λ image. image ≡ unwrap_or session.output.wanted session.output.carried.items) =
+    subst (λ (o : Option Image). IfSome (image_or s.shown.wanted s.shown.sent) (λ image. image ≡ unwrap_or o session.output.carried.items)) seen.wanted
+    (sent_made s.shown.wanted s.shown.sent session.output.carried.items carried) in
+    subst (λ (x : Shown). ShownSeen (sending exchange session) x) (sym (made_shown s.seen.mode s.out s.shown mode out))
+    (record { image = seen.image; wanted = seen.wanted; sent = subst (λ (l : Option Shape). SentSeen l (carried_by session.output) (image_or s.shown.wanted s.shown.sent)) (sym told) here; told = seen.told; isdu = seen.isdu })
+
+-- The reading of events
+
+confirm_seen : (reading : Reading) (flag : Bool) (seen : SeenReading) → ReadingAt reading flag seen → is_confirm_due reading ≡ true → is_due seen ≡ true
+confirm_seen ConfirmDue flag seen h e = h
+confirm_seen other flag seen h e = absurd (let k : false ≡ true = e in cc)
+
+abbrev Wants : Reading → SeenReading → Type 0
+Wants reading seen = (wants_octet seen ≡ true) × (next_address (reader_of reading) ≡ next_address (read_so_far seen))
+
+reads_seen : (reading : Reading) (flag : Bool) (seen : SeenReading) → ReadingAt reading flag seen → (room : Bool) → (is_under_way reading ≡ true) ⊎ ((is_resting reading ≡ true) × (flag ≡ true) × (room ≡ true)) → Wants reading seen
+reads_seen Resting flag seen h room (inl e) = absurd (let k : false ≡ true = e in cc)
+reads_seen Resting flag seen h room (inr e) =
+    let here : seen ≡ Flagged = h ∙ ap reading_flagged e.1 in
+    subst (λ (r : SeenReading). Wants Resting r) (sym here) (refl, refl)
+reads_seen (UnderWay octets) flag seen h room due = subst (λ (r : SeenReading). Wants (UnderWay octets) r) (sym h) (refl, refl)
+reads_seen ConfirmDue flag seen h room (inl e) = absurd (let k : false ≡ true = e in cc)
+reads_seen ConfirmDue flag seen h room (inr e) = absurd (let k : false ≡ true = e.0 in cc)
+reads_seen Refused flag seen h room due = absurd h
+
+confirms_is : (exchange : Exchange) → confirms_events exchange ≡ true → exchange ≡ ConfirmEvents
+confirms_is ConfirmEvents e = refl
+confirms_is other e = absurd (let k : false ≡ true = e in cc)
+
+reads_is : (exchange : Exchange) → reads_for exchange ≡ true → exchange ≡ ReadEvent
+reads_is ReadEvent e = refl
+reads_is other e = absurd (let k : false ≡ true = e in cc)
+
+-- Which request a first segment begins
+
+segment_begins : (source : Request) (given : ℕ) (request : Request) → segment_move source given ≡ Begin request → source ≡ request
+segment_begins source zero request e = absurd (cc)
+segment_begins source (suc zero) request e = cc
+segment_begins source (suc (suc i)) request e = absurd (cc)
+
+cursor_begins : (current : Current) (p : Cursor) (request : Request) → move_at current.cutter p ≡ Begin request → current.cutter.source ≡ request
+cursor_begins current (Sending flow segment) request e = segment_begins current.cutter.source current.cutter.given request e
+cursor_begins current other request e = absurd (cc)
+
+begins_request : (exchange : Exchange) (current : Option Current) (request : Request) → move_for exchange current ≡ Begin request → request_in current ≡ Some request
+begins_request NextMessage (Some current) request e = ap (λ (r : Request). Some r) (cursor_begins current current.progress request e)
+begins_request other current request e = absurd (cc)
+
+-- The commands
+
+tells_wanted : (wanted : Option Image) (told : Bool) → Some true ≡ output_due wanted told → IsSome wanted
+tells_wanted None true e = absurd (let k : Some true ≡ Some false = e in cc)
+tells_wanted None false e = absurd (let k : Some true ≡ None = e in cc)
+tells_wanted (Some image) told e = refl
+
+drops_told : (wanted : Option Image) (told : Bool) → Some false ≡ output_due wanted told → told ≡ true
+drops_told wanted true e = refl
+drops_told None false e = absurd (let k : Some false ≡ None = e in cc)
+drops_told (Some image) false e = absurd (let k : Some false ≡ Some true = e in cc)
+
+some_or : (wanted sent : Option Image) → IsSome wanted → IsSome (image_or wanted sent)
+some_or None sent h = absurd (let k : false ≡ true = h in cc)
+some_or (Some image) sent h = refl
+
+image_some : (wanted : Option Image) (carried : List ℕ) → IsSome wanted → IfSome wanted IsImage → 1 ≤ length (unwrap_or wanted carried)
+image_some None carried some h = absurd (let k : false ≡ true = some in cc)
+image_some (Some image) carried some h = h.some_octet
+
+-- DeviceOperate isn't sent in OPERATE
+not_operate : (p : Option Shape) → entering_mode p ≡ FarOperate → ⊥
+not_operate None e = cc
+not_operate (Some pre) e = cc
 
 -- what is known of OPERATE
 pub record OperateLaws : Type 0 where
@@ -66,56 +176,14 @@ pub record OperateLaws : Type 0 where
   pub tells : ReplyTells
   pub names : TextNamesAnswer
   pub moves : MessagesAreMoves
-  pub follows : RepliesFollow
   pub taken : AnswersAreTakenUp
 
--- The image of a good reply
+-- The output after a good reply
 
-input_size : (layout : Shape) (read : Bool) (octets : List ℕ) (reply : Reply) → reply_in layout read octets ≡ Some reply → length reply.input.items ≡ layout.pd_in
-input_size layout read octets reply e =
-    let parts = some_reply (has_reply_length layout read octets) (is_checked octets) (reply_of layout read octets) reply e in
-    let test : has_reply_length layout read octets ≡ true = parts.0 in
-    let long : length octets ≡ answered_od layout read + layout.pd_in + 1 = grind (arith, nat_tests) in
-    let behind = length-drop (answered_od layout read) octets in
-    ap (λ r. length r.input.items) (sym parts.1) ∙ length-take-le layout.pd_in (drop (answered_od layout read) octets) (omega (arith, behind))
-
-good_input : (layout : Shape) (message : MasterMsg) (answer : Option (List ℕ)) (reply : Reply) → good_reply layout message answer ≡ Some reply → length reply.input.items ≡ layout.pd_in
-good_input layout message None reply e = absurd (let k : None ≡ Some reply = e in cc)
-good_input layout message (Some octets) reply e = input_size layout message.mc.read octets reply e
-
-same_image : (size : ℕ) (reply : Reply) → length reply.input.items ≡ size → image_had size reply ≡ image_in reply
-same_image size reply e = ap (λ (n : ℕ). image_had n reply) (sym e) ∙ by_tests (length reply.input.items == 0) reply.invalid
-  where
-    by_tests : (zero_is invalid : Bool) → ◌≡◌ {A = Option (List ℕ)} (if zero_is then None else if invalid then None else Some reply.input.items) (if invalid then None else if zero_is then None else Some reply.input.items)
-    by_tests true true = refl
-    by_tests true false = refl
-    by_tests false true = refl
-    by_tests false false = refl
-
--- The output after it
-
-output_wanted : (exchange : Exchange) (output : Output) → (output_after exchange output).wanted ≡ output.wanted
-output_wanted TellOutput output = refl
-output_wanted DropOutput output = refl
-output_wanted other output = refl
-
-output_carried : (exchange : Exchange) (output : Output) → (output_after exchange output).carried ≡ output.carried
-output_carried TellOutput output = refl
-output_carried DropOutput output = refl
-output_carried other output = refl
-
-output_told : (exchange : Exchange) (output : Output) (told : Bool) → told ≡ output.told → told_by (output_for exchange) told ≡ (output_after exchange output).told
-output_told TellOutput output told e = refl
-output_told DropOutput output told e = refl
-output_told other output told e = e
-
-same_lost : (current : Option Current) → lost_said current ≡ link_lost_said (request_in current)
-same_lost None = refl
-same_lost (Some current) = refl
-
-same_quiet : (current : Option Current) → session_quiet_said current ≡ quiet_said (request_in current)
-same_quiet None = refl
-same_quiet (Some current) = refl
+same_output : (exchange : Exchange) (output : Output) → output_after exchange output ≡ record output { told = told_by (output_for exchange) output.told }
+same_output TellOutput output = refl
+same_output DropOutput output = refl
+same_output other output = refl
 
 module _ {W : Type 0} (honest : W → Bool) (far : W → Far) (silence : W → ℕ) (wakes : W → Option Rate → W → Type 0) (gives : W → List ℕ → Option (ArrayVec ℕ) → W → Type 0)
     (laws : OperateLaws) (link : Kept W Operate) (session : SessionState) (valid : IsSession session) (fits : LinkFits {W = W} (InOperate link) session) (said : Said) (new : StationState W)
@@ -130,23 +198,151 @@ module _ {W : Type 0} (honest : W → Bool) (far : W → Far) (silence : W → �
   abbrev next_silence : ℕ
   next_silence = silence (wire_of new.link)
 
-  ready : Ready session s
-  ready = record {
-    busy_limit = seen.busy_limit;
-    request = seen.request;
-    busy = seen.busy;
-    progress = seen.progress;
-    reading = seen.reading;
-    event_form = seen.event_form;
-    shown = seen.shown;
-    output_told = seen.output_told;
-  }
-
   up : s.seen.mode ≢ ModeDown
   up e = let k : ModeOperate ≡ ModeDown = sym seen.mode ∙ e in cc
 
   at : layout_at s ≡ layouts.run
   at = ap (λ (m : Mode). layout_at (record s { seen = record s.seen { mode = m } })) seen.mode ∙ told_layout s.terms.page FarOperate layouts asked
+
+  -- the request under way is cut in segments of the layout's size
+  cut_size : IfSome session.current (λ c. c.cutter.size ≡ (layout_at s).od)
+  cut_size = subst (λ (n : ℕ). IfSome session.current (λ c. c.cutter.size ≡ n)) (ap od_size fits.told.0 ∙ ap (λ (l : Shape). l.od) (sym at)) valid.size
+
+  -- What goes out
+
+  module _ (message : MasterMsg) (accepts : (link : Link) → IsOperating layouts link → IsAccepted layouts s.terms.page link message) where
+    abbrev new_octets : List ℕ
+    new_octets = master_text layouts.run message
+
+    operates : (link : Link) → OperateLink layouts s.progress link → IsOperating layouts link
+    operates link (inl h) = inl h.0
+    operates link (inr h) = inr h
+
+    accepted_here : IsAccepted layouts s.terms.page s.link message
+    accepted_here = accepts s.link (operates s.link seen.link)
+
+    -- before the first good reply in OPERATE no output is told
+    entering_untold : (base : List Carried) → IsUp s u → LevelAt s base None → s.out ≡ None → s.link ≡ entering_link layouts → s.output_told ≡ false
+    entering_untold base is_up level none e =
+        let mode : s.far.mode ≡ entering_mode layouts.pre = ap (λ (l : Link). l.mode) (level.link_is ∙ e) in
+        let output : s.far.valid ≡ s.output_told = is_up.output level.awake (ap (output_out s) none) in
+        ⊎_elim
+        (λ (t : s.far.valid ≡ true). absurd (not_operate layouts.pre (sym mode ∙ (is_up.valid level.awake t).0)))
+        (λ (f : s.far.valid ≡ false). sym output ∙ f)
+        (cases_Bool s.far.valid)
+
+    -- A new message
+
+    module _ (room : Bool) (exchange : Exchange) (due : IsDue session room exchange) (none : s.out ≡ None) (head : head_of message.mc ≡ head_for exchange session.events.reading session.current)
+        (od : message.od.items ≡ data_for exchange layouts.run.od session.current) (carried : message.out.items ≡ carried_by session.output) where
+      untold : s.link ≡ entering_link layouts → session.output.told ≡ false
+      untold e =
+          let is_up = stands.up up in
+          sym seen.output_told ∙ entering_untold is_up.base is_up (subst (λ (o : Option Out). LevelAt s is_up.base o) none is_up.level) none e
+
+      is_other : s.link ≡ entering_link layouts → message.mc.channel ≡ Page → new_octets ≡ master_text (entering_layout layouts) (command_message (entering_layout layouts) DeviceOperate) → ⊥
+      is_other e page same =
+          ⊎_elim
+          (λ (t : exchange ≡ TellOutput).
+          let some : IsSome session.output.wanted = tells_wanted session.output.wanted session.output.told (sym (ap output_for t) ∙ due.output) in
+          let images : IfSome session.output.wanted IsImage = subst (λ (o : Option Image). IfSome o IsImage) seen.shown.wanted stands.wanted in
+          tell_differs layouts.run (entering_layout layouts) message layouts.run.od
+          (subst (λ (o : List ℕ). 1 ≤ length o) (sym carried) (image_some session.output.wanted session.output.carried.items some images))
+          (od ∙ ap (λ (x : Exchange). data_for x layouts.run.od session.current) t) same)
+          (λ (d : exchange ≡ DropOutput).
+          let k : true ≡ false = sym (drops_told session.output.wanted session.output.told (sym (ap output_for d) ∙ due.output)) ∙ untold e in
+          cc)
+          (page_command exchange session.events.reading session.current (sym (ap (λ (h : Head). h.channel) head) ∙ page))
+
+      entry_mode : s.link ≡ entering_link layouts → message.mc.channel ≡ Page → (taken (entering_link layouts) new_octets).mode ≡ FarOperate
+      entry_mode e page =
+          ⊎_elim
+          (λ (t : bytes_eq new_octets (master_text (entering_layout layouts) (command_message (entering_layout layouts) DeviceOperate)) ≡ true).
+          absurd (is_other e page ((bytes_eq-Decides new_octets (master_text (entering_layout layouts) (command_message (entering_layout layouts) DeviceOperate))).0 t)))
+          (λ (f : bytes_eq new_octets (master_text (entering_layout layouts) (command_message (entering_layout layouts) DeviceOperate)) ≡ false). rw f refl)
+          (cases_Bool (bytes_eq new_octets (master_text (entering_layout layouts) (command_message (entering_layout layouts) DeviceOperate))))
+
+      new_mode : (taken s.link new_octets).mode ≡ FarOperate
+      new_mode = by_link seen.link
+        where
+          by_link : OperateLink layouts s.progress s.link → (taken s.link new_octets).mode ≡ FarOperate
+          by_link (inr e) = ap (λ (l : Link). (taken l new_octets).mode) e
+          by_link (inl h) =
+              ⊎_elim
+              (λ (k : (turned s.terms.page s.link new_octets message ≡ entering_link layouts) × (message.mc.channel ≡ Page)). ap (λ (l : Link). (taken l new_octets).mode) h.0 ∙ entry_mode h.0 k.1)
+              (λ (k : turned s.terms.page s.link new_octets message ≡ operate_link). ap (λ (l : Link). l.mode) k)
+              accepted_here.next
+
+      there : layout_in s.terms.page (taken s.link new_octets).mode ≡ layouts.run
+      there = ap (layout_in s.terms.page) new_mode ∙ told_layout s.terms.page FarOperate layouts asked
+
+      still : (link : Link) → OperateLink layouts s.progress link → IfSome link.waits (λ command. s.progress ≡ Quiet)
+      still link (inl h) = subst (λ (l : Link). IfSome l.waits (λ command. s.progress ≡ Quiet)) (sym h.0) h.1
+      still link (inr e) = subst (λ (l : Link). IfSome l.waits (λ command. s.progress ≡ Quiet)) (sym e) tt
+
+      abbrev IsMoved : ℕ → Progress → Head → List ℕ → Type 0
+      IsMoved size progress h data_out = IsMove size (move_for exchange session.current) progress h.channel h.read (flow_of h.address) data_out
+
+      moved : IsMoved (layout_at s).od s.progress (head_of message.mc) message.od.items
+      moved =
+          subst (λ (n : ℕ). IsMoved n s.progress (head_of message.mc) message.od.items) (sym (ap (λ (l : Shape). l.od) at))
+          (subst (λ (p : Progress). IsMoved layouts.run.od p (head_of message.mc) message.od.items) (sym seen.progress)
+          (subst (λ (h : Head). IsMoved layouts.run.od (progress_of session.current) h message.od.items) (sym head)
+          (subst (λ (o : List ℕ). IsMoved layouts.run.od (progress_of session.current) (head_for exchange session.events.reading session.current) o) (sym od)
+          (laws.moves session layouts.run exchange valid fits.told.0))))
+
+      -- a request under way means a device with ISDU
+      may_begin : (what : Move) → move_for exchange session.current ≡ what → MayBegin s.terms.page what
+      may_begin (Begin request) e = stands.isdu (ap (λ (r : Option Request). is_some r) (seen.request ∙ begins_request exchange session.current request e))
+      may_begin other e = tt
+
+      goes : IsSent s.terms.page (layout_at s).od s.link s.progress new_octets message (move_for exchange session.current)
+      goes = record {
+        spells = ap (λ (l : Shape). message_in l new_octets) there ∙ accepted_here.out.spells;
+        size_of = ap (λ (l : Shape). l.od) (there ∙ sym at);
+        move = moved;
+        begins = may_begin (move_for exchange session.current) refl;
+        quiet = still s.link seen.link;
+      }
+
+      command : output_by s.seen.mode (command_in message) ≡ output_for exchange
+      command = ap (λ (m : Mode). output_by m (command_in message)) seen.mode ∙ exchange_command exchange session.events.reading session.current layouts.run.od message head od
+
+      made_is : ShownSeen (sending exchange session) (made s).shown
+      made_is = made_seen s session exchange layouts.run fits.told.0 seen.mode none seen.shown
+
+      commanded : output_command s (operate_out layouts.run message exchange session.current 0) ≡ Some true → IsSome (made s).shown.sent
+      commanded e =
+          let tells : Some true ≡ output_due session.output.wanted session.output.told = sym e ∙ command ∙ due.output in
+          let wanted : IsSome s.shown.wanted = subst (λ (o : Option Image). IsSome o) (sym seen.shown.wanted) (tells_wanted session.output.wanted session.output.told tells) in
+          subst (λ (x : Shown). IsSome x.sent) (sym (made_shown s.seen.mode s.out s.shown seen.mode none)) (some_or s.shown.wanted s.shown.sent wanted)
+
+      confirm : confirms message ≡ true → is_due s.reading ≡ true
+      confirm e =
+          let confirms : exchange ≡ ConfirmEvents = confirms_is exchange (sym (exchange_confirms exchange session.events.reading session.current message head) ∙ e) in
+          confirm_seen session.events.reading session.events.flag s.reading seen.reading (due.confirm confirms)
+
+      reads : reads_events message ≡ true → (wants_octet s.reading ≡ true) × (message.mc.address ≡ next_address (read_so_far s.reading))
+      reads e =
+          let read : exchange ≡ ReadEvent = reads_is exchange (sym (exchange_reads exchange session.events.reading session.current message head) ∙ e) in
+          let wants = reads_seen session.events.reading session.events.flag s.reading seen.reading room (due.reads read) in
+          (wants.0, ap (λ (h : Head). h.address) head ∙ ap (λ (x : Exchange). (head_for x session.events.reading session.current).address) read ∙ wants.1)
+
+      operate_new : IsNew s (operate_out layouts.run message exchange session.current 0)
+      operate_new = record {
+        first = refl;
+        suits = record {
+          mode = new_mode ∙ sym (ap far_mode seen.mode);
+          sent = goes;
+          begins = λ request e. seen.request ∙ begins_request exchange session.current request e;
+          confirm = confirm;
+          reads = reads;
+          carries = λ m. same_carried (made s).shown.sent message.out.items (carried_by session.output) carried
+              (subst (λ (l : Option Shape). SentSeen l (carried_by session.output) (made s).shown.sent) fits.told.0 made_is.sent);
+          output = commanded;
+        };
+        due = λ m. command ∙ due.output ∙ ap (λ (o : Option Image). output_due o session.output.told) (sym seen.shown.wanted) ∙ ap (output_due s.shown.wanted) (sym seen.output_told);
+      }
 
   -- the session while its message is out
   abbrev out_session : Exchange → Output → SessionState
@@ -194,7 +390,7 @@ module _ {W : Type 0} (honest : W → Bool) (far : W → Far) (silence : W → �
         → IsMet honest far silence wakes gives link.wire (unanswered b) (wire_of new.link) → Steps honest far silence s u said new
     by_tries true two exchange_is settled both =
         lost_steps honest far silence laws.lost s u out (out_session exchange output) said new exchange_is (grind (arith, nat_tests)) (seen.is_honest ∙ sym both.honesty) seen.busy_limit seen.event_form
-        goes.shown (seen.output_told ∙ sym goes.told) settled (settled.said_is ∙ same_lost session.current ∙ ap link_lost_said (sym seen.request))
+        goes.shown (seen.output_told ∙ sym goes.told) settled (settled.said_is ∙ ap link_lost_said (sym seen.request))
     by_tries false two exchange_is settled both =
         let again : suc tries ≤ 2 = grind (arith, nat_tests) in
         let next : Station = missed s out next_far next_silence in
@@ -217,7 +413,7 @@ module _ {W : Type 0} (honest : W → Bool) (far : W → Far) (silence : W → �
           shown = goes.shown;
           output_told = seen.output_told ∙ sym goes.told;
         }))
-        (laws.missed s u out next_far next_silence exchange_is again) (settled.said_is ∙ same_quiet session.current ∙ ap quiet_said (sym seen.request))
+        (laws.missed s u out next_far next_silence exchange_is again) (settled.said_is ∙ ap quiet_said (sym seen.request))
 
     -- A good reply
 
@@ -233,7 +429,7 @@ module _ {W : Type 0} (honest : W → Bool) (far : W → Far) (silence : W → �
     commands = ap (λ (m : Mode). output_by m (command_in message)) seen.mode ∙ exchange_command exchange session.events.reading session.current layouts.run.od message goes.is_for.head od_is
 
     carried_on : (layout : Option Shape) (shown : Shown) → SentSeen layout output.carried.items shown.sent → SentSeen layout (output_after exchange output).carried.items shown.sent
-    carried_on layout shown h = subst (λ (c : List ℕ). SentSeen layout c shown.sent) (ap (λ (p : ArrayVec ℕ). p.items) (sym (output_carried exchange output))) h
+    carried_on layout shown h = subst (λ (c : List ℕ). SentSeen layout c shown.sent) (ap (λ (o : Output). o.carried.items) (sym (same_output exchange output))) h
 
     by_brought : (reply : Reply) → length reply.input.items ≡ layouts.run.pd_in → Exchanges s u out next_far next_silence (Some reply)
         → IsSettled (OutOperate (record { out = None; layouts = layouts }) (Some reply)) (out_session exchange output) said new
@@ -244,10 +440,11 @@ module _ {W : Type 0} (honest : W → Bool) (far : W → Far) (silence : W → �
         read_on_seen session.events.reading session.events.flag s.reading seen.reading session.current message reply goes.wants tells.events exchange goes.is_for.head in
         let reads : reads_events message ≡ reads_for exchange = exchange_reads exchange session.events.reading session.current message goes.is_for.head in
         let brought : BringsSome s out reply session.limit _ said =
-        exchange_brings laws.names laws.taken laws.follows s session valid ready message layouts.run fits.told.0 at tries reply next_far next_silence said exchange goes.suits tells reads on.list settled.said_is in
+        message_brings laws.names laws.taken s session.limit seen.busy_limit message layouts.run at tries reply next_far next_silence said exchange session.current session.events.reading
+        (record { valid = valid.current; size = cut_size; request = seen.request; busy = seen.busy; progress = seen.progress }) goes.suits tells reads on.list settled.said_is in
         let brings = brought.1 in
         let next : Station = had brought.0 s out reply next_far next_silence in
-        let image : image_had (layout_at s).pd_in reply ≡ image_in reply = same_image (layout_at s).pd_in reply (sized ∙ ap (λ (l : Shape). l.pd_in) (sym at)) in
+        let image : image_had (layout_at s).pd_in reply ≡ image_in reply = ap (λ (n : ℕ). image_had n reply) (ap (λ (l : Shape). l.pd_in) at ∙ sym sized) in
         steps_by honest far silence s u said (said_of brought.0 s.seen.request) new next
         (settled_seen honest far silence (OutOperate (record { out = None; layouts = layouts }) (Some reply)) (out_session exchange output) said new next settled (record {
           is_honest = seen.is_honest ∙ sym both.honesty;
@@ -266,12 +463,12 @@ module _ {W : Type 0} (honest : W → Bool) (far : W → Far) (silence : W → �
           event_form = stands.no_event_form ∙ sym on.form;
           shown = record {
             image = image;
-            wanted = goes.shown.wanted ∙ sym (output_wanted exchange output);
+            wanted = goes.shown.wanted ∙ ap (λ (o : Output). o.wanted) (sym (same_output exchange output));
             sent = carried_on session.layout (made s).shown goes.shown.sent;
             told = goes.shown.told;
             isdu = goes.shown.isdu;
           };
-          output_told = ap (λ (c : Option Bool). told_by c s.output_told) commands ∙ output_told exchange output s.output_told (seen.output_told ∙ sym goes.told);
+          output_told = ap (λ (c : Option Bool). told_by c s.output_told) commands ∙ ap (told_by (output_for exchange)) (seen.output_told ∙ sym goes.told) ∙ ap (λ (o : Output). o.told) (sym (same_output exchange output));
         }))
         (laws.had s u out next_far next_silence reply brought.0 exchange_is seen.mode brings.is) brings.said_is
 
@@ -280,7 +477,7 @@ module _ {W : Type 0} (honest : W → Bool) (far : W → Far) (silence : W → �
         → IsMet honest far silence wakes gives link.wire (operate_turned (record { out = Some (record { message = message; tries = tries }); layouts = layouts }) message reply) (wire_of new.link)
         → Steps honest far silence s u said new
     by_reply answer None good passes settled both = by_tries (tries == 2) refl (exchanges answer None passes good) settled both
-    by_reply answer (Some reply) good passes settled both = by_brought reply (good_input layouts.run message answer reply good) (exchanges answer (Some reply) passes good) settled both
+    by_reply answer (Some reply) good passes settled both = by_brought reply (good_parts layouts.run message answer reply good).input (exchanges answer (Some reply) passes good) settled both
 
   -- The message of the turn: the one that is out, else a new one for what is due
 
@@ -289,11 +486,11 @@ module _ {W : Type 0} (honest : W → Bool) (far : W → Far) (silence : W → �
       (carries : message_out link.state.out ≡ None → message.out.items ≡ carried_by session.output) (few : (sending_of link.state.out message).tries < 3)
       (accepts : (l : Link) → IsOperating layouts l → IsAccepted layouts s.terms.page l (sending_of link.state.out message).message)
       (exchange : IsExchange honest far silence wakes gives link.wire layouts.run (sending_of link.state.out message).message (operate_turned link.state message) (sent (due_of session room) session) said new) where
-    abbrev sends : Sending
+    abbrev sends : Sent
     sends = sending_of link.state.out message
 
     accepted : IsAccepted layouts s.terms.page s.link sends.message
-    accepted = accepted_here laws.moves s u stands session valid layouts seen.mode asked fits.told.0 ready seen.link sends.message accepts
+    accepted = accepted_here sends.message accepts
 
     by_message : (due : Exchange) (output : Output) → Goes due output sends.message sends.tries → sent (due_of session room) session ≡ out_session due output → Steps honest far silence s u said new
     by_message due output goes same =
@@ -302,7 +499,7 @@ module _ {W : Type 0} (honest : W → Bool) (far : W → Far) (silence : W → �
         (subst (λ (t : SessionState). IsSettled (operate_turned link.state message (good_reply layouts.run sends.message answer)) t said new) same exchange.settled) exchange.both
 
     -- a new one
-    none_out : (out : Option Sending) → IsOutBy None session (message_out out) → out ≡ None
+    none_out : (out : Option Sent) → IsOutBy None session (message_out out) → out ≡ None
     none_out None is = refl
     none_out (Some sending) is = absurd is
 
@@ -311,16 +508,16 @@ module _ {W : Type 0} (honest : W → Bool) (far : W → Far) (silence : W → �
         let due : Exchange = due_of session room in
         let same : sent due session ≡ sending due session = ap (λ (e : Option Exchange). sent_by e due session) free in
         let no_message : link.state.out ≡ None = none_out link.state.out (subst (λ (e : Option Exchange). IsOutBy e session (message_out link.state.out)) free fits.out_for) in
-        let none : s.out ≡ None = seen.out ∙ ap (λ (o : Option Sending). out_in o layouts.run (move_out session.exchange session.current)) no_message in
-        let first : sends ≡ sending_of None message = ap (λ (o : Option Sending). sending_of o message) no_message in
-        let tries : sends.tries ≡ 0 = ap (λ (x : Sending). x.tries) first in
-        let made_message : sends.message ≡ message = ap (λ (x : Sending). x.message) first in
+        let none : s.out ≡ None = seen.out ∙ ap (λ (o : Option Sent). out_in o layouts.run (move_out session.exchange session.current)) no_message in
+        let first : sends ≡ sending_of None message = ap (λ (o : Option Sent). sending_of o message) no_message in
+        let tries : sends.tries ≡ 0 = ap (λ (x : Sent). x.tries) first in
+        let made_message : sends.message ≡ message = ap (λ (x : Sent). x.message) first in
         let is : IsMessageFor due (sending due session) sends.message = subst (λ (t : SessionState). IsOutFor (Some sends.message) t) same is_for in
         let od : sends.message.od.items ≡ data_for due layouts.run.od session.current = is.octets ∙ ap (λ (l : Option Shape). data_for due (od_size l) session.current) fits.told.0 in
         let carried : sends.message.out.items ≡ carried_by session.output = ap (λ (m : MasterMsg). m.out.items) made_message ∙ carries (ap message_out no_message) in
         let is_due : IsDue session room due = due_is session room in
         let fresh : IsNew s (operate_out layouts.run sends.message due session.current 0) =
-        operate_new laws.moves s u stands session valid layouts seen.mode asked fits.told.0 ready seen.link sends.message accepts room due is_due none is.head od carried in
+        operate_new sends.message accepts room due is_due none is.head od carried in
         by_message due (carrying session.output) (record {
           sends = subst (λ (o : Option Out). Sends s o (operate_out layouts.run sends.message due session.current sends.tries)) (sym none)
               (subst (λ (n : ℕ). IsNew s (operate_out layouts.run sends.message due session.current n)) (sym tries) fresh);
@@ -333,7 +530,7 @@ module _ {W : Type 0} (honest : W → Bool) (far : W → Far) (silence : W → �
         }) same
 
     -- the one that is out
-    some_out : (out : Option Sending) (exchange : Exchange) → IsOutBy (Some exchange) session (message_out out) → out ≡ Some (sending_of out message)
+    some_out : (out : Option Sent) (exchange : Exchange) → IsOutBy (Some exchange) session (message_out out) → out ≡ Some (sending_of out message)
     some_out None exchange is = absurd is
     some_out (Some sending) exchange is = refl
 
@@ -344,7 +541,7 @@ module _ {W : Type 0} (honest : W → Bool) (far : W → Far) (silence : W → �
         let is_sent : link.state.out ≡ Some sends = some_out link.state.out out_for (subst (λ (e : Option Exchange). IsOutBy e session (message_out link.state.out)) is_out fits.out_for) in
         let w : Out = operate_out layouts.run sends.message out_for session.current sends.tries in
         let out_is : s.out ≡ Some w =
-        seen.out ∙ ap (λ (o : Option Sending). out_in o layouts.run (move_out session.exchange session.current)) is_sent
+        seen.out ∙ ap (λ (o : Option Sent). out_in o layouts.run (move_out session.exchange session.current)) is_sent
         ∙ ap (λ (e : Option Exchange). out_in (Some sends) layouts.run (move_out e session.current)) is_out in
         let up_fits : OutFits s (Some w) = subst (λ (o : Option Out). OutFits s o) out_is (stands.up up).out in
         let suits : Suits s w = up_fits.0 in

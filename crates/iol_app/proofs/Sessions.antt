@@ -1,6 +1,6 @@
 -- What always holds of a session.
 use Rattle.std.proofs.Common.{◌≡◌, ⊎_elim, ℕ, zero, suc, ◌-◌, ◌*◌, ◌<◌, ◌≤◌, Bool, true, false, ◌==◌, if◌then◌else◌, List, length, replicate, refl, sym, ap, subst, ◌∙◌, arith, Option, Some, None}
-use Rattle.std.specs.Prelude.{slice_index, IfSome, IsTrue, unwrap_or}
+use Rattle.std.specs.Prelude.{slice_index, is_some, IfSome, IsTrue, unwrap_or}
 use Rattle.std.proofs.lemmas.Bool.{cases_Bool}
 use Rattle.std.proofs.lemmas.List.{length-append, length-replicate}
 use Rattle.iol_mseq.specs.Shape.{Shape, IsLayout, is_size}
@@ -10,7 +10,8 @@ use Rattle.iol_mseq.specs.declared.reply.Reply.{Reply}
 use Rattle.iol_mseq.specs.declared.master.MasterMsg.{MasterMsg}
 use Rattle.iol_isdu.specs.declared.values.Request.{Request}
 use Rattle.iol_isdu.specs.declared.values.Cause.{Cause}
-use Rattle.iol_isdu.specs.Texts.{IsRequest, request_front}
+use Rattle.iol_isdu.specs.Answers.{is_read}
+use Rattle.iol_isdu.specs.Texts.{request_front}
 use Rattle.iol_page.specs.Commands.{command_octet}
 use Rattle.iol_page.specs.declared.master_command.MasterCommand.TheVariants.{ProcessDataOutputOperate, DeviceOperate}
 use Rattle.iol_mseq.specs.Parts.{first_of_zeros}
@@ -22,9 +23,11 @@ use Rattle.iol_app.specs.declared.request.Current.{Current}
 use Rattle.iol_app.specs.declared.request.Progress.{Progress}
 use Rattle.iol_app.specs.declared.request.Progress.TheVariants.{Sending, Asking, Receiving, Refused}
 use Rattle.iol_app.specs.declared.session.Exchange.{Exchange}
-use Rattle.iol_app.specs.declared.session.Exchange.TheVariants.{TellOutput, DropOutput, Abort, ReadEvent, ConfirmEvents, Request as NextMessage, Idle}
+use Rattle.iol_app.specs.declared.session.Exchange.TheVariants.{TellOutput, DropOutput, Abort, ConfirmEvents, Request as NextMessage}
+use Rattle.iol_steps.specs.declared.said.Said.{Said}
+use Rattle.iol_steps.specs.declared.said.Said.TheVariants.{Cut}
 use Rattle.iol_app.specs.Outputs.{output_after, carried_by, IsOutput}
-use Rattle.iol_app.specs.Requests.{text_of, Outcome, GoesOn, HasText, asked, replied_at, replied, going, one_after, current_after, ProgressFits, IsCurrent}
+use Rattle.iol_app.specs.Requests.{text_of, Outcome, GoesOn, HasText, asked, replied_at, replied, going, current_after, request_in, request_after, IsOutcomeSaid, IsSaid, Suits, ProgressFits, IsCurrent}
 use Rattle.iol_app.specs.State.{SessionState, IsSession, od_size, output_length, absorbed}
 use Rattle.iol_app.specs.Messages.{head_of, head_for, data_for, progress_head, progress_data, request_head, request_data}
 use Rattle.iol_app.proofs.Cutting.{length-segment, is_pair, given_goes_on, sent_on_fits}
@@ -35,91 +38,90 @@ text_some : (cutter : Cutting Request) → 0 < length (text_of cutter)
 text_some cutter = let whole = length-append (request_front cutter.source) in omega (arith, whole)
 
 -- the reply to a START read
-asked_stays : (cutter : Cutting Request) (abort : Option Cause) (busy limit : ℕ) (od : List ℕ) → (current : Current) → IsCurrent current → current.cutter ≡ cutter
-    → ProgressFits cutter abort (Asking busy) → length od ≡ cutter.size → StaysCurrent cutter.size (asked cutter abort busy limit od)
-asked_stays cutter abort busy limit od current h same all size =
-    let request : IsRequest cutter.source = subst (λ (c : Cutting Request). IsRequest c.source) same h.request in
-    let some : 1 ≤ cutter.size = subst (λ (c : Cutting Request). 1 ≤ c.size) same h.some in
-    let most : cutter.size ≤ 32 = subst (λ (c : Cutting Request). c.size ≤ 32) same h.most in
-    let one : length od ≡ suc 0 * cutter.size = omega arith in
+asked_stays : (current : Current) (busy limit : ℕ) (od : List ℕ) → IsCurrent current → ProgressFits current.cutter current.abort (Asking busy) → length od ≡ current.cutter.size
+    → StaysCurrent current.cutter (asked current.cutter current.abort busy limit od)
+asked_stays current busy limit od h all size =
+    let one : length od ≡ suc 0 * current.cutter.size = omega arith in
     ⊎_elim
-    (λ (b : (slice_index od 0 == 1) ≡ true). rw b (record { request = request; some = some; most = most; progress = all }, refl))
+    (λ (b : (slice_index od 0 == 1) ≡ true). rw b (record { request = h.request; some = h.some; most = h.most; progress = all }, refl, refl))
     (λ (n : (slice_index od 0 == 1) ≡ false).
     ⊎_elim
-    (λ (z : (slice_index od 0 == 0) ≡ true). rw (n, z) (refused_stays cutter abort request some most))
-    (λ (m : (slice_index od 0 == 0) ≡ false). rw (n, m) (joined_stays cutter abort 0 od (stage od) refl one request some most))
+    (λ (z : (slice_index od 0 == 0) ≡ true). rw (n, z) (refused_stays current h))
+    (λ (m : (slice_index od 0 == 0) ≡ false). rw (n, m) (joined_stays current h 0 od (stage od) refl one))
     (cases_Bool (slice_index od 0 == 0)))
     (cases_Bool (slice_index od 0 == 1))
 
--- on-request data of the reply to a message of the request, by the direction of that message
+-- on-request data of the reply to a message of the request that was a read
 abbrev pub IsAnswered : ℕ → Progress → List ℕ → Type 0
-IsAnswered size (Sending flow segment) od = Unit {0}
-IsAnswered size any od = length od ≡ size
+IsAnswered size p od = (progress_head p).read ≡ true → length od ≡ size
 
 replied_stays : (current : Current) (p : Progress) (limit : ℕ) (od : List ℕ) → IsCurrent current → current.progress ≡ p → IsAnswered current.cutter.size p od
-    → StaysCurrent current.cutter.size (replied_at p limit od current)
+    → StaysCurrent current.cutter (replied_at p limit od current)
 replied_stays current (Sending flow segment) limit od h e size =
     let fits : ProgressFits current.cutter current.abort (Sending flow segment) = subst (ProgressFits current.cutter current.abort) e h.progress in
-    (sent_on_fits current.cutter current.abort h.request h.some h.most (text_some current.cutter) (given_goes_on current.cutter.size (text_of current.cutter) current.cutter.given flow segment fits), refl)
-replied_stays current (Asking busy) limit od h e size =
-    asked_stays current.cutter current.abort busy limit od current h refl (subst (ProgressFits current.cutter current.abort) e h.progress) size
-replied_stays current (Receiving joining had) limit od h e size =
-    received_stays current.cutter current.abort joining had od (subst (ProgressFits current.cutter current.abort) e h.progress) size h.request h.some h.most
-replied_stays current Refused limit od h e size = (h, refl)
+    let on = given_goes_on current.cutter.size (text_of current.cutter) current.cutter.given flow segment fits in
+    (sent_on_fits current.cutter current.abort h.request h.some h.most (text_some current.cutter) on, refl, refl)
+replied_stays current (Asking busy) limit od h e size = asked_stays current busy limit od h (subst (ProgressFits current.cutter current.abort) e h.progress) (size refl)
+replied_stays current (Receiving joining had) limit od h e size = received_stays current h joining had od (subst (ProgressFits current.cutter current.abort) e h.progress) (size refl)
+replied_stays current Refused limit od h e size = (h, refl, refl)
 
--- the request under way after a reply
+-- the reply has on-request data of the layout's size where the request's message was a read
+answered_as : (layout : Option Shape) (current : Current) (od : List ℕ) → IsCurrent current → current.cutter.size ≡ od_size layout
+    → IfSome layout (λ l. length od ≡ answered_od l (progress_head current.progress).read) → IsAnswered current.cutter.size current.progress od
+answered_as None current od h same fits = let low : 1 ≤ current.cutter.size = h.some in absurd (omega (arith, low, same))
+answered_as (Some layout) current od h same fits = λ read. fits ∙ ap (answered_od layout) read ∙ sym same
+
+-- The request under way after a reply, and what is said of it
+
 abbrev pub StaysGoing : ℕ → Option Current → Type 0
 StaysGoing size current = IfSome current IsCurrent × IfSome current (λ c. c.cutter.size ≡ size)
 
-going_stays : (size : ℕ) (outcome : Outcome) → StaysCurrent size outcome → StaysGoing size (going outcome)
-going_stays size (GoesOn current) h = h
-going_stays size (HasText text) h = (tt, tt)
+going_stays : (cutter : Cutting Request) (outcome : Outcome) → StaysCurrent cutter outcome → StaysGoing cutter.size (going outcome)
+going_stays cutter (GoesOn current) h = (h.0, h.1)
+going_stays cutter (HasText text) h = (tt, tt)
 
-one_stays : (exchange : Exchange) (limit : ℕ) (od : List ℕ) (current : Current) → IsCurrent current → (exchange ≡ NextMessage → IsAnswered current.cutter.size current.progress od)
-    → StaysGoing current.cutter.size (one_after exchange limit od current)
-one_stays TellOutput limit od current h size = (h, refl)
-one_stays DropOutput limit od current h size = (h, refl)
-one_stays Abort limit od current h size = (tt, tt)
-one_stays ReadEvent limit od current h size = (h, refl)
-one_stays ConfirmEvents limit od current h size = (h, refl)
-one_stays NextMessage limit od current h size =
-    going_stays current.cutter.size (replied limit od current) (replied_stays current current.progress limit od h refl (size refl))
-one_stays Idle limit od current h size = (h, refl)
+going_request : (cutter : Cutting Request) (read : Bool) (outcome : Outcome) (said : Said) → StaysCurrent cutter outcome → IsOutcomeSaid read outcome said
+    → request_in (going outcome) ≡ request_after (Some cutter.source) said
+going_request cutter read (GoesOn current) said stays h = ap Some stays.2 ∙ ap (request_after (Some cutter.source)) (sym h)
+going_request cutter read (HasText text) said stays h = ap (request_after (Some cutter.source)) (sym h.found.2)
+
+aborted_request : (request : Request) (abort : Option Cause) (said : Said) → IsTrue (is_some abort) → IfSome abort (λ cause. said ≡ Cut cause) → None ≡ request_after (Some request) said
+aborted_request request None said suits h = absurd (let k : false ≡ true = suits in cc)
+aborted_request request (Some cause) said suits h = ap (request_after (Some request)) (sym h)
+
+module _ (layout : Option Shape) (reading : Reading) (limit : ℕ) (od : List ℕ) where
+  abbrev Fits : Exchange → Option Current → Type 0
+  Fits exchange current = IfSome layout (λ l. length od ≡ answered_od l (head_for exchange reading current).read)
+
+  stays : (current : Current) → IsCurrent current → current.cutter.size ≡ od_size layout → Fits NextMessage (Some current) → StaysCurrent current.cutter (replied limit od current)
+  stays current h size fits = replied_stays current current.progress limit od h refl (answered_as layout current od h size fits)
+
+  pub current_stays : (exchange : Exchange) (current : Option Current) → IfSome current IsCurrent → IfSome current (λ c. c.cutter.size ≡ od_size layout) → Fits exchange current
+      → StaysGoing (od_size layout) (current_after exchange limit od current)
+  current_stays NextMessage (Some current) h size fits =
+      subst (λ n. StaysGoing n (going (replied limit od current))) size (going_stays current.cutter (replied limit od current) (stays current h size fits))
+  current_stays Abort (Some current) h size fits = (tt, tt)
+  current_stays other (Some current) h size fits = (h, size)
+  current_stays exchange None h size fits = (tt, tt)
+
+  pub current_request : (exchange : Exchange) (current : Option Current) (said : Said) → IfSome current IsCurrent → IfSome current (λ c. c.cutter.size ≡ od_size layout) → Fits exchange current
+      → Suits exchange current → IsSaid exchange limit od current said → request_in (current_after exchange limit od current) ≡ request_after (request_in current) said
+  current_request NextMessage (Some current) said h size fits suits said_is =
+      going_request current.cutter (is_read current.cutter.source) (replied limit od current) said (stays current h size fits) said_is
+  current_request Abort (Some current) said h size fits suits said_is = aborted_request current.cutter.source current.abort said suits said_is
+  current_request other (Some current) said h size fits suits said_is = ap (request_after (Some current.cutter.source)) (sym said_is)
+  current_request exchange None said h size fits suits said_is = ap (request_after None) (sym said_is)
 
 output_stays : (size : ℕ) (exchange : Exchange) (output : Output) → IsOutput size output → IsOutput size (output_after exchange output)
 output_stays size TellOutput output h = record { carried = h.carried; wanted = h.wanted }
 output_stays size DropOutput output h = record { carried = h.carried; wanted = h.wanted }
-output_stays size Abort output h = h
-output_stays size ReadEvent output h = h
-output_stays size ConfirmEvents output h = h
-output_stays size NextMessage output h = h
-output_stays size Idle output h = h
-
--- the reply has on-request data of the layout's size where the request's message was a read
-answered_as : (layout : Option Shape) (size : ℕ) (p : Progress) (reading : Reading) (od : List ℕ) (current : Current) → current.progress ≡ p → 1 ≤ size → size ≡ od_size layout
-    → IfSome layout (λ l. length od ≡ answered_od l (head_for NextMessage reading (Some current)).read) → IsAnswered size p od
-answered_as None size p _ od current e some same h = absurd (let k : size ≡ 0 = same in omega arith)
-answered_as (Some layout) size p events od current e some same h = by_progress p e
-  where
-    by_progress : (p : Progress) → current.progress ≡ p → IsAnswered size p od
-    by_progress (Sending flow segment) e = tt
-    by_progress (Asking busy) e = (rw e at h) ∙ sym same
-    by_progress (Receiving joining had) e = (rw e at h) ∙ sym same
-    by_progress Refused e = (rw e at h) ∙ sym same
-
-current_stays : (layout : Option Shape) (reading : Reading) (exchange : Exchange) (limit : ℕ) (od : List ℕ) (current : Option Current) → IfSome current IsCurrent
-    → IfSome current (λ c. c.cutter.size ≡ od_size layout) → IfSome layout (λ l. length od ≡ answered_od l (head_for exchange reading current).read)
-    → StaysGoing (od_size layout) (current_after exchange limit od current)
-current_stays layout _ exchange limit od None h size fits = (tt, tt)
-current_stays layout events exchange limit od (Some current) h size fits =
-    subst (λ n. StaysGoing n (one_after exchange limit od current)) size
-    (one_stays exchange limit od current h (λ (e : exchange ≡ NextMessage). answered_as layout current.cutter.size current.progress events od current refl h.some size (rw e at fits)))
+output_stays size other output h = h
 
 -- a session that takes up a good reply
 pub absorbed_stays : (s : SessionState) (exchange : Exchange) (reply : Reply) → IsSession s
     → IfSome s.layout (λ layout. length reply.od.items ≡ answered_od layout (head_for exchange s.events.reading s.current).read) → IsSession (absorbed exchange reply s)
 absorbed_stays s exchange reply h fits =
-    let going = current_stays s.layout s.events.reading exchange s.limit reply.od.items s.current h.current h.size fits in
+    let going = current_stays s.layout s.events.reading s.limit reply.od.items exchange s.current h.current h.size fits in
     record {
       layout = h.layout;
       output = output_stays (output_length s.layout) exchange s.output h.output;
@@ -164,11 +166,9 @@ data_length : (exchange : Exchange) (size : ℕ) (reading : Reading) (current : 
     → IsData size (head_for exchange reading current).read (data_for exchange size current)
 data_length TellOutput size _ current some h same = length-first_of_zeros size (command_octet ProcessDataOutputOperate) some
 data_length DropOutput size _ current some h same = length-first_of_zeros size (command_octet DeviceOperate) some
-data_length Abort size _ current some h same = refl
-data_length ReadEvent size _ current some h same = refl
 data_length ConfirmEvents size _ current some h same = length-first_of_zeros size 0 some
 data_length NextMessage size _ current some h same = request_data_length size current h same
-data_length Idle size _ current some h same = refl
+data_length other size _ current some h same = refl
 
 od_some : (layout : Shape) → IsLayout layout → 1 ≤ layout.od
 od_some layout h = by_size layout.od h.od

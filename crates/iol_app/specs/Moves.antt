@@ -1,25 +1,25 @@
 -- How far a session has come, as the level of both ends of the link sees it: laws of the definitions.
-use Rattle.std.specs.Prelude.{◌≡◌, ◌⊎◌, ℕ, zero, suc, Bool, true, false, List, Option, Some, None, IsTrue}
+use Rattle.std.specs.Prelude.{◌≡◌, ℕ, zero, suc, ◌*◌, ◌<◌, Bool, true, false, List, ◌++◌, length, Option, Some, None, IsTrue}
 use Rattle.iol_mseq.specs.Shape.{Shape}
 use Rattle.iol_mseq.specs.Master.{SpellsMaster}
 use Rattle.iol_mseq.specs.declared.master.MasterMsg.{MasterMsg}
 use Rattle.iol_isdu.specs.Answers.{BeginsWithAnswer, is_read}
 use Rattle.iol_isdu.specs.declared.values.Request.{Request}
 use Rattle.iol_isdu.specs.declared.values.Answer.{Answer}
-use Rattle.iol_segment.specs.Cut.{Cutting, segment}
-use Rattle.iol_segment.specs.Join.{Complete, stage}
+use Rattle.iol_segment.specs.Cut.{Cutting}
+use Rattle.iol_segment.specs.Join.{Joining}
 use Rattle.iol_segment.specs.TextLaws.{joined}
 use Rattle.iol_far.specs.Codec.{flow_of}
 use Rattle.iol_far.specs.Isdu.{answer_text, fits}
 use Rattle.iol_far.specs.Laws.{confirms}
-use Rattle.iol_far.specs.Level.{Progress, Quiet, Written, Busy, Had, Move, Begin, More, Ask, Next, Leave, Other, after, IsMove}
+use Rattle.iol_far.specs.Level.{Progress, Quiet, Written, Busy, Had, Move, Begin, More, Ask, Next, Leave, Other, IsMove}
 use Rattle.iol_app.specs.declared.event_work.Reading.{Reading}
 use Rattle.iol_app.specs.declared.request.Current.{Current}
 use Rattle.iol_app.specs.declared.request.Progress.{Progress as Cursor}
 use Rattle.iol_app.specs.declared.request.Progress.TheVariants.{Sending, Asking, Receiving, Refused}
 use Rattle.iol_app.specs.declared.session.Exchange.{Exchange}
 use Rattle.iol_app.specs.declared.session.Exchange.TheVariants.{Abort, ConfirmEvents, Request as NextMessage, Idle}
-use Rattle.iol_app.specs.Requests.{Outcome, GoesOn, HasText, replied, current_after, Suits, IsCurrent}
+use Rattle.iol_app.specs.Requests.{Outcome, GoesOn, HasText, replied, IsCurrent}
 use Rattle.iol_app.specs.State.{SessionState, IsSession}
 use Rattle.iol_app.specs.Messages.{Head, head_of, head_for, data_for}
 
@@ -93,50 +93,31 @@ ConfirmsConfirm =
     (exchange : Exchange) (reading : Reading) (current : Option Current) (layout : Shape) (message : MasterMsg) (octets : List ℕ)
     → head_of message.mc ≡ head_for exchange reading current → SpellsMaster layout message octets → confirms octets ≡ confirms_events exchange
 
--- the octets had are those of this request's answer, and begin with the whole of this text
-abbrev pub HadText : Request → List ℕ → Progress → Type 0
-HadText request text (Had other i octets) = (other ≡ request) × (stage octets ≡ Complete text)
-HadText request text any = ⊥
-
--- what came was no text of an answer, or the request is as far as the reply brings it; or its answer is whole
-abbrev pub OutcomeFollows : Request → Outcome → Progress → Type 0
-OutcomeFollows request (GoesOn current) progress = (current.progress ≡ Refused) ⊎ (progress_of (Some current) ≡ progress)
-OutcomeFollows request (HasText text) progress = HadText request text progress
-
--- after a good reply to the message that was sent for this, with these on-request data
-abbrev pub ReplyFollows : Exchange → ℕ → List ℕ → Option Current → Type 0
-ReplyFollows NextMessage limit od (Some current) =
-    OutcomeFollows current.cutter.source (replied limit od current) (after (progress_of (Some current)) (request_move (Some current)) od)
-ReplyFollows exchange limit od current = progress_of (current_after exchange limit od current) ≡ after (progress_of current) (move_for exchange current) od
-
-abbrev pub RepliesFollow : Type 0
-RepliesFollow =
-    (s : SessionState) (exchange : Exchange) (od : List ℕ) → IsSession s → Suits exchange s.current
-    → ReplyFollows exchange s.limit od s.current
-
 -- the number of the answer's segment that comes next; those before it were had
 abbrev pub next_segment : Cursor → ℕ
 next_segment (Receiving joining had) = suc had
 next_segment any = 0
 
-abbrev pub IsHad : ℕ → List ℕ → Cursor → Type 0
-IsHad size text (Asking busy) = Unit {0}
-IsHad size text (Receiving joining had) = joining.text ≡ joined size text had
-IsHad size text any = ⊥
+-- the octets of the answer that are had with these
+abbrev pub octets_had : Cursor → List ℕ → List ℕ
+octets_had (Receiving joining had) od = joining.text ++ od
+octets_had any od = od
 
--- the request goes on with that segment had, or has this answer
-abbrev pub IsAnswering : ℕ → Bool → Answer → List ℕ → ℕ → Cursor → Type 0
-IsAnswering size read answer text i (Receiving joining had) = (had ≡ i) × (joining.text ≡ joined size text i)
-IsAnswering size read answer text i any = ⊥
+-- a segment of the answer is asked for
+abbrev pub IsReading : Cursor → Type 0
+IsReading (Asking busy) = Unit {0}
+IsReading (Receiving joining had) = Unit {0}
+IsReading any = ⊥
 
-abbrev pub IsTakenUp : ℕ → Bool → Answer → List ℕ → ℕ → Outcome → Type 0
-IsTakenUp size read answer text i (GoesOn current) = IsAnswering size read answer text i current.progress
-IsTakenUp size read answer text i (HasText whole) = (whole ≡ text) × BeginsWithAnswer read whole answer
+-- the request goes on with these octets of its answer, up to that segment, or has this answer
+abbrev pub IsTakenUp : Current → Answer → ℕ → List ℕ → Outcome → Type 0
+IsTakenUp current answer i octets (GoesOn next) = (joining : Joining) × (next ≡ record current { progress = Receiving joining i }) × (joining.text ≡ octets)
+IsTakenUp current answer i octets (HasText text) = BeginsWithAnswer (is_read current.cutter.source) text answer × BeginsWithAnswer (is_read current.cutter.source) octets answer
 
 -- no segment of an answer that fits the request is refused: it is taken up, and the answer at its last one is that answer
 abbrev pub AnswersAreTakenUp : Type 0
 AnswersAreTakenUp =
-    (current : Current) (limit : ℕ) (answer : Answer) → IsCurrent current → IsTrue (fits current.cutter.source answer)
-    → IsHad current.cutter.size (answer_text current.cutter.source answer) current.progress
-    → IsTakenUp current.cutter.size (is_read current.cutter.source) answer (answer_text current.cutter.source answer) (next_segment current.progress)
-    (replied limit (segment current.cutter.size (answer_text current.cutter.source answer) (next_segment current.progress)) current)
+    (current : Current) (limit : ℕ) (od : List ℕ) (answer : Answer) → IsCurrent current → IsReading current.progress → IsTrue (fits current.cutter.source answer)
+    → octets_had current.progress od ≡ joined current.cutter.size (answer_text current.cutter.source answer) (next_segment current.progress)
+    → next_segment current.progress * current.cutter.size < length (answer_text current.cutter.source answer)
+    → IsTakenUp current answer (next_segment current.progress) (octets_had current.progress od) (replied limit od current)

@@ -1,5 +1,5 @@
 //! Laws of the definitions, each carried by a function that does nothing when it runs.
-ghost use Rattle.iol_app.specs.Moves.{MessagesAreMoves, ConfirmsConfirm, RepliesFollow, AnswersAreTakenUp};
+ghost use Rattle.iol_app.specs.Moves.{MessagesAreMoves, ConfirmsConfirm, AnswersAreTakenUp};
 ghost use Rattle.iol_app.specs.StationLaws.{StationLaws};
 
 use iol_far::{messages_are_heard, requests_are_received, texts_are_heard};
@@ -28,12 +28,6 @@ pub(crate) fn confirms_confirm()
     messages_are_heard();
 }
 
-/// After a good reply the request is as far as that reply brings it; or its answer is whole; or what came was no text of
-/// an answer.
-pub(crate) fn replies_follow()
-    ensures { RepliesFollow }
-{}
-
 /// No segment of an answer that fits the request is refused, and the answer that is whole with its last one is that one.
 pub(crate) fn answers_are_taken_up()
     ensures { AnswersAreTakenUp }
@@ -58,6 +52,5 @@ pub(crate) fn station_laws()
     good_reply_tells();
     text_names_its_answer();
     messages_are_moves();
-    replies_follow();
     answers_are_taken_up();
 }

@@ -1,4 +1,4 @@
-use Rattle.iol_app.proofs.Confirms.{confirms_confirm}
+use Rattle.iol_app.proofs.OperateMessages.{confirms_confirm}
 use Rattle.iol_app.proofs.laws.confirms_confirm.Goals as goal
 
 pub returns : goal.returns

@@ -1,5 +1,5 @@
 use Rattle.std.proofs.Common.{lit≤}
-use Rattle.iol_app.proofs.Sending.{messages_are_moves}
+use Rattle.iol_app.proofs.Moving.{messages_are_moves}
 use Rattle.iol_app.proofs.laws.messages_are_moves.Goals as goal
 
 pub returns : goal.returns

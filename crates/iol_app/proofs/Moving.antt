@@ -1,5 +1,5 @@
--- Each new message is the move that the request's progress asks for.
-use Rattle.std.proofs.Common.{◌≡◌, ℕ, zero, suc, ◌%◌, ◌≤◌, true, false, [], refl, sym, ap, subst, ◌∙◌, arith, Option, Some, None}
+-- Each new message is the move that the request's progress asks for, and a good reply brings the request on by it.
+use Rattle.std.proofs.Common.{◌≡◌, ℕ, zero, suc, ◌%◌, ◌≤◌, true, false, [], refl, sym, ap, subst, ◌∙◌, arith, Option, Some, None, ◌+◌, ◌*◌, Bool, if◌then◌else◌, List, length}
 use Rattle.std.specs.Prelude.{nat_lt, ◌==◌, IfSome}
 use Rattle.std.proofs.lemmas.Bool.Decides.{nat_tests}
 use Rattle.std.proofs.Math.Numerals.{add-one}
@@ -12,27 +12,26 @@ use Rattle.iol_mseq.specs.Shape.{Shape}
 use Rattle.iol_isdu.specs.declared.values.Request.{Request}
 use Rattle.iol_isdu.specs.Answers.{is_read}
 use Rattle.iol_isdu.specs.Texts.{IsRequest, request_text}
-use Rattle.iol_segment.specs.Cut.{Cutting, flow_at, last_given}
+use Rattle.iol_segment.specs.Cut.{Cutting, flow_at, last_given, pair}
 use Rattle.iol_segment.specs.Join.{Joining, stage}
 use Rattle.iol_segment.specs.TextLaws.{TextLaws}
 use Rattle.iol_far.specs.Codec.{flow_of}
 use Rattle.iol_far.specs.Isdu.{answer_text}
 use Rattle.iol_far.specs.SegmentLaws.{AnswersFit}
-use Rattle.iol_far.specs.Level.{Quiet, Written, Had, Begin, More, Ask, Next, IsMove}
+use Rattle.iol_far.specs.Level.{Quiet, Written, Had, Begin, More, Ask, Next, IsMove, Busy, asked as level_asked, after}
 use Rattle.iol_app.specs.declared.event_work.Reading.{Reading}
 use Rattle.iol_app.specs.declared.request.Current.{Current}
 use Rattle.iol_app.specs.declared.request.Progress.{Progress as Cursor}
 use Rattle.iol_app.specs.declared.request.Progress.TheVariants.{Sending, Asking, Receiving, Refused}
 use Rattle.iol_app.specs.declared.session.Exchange.{Exchange}
-use Rattle.iol_app.specs.declared.session.Exchange.TheVariants.{TellOutput, DropOutput, Abort, ReadEvent, ConfirmEvents, Request as NextMessage, Idle}
-use Rattle.iol_app.specs.Requests.{text_of, ProgressFits, IsAllGiven, IsJoining, IsCurrent}
+use Rattle.iol_app.specs.declared.session.Exchange.TheVariants.{Request as NextMessage}
+use Rattle.iol_app.specs.Requests.{text_of, ProgressFits, IsAllGiven, IsJoining, IsCurrent, sending, sent_on, one_more, IsFirst, IsUnsent}
 use Rattle.iol_app.specs.State.{od_size}
 use Rattle.iol_app.specs.Messages.{head_for, data_for, progress_head, progress_data, request_head, request_data}
 use Rattle.iol_app.specs.Moves.{written, before_last, asked_for, progress_of, progress_at, segment_move, move_at, request_move, IsMoveOf, MessagesAreMoves}
-use Rattle.iol_app.proofs.Staging.{more_follow}
+use Rattle.iol_app.proofs.Joining.{more_follow}
 use Rattle.iol_app.proofs.Cutting.{is_pair}
-
--- An answer that fits is one that the type holds
+use Rattle.iol_isdu.specs.declared.values.Cause.{Cause}
 
 -- The flow of a COUNT
 
@@ -94,14 +93,52 @@ request_moves fit laws size (Some current) h same =
 messages_move : AnswersFit → (laws : (size : ℕ) → 1 ≤ size → TextLaws size) (exchange : Exchange) (size : ℕ) (reading : Reading) (current : Option Current) → IfSome current IsCurrent → IfSome current (λ c. c.cutter.size ≡ size)
     → IsMoveOf size exchange current (head_for exchange reading current) (data_for exchange size current)
 unfolding flow_of
-messages_move fit laws TellOutput size _ current h same = tt
-messages_move fit laws DropOutput size _ current h same = tt
-messages_move fit laws Abort size _ current h same = tt
-messages_move fit laws ReadEvent size _ current h same = tt
-messages_move fit laws ConfirmEvents size _ current h same = tt
 messages_move fit laws NextMessage size _ current h same = request_moves fit laws size current h same
-messages_move fit laws Idle size _ current h same = tt
+messages_move fit laws other size _ current h same = tt
 
 pub messages_are_moves : AnswersFit → ((size : ℕ) → 1 ≤ size → TextLaws size) → MessagesAreMoves
 messages_are_moves fit laws s layout exchange h told =
     messages_move fit laws exchange layout.od s.events.reading s.current h.current (subst (λ (l : Option Shape). IfSome s.current (λ c. c.cutter.size ≡ od_size l)) told h.size)
+
+-- A segment of the request was written
+
+sent_progress : (cutter : Cutting Request) (i : ℕ) → cutter.given ≡ suc i → (b : Bool)
+    → progress_at (record cutter { given = if b then cutter.given + 1 else cutter.given }) (sending (if b then Some (pair cutter.size (text_of cutter) cutter.given) else None)) ≡ Written cutter.source i
+sent_progress cutter i e true = rw (add-one cutter.given, e) refl
+sent_progress cutter i e false = rw e refl
+
+segment_follows : (request : Request) (i : ℕ) (od : List ℕ) → after (before_last request (suc i)) (segment_move request (suc i)) od ≡ Written request i
+segment_follows request zero od = refl
+segment_follows request (suc i) od = refl
+
+pub sent_follows : (cutter : Cutting Request) (abort : Option Cause) (flow : Flow) (piece : ArrayVec ℕ) (od : List ℕ) (given : ℕ) → cutter.given ≡ given
+    → last_given cutter.size (text_of cutter) given ≡ Some (flow, piece)
+    → progress_of (Some (sent_on cutter abort)) ≡ after (before_last cutter.source given) (segment_move cutter.source given) od
+sent_follows cutter abort flow piece od zero e h = absurd (let k : None ≡ Some (flow, piece) = h in cc)
+sent_follows cutter abort flow piece od (suc i) e h =
+    sent_progress cutter i e (nat_lt (cutter.given * cutter.size) (length (text_of cutter))) ∙ sym (segment_follows cutter.source i od)
+
+-- The reply to a START read
+
+pub busy_follows : (cutter : Cutting Request) (busy : ℕ) → asked_for cutter (one_more busy) ≡ Busy cutter.source
+busy_follows cutter busy = by_count (one_more busy) (omega arith)
+  where
+    by_count : (n : ℕ) → 1 ≤ n → asked_for cutter n ≡ Busy cutter.source
+    by_count zero low = absurd (omega arith)
+    by_count (suc n) low = refl
+
+pub asked_after : (cutter : Cutting Request) (busy given : ℕ) (od : List ℕ) → cutter.given ≡ given → IsAllGiven cutter.size (text_of cutter) given
+    → after (asked_for cutter busy) Ask od ≡ level_asked cutter.source od
+asked_after cutter zero zero od e h = absurd h
+asked_after cutter zero (suc i) od e h = rw e refl
+asked_after cutter (suc busy) given od e h = refl
+
+-- The reply to any other message
+
+idle_quiet : (cutter : Cutting Request) (p : Cursor) → IsFirst p cutter.given → progress_at cutter p ≡ Quiet
+idle_quiet cutter (Sending flow piece) h = rw h refl
+idle_quiet cutter other h = absurd h
+
+pub unsent_quiet : (current : Option Current) → IsUnsent current → progress_of current ≡ Quiet
+unsent_quiet None h = refl
+unsent_quiet (Some current) h = idle_quiet current.cutter current.progress h
