@@ -160,6 +160,33 @@ fn layouts(rt: HostRuntime) -> Result<(), Fail> {
 }
 
 #[test]
+fn read_in_place(rt: HostRuntime) -> Result<(), Fail> {
+    let layout = Layout::operate(0, 2, 1)?;
+    let message = view_master(&layout, &[0x20, 0xB0, 0x5A, 0x98])?;
+    assert!(rt; !message.mc().read && message.mc().channel == Channel::Page);
+    assert_eq!(rt; message.out(), [0x5A].as_slice());
+    assert_eq!(rt; message.od(), [0x98].as_slice());
+    let reply = view_reply(&layout, true, &[0x00, 0x12, 0x34, 0x3A])?;
+    assert_eq!(rt; reply.od(), [0x00].as_slice());
+    assert_eq!(rt; reply.input(), [0x12, 0x34].as_slice());
+    assert!(rt; !reply.event() && !reply.invalid());
+    Ok(())
+}
+
+#[test]
+fn written_in_place(rt: HostRuntime) {
+    let mut octets = Message::new();
+    append_first(&mut octets, 3, 0x99);
+    append_zeros(&mut octets, 1);
+    append(&mut octets, &[0x12, 0x34]);
+    assert_eq!(rt; octets.as_slice(), [0x99, 0, 0, 0, 0x12, 0x34].as_slice());
+    let mut reply = Message::new();
+    append(&mut reply, &[0x17]);
+    close_reply(&mut reply, false, false);
+    assert_eq!(rt; reply.as_slice(), [0x17, 0x1B].as_slice());
+}
+
+#[test]
 fn parts_of_messages(rt: HostRuntime) {
     assert_eq!(rt;
         part_of(&[0x12, 0x34]).as_slice(),

@@ -234,7 +234,7 @@ impl<P: App, A: Allocator + Copy> Sim<P, A> {
         match fate {
             Fate::Clean => self.device.hear_into(sent, reply),
             Fate::BackLost => {
-                self.device.hear_into(sent, reply);
+                let _ = self.device.hear_into(sent, reply);
                 false
             }
             Fate::BackDamaged => {

@@ -3,6 +3,7 @@ use crate::{App, Device, DeviceFault, Record};
 use iol_event::Event;
 use iol_far::hearing_again_changes_nothing;
 use iol_image::Image;
+use iol_mseq::Message;
 
 /// A step of a device, with what has to come of it.
 #[derive(Clone, Copy)]
@@ -72,7 +73,7 @@ pub fn goes<P: App, R: Record>(device: &mut Device<P, R>, step: Step) -> bool {
         Step::Raise(code) => return raised(device, code).is_ok(),
         Step::Hear(sent, reply) => return answers(device, sent, reply),
         Step::HearTwice(sent, reply) => return answers_twice(device, sent, reply),
-        Step::Silence(sent) => return device.hear(sent).is_none(),
+        Step::Silence(sent) => return !device.hear_into(sent, &mut Message::new()),
         Step::Input(octets) => return given(device, octets) == Some(Ok(())),
         Step::Output(octets) => return puts_out(device, octets),
         Step::NoOutput => return device.output().is_none(),
