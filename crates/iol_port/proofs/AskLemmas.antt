@@ -11,6 +11,7 @@ use Rattle.iol_steps.specs.Step.{Reset, is_down, woke_up, book_said}
 use Rattle.iol_app.specs.StationState.{StationState, wire_of, mode_of, IsTurn}
 use Rattle.iol_app.specs.Asking.{asked_of, prepared, IsCall}
 use Rattle.iol_port.specs.Steps.{book_through}
+use Rattle.iol_app.specs.AskedCalls.{AskedWakes, AskedGives}
 
 module _ {W : Type 0} where
   -- the turn's call is the one that was asked of the port
@@ -28,3 +29,17 @@ module _ {W : Type 0} where
       let woke_is : woke ≡ (is_down (mode_of old.link) && not (is_down (mode_of new.link))) =
       is ∙ ap (λ (m : Mode). is_down m && not (is_down ended)) from_old ∙ ap (λ (m : Mode). is_down (mode_of old.link) && not (is_down m)) to in
       ap (λ (w : Bool). book_through (cond w (Reset ∷ []) [] ++ book_said said) b) woke_is
+
+-- The exact turn of a port makes the call that the port asks for.
+
+module _ {W : Type 0} (honest : W → Bool) (far : W → Far) (silence : W → ℕ) (wakes : W → Option Rate → W → Type 0) (gives : W → List ℕ → Option (ArrayVec ℕ) → W → Type 0) where
+  -- the station's turn, with the call that it asks for
+  abbrev Turns : Bool → StationState W → Said → StationState W → Type 0
+  Turns room s said new = IsTurn honest far silence (AskedWakes wakes (asked_of s room)) (AskedGives gives (asked_of s room)) room s said new
+
+  -- it began with the next request begun
+  pub turn_begun_asked : (old mid new : StationState W) (next : Option Request) (room has : Bool) (said : Said) → room ≡ has → mid ≡ prepared next old room
+      → IsTurn honest far silence (AskedWakes wakes (asked_of mid room)) (AskedGives gives (asked_of mid room)) room mid said new
+      → IsTurn honest far silence (AskedWakes wakes (asked_of (prepared next old has) has)) (AskedGives gives (asked_of (prepared next old has) has)) has (prepared next old has) said new
+  turn_begun_asked old mid new next room has said same begun turn =
+      subst (λ (r : Bool). Turns r (prepared next old r) said new) same (subst (λ (s : StationState W). Turns room s said new) begun turn)

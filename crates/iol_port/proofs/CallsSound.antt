@@ -1,74 +1,143 @@
--- every call of the abstract port keeps it sound, so every run does
-use Rattle.std.proofs.Common.{◌≡◌, ◌∷◌, ◌++◌, [], List, ℕ, Bool, true, false, Option, Some, None, Result, Ok, Err, refl, ap, sym, ◌∙◌, length, map, append-nil, inl, inr, arith, subst}
+-- what a call of the abstract port leaves, and that it keeps the port sound
+use Rattle.std.proofs.Common.{◌≡◌, ◌∷◌, ◌++◌, [], List, ℕ, true, Option, Some, None, refl, ap, sym, ◌∙◌, length, map, append-nil, inl, arith, subst, Bool, false, inr}
 use Rattle.std.proofs.Math.Seq.{drop-length}
+use Rattle.std.specs.Map.{lookup}
 use Rattle.iol_isdu.specs.declared.values.Request.{Request}
 use Rattle.iol_isdu.specs.declared.values.Answer.{Answer}
 use Rattle.iol_isdu.specs.declared.values.Cause.TheVariants.{Restarted}
-use Rattle.iol_event.specs.declared.event.Event.{Event}
 use Rattle.iol_far.specs.Far.{Far}
 use Rattle.iol_book.specs.declared.entries.Ticket.{Ticket}
 use Rattle.iol_book.specs.declared.entries.Limits.{Limits}
 use Rattle.iol_book.specs.declared.entries.Outcome.{Outcome}
 use Rattle.iol_book.specs.declared.entries.Outcome.TheVariants as outcome
+use Rattle.iol_book.specs.declared.entries.Entry.{Entry}
 use Rattle.iol_book.specs.declared.entries.Entry.TheVariants.{Submitted, Collected, Withdrawn, Urgent}
-use Rattle.iol_book.specs.declared.fault.BookFault.{BookFault}
-use Rattle.iol_book.specs.BookModel.{BookState, IsReplayed, entered, submitted, next_ticket, collected, collect_answer, withdrawn, withdraw_refusal, may_archive, posted, submitted_urgent}
-use Rattle.iol_book.specs.Takings.{FitsTakings, FitsEnded, FitsJournal}
-use Rattle.iol_steps.specs.Step.{Image}
+use Rattle.iol_book.specs.Replay.{same_ticket}
+use Rattle.iol_book.specs.BookModel.{BookState, IsReplayed, entered, submitted, next_ticket, collected, withdrawn, withdraw_refusal, may_archive, posted, submitted_urgent, outcome_or, waits, is_taken, flight_refusal}
+use Rattle.iol_book.specs.Takings.{ended, FitsTakings, FitsEnded, FitsJournal}
 use Rattle.iol_steps.specs.Session.{Job, Session, cut_for, cancelling}
 use Rattle.iol_steps.specs.declared.mode.Mode.TheVariants.{Down}
-use Rattle.iol_app.specs.declared.output.OutputFault.{OutputFault}
 use Rattle.iol_port.specs.declared.call.Call.{Call}
-use Rattle.iol_port.specs.declared.call.Call.TheVariants as call
 use Rattle.iol_port.specs.declared.call.Answered.{Answered}
-use Rattle.iol_port.specs.Run.{PortState, CallOf, Run, Is, opened, moment_in, request_of, submit_of, collect_of, withdraw_of, cancel_of, archive_of, take_event_of, set_output_of, restarted}
+use Rattle.iol_port.specs.Run.{PortState, CallOf, Run, opened, moment_in, request_of, restarted, Is, Turn, TurnsAll, TurnsWork, submit_of, collect_of, withdraw_of, cancel_of, archive_of, take_event_of, set_output_of}
 use Rattle.iol_port.specs.Sound.{Sound, IsSound, RecordFits, FitsOpen, pairs_from, request_taken, written}
-use Rattle.iol_port.proofs.Replaying.{entered_replayed, free_archive}
-use Rattle.iol_port.proofs.SoundLemmas.{BookLaws, taken_is, sound_book, sound_cut, sound_cancelling, sound_moved, sound_through}
+use Rattle.iol_port.proofs.Replaying.{entered_replayed, free_archive, BookLaws, taken_is, sound_book, sound_cut, sound_cancelling, sound_moved, sound_through}
+use Rattle.std.specs.Prelude.{if◌then◌else◌, ◌||◌}
+use Rattle.iol_event.specs.declared.event.Event.{Event}
+use Rattle.iol_book.specs.declared.fault.BookFault.{BookFault}
+use Rattle.iol_book.specs.declared.fault.BookFault.TheVariants.{NotYet, UnknownTicket}
+use Rattle.iol_steps.specs.Images.{Images}
+use Rattle.iol_app.specs.declared.output.OutputFault.{OutputFault}
+use Rattle.iol_port.specs.declared.call.Call.TheVariants as call
+use Rattle.iol_port.specs.declared.call.Answered.TheVariants as answered
+use Rattle.iol_port.specs.Owned.{Happens}
 
-by_is : (a b : PortState) → b ≡ a → IsSound a → IsSound b
-by_is a b is sound = subst IsSound (sym is) sound
+-- What holds after each call but a turn, and after a turn, where nothing is said of the events and the images
+pub record Leaves (P : PortState → Type 0) (a : PortState) (c : Call) (reply : Answered) : Type 0 where
+  pub stays : (kept : List Event) (images : Images) → P (record a { kept = kept; images = images })
+  pub submit : (q : Request) → c ≡ call.Submit q → reply ≡ answered.Ticket (next_ticket a.book) → P (record a { book = submitted a.book q })
+  pub urgent : (q : Request) → c ≡ call.SubmitUrgent q → reply ≡ answered.Ticket (next_ticket a.book) → P (record a { book = submitted_urgent a.book q })
+  pub collect : (t : Ticket) (out : Outcome) → lookup (same_ticket t) a.book.standing.outcomes ≡ Some out → P (record a { book = collected a.book t })
+  pub withdraw : (t : Ticket) → withdraw_refusal a.book.standing t ≡ None → P (record a { book = withdrawn a.book t })
+  pub cancel : (t : Ticket) → c ≡ call.Cancel t → reply ≡ answered.Nothing → flight_refusal a.book.standing t ≡ None → P (record a { session = cancelling a.session })
+  pub restart : P (restarted a)
+  pub archive : may_archive a.book ≡ true → P (record a { book = record a.book { journal = [] }; base = length a.session.carried })
+  pub turn : (t : Turn) (b : PortState) → TurnsAll t a b → TurnsWork t a b → P b
+
+module _ (P : PortState → Type 0) (a b : PortState) where
+  is : (next : PortState) → P next → b ≡ next → P b
+  is next holds e = subst P (sym e) holds
+
+  by_submit : (next : BookState) (reply : Answered) (why : Option BookFault) → P a → (reply ≡ answered.Ticket (next_ticket a.book) → P (record a { book = next })) → Is reply b (submit_of a next why) → P b
+  by_submit next reply None stays enters e = is (record a { book = next }) (enters e.0) e.1
+  by_submit next reply (Some why) stays enters e = is a stays e.1
+
+  by_collect : (t : Ticket) (reply : Answered) (out : Option Outcome) → lookup (same_ticket t) a.book.standing.outcomes ≡ out → P a
+      → ((o : Outcome) → lookup (same_ticket t) a.book.standing.outcomes ≡ Some o → P (record a { book = collected a.book t }))
+      → Is reply b (collect_of a t (outcome_or out (if waits a.book.standing t || is_taken a.book.standing t then NotYet else UnknownTicket))) → P b
+  by_collect t reply None found stays leaves e = is a stays e.1
+  by_collect t reply (Some o) found stays leaves e = is (record a { book = collected a.book t }) (leaves o found) e.1
+
+  by_withdraw : (t : Ticket) (reply : Answered) (why : Option BookFault) → withdraw_refusal a.book.standing t ≡ why → P a
+      → (withdraw_refusal a.book.standing t ≡ None → P (record a { book = withdrawn a.book t })) → Is reply b (withdraw_of a t why) → P b
+  by_withdraw t reply None why stays leaves e = is (record a { book = withdrawn a.book t }) (leaves why) e.1
+  by_withdraw t reply (Some fault) why stays leaves e = is a stays e.1
+
+  by_cancel : (t : Ticket) (reply : Answered) (why : Option BookFault) → flight_refusal a.book.standing t ≡ why → P a
+      → (reply ≡ answered.Nothing → flight_refusal a.book.standing t ≡ None → P (record a { session = cancelling a.session })) → Is reply b (cancel_of a why) → P b
+  by_cancel t reply None why stays leaves e = is (record a { session = cancelling a.session }) (leaves e.0 why) e.1
+  by_cancel t reply (Some fault) why stays leaves e = is a stays e.1
+
+  by_archive : (reply : Answered) (may : Bool) → may_archive a.book ≡ may → P a
+      → (may_archive a.book ≡ true → P (record a { book = record a.book { journal = [] }; base = length a.session.carried })) → Is reply b (archive_of a) → P b
+  by_archive reply true may stays leaves e = is (record a { book = record a.book { journal = [] }; base = length a.session.carried }) (leaves may) (rw may at e.1)
+  by_archive reply false may stays leaves e = is a stays (rw may at e.1)
+
+  pub call_leaves : (c : Call) (reply : Answered) → CallOf a c reply b → Leaves P a c reply → P b
+  call_leaves (call.Submit q) reply (inl e) l = by_submit (submitted a.book q) reply _ (l.stays a.kept a.images) (l.submit q refl) e
+  call_leaves (call.Submit q) reply (inr lacks) l = is a (l.stays a.kept a.images) lacks.2
+  call_leaves (call.SubmitUrgent q) reply (inl e) l = by_submit (submitted_urgent a.book q) reply _ (l.stays a.kept a.images) (l.urgent q refl) e
+  call_leaves (call.SubmitUrgent q) reply (inr lacks) l = is a (l.stays a.kept a.images) lacks.2
+  call_leaves (call.Collect t) reply e l = by_collect t reply _ refl (l.stays a.kept a.images) (l.collect t) e
+  call_leaves (call.Withdraw t) reply e l = by_withdraw t reply _ refl (l.stays a.kept a.images) (l.withdraw t) e
+  call_leaves (call.Cancel t) reply e l = by_cancel t reply _ refl (l.stays a.kept a.images) (l.cancel t refl) e
+  call_leaves call.Restart reply e l = is (restarted a) l.restart e.1
+  call_leaves (call.SetOutput image) reply e l = by_output _ e
+    where
+      by_output : (why : Option OutputFault) → Is reply b (set_output_of a image why) → P b
+      by_output None e = is (record a { images = record a.images { wanted = Some image } }) (l.stays a.kept (record a.images { wanted = Some image })) e.1
+      by_output (Some why) e = is a (l.stays a.kept a.images) e.1
+  call_leaves call.ClearOutput reply e l = is (record a { images = record a.images { wanted = None } }) (l.stays a.kept (record a.images { wanted = None })) e.1
+  call_leaves call.Look reply e l = is a (l.stays a.kept a.images) e.1
+  call_leaves call.TakeEvent reply e l = by_kept a.kept e
+    where
+      by_kept : (kept : List Event) → Is reply b (take_event_of a kept) → P b
+      by_kept [] e = is a (l.stays a.kept a.images) e.1
+      by_kept (event ∷ kept) e = is (record a { kept = kept }) (l.stays kept a.images) e.1
+  call_leaves call.Status reply e l = is a (l.stays a.kept a.images) e.1
+  call_leaves call.Archive reply e l = by_archive reply _ refl (l.stays a.kept a.images) l.archive e
+  call_leaves call.Turn reply (_, (t, all, work, _, _)) l = l.turn t b all work
+
+-- An outcome that a collect hands out was there
+pub told_outcome : (a b : PortState) (t : Ticket) (out : Outcome) → CallOf a (call.Collect t) (answered.Outcome out) b → lookup (same_ticket t) a.book.standing.outcomes ≡ Some out
+told_outcome a b t out e = by (lookup (same_ticket t) a.book.standing.outcomes) e
+  where
+    by : (found : Option Outcome) → Is (answered.Outcome out) b (collect_of a t (outcome_or found (if waits a.book.standing t || is_taken a.book.standing t then NotYet else UnknownTicket))) → found ≡ Some out
+    by None e = absurd (let k : answered.Outcome out ≡ answered.Refused _ = e.0 in cc)
+    by (Some o) e = let k : answered.Outcome out ≡ answered.Outcome o = e.0 in cc
+
+-- What each call keeps, a run keeps; and it held where an outcome was handed out
+module _ (P : PortState → Type 0) (keeps : (a b : PortState) (c : Call) (reply : Answered) → CallOf a c reply b → P a → P b) where
+  pub run_keeps : (a b : PortState) (calls : List Call) (replies : List Answered) → Run a calls replies b → P a → P b
+  run_keeps a b [] [] run holds = subst P (sym run) holds
+  run_keeps a b (c ∷ calls) (r ∷ replies) (mid, first, rest) holds = run_keeps mid b calls replies rest (keeps a mid c r first holds)
+  run_keeps a b [] (r ∷ replies) run holds = absurd run
+  run_keeps a b (c ∷ calls) [] run holds = absurd run
+
+  pub run_told : (a b : PortState) (calls : List Call) (replies : List Answered) → Run a calls replies b → P a → (t : Ticket) (out : Outcome) → Happens calls replies (call.Collect t) (answered.Outcome out)
+      → (mid : PortState) × P mid × (lookup (same_ticket t) mid.book.standing.outcomes ≡ Some out)
+  run_told a b (c ∷ calls) (r ∷ replies) (mid, first, rest) holds t out (inl (e, f)) = (a, holds, told_outcome a mid t out (rw (e, f) at first))
+  run_told a b (c ∷ calls) (r ∷ replies) (mid, first, rest) holds t out (inr i) = run_told mid b calls replies rest (keeps a mid c r first holds) t out i
+  run_told a b [] replies run holds t out i = absurd i
+  run_told a b (c ∷ calls) [] run holds t out i = absurd run
+
+-- Every call keeps it sound, so every run does
 
 no_job : (job : Option Job) → request_of job ≡ None → job ≡ None
 no_job None h = refl
 no_job (Some job) h = absurd (cc)
 
-collected_kept : (b : BookState) (t : Ticket) (o : Outcome) → collect_answer b.standing t ≡ Ok o → collected b t ≡ entered b (Collected t)
+collected_kept : (b : BookState) (t : Ticket) (o : Outcome) → lookup (same_ticket t) b.standing.outcomes ≡ Some o → collected b t ≡ entered b (Collected t)
 collected_kept b t o is = rw is refl
 
 withdrawn_kept : (b : BookState) (t : Ticket) → withdraw_refusal b.standing t ≡ None → withdrawn b t ≡ entered b (Withdrawn t)
 withdrawn_kept b t is = rw is refl
 
 module _ (laws : BookLaws) where
-  enters_keeps : (a b : PortState) (next : BookState) (reply : Answered) (why : Option BookFault) → Is reply b (submit_of a next why) → Sound next a.session a.base → IsSound a → IsSound b
-  enters_keeps a b next reply (Some why) is entered sound = by_is a b is.1 sound
-  enters_keeps a b next reply None is entered sound = by_is (record a { book = next }) b is.1 entered
-
-  submit_sound : (a : PortState) (q : Request) → IsSound a → Sound (submitted a.book q) a.session a.base
-  submit_sound a q sound = sound_book a.book (submitted a.book q) a.session a.base (entered_replayed a.book (Submitted (next_ticket a.book) q) sound.replayed) refl refl (laws.submit a.book q).0 sound
-
-  urgent_sound : (a : PortState) (q : Request) → IsSound a → Sound (submitted_urgent a.book q) a.session a.base
-  urgent_sound a q sound = sound_book a.book (submitted_urgent a.book q) a.session a.base (entered_replayed a.book (Urgent (next_ticket a.book) q) sound.replayed) refl refl (laws.submit_urgent a.book q).0 sound
-
-  collect_keeps : (a b : PortState) (t : Ticket) (reply : Answered) (answer : Result Outcome BookFault) → collect_answer a.book.standing t ≡ answer → Is reply b (collect_of a t answer) → IsSound a → IsSound b
-  collect_keeps a b t reply (Err why) e is sound = by_is a b is.1 sound
-  collect_keeps a b t reply (Ok o) e is sound =
-      let kept : collected a.book t ≡ entered a.book (Collected t) = collected_kept a.book t o e in
-      by_is (record a { book = collected a.book t }) b is.1
-      (sound_book a.book (collected a.book t) a.session a.base
-      (subst IsReplayed (sym kept) (entered_replayed a.book (Collected t) sound.replayed)) (ap (λ x. x.standing.taken) kept) (ap (λ x. x.unsure) kept) (laws.collect a.book t).0 sound)
-
-  withdraw_keeps : (a b : PortState) (t : Ticket) (reply : Answered) (why : Option BookFault) → withdraw_refusal a.book.standing t ≡ why → Is reply b (withdraw_of a t why) → IsSound a → IsSound b
-  withdraw_keeps a b t reply (Some why) e is sound = by_is a b is.1 sound
-  withdraw_keeps a b t reply None e is sound =
-      let kept : withdrawn a.book t ≡ entered a.book (Withdrawn t) = withdrawn_kept a.book t e in
-      by_is (record a { book = withdrawn a.book t }) b is.1
-      (sound_book a.book (withdrawn a.book t) a.session a.base
-      (subst IsReplayed (sym kept) (entered_replayed a.book (Withdrawn t) sound.replayed)) (ap (λ x. x.standing.taken) kept) (ap (λ x. x.unsure) kept) (laws.withdraw a.book t).0 sound)
-
-  cancel_keeps : (a b : PortState) (reply : Answered) (why : Option BookFault) → Is reply b (cancel_of a why) → IsSound a → IsSound b
-  cancel_keeps a b reply (Some why) is sound = by_is a b is.1 sound
-  cancel_keeps a b reply None is sound = by_is (record a { session = cancelling a.session }) b is.1 (sound_cancelling laws a.book a.session a.base a.session.job refl sound)
+  -- a book in which an entry changes nothing of what was taken
+  entry_sound : (a : PortState) (next : BookState) (entry : Entry) → next ≡ entered a.book entry → (entered a.book entry).standing.taken ≡ a.book.standing.taken → ended next.journal ≡ ended a.book.journal → IsSound a → Sound next a.session a.base
+  entry_sound a next entry kept taken same sound =
+      sound_book a.book next a.session a.base (subst IsReplayed (sym kept) (entered_replayed a.book entry sound.replayed)) (ap (λ x. x.standing.taken) kept ∙ taken) (ap (λ x. x.unsure) kept) same sound
 
   archived_sound : (b : BookState) (s : Session) (base : ℕ) → may_archive b ≡ true → Sound b s base → Sound (record b { journal = [] }) s (length s.carried)
   archived_sound b s base may sound =
@@ -86,53 +155,26 @@ module _ (laws : BookLaws) where
             (subst (λ xs. FitsEnded [] (map (λ pair. (pair.request, pair.answer)) xs)) (sym (drop-length s.carried)) laws.archived.0));
       }
 
-  archive_keeps : (a b : PortState) (reply : Answered) (may : Bool) → may_archive a.book ≡ may → Is reply b (archive_of a) → IsSound a → IsSound b
-  archive_keeps a b reply true may is sound =
-      by_is (record a { book = record a.book { journal = [] }; base = length a.session.carried }) b (archived_is may is)
-      (archived_sound a.book a.session a.base may sound)
-    where
-      archived_is : may_archive a.book ≡ true → Is reply b (archive_of a) → b ≡ record a { book = record a.book { journal = [] }; base = length a.session.carried }
-      archived_is may is = rw may at is.1
-  archive_keeps a b reply false may is sound = by_is a b (rw may at is.1) sound
-
-  take_event_keeps : (a b : PortState) (reply : Answered) (events : List Event) → Is reply b (take_event_of a events) → IsSound a → IsSound b
-  take_event_keeps a b reply [] is sound = by_is a b is.1 sound
-  take_event_keeps a b reply (event ∷ events) is sound = by_is (record a { kept = events }) b is.1 sound
-
-  output_keeps : (a b : PortState) (image : Image) (reply : Answered) (why : Option OutputFault) → Is reply b (set_output_of a image why) → IsSound a → IsSound b
-  output_keeps a b image reply (Some why) is sound = by_is a b is.1 sound
-  output_keeps a b image reply None is sound = by_is (record a { images = record a.images { wanted = Some image } }) b is.1 sound
-
-  restart_keeps : (a b : PortState) (job : Option Job) → a.session.job ≡ job → b ≡ restarted a → IsSound a → IsSound b
-  restart_keeps a b None e is sound = by_is (restarted a) b is (rw e (let moved : Sound a.book (record a.session { mode = Down; why = None }) a.base = sound_moved laws a.book a.session a.base Down None sound in rw e at moved))
-  restart_keeps a b (Some job) e is sound =
-      by_is (restarted a) b is (rw e (let moved : Sound (posted a.book (outcome.Unknown Restarted)) (record (cut_for Restarted a.session) { mode = Down; why = None }) a.base = sound_moved laws _ (cut_for Restarted a.session) a.base Down None (sound_cut laws Restarted a.book a.session a.base job e sound) in rw e at moved))
+  restart_sound : (a : PortState) (job : Option Job) → a.session.job ≡ job → IsSound a → IsSound (restarted a)
+  restart_sound a None e sound = rw e (let moved : Sound a.book (record a.session { mode = Down; why = None }) a.base = sound_moved laws a.book a.session a.base Down None sound in rw e at moved)
+  restart_sound a (Some job) e sound =
+      rw e (let moved : Sound (posted a.book (outcome.Unknown Restarted)) (record (cut_for Restarted a.session) { mode = Down; why = None }) a.base = sound_moved laws _ (cut_for Restarted a.session) a.base Down None (sound_cut laws Restarted a.book a.session a.base job e sound) in rw e at moved)
 
   pub call_sound : (a b : PortState) (c : Call) (reply : Answered) → CallOf a c reply b → IsSound a → IsSound b
-  call_sound a b (call.Submit q) reply (inl is) sound = enters_keeps a b _ reply _ is (submit_sound a q sound) sound
-  call_sound a b (call.Submit q) reply (inr lacks) sound = by_is a b lacks.2 sound
-  call_sound a b (call.SubmitUrgent q) reply (inl is) sound = enters_keeps a b _ reply _ is (urgent_sound a q sound) sound
-  call_sound a b (call.SubmitUrgent q) reply (inr lacks) sound = by_is a b lacks.2 sound
-  call_sound a b (call.Collect t) reply is sound = collect_keeps a b t reply _ refl is sound
-  call_sound a b (call.Withdraw t) reply is sound = withdraw_keeps a b t reply _ refl is sound
-  call_sound a b (call.Cancel t) reply is sound = cancel_keeps a b reply _ is sound
-  call_sound a b call.Restart reply is sound = restart_keeps a b a.session.job refl is.1 sound
-  call_sound a b (call.SetOutput image) reply is sound = output_keeps a b image reply _ is sound
-  call_sound a b call.ClearOutput reply is sound = by_is (record a { images = record a.images { wanted = None } }) b is.1 sound
-  call_sound a b call.Look reply is sound = by_is a b is.1 sound
-  call_sound a b call.TakeEvent reply is sound = take_event_keeps a b reply _ is sound
-  call_sound a b call.Status reply is sound = by_is a b is.1 sound
-  call_sound a b call.Archive reply is sound = archive_keeps a b reply _ refl is sound
-  call_sound a b call.Turn reply (_, (t, _, work, _, _)) sound =
-      rw (work.book, work.session, work.base)
-      (sound_through laws (moment_in a t) t.steps a.book a.session a.base work.may_book work.may_session sound)
+  call_sound a b c reply is sound = call_leaves IsSound a b c reply is (record {
+    stays = λ kept images. sound;
+    submit = λ q e r. sound_book a.book (submitted a.book q) a.session a.base (entered_replayed a.book (Submitted (next_ticket a.book) q) sound.replayed) refl refl (laws.submit a.book q).0 sound;
+    urgent = λ q e r. sound_book a.book (submitted_urgent a.book q) a.session a.base (entered_replayed a.book (Urgent (next_ticket a.book) q) sound.replayed) refl refl (laws.submit_urgent a.book q).0 sound;
+    collect = λ t out e. entry_sound a (collected a.book t) (Collected t) (collected_kept a.book t out e) refl (laws.collect a.book t).0 sound;
+    withdraw = λ t e. entry_sound a (withdrawn a.book t) (Withdrawn t) (withdrawn_kept a.book t e) refl (laws.withdraw a.book t).0 sound;
+    cancel = λ t e r free. sound_cancelling laws a.book a.session a.base a.session.job refl sound;
+    restart = restart_sound a a.session.job refl sound;
+    archive = λ may. archived_sound a.book a.session a.base may sound;
+    turn = λ t b all work. rw (work.book, work.session, work.base) (sound_through laws (moment_in a t) t.steps a.book a.session a.base work.may_book work.may_session sound);
+  })
 
   pub run_sound : (a b : PortState) (calls : List Call) (replies : List Answered) → Run a calls replies b → IsSound a → IsSound b
-  run_sound a b [] [] run sound = by_is a b run sound
-  run_sound a b (call ∷ calls) (reply ∷ replies) (mid, first, rest) sound =
-      run_sound mid b calls replies rest (call_sound a mid call reply first sound)
-  run_sound a b [] (reply ∷ replies) run sound = absurd run
-  run_sound a b (call ∷ calls) [] run sound = absurd run
+  run_sound a b calls replies run sound = run_keeps IsSound call_sound a b calls replies run sound
 
   -- the request under way is in the record or not, a late one isn't yet
   record_fits : (b : BookState) (s : Session) (base : ℕ) → Sound b s base → FitsJournal b.journal (pairs_from base s.carried)

@@ -1,5 +1,5 @@
 -- A session that has nothing to do but its request, and one turn of it over a clean wire.
-use Rattle.std.proofs.Common.{◌≡◌, inr, ℕ, Bool, true, false, not, ◌&&◌, List, [], ◌∷◌, ◌++◌, refl, sym, ap, subst, ◌∙◌, Option, Some, None}
+use Rattle.std.proofs.Common.{append-nil, ◌≡◌, inr, ℕ, Bool, true, false, not, ◌&&◌, List, [], ◌∷◌, ◌++◌, refl, sym, ap, subst, ◌∙◌, Option, Some, None}
 use Rattle.std.specs.Prelude.{IsTrue, is_some, is_none, if◌then◌else◌, MatchBool}
 use Rattle.arrayvec.specs.ArrayVec.{ArrayVec}
 use Rattle.iol_octets.specs.declared.control.Channel.TheVariants.{Isdu}
@@ -11,6 +11,7 @@ use Rattle.iol_page.specs.declared.page.Layouts.{Layouts}
 use Rattle.iol_page.specs.Page.{knows_isdu}
 use Rattle.iol_isdu.specs.declared.values.Request.{Request}
 use Rattle.iol_isdu.specs.declared.values.Answer.{Answer}
+use Rattle.iol_far.specs.declared.carried.Carried.{Carried}
 use Rattle.iol_far.specs.Octets.{octets_in}
 use Rattle.iol_far.specs.Isdu.{IsduState, Empty, Receiving, Whole, Handed, Answered, handed, fits}
 use Rattle.iol_far.specs.Far.{Far, hear}
@@ -140,9 +141,7 @@ absorbed_calm s reply h e = record {
 
 progress_channel : (p : Progress) → (progress_head p).channel ≡ Isdu
 progress_channel (Sending flow segment) = refl
-progress_channel (Asking busy) = refl
-progress_channel (Receiving joining had) = refl
-progress_channel Refused = refl
+progress_channel _ = refl
 
 -- What carrying out leaves as it was
 
@@ -153,26 +152,27 @@ pub record SameBut (far ready : Far) : Type 0 where
   pub link_is : link_of ready ≡ link_of far
   pub room : ready.room ≡ far.room
   pub sized : IsSized far → IsSized ready
+  pub grows : (more : List Carried) × (ready.carried ≡ far.carried ++ more)
+
+same_far : (far : Far) → SameBut far far
+same_far far = record { awake = refl; events = refl; page = refl; link_is = refl; room = refl; sized = λ h. h; grows = ([], sym (append-nil far.carried)) }
 
 same_if : (far : Far) (request : Request) (answer : Answer) (b : Bool)
     → SameBut far (if b then record far { isdu = Answered request answer None; carried = far.carried ++ record { request = request; answer = answer } ∷ [] } else far)
-same_if far request answer true = record { awake = refl; events = refl; page = refl; link_is = refl; room = refl; sized = λ h. h }
-same_if far request answer false = record { awake = refl; events = refl; page = refl; link_is = refl; room = refl; sized = λ h. h }
+same_if far request answer true = record { awake = refl; events = refl; page = refl; link_is = refl; room = refl; sized = λ h. h; grows = (record { request = request; answer = answer } ∷ [], refl) }
+same_if far request answer false = same_far far
 
-same_carried : (far : Far) (answer : Answer) (state : IsduState) → SameBut far (carried_by state far answer)
+pub same_carried : (far : Far) (answer : Answer) (state : IsduState) → SameBut far (carried_by state far answer)
 same_carried far answer (Handed request) = same_if far request answer (has_room far && fits request answer)
-same_carried far answer Empty = record { awake = refl; events = refl; page = refl; link_is = refl; room = refl; sized = λ h. h }
-same_carried far answer (Receiving text last) = record { awake = refl; events = refl; page = refl; link_is = refl; room = refl; sized = λ h. h }
-same_carried far answer (Whole request last) = record { awake = refl; events = refl; page = refl; link_is = refl; room = refl; sized = λ h. h }
-same_carried far answer (Answered request given last) = record { awake = refl; events = refl; page = refl; link_is = refl; room = refl; sized = λ h. h }
+same_carried far answer _ = same_far far
 
 pub work_same : (far ready : Far) (request : Option Request) → IsWorkedOff request far ready → SameBut far ready
-work_same far ready None e = rw e (record { awake = refl; events = refl; page = refl; link_is = refl; room = refl; sized = λ h. h })
+work_same far ready None e = rw e (same_far far)
 work_same far ready (Some request) h = by_room (has_room far) h
   where
     by_room : (b : Bool) → MatchBool b ((answer : Answer) × IsTrue (fits request answer) × (ready ≡ local far (Carry answer))) (ready ≡ far) → SameBut far ready
     by_room true h = rw h.2 (same_carried far h.0 far.isdu)
-    by_room false h = rw h (record { awake = refl; events = refl; page = refl; link_is = refl; room = refl; sized = λ h. h })
+    by_room false h = rw h (same_far far)
 
 -- One turn
 

@@ -13,10 +13,11 @@ use Rattle.iol_book.specs.BookModel.{BookState, next_taken, denied, posted, ende
 use Rattle.iol_steps.specs.declared.said.Said.{Said}
 use Rattle.iol_steps.specs.declared.said.Said.TheVariants.{Idle, Busy, Answered as SaidAnswered, Cut, Reported}
 use Rattle.iol_steps.specs.Step.{Reset, book_said}
-use Rattle.iol_port.specs.Steps.{ticket_of, book_through}
+use Rattle.iol_port.specs.Steps.{book_through}
 use Rattle.iol_port.specs.Asks.{lacks_isdu}
 use Rattle.iol_port.specs.EveryWire.{taken_where, HasNoIsdu, IsDenied}
 use Rattle.iol_port.specs.View.{Parts, Asks}
+use Rattle.iol_port.proofs.OwnedLists.{ticket_is}
 use Rattle.iol_port.proofs.Replaying.{next_is}
 
 -- what was told, by the test on it
@@ -24,9 +25,6 @@ pub none_there : (told : Option Bool) → lacks_isdu told ≡ true → told ≡ 
 none_there None e = absurd (let k : false ≡ true = e in cc)
 none_there (Some true) e = absurd (let k : false ≡ true = e in cc)
 none_there (Some false) e = refl
-
-pub some_there : (told : Option Bool) → lacks_isdu told ≡ false → told ≡ Some false → ⊥
-some_there told e is = let k : true ≡ false = sym (ap lacks_isdu is) ∙ e in cc
 
 -- The outcome of a ticket, once one is entered
 
@@ -52,10 +50,6 @@ entered_other (e ∷ es) t k o differs h = by (same_ticket t e.0) h (entered_oth
     by true h later = pick_other (same_ticket k e.0) o e.1 (lookup (same_ticket k) es) differs h
     by false h later = pick (same_ticket k e.0) e.1 (lookup (same_ticket k) es) (lookup (same_ticket k) (insert_entry same_ticket es t o)) later h
 
--- the ticket of that number
-ticket_is : (t k : Ticket) → same_ticket t k ≡ true → k ≡ t
-ticket_is t k e = let same : k.0 ≡ t.0 = grind (arith, nat_tests) in ap ticket_of same
-
 -- one of another ticket
 entered_apart : (outs : List (Ticket × Outcome)) (t k : Ticket) → same_ticket k t ≡ false → lookup (same_ticket k) (insert_entry same_ticket outs t NoIsdu) ≡ Some NoIsdu → lookup (same_ticket k) outs ≡ Some NoIsdu
 entered_apart [] t k apart h = absurd (let e : None ≡ Some NoIsdu = sym (ap (λ (c : Bool). cond c (Some NoIsdu) None) apart) ∙ h in cc)
@@ -79,11 +73,9 @@ posted_none b o k differs h = by_taken b.standing.taken h
     by_taken (Some t) h = entered_other b.standing.outcomes t.0 k o differs h
 
 said_none : (said : Said) (b : BookState) (k : Ticket) → HasNoIsdu (book_through (book_said said) b) k → HasNoIsdu b k
-said_none Idle b k h = h
-said_none Busy b k h = h
 said_none (SaidAnswered answer) b k h = posted_none b (outcome.Done answer) k (λ e. cc) h
 said_none (Cut cause) b k h = posted_none b (outcome.Unknown cause) k (λ e. cc) h
-said_none (Reported events) b k h = h
+said_none _ b k h = h
 
 through_none : (woke : Bool) (said : Said) (b : BookState) (k : Ticket) → HasNoIsdu (book_through (cond woke (Reset ∷ []) [] ++ book_said said) b) k → HasNoIsdu b k
 through_none true said b k h = said_none said (record b { unsure = false }) k h
@@ -91,11 +83,9 @@ through_none false said b k h = said_none said b k h
 
 -- without a request that is taken it says nothing to the book
 quiet_said : (said : Said) (b : BookState) → Asks said None → book_through (book_said said) b ≡ b
-quiet_said Idle b asks = refl
-quiet_said Busy b asks = refl
 quiet_said (SaidAnswered answer) b asks = absurd (let e : IsSome {T = Ticket × Request} None = asks in cc)
 quiet_said (Cut cause) b asks = absurd (let e : IsSome {T = Ticket × Request} None = asks in cc)
-quiet_said (Reported events) b asks = refl
+quiet_said _ b asks = refl
 
 module _ {W : Type 0} (old next : Parts W) (mid : BookState) (woke : Bool) (said : Said) (asks : Asks said mid.standing.taken)
     (book : next.book.state ≡ book_through (cond woke (Reset ∷ []) [] ++ book_said said) mid) (k : Ticket) (has : HasNoIsdu next.book.state k) where

@@ -1,5 +1,4 @@
 pub mod Replaying
-pub mod SoundLemmas
 pub mod CallsSound
 pub mod CallLemmas
 pub mod Filters
@@ -14,14 +13,9 @@ pub mod Denying
 pub mod CleanHearing
 pub mod CleanSession
 pub mod CleanStages
-pub mod CleanSteps
 pub mod CleanTurns
-pub mod CleanRuns
 pub mod CleanLevel
 pub mod Crosses
 pub mod OwnedLists
-pub mod Owning
 pub mod OwnedRuns
 pub mod WithoutIsdu
-pub mod RewireLemmas
-pub mod AskedTurns

@@ -1,70 +1,51 @@
 -- what is carried out in a run is each request once, and none that was cut off before a wake that had success, or for good
-use Rattle.std.proofs.Common.{◌≡◌, ◌⊎◌, ◌∷◌, ◌++◌, [], List, ℕ, ◌+◌, Bool, true, false, if◌then◌else◌, ◌||◌, ◌≤◌, Option, Some, None, length, append-nil, refl, ap, sym, ◌∙◌, inl, inr, subst, arith}
+use Rattle.std.proofs.Common.{◌≡◌, ◌⊎◌, ◌∷◌, ◌++◌, [], List, ℕ, ◌+◌, ◌≤◌, Option, Some, None, length, append-nil, true, false, refl, ap, sym, ◌∙◌, inl, inr, subst, arith}
 use Rattle.std.specs.Map.{lookup, remove_entry}
 use Rattle.indexmap.specs.IndexMap.{insert_entry}
 use Rattle.iol_isdu.specs.declared.values.Request.{Request}
 use Rattle.iol_isdu.specs.declared.values.Answer.{Answer}
 use Rattle.iol_isdu.specs.declared.values.Cause.{Cause}
-use Rattle.iol_isdu.specs.declared.values.Cause.TheVariants.{LinkLost, Restarted, BusyTooLong, Protocol, Cancelled}
+use Rattle.iol_isdu.specs.declared.values.Cause.TheVariants.{Restarted}
 use Rattle.iol_far.specs.declared.carried.Carried.{Carried}
 use Rattle.iol_far.specs.Far.{Far}
-use Rattle.iol_event.specs.declared.event.Event.{Event}
 use Rattle.iol_mode.specs.declared.why.Why.{Why}
 use Rattle.iol_book.specs.declared.entries.Limits.{Limits}
 use Rattle.iol_book.specs.declared.entries.Ticket.{Ticket}
 use Rattle.iol_book.specs.declared.entries.Outcome.{Outcome}
 use Rattle.iol_book.specs.declared.entries.Outcome.TheVariants as outcome
 use Rattle.iol_book.specs.declared.entries.Entry.TheVariants.{Withdrawn as WithdrawnEntry, Collected as CollectedEntry}
-use Rattle.iol_book.specs.declared.fault.BookFault.{BookFault}
-use Rattle.iol_book.specs.declared.fault.BookFault.TheVariants.{NotYet, UnknownTicket}
 use Rattle.iol_book.specs.Replay.{same_ticket, without, others_without}
-use Rattle.iol_book.specs.BookModel.{BookState, submitted, submitted_urgent, next_ticket, collected, entered, outcome_or, waits, is_taken, withdrawn, withdraw_refusal, may_archive}
+use Rattle.iol_book.specs.BookModel.{BookState, submitted, submitted_urgent, next_ticket, entered}
 use Rattle.iol_steps.specs.declared.mode.Mode.{Mode}
 use Rattle.iol_steps.specs.declared.mode.Mode.TheVariants.{Down, Startup, Preoperate, Operate}
-use Rattle.iol_steps.specs.Step.{Step, Take, Carry, Done, Unknown, LateCarry, Reset, Busy, Move, Moment, Image}
-use Rattle.iol_steps.specs.Session.{Job, Session, MayMove, MaySession, MaySessionAll, session_after, session_through, carried_out, carried_late, cut_for, cancelling, marked}
+use Rattle.iol_steps.specs.Step.{Step, Take, Carry, Done, Unknown, LateCarry, Reset, Busy, Move, Moment}
+use Rattle.iol_steps.specs.Session.{Job, Session, MayMove, MaySession, MaySessionAll, session_after, session_through, marked}
 use Rattle.iol_steps.specs.Kinds.{restart_steps}
-use Rattle.iol_app.specs.declared.output.OutputFault.{OutputFault}
 use Rattle.iol_port.specs.declared.call.Call.{Call}
 use Rattle.iol_port.specs.declared.call.Call.TheVariants as call
 use Rattle.iol_port.specs.declared.call.Answered.{Answered}
 use Rattle.iol_port.specs.declared.call.Answered.TheVariants as answered
 use Rattle.iol_port.specs.Steps.{MayBookAll, book_after, book_through, ticket_of}
-use Rattle.iol_port.specs.Run.{PortState, CallOf, Run, Is, opened, moment_in, request_of, submit_of, collect_of, withdraw_of, cancel_of, archive_of, take_event_of, set_output_of, restarted}
+use Rattle.iol_port.specs.Run.{PortState, CallOf, Run, opened, moment_in, request_of}
 use Rattle.iol_port.specs.Owned.{Owned, IsOneOf, CarriesOut, IsCutOff, IsCutForGood, Happens, EachDoneHasItsPair, LateEnds, CutForGoodStaysOut}
-use Rattle.iol_port.proofs.OwnedLists.{ahead_once, ahead_given, ahead_next, waiting_push, waiting_without, waiting_others, each_removed, each_without, each_others, each_push, one_counts, apart_of}
-use Rattle.iol_port.proofs.Owning.{Tally, Grows, HasAnswer, OutcomeStands, outcome_then, inserted, found, marked_sent, tally_in, OwnsAll, GoesTo, still, goes_then, waits_owns, same_sent, cut_owns, step_owns, steps_own}
+use Rattle.iol_port.proofs.CallsSound.{call_leaves, told_outcome}
+use Rattle.iol_port.proofs.TurnsRuleOut.{mode_carried, mode_late, mode_cut}
+use Rattle.iol_port.proofs.OwnedLists.{ahead_once, ahead_given, ahead_next, waiting_push, waiting_without, waiting_others, each_inserted, each_looked, each_removed, each_without, each_others, each_push, one_counts, apart_of, Tally, Grows, HasAnswer, OutcomeStands, outcome_then, marked_sent, tally_in, OwnsAll, GoesTo, still, goes_then, waits_owns, same_sent, cut_owns, step_owns, steps_own}
 
 -- Where the mode is down, it stays so until a wake has success
-
-carry_mode : (a : Answer) (job : Option Job) (s : Session) → s.mode ≡ Down → (carried_out a job s).mode ≡ Down
-carry_mode a None s down = down
-carry_mode a (Some job) s down = down
-
-late_mode : (a : Answer) (late : Option Request) (s : Session) → s.mode ≡ Down → (carried_late a late s).mode ≡ Down
-late_mode a None s down = down
-late_mode a (Some q) s down = down
-
-cut_mode : (cause : Cause) (s : Session) → s.mode ≡ Down → (cut_for cause s).mode ≡ Down
-cut_mode LinkLost s down = down
-cut_mode Restarted s down = down
-cut_mode BusyTooLong s down = down
-cut_mode Protocol s down = down
-cut_mode Cancelled s down = down
 
 down_move : (m : Moment) (mode : Mode) (why : Option Why) → MayMove m Down mode why → mode ≡ Down
 down_move m Down why may = refl
 down_move m Startup why may = absurd may
-down_move m Preoperate why may = absurd may
-down_move m Operate why may = absurd may
+down_move m _ why may = absurd may
 
 down_stays : (m : Moment) (step : Step) (s : Session) → s.mode ≡ Down → MaySession m step s → (step ≡ Reset) ⊎ ((session_after step s).mode ≡ Down)
 down_stays m Reset s down may = inl refl
 down_stays m (Take t q) s down may = inr down
-down_stays m (Carry a) s down may = inr (carry_mode a s.job s down)
+down_stays m (Carry a) s down may = inr (mode_carried a s.job s ∙ down)
 down_stays m (Done a) s down may = inr down
-down_stays m (Unknown cause) s down may = inr (cut_mode cause s down)
-down_stays m (LateCarry a) s down may = inr (late_mode a s.late s down)
+down_stays m (Unknown cause) s down may = inr (mode_cut cause s ∙ down)
+down_stays m (LateCarry a) s down may = inr (mode_late a s.late s ∙ down)
 down_stays m Busy s down may = inr down
 down_stays m (Move mode why) s down may = inr (down_move m mode why (rw down at may))
 down_stays m _ s down may = inr down
@@ -115,10 +96,7 @@ module _ (given : ℕ) (before : List Carried) (Whole : Call → Answered → Ty
           }
       by (inr still_down) later =
           let more = later still_down in
-          record {
-            goes = joined more.goes;
-            woken = λ n. let less = one.grows.less n in let woken = more.woken n in omega (arith, less, woken);
-          }
+          record { goes = joined more.goes; woken = λ n. let less = one.grows.less n in let woken = more.woken n in omega (arith, less, woken) }
 
   -- The calls
 
@@ -130,12 +108,6 @@ module _ (given : ℕ) (before : List Carried) (Whole : Call → Answered → Ty
 
   abbrev tally_at : List Owned → Ticket → PortState → Tally
   tally_at owned u a = tally_in owned u a.book a.session
-
-  goes_as : (x : Tally) (b c : PortState) → b ≡ c → GoesPort x c → GoesPort x b
-  goes_as x b c is goes = subst (λ (p : PortState). GoesPort x p) (sym is) goes
-
-  unchanged : (a b : PortState) (owned : List Owned) (u : Ticket) → b ≡ a → OwnsPort owned u a → GoesPort (tally_at owned u a) b
-  unchanged a b owned u is owns = goes_as (tally_at owned u a) b a is (still given before Asked owned u a.book a.session owns)
 
   -- the next ticket comes, as it did before
   submitted_owns : (a : PortState) (q : Request) (owned : List Owned) (u : Ticket) → Whole (call.Submit q) (answered.Ticket (next_ticket a.book)) → OwnsPort owned u a
@@ -158,19 +130,13 @@ module _ (given : ℕ) (before : List Carried) (Whole : Call → Answered → Ty
       owns.outcomes
       owns
 
-  submit_owns : (a b : PortState) (c : Call) (next : BookState) (reply : Answered) (why : Option BookFault) (owned : List Owned) (u : Ticket) → Is reply b (submit_of a next why) → Whole c reply
-      → (Whole c (answered.Ticket (next_ticket a.book)) → GoesPort (tally_at owned u a) (record a { book = next })) → OwnsPort owned u a → GoesPort (tally_at owned u a) b
-  submit_owns a b c next reply (Some why) owned u is happened goes owns = unchanged a b owned u is.1 owns
-  submit_owns a b c next reply None owned u is happened goes owns =
-      goes_as (tally_at owned u a) b (record a { book = next }) is.1 (goes (subst (λ (r : Answered). Whole c r) is.0 happened))
-
   withdrawn_owns : (a : PortState) (t : Ticket) (owned : List Owned) (u : Ticket) → OwnsPort owned u a → GoesTo given before Asked (tally_at owned u a) (entered a.book (WithdrawnEntry t)) a.session
   withdrawn_owns a t owned u owns =
       waits_owns given before Asked (without t urgent) (others_without t urgent waiting) (insert_entry same_ticket a.book.standing.outcomes t outcome.Withdrawn) a.book.last a.book a.session owned u
       (λ n. let fewer = waiting_without n t urgent in let others = waiting_others n t urgent waiting in omega (arith, fewer, others))
       (each_without Asked t urgent owns.urgent)
       (each_others Asked t urgent waiting owns.waiting)
-      (inserted (tally_at owned u a) a.book.standing.outcomes t outcome.Withdrawn tt owns.outcomes)
+      (each_inserted (OutcomeStands (tally_at owned u a)) a.book.standing.outcomes t outcome.Withdrawn tt owns.outcomes)
       owns
     where
       urgent : List (Ticket × Request)
@@ -179,97 +145,29 @@ module _ (given : ℕ) (before : List Carried) (Whole : Call → Answered → Ty
       waiting : List (Ticket × Request)
       waiting = a.book.standing.waiting
 
-  withdraw_owns : (a b : PortState) (t : Ticket) (reply : Answered) (why : Option BookFault) (owned : List Owned) (u : Ticket) → withdraw_refusal a.book.standing t ≡ why → Is reply b (withdraw_of a t why) → OwnsPort owned u a
-      → GoesPort (tally_at owned u a) b
-  withdraw_owns a b t reply (Some why) owned u e is owns = unchanged a b owned u is.1 owns
-  withdraw_owns a b t reply None owned u e is owns =
-      goes_as (tally_at owned u a) b (record a { book = withdrawn a.book t }) is.1 (rw e (withdrawn_owns a t owned u owns))
-
-  cancel_owns : (a b : PortState) (reply : Answered) (why : Option BookFault) (owned : List Owned) (u : Ticket) → Is reply b (cancel_of a why) → OwnsPort owned u a → GoesPort (tally_at owned u a) b
-  cancel_owns a b reply (Some why) owned u is owns = unchanged a b owned u is.1 owns
-  cancel_owns a b reply None owned u is owns =
-      goes_as (tally_at owned u a) b (record a { session = cancelling a.session }) is.1
-      (same_sent given before Asked (marked a.session.job) a.book a.session owned u (marked_sent a.session.job) owns)
-
-  archive_owns : (a b : PortState) (reply : Answered) (may : Bool) (owned : List Owned) (u : Ticket) → may_archive a.book ≡ may → Is reply b (archive_of a) → OwnsPort owned u a → GoesPort (tally_at owned u a) b
-  archive_owns a b reply true owned u e is owns =
-      let done : b ≡ record a { book = record a.book { journal = [] }; base = length a.session.carried } = rw e at is.1 in
-      goes_as (tally_at owned u a) b (record a { book = record a.book { journal = [] }; base = length a.session.carried }) done
-      (still given before Asked owned u (record a.book { journal = [] }) a.session owns)
-  archive_owns a b reply false owned u e is owns = unchanged a b owned u (rw e at is.1) owns
-
-  take_event_owns : (a b : PortState) (reply : Answered) (events : List Event) (owned : List Owned) (u : Ticket) → Is reply b (take_event_of a events) → OwnsPort owned u a → GoesPort (tally_at owned u a) b
-  take_event_owns a b reply [] owned u is owns = unchanged a b owned u is.1 owns
-  take_event_owns a b reply (event ∷ events) owned u is owns = goes_as (tally_at owned u a) b (record a { kept = events }) is.1 (still given before Asked owned u a.book a.session owns)
-
-  output_owns : (a b : PortState) (image : Image) (reply : Answered) (why : Option OutputFault) (owned : List Owned) (u : Ticket) → Is reply b (set_output_of a image why) → OwnsPort owned u a → GoesPort (tally_at owned u a) b
-  output_owns a b image reply (Some why) owned u is owns = unchanged a b owned u is.1 owns
-  output_owns a b image reply None owned u is owns =
-      goes_as (tally_at owned u a) b (record a { images = record a.images { wanted = Some image } }) is.1 (still given before Asked owned u a.book a.session owns)
-
   restart_owns : (a : PortState) (job : Option Job) (owned : List Owned) (u : Ticket) → a.session.job ≡ job → OwnsPort owned u a
       → GoesTo given before Asked (tally_at owned u a) (book_through (restart_steps (request_of job)) a.book) (session_through (restart_steps (request_of job)) a.session)
   restart_owns a None owned u is owns = still given before Asked owned u a.book (record a.session { mode = Down; why = None }) owns
   restart_owns a (Some job) owned u is owns = cut_owns given before Asked Restarted job a.book a.session owned u is owns
 
-  -- what a call leaves, and what a collect tells
-  record CallOwns (x : Tally) (c : Call) (reply : Answered) (b : PortState) : Type 0 where
-    pub goes : GoesPort x b
-    pub got : (t : Ticket) (out : Outcome) → c ≡ call.Collect t → reply ≡ answered.Outcome out → OutcomeStands (tally_at goes.owned goes.ticket b) t out
+  -- an outcome that is handed out
+  collected_owns : (a : PortState) (t : Ticket) (owned : List Owned) (u : Ticket) → OwnsPort owned u a → GoesTo given before Asked (tally_at owned u a) (entered a.book (CollectedEntry t)) a.session
+  collected_owns a t owned u owns =
+      waits_owns given before Asked a.book.standing.urgent a.book.standing.waiting (remove_entry (same_ticket t) a.book.standing.outcomes) a.book.last a.book a.session owned u
+      (λ n. omega arith) owns.urgent owns.waiting (each_removed (OutcomeStands (tally_at owned u a)) (same_ticket t) a.book.standing.outcomes owns.outcomes) owns
 
-  collect_owns : (a : PortState) (t : Ticket) (owned : List Owned) (u : Ticket) (out : Option Outcome) → lookup (same_ticket t) a.book.standing.outcomes ≡ out → (b : PortState) (reply : Answered)
-      → Is reply b (collect_of a t (outcome_or out (if waits a.book.standing t || is_taken a.book.standing t then NotYet else UnknownTicket))) → OwnsPort owned u a
-      → CallOwns (tally_at owned u a) (call.Collect t) reply b
-  collect_owns a t owned u None e b reply is owns = record {
-    goes = unchanged a b owned u is.1 owns;
-    got = λ v other c r. absurd (let k : answered.Refused _ ≡ answered.Outcome other = sym is.0 ∙ r in cc);
-  }
-  collect_owns a t owned u (Some out) e b reply is owns = record {
-    goes = goes;
-    got = λ v other c r.
-        let same : t ≡ v = (let k : call.Collect t ≡ call.Collect v = c in cc) in
-        let those : out ≡ other = (let k : answered.Outcome out ≡ answered.Outcome other = sym is.0 ∙ r in cc) in
-        outcome_then x (tally_at goes.owned goes.ticket b) goes.grows v other
-        (subst (λ (o : Outcome). OutcomeStands x v o) those
-        (subst (λ (k : Ticket). OutcomeStands x k out) same (found x a.book.standing.outcomes t out e owns.outcomes)));
-  }
-    where
-      x : Tally
-      x = tally_at owned u a
-
-      without : GoesTo given before Asked x (entered a.book (CollectedEntry t)) a.session
-      without =
-          waits_owns given before Asked a.book.standing.urgent a.book.standing.waiting (remove_entry (same_ticket t) a.book.standing.outcomes) a.book.last a.book a.session owned u
-          (λ n. omega arith) owns.urgent owns.waiting (each_removed (OutcomeStands x) (same_ticket t) a.book.standing.outcomes owns.outcomes) owns
-
-      goes : GoesPort x b
-      goes = goes_as x b (record a { book = collected a.book t }) is.1 (rw e without)
-
-  other : (x : Tally) (c : Call) (reply : Answered) (b : PortState) → ((t : Ticket) → c ≡ call.Collect t → ⊥) → GoesPort x b → CallOwns x c reply b
-  other x c reply b differs goes = record { goes = goes; got = λ t out e f. absurd (differs t e) }
-
-  call_owns : (a b : PortState) (c : Call) (reply : Answered) (owned : List Owned) (u : Ticket) → CallOf a c reply b → Whole c reply → OwnsPort owned u a → CallOwns (tally_at owned u a) c reply b
-  call_owns a b (call.Submit q) reply owned u (inl is) happened owns =
-      other _ _ reply b (λ t e. cc) (submit_owns a b (call.Submit q) (submitted a.book q) reply _ owned u is happened (λ asked. submitted_owns a q owned u asked owns) owns)
-  call_owns a b (call.Submit q) reply owned u (inr lacks) happened owns = other _ _ reply b (λ t e. cc) (unchanged a b owned u lacks.2 owns)
-  call_owns a b (call.SubmitUrgent q) reply owned u (inl is) happened owns =
-      other _ _ reply b (λ t e. cc) (submit_owns a b (call.SubmitUrgent q) (submitted_urgent a.book q) reply _ owned u is happened (λ asked. urgent_owns a q owned u asked owns) owns)
-  call_owns a b (call.SubmitUrgent q) reply owned u (inr lacks) happened owns = other _ _ reply b (λ t e. cc) (unchanged a b owned u lacks.2 owns)
-  call_owns a b (call.Collect t) reply owned u is happened owns = collect_owns a t owned u (lookup (same_ticket t) a.book.standing.outcomes) refl b reply is owns
-  call_owns a b (call.Withdraw t) reply owned u is happened owns = other _ _ reply b (λ v e. cc) (withdraw_owns a b t reply _ owned u refl is owns)
-  call_owns a b (call.Cancel t) reply owned u is happened owns = other _ _ reply b (λ v e. cc) (cancel_owns a b reply _ owned u is owns)
-  call_owns a b call.Restart reply owned u is happened owns =
-      other _ _ reply b (λ t e. cc) (goes_as (tally_at owned u a) b (restarted a) is.1 (restart_owns a a.session.job owned u refl owns))
-  call_owns a b (call.SetOutput image) reply owned u is happened owns = other _ _ reply b (λ t e. cc) (output_owns a b image reply _ owned u is owns)
-  call_owns a b call.ClearOutput reply owned u is happened owns =
-      other _ _ reply b (λ t e. cc) (goes_as (tally_at owned u a) b (record a { images = record a.images { wanted = None } }) is.1 (still given before Asked owned u a.book a.session owns))
-  call_owns a b call.Look reply owned u is happened owns = other _ _ reply b (λ t e. cc) (unchanged a b owned u is.1 owns)
-  call_owns a b call.TakeEvent reply owned u is happened owns = other _ _ reply b (λ t e. cc) (take_event_owns a b reply _ owned u is owns)
-  call_owns a b call.Status reply owned u is happened owns = other _ _ reply b (λ t e. cc) (unchanged a b owned u is.1 owns)
-  call_owns a b call.Archive reply owned u is happened owns = other _ _ reply b (λ t e. cc) (archive_owns a b reply _ owned u refl is owns)
-  call_owns a b call.Turn reply owned u (_, (t, _, work, _, _)) happened owns =
-      other _ _ reply b (λ v e. cc)
-      (rw (work.book, work.session) (steps_own given before Asked (moment_in a t) t.steps a.book a.session owned u work.may_book work.may_session owns))
+  call_owns : (a b : PortState) (c : Call) (reply : Answered) (owned : List Owned) (u : Ticket) → CallOf a c reply b → Whole c reply → OwnsPort owned u a → GoesPort (tally_at owned u a) b
+  call_owns a b c reply owned u is happened owns = call_leaves (GoesPort (tally_at owned u a)) a b c reply is (record {
+    stays = λ kept images. still given before Asked owned u a.book a.session owns;
+    submit = λ q e r. submitted_owns a q owned u (rw (e, r) at happened) owns;
+    urgent = λ q e r. urgent_owns a q owned u (rw (e, r) at happened) owns;
+    collect = λ t out e. rw e (collected_owns a t owned u owns);
+    withdraw = λ t e. rw e (withdrawn_owns a t owned u owns);
+    cancel = λ t e r free. same_sent given before Asked (marked a.session.job) a.book a.session owned u (marked_sent a.session.job) owns;
+    restart = restart_owns a a.session.job owned u refl owns;
+    archive = λ may. still given before Asked owned u (record a.book { journal = [] }) a.session owns;
+    turn = λ t b all work. rw (work.book, work.session) (steps_own given before Asked (moment_in a t) t.steps a.book a.session owned u work.may_book work.may_session owns);
+  })
 
   -- Whole runs
 
@@ -277,21 +175,28 @@ module _ (given : ℕ) (before : List Carried) (Whole : Call → Answered → Ty
     pub goes : GoesPort x b
     pub got : (t : Ticket) (out : Outcome) → Happens calls replies (call.Collect t) (answered.Outcome out) → OutcomeStands (tally_at goes.owned goes.ticket b) t out
 
-  run_then : (x : Tally) (mid b : PortState) (c : Call) (r : Answered) (calls : List Call) (replies : List Answered) (one : CallOwns x c r mid)
-      → RunOwns (tally_at one.goes.owned one.goes.ticket mid) calls replies b → RunOwns x (c ∷ calls) (r ∷ replies) b
+  -- what is told by a call, and by those after it
+  run_then : (a mid b : PortState) (c : Call) (r : Answered) (calls : List Call) (replies : List Answered) (owned : List Owned) (u : Ticket) → CallOf a c r mid → OwnsPort owned u a
+      → (one : GoesPort (tally_at owned u a) mid) → RunOwns (tally_at one.owned one.ticket mid) calls replies b → RunOwns (tally_at owned u a) (c ∷ calls) (r ∷ replies) b
   unfolding goes_then
-  run_then x mid b c r calls replies one later = record { goes = goes_then given before Asked x mid.book mid.session b.book b.session one.goes later.goes; got = by }
+  run_then a mid b c r calls replies owned u is owns one later = record { goes = goes; got = by }
     where
+      goes : GoesPort (tally_at owned u a) b
+      goes = goes_then given before Asked (tally_at owned u a) mid.book mid.session b.book b.session one later.goes
+
       by : (t : Ticket) (out : Outcome) → Happens (c ∷ calls) (r ∷ replies) (call.Collect t) (answered.Outcome out) → OutcomeStands (tally_at later.goes.owned later.goes.ticket b) t out
-      by t out (inl (e, f)) = outcome_then (tally_at one.goes.owned one.goes.ticket mid) (tally_at later.goes.owned later.goes.ticket b) later.goes.grows t out (one.got t out e f)
+      by t out (inl (e, f)) =
+          let there = each_looked (OutcomeStands (tally_at owned u a)) a.book.standing.outcomes t out (told_outcome a mid t out (rw (e, f) at is)) owns.outcomes in
+          outcome_then (tally_at owned u a) (tally_at later.goes.owned later.goes.ticket b) goes.grows t out there
       by t out (inr i) = later.got t out i
 
   run_owns : (a b : PortState) (calls : List Call) (replies : List Answered) (owned : List Owned) (u : Ticket) → Run a calls replies b
       → ((c : Call) (r : Answered) → Happens calls replies c r → Whole c r) → OwnsPort owned u a → RunOwns (tally_at owned u a) calls replies b
-  run_owns a b [] [] owned u run all owns = record { goes = unchanged a b owned u run owns; got = λ t out no. absurd no }
+  run_owns a b [] [] owned u run all owns =
+      record { goes = subst (λ (p : PortState). GoesPort (tally_at owned u a) p) (sym run) (still given before Asked owned u a.book a.session owns); got = λ t out no. absurd no }
   run_owns a b (c ∷ calls) (r ∷ replies) owned u (mid, first, rest) all owns =
-      let one : CallOwns (tally_at owned u a) c r mid = call_owns a mid c r owned u first (all c r (inl (refl, refl))) owns in
-      run_then (tally_at owned u a) mid b c r calls replies one (run_owns mid b calls replies one.goes.owned one.goes.ticket rest (λ x y i. all x y (inr i)) one.goes.owns)
+      let one : GoesPort (tally_at owned u a) mid = call_owns a mid c r owned u first (all c r (inl (refl, refl))) owns in
+      run_then a mid b c r calls replies owned u first owns one (run_owns mid b calls replies one.owned one.ticket rest (λ x y i. all x y (inr i)) one.owns)
   run_owns a b [] (r ∷ replies) owned u run all owns = absurd run
   run_owns a b (c ∷ calls) [] owned u run all owns = absurd run
 
@@ -384,7 +289,7 @@ module _ (limits : Limits) (far : Far) (silence : ℕ) (calls more : List Call) 
       → Happens calls replies (call.Collect t) (answered.Outcome (outcome.Unknown cause)) ⊎ (lookup (same_ticket t) a.book.standing.outcomes ≡ Some (outcome.Unknown cause))
       → OutcomeStands then_tally t (outcome.Unknown cause)
   cut_then t cause (inl i) = first.got t (outcome.Unknown cause) i
-  cut_then t cause (inr e) = found then_tally a.book.standing.outcomes t (outcome.Unknown cause) e first.goes.owns.outcomes
+  cut_then t cause (inr e) = each_looked (OutcomeStands then_tally) a.book.standing.outcomes t (outcome.Unknown cause) e first.goes.owns.outcomes
 
 pub cut_for_good_stays_out : CutForGoodStaysOut
 cut_for_good_stays_out limits far silence calls more replies others a c run rest = (
@@ -445,15 +350,12 @@ late_ends limits far silence calls more replies others a b c run wakes rest = (
     mid : Tally
     mid = tally_at limits.given far.carried Whole woken.goes.owned woken.goes.ticket b
 
-    turn : CallOwns limits.given far.carried Whole tally call.Turn answered.Nothing b
-    turn = record { goes = woken.goes; got = λ t out e f. absurd (let k : call.Turn ≡ call.Collect t = e in cc) }
-
     later : RunOwns limits.given far.carried Whole mid more others c
     later = run_owns limits.given far.carried Whole b c more others woken.goes.owned woken.goes.ticket rest
         (λ d r i. happens_last _ a calls (call.Turn ∷ more) replies (answered.Nothing ∷ others) run d r (inr i)) woken.goes.owns
 
     all : RunOwns limits.given far.carried Whole tally (call.Turn ∷ more) (answered.Nothing ∷ others) c
-    all = run_then limits.given far.carried Whole tally b c call.Turn answered.Nothing more others turn later
+    all = run_then limits.given far.carried Whole a b c call.Turn answered.Nothing more others before_it.goes.owned before_it.goes.ticket (refl, wakes.turn) before_it.goes.owns woken.goes later
 
     never : (o : Owned) → IsOneOf o later.goes.grows.added → IsCutOff calls replies a o.ticket → ⊥
     never o i (cause, cut) =

@@ -1,5 +1,5 @@
 -- each change of a book keeps it the replay of its journal
-use Rattle.std.proofs.Common.{◌≡◌, Bool, true, false, List, [], ◌∷◌, ◌++◌, Option, None, Some, drop, refl, ap, sym, ◌∙◌, arith, ◌||◌}
+use Rattle.std.proofs.Common.{◌≡◌, Bool, true, false, List, [], ◌∷◌, ◌++◌, Option, None, Some, drop, refl, ap, sym, ◌∙◌, arith, ◌||◌, ◌⊎◌, ℕ, IsSomeAnd, append-nil, length, map, length-append, inl, inr, subst, ◌≤◌}
 use Rattle.std.proofs.lemmas.Bool.{eq-eqb}
 use Rattle.std.proofs.lemmas.Bool.Decides.{nat_tests}
 use Rattle.std.specs.Option.{option_map}
@@ -11,7 +11,22 @@ use Rattle.iol_book.specs.declared.entries.Outcome.TheVariants.{NoIsdu}
 use Rattle.iol_book.specs.declared.entries.Entry.{Entry}
 use Rattle.iol_book.specs.declared.entries.Entry.TheVariants.{Taken, Answered}
 use Rattle.iol_book.specs.Replay.{Standing, nothing, same_ticket, request_waiting, without_waiting, waiting_after, step, replay_from}
-use Rattle.iol_book.specs.BookModel.{BookState, IsReplayed, entered, leaves_unsure, took, denied, ended_with, posted, next_taken, may_archive, others_behind, waits}
+use Rattle.iol_book.specs.BookModel.{BookState, IsReplayed, entered, leaves_unsure, took, denied, ended_with, posted, next_taken, may_archive, others_behind, waits, reset}
+use Rattle.std.proofs.lemmas.List.{drop-append-le, map-append}
+use Rattle.iol_isdu.specs.declared.values.Answer.{Answer}
+use Rattle.iol_isdu.specs.declared.values.Cause.{Cause}
+use Rattle.iol_isdu.specs.declared.values.Cause.TheVariants.{LinkLost, Restarted}
+use Rattle.iol_far.specs.declared.carried.Carried.{Carried}
+use Rattle.iol_book.specs.declared.entries.Outcome.TheVariants as outcome
+use Rattle.iol_book.specs.Takings.{ended, FitsTakings, FitsEnded}
+use Rattle.iol_book.specs.TakingLaws.{SubmitTakesNone, CollectTakesNone, WithdrawTakesNone, DenyTakesNone, TakeEndsNone, PostEndsTaken, FitsWithout, FitsWith, DoneFits, CutOffFits, TakenFits, ArchivedFits, UrgentTakesNone}
+use Rattle.iol_steps.specs.declared.mode.Mode.{Mode}
+use Rattle.iol_mode.specs.declared.why.Why.{Why}
+use Rattle.iol_steps.specs.Step.{Step, Take, Deny, Carry, Done, Unknown, LateCarry, Reset, Busy, Move, Moment}
+use Rattle.iol_steps.specs.Session.{Job, Session, MaySession, MaySessionAll, MayCut, session_after, session_through, carried_out, carried_late, unanswered, left_of, cut_for, busy_once_more, marked}
+use Rattle.iol_port.specs.Steps.{ticket_of, MayBook, MayBookAll, book_after, book_through}
+use Rattle.iol_port.specs.Run.{request_of}
+use Rattle.iol_port.specs.Sound.{pairs_from, written, FitsOpen, request_taken, Sound}
 
 replay_from-push : (s : Standing) (entries : List Entry) (entry : Entry) → replay_from s (entries ++ entry ∷ []) ≡ step (replay_from s entries) entry
 replay_from-push s [] entry = refl
@@ -82,8 +97,255 @@ free_archive book may = by_parts book.standing.urgent book.standing.waiting book
   where
     by_parts : (urgent waiting : List (Ticket × Request)) (taken : Option (Ticket × Request)) (outcomes : List (Ticket × Outcome)) (unsure : Bool) → may_archive (record book { standing = record { urgent = urgent; waiting = waiting; taken = taken; outcomes = outcomes }; unsure = unsure }) ≡ true → (record { urgent = urgent; waiting = waiting; taken = taken; outcomes = outcomes } ≡ nothing) × (unsure ≡ false)
     by_parts [] [] None [] false h = (refl, refl)
-    by_parts [] [] None [] true h = absurd (cc)
-    by_parts [] [] None (o ∷ os) unsure h = absurd (let z : ⊥ = grind (arith, nat_tests) in z)
-    by_parts [] [] (Some t) outcomes unsure h = absurd (let z : ⊥ = grind (arith, nat_tests) in z)
-    by_parts [] (w ∷ ws) taken outcomes unsure h = absurd (let z : ⊥ = grind (arith, nat_tests) in z)
-    by_parts (w ∷ ws) waiting taken outcomes unsure h = absurd (let z : ⊥ = grind (arith, nat_tests) in z)
+    by_parts urgent waiting taken outcomes unsure h = absurd (let z : ⊥ = grind (arith, nat_tests) in z)
+
+-- every step of the abstract port keeps it sound
+
+-- the laws of a book
+pub record BookLaws : Type 0 where
+  pub submit : SubmitTakesNone
+  pub submit_urgent : UrgentTakesNone
+  pub collect : CollectTakesNone
+  pub withdraw : WithdrawTakesNone
+  pub deny : DenyTakesNone
+  pub take : TakeEndsNone
+  pub post : PostEndsTaken
+  pub without : FitsWithout
+  pub with_pair : FitsWith
+  pub done : DoneFits
+  pub cut_off : CutOffFits
+  pub taken : TakenFits
+  pub archived : ArchivedFits
+
+-- what is in an option that has a value with a property
+pub some_of : {X : Type 0} (P : X → Type 0) (o : Option X) → IsSomeAnd o P → (x : X) × (o ≡ Some x) × P x
+some_of P None h = absurd h
+some_of P (Some x) h = (x, refl, h)
+
+pub taken_is : (taken : Option (Ticket × Request)) (q : Request) → request_taken taken ≡ Some q → (t : Ticket) × (taken ≡ Some (t, q))
+taken_is None q h = absurd (cc)
+taken_is (Some (t, r)) q h = let e : r ≡ q = cc in (t, ap (λ x. Some (t, x)) e)
+
+-- a record that has grown by a pair
+pub pairs_from-grown : (base : ℕ) (carried : List Carried) (q : Request) (a : Answer) → base ≤ length carried →
+    pairs_from base (carried ++ record { request = q; answer = a } ∷ []) ≡ pairs_from base carried ++ (q, a) ∷ []
+pairs_from-grown base carried q a within =
+    ap (λ xs. map (λ pair. (pair.request, pair.answer)) xs) (drop-append-le base carried (record { request = q; answer = a } ∷ []) within)
+    ∙ map-append (λ pair. (pair.request, pair.answer)) (drop base carried) (record { request = q; answer = a } ∷ [])
+
+grown_within : (base : ℕ) (carried : List Carried) (pair : Carried) → base ≤ length carried → base ≤ length (carried ++ pair ∷ [])
+grown_within base carried pair within = omega (arith, length-append carried (pair ∷ []))
+
+-- a job under way: nothing is late
+alone_late : (s : Session) (job : Job) → s.job ≡ Some job → (s.job ≡ None) ⊎ (s.late ≡ None) → s.late ≡ None
+alone_late s job is (inl h) = absurd (let e : Some job ≡ None = sym is ∙ h in cc)
+alone_late s job is (inr h) = h
+
+late_alone : (s : Session) (q : Request) → s.late ≡ Some q → (s.job ≡ None) ⊎ (s.late ≡ None) → s.job ≡ None
+late_alone s q is (inl h) = h
+late_alone s q is (inr h) = absurd (let e : Some q ≡ None = sym is ∙ h in cc)
+
+fits_job : (s : Session) (job : Job) (journal : List Entry) (pairs : List (Request × Answer)) → s.job ≡ Some job → FitsOpen s.job s.late journal pairs → FitsOpen (Some job) s.late journal pairs
+fits_job s job journal pairs is fits = subst (λ o. FitsOpen o s.late journal pairs) is fits
+
+unanswered_pairs : (q : Request) (answer : Option Answer) (earlier : List (Request × Answer)) → answer ≡ None → earlier ++ written q answer ≡ earlier
+unanswered_pairs q answer earlier none = ap (λ o. earlier ++ written q o) none ∙ append-nil earlier
+
+answered_pairs : (q : Request) (a : Answer) (answer : Option Answer) (earlier : List (Request × Answer)) → answer ≡ Some a → earlier ++ written q answer ≡ earlier ++ (q, a) ∷ []
+answered_pairs q a answer earlier is = ap (λ o. earlier ++ written q o) is
+
+-- an outcome leaves no request taken
+posted_free : (b : BookState) (o : Outcome) (t : Ticket) (q : Request) → b.standing.taken ≡ Some (t, q) → request_taken (posted b o).standing.taken ≡ None
+posted_free b o t q e = rw e refl
+
+-- the record fits the same, once the same requests ended
+fits_same : (job : Option Job) (late : Option Request) (journal next : List Entry) (pairs : List (Request × Answer)) → ended next ≡ ended journal → FitsOpen job late journal pairs → FitsOpen job late next pairs
+fits_same (Some job) late journal next pairs e (earlier, are, fits) = (earlier, are, subst (λ ts. FitsTakings ts earlier) (sym e) fits)
+fits_same None (Some q) journal next pairs e (earlier, cause, is, fits) = (earlier, cause, e ∙ is, fits)
+fits_same None None journal next pairs e fits = subst (λ ts. FitsTakings ts pairs) (sym e) fits
+
+-- a book in which the same request is taken, and the same ended
+pub sound_book : (b next : BookState) (s : Session) (base : ℕ) → IsReplayed next → next.standing.taken ≡ b.standing.taken → next.unsure ≡ b.unsure → ended next.journal ≡ ended b.journal → Sound b s base → Sound next s base
+sound_book b next s base replayed taken unsure same sound = record {
+  replayed = replayed;
+  same = ap request_taken taken ∙ sound.same;
+  sure = λ h. sound.sure (sym unsure ∙ h);
+  alone = sound.alone;
+  within = sound.within;
+  fits = fits_same s.job s.late b.journal next.journal _ same sound.fits;
+}
+
+module _ (laws : BookLaws) where
+  -- a denied request was never taken
+  sound_deny : (t : Ticket) (b : BookState) (s : Session) (base : ℕ) → option_map (λ p. p.0) (next_taken b.standing) ≡ Some t → Sound b s base → Sound (denied b t) s base
+  sound_deny t b s base head sound =
+      let (q, next) = next_ticket_is (next_taken b.standing) t head in
+      let none : b.standing.taken ≡ None = (next_is b.standing t q next).free in
+      sound_book b (denied b t) s base (denied_replayed b t q next sound.replayed) refl refl (laws.deny b t sound.replayed none).0 sound
+
+  sound_take : (t : Ticket) (q : Request) (b : BookState) (s : Session) (base : ℕ) → next_taken b.standing ≡ Some (t, q) → s.job ≡ None → s.late ≡ None → Sound b s base → Sound (took b (t, q)) (record s { job = Some (record { request = q; answer = None; busy = 0; asked = false }) }) base
+  sound_take t q b s base next free none sound =
+      let fits : FitsOpen None None b.journal (pairs_from base s.carried) = subst (λ l. FitsOpen None l b.journal (pairs_from base s.carried)) none (subst (λ o. FitsOpen o s.late b.journal (pairs_from base s.carried)) free sound.fits) in
+      record {
+        replayed = took_replayed b t q next sound.replayed;
+        same = refl;
+        sure = sound.sure;
+        alone = inr none;
+        within = sound.within;
+        fits = (pairs_from base s.carried, sym (append-nil _), subst (λ e. FitsTakings e (pairs_from base s.carried)) (sym (laws.take b (t, q))) fits);
+      }
+
+  sound_carry : (a : Answer) (job : Job) (b : BookState) (s : Session) (base : ℕ) → s.job ≡ Some job → job.answer ≡ None → Sound b s base → Sound b (carried_out a s.job s) base
+  sound_carry a job b s base is none sound =
+      let (earlier, pairs_are, fits) = fits_job s job b.journal _ is sound.fits in
+      let pairs : pairs_from base s.carried ≡ earlier = pairs_are ∙ unanswered_pairs job.request job.answer earlier none in
+      let goal : Sound b (carried_out a (Some job) s) base = record {
+        replayed = sound.replayed;
+        same = sound.same ∙ ap request_of is;
+        sure = sound.sure;
+        alone = inr (alone_late s job is sound.alone);
+        within = grown_within base s.carried _ sound.within;
+        fits = (earlier, pairs_from-grown base s.carried job.request a sound.within ∙ ap (λ xs. xs ++ (job.request, a) ∷ []) pairs, fits);
+      }
+      in subst (λ o. Sound b (carried_out a o s) base) (sym is) goal
+
+  -- the request under way has an outcome, and the record fits with what is written of it
+  sound_post : (o : Outcome) (job : Job) (b : BookState) (s : Session) (base : ℕ) → s.job ≡ Some job → ((taken : Ticket × Request) → b.standing.taken ≡ Some taken → (earlier : List (Request × Answer)) → FitsEnded b.journal earlier → FitsEnded (posted b o).journal (earlier ++ written taken.1 job.answer)) → LeavesWaiting o → Sound b s base → Sound (posted b o) (record s { job = None }) base
+  sound_post o job b s base is leaves waiting sound =
+      let (earlier, pairs_are, fits) = fits_job s job b.journal _ is sound.fits in
+      let (t, taken) = taken_is b.standing.taken job.request (sound.same ∙ ap request_of is) in
+      let none : s.late ≡ None = alone_late s job is sound.alone in
+      let fits' : FitsOpen None None (posted b o).journal (pairs_from base s.carried) = subst (λ pairs. FitsEnded (posted b o).journal pairs) (sym pairs_are) (leaves (t, job.request) taken earlier fits) in
+      record {
+        replayed = posted_replayed b o waiting sound.replayed;
+        same = posted_free b o t job.request taken;
+        sure = λ _. none;
+        alone = inl refl;
+        within = sound.within;
+        fits = subst (λ l. FitsOpen None l (posted b o).journal (pairs_from base s.carried)) (sym none) fits';
+      }
+
+  -- a request that is cut off without an answer, and that the device may still carry out
+  sound_lose : (cause : Cause) (job : Job) (b : BookState) (s : Session) (base : ℕ) → s.job ≡ Some job → job.answer ≡ None → leaves_unsure (outcome.Unknown cause) ≡ true → Sound b s base → Sound (posted b (outcome.Unknown cause)) (record s { job = None; late = Some job.request }) base
+  sound_lose cause job b s base is none unsure sound =
+      let (earlier, pairs_are, fits) = fits_job s job b.journal _ is sound.fits in
+      let pairs : pairs_from base s.carried ≡ earlier = pairs_are ∙ unanswered_pairs job.request job.answer earlier none in
+      let (t, taken) = taken_is b.standing.taken job.request (sound.same ∙ ap request_of is) in
+      record {
+        replayed = posted_replayed b _ (λ t standing. refl) sound.replayed;
+        same = posted_free b _ t job.request taken;
+        sure = λ h. absurd (let u = either b.unsure _ unsure in let v : false ≡ true = sym h ∙ u in cc);
+        alone = inl refl;
+        within = sound.within;
+        fits = (ended b.journal, cause, laws.post b (t, job.request) (outcome.Unknown cause) sound.replayed taken, subst (λ xs. FitsEnded b.journal xs) (sym pairs) fits);
+      }
+    where
+      either : (x y : Bool) → y ≡ true → (x || y) ≡ true
+      either true y h = refl
+      either false y h = h
+
+  -- what an Unknown leaves, with an answer or without
+  leaves_unknown : (cause : Cause) (answer : Option Answer) (b : BookState) → IsReplayed b → (taken : Ticket × Request) → b.standing.taken ≡ Some taken → (earlier : List (Request × Answer)) → FitsEnded b.journal earlier → FitsEnded (posted b (outcome.Unknown cause)).journal (earlier ++ written taken.1 answer)
+  leaves_unknown cause None b replayed taken is earlier fits =
+      subst (λ xs. FitsEnded (posted b (outcome.Unknown cause)).journal xs) (sym (append-nil earlier)) (laws.cut_off b taken cause earlier replayed is fits).0
+  leaves_unknown cause (Some a) b replayed taken is earlier fits = (laws.cut_off b taken cause earlier replayed is fits).1 a
+
+  leaves_done : (a : Answer) (answer : Option Answer) (b : BookState) → answer ≡ Some a → IsReplayed b → (taken : Ticket × Request) → b.standing.taken ≡ Some taken → (earlier : List (Request × Answer)) → FitsEnded b.journal earlier → FitsEnded (posted b (outcome.Done a)).journal (earlier ++ written taken.1 answer)
+  leaves_done a answer b is replayed taken taken_is earlier fits =
+      subst (λ xs. FitsEnded (posted b (outcome.Done a)).journal xs) (sym (answered_pairs taken.1 a answer earlier is)) (laws.done b taken a earlier replayed taken_is fits)
+
+  sound_cut_off : (cause : Cause) (job : Job) (answer : Option Answer) (b : BookState) (s : Session) (base : ℕ) → s.job ≡ Some job → job.answer ≡ answer → leaves_unsure (outcome.Unknown cause) ≡ true → Sound b s base → Sound (posted b (outcome.Unknown cause)) (record s { job = None; late = left_of s.job }) base
+  sound_cut_off cause job None b s base is e unsure sound =
+      subst (λ l. Sound (posted b (outcome.Unknown cause)) (record s { job = None; late = l }) base)
+      (sym (ap left_of is ∙ ap (λ o. unanswered o job.request) e)) (sound_lose cause job b s base is e unsure sound)
+  sound_cut_off cause job (Some a) b s base is e unsure sound =
+      subst (λ l. Sound (posted b (outcome.Unknown cause)) (record s { job = None; late = l }) base)
+      (alone_late s job is sound.alone ∙ sym (ap left_of is ∙ ap (λ o. unanswered o job.request) e))
+      (sound_post (outcome.Unknown cause) job b s base is (leaves_unknown cause job.answer b sound.replayed) (λ t standing. refl) sound)
+
+  pub sound_cut : (cause : Cause) (b : BookState) (s : Session) (base : ℕ) (job : Job) → s.job ≡ Some job → Sound b s base → Sound (posted b (outcome.Unknown cause)) (cut_for cause s) base
+  sound_cut LinkLost b s base job is sound = sound_cut_off LinkLost job job.answer b s base is refl refl sound
+  sound_cut Restarted b s base job is sound = sound_cut_off Restarted job job.answer b s base is refl refl sound
+  sound_cut cause b s base job is sound = sound_post (outcome.Unknown cause) job b s base is (leaves_unknown cause job.answer b sound.replayed) (λ t standing. refl) sound
+
+  -- a late request is in the record
+  sound_late : (a : Answer) (late : Option Request) (b : BookState) (s : Session) (base : ℕ) → s.late ≡ late → Sound b s base → Sound b (carried_late a late s) base
+  sound_late a None b s base is sound = sound
+  sound_late a (Some q) b s base is sound =
+      let free : s.job ≡ None = late_alone s q is sound.alone in
+      let (earlier, cause, ended_is, fits) = late_fits q b s base is free sound in
+      let grown : FitsEnded b.journal (pairs_from base s.carried ++ (q, a) ∷ []) = subst (λ ts. FitsTakings ts (pairs_from base s.carried ++ (q, a) ∷ [])) (sym ended_is) (laws.with_pair earlier (q, Some (outcome.Unknown cause)) a _ tt fits) in
+      record {
+        replayed = sound.replayed;
+        same = sound.same;
+        sure = λ _. refl;
+        alone = inl free;
+        within = grown_within base s.carried _ sound.within;
+        fits = subst (λ o. FitsOpen o None b.journal (pairs_from base (s.carried ++ record { request = q; answer = a } ∷ []))) (sym free)
+            (subst (λ xs. FitsEnded b.journal xs) (sym (pairs_from-grown base s.carried q a sound.within)) grown);
+      }
+    where
+      late_fits : (q : Request) (b : BookState) (s : Session) (base : ℕ) → s.late ≡ Some q → s.job ≡ None → Sound b s base → FitsOpen None (Some q) b.journal (pairs_from base s.carried)
+      late_fits q b s base is free sound = subst (λ l. FitsOpen None l b.journal (pairs_from base s.carried)) is (subst (λ o. FitsOpen o s.late b.journal (pairs_from base s.carried)) free sound.fits)
+
+  -- after a wake nothing is late
+  settled : (job : Option Job) (late : Option Request) (journal : List Entry) (pairs : List (Request × Answer)) → ((job ≡ None) ⊎ (late ≡ None)) → FitsOpen job late journal pairs → FitsOpen job None journal pairs
+  settled (Some job) late journal pairs alone fits = fits
+  settled None None journal pairs alone fits = fits
+  settled None (Some q) journal pairs alone (earlier, cause, ended_is, fits) =
+      subst (λ ts. FitsTakings ts pairs) (sym ended_is) (laws.without earlier (q, Some (outcome.Unknown cause)) pairs tt fits)
+
+  sound_reset : (b : BookState) (s : Session) (base : ℕ) → Sound b s base → Sound (reset b) (session_after Reset s) base
+  sound_reset b s base sound = record {
+    replayed = sound.replayed;
+    same = sound.same;
+    sure = λ _. refl;
+    alone = inr refl;
+    within = sound.within;
+    fits = settled s.job s.late b.journal _ sound.alone sound.fits;
+  }
+
+  -- busy replies and the mark are no business of the record
+  sound_again : (b : BookState) (s : Session) (base : ℕ) (job : Job) (busy : ℕ) (asked : Bool) → s.job ≡ Some job → Sound b s base → Sound b (record s { job = Some (record job { busy = busy; asked = asked }) }) base
+  sound_again b s base job busy asked is sound = record {
+    replayed = sound.replayed;
+    same = sound.same ∙ ap request_of is;
+    sure = sound.sure;
+    alone = inr (alone_late s job is sound.alone);
+    within = sound.within;
+    fits = fits_job s job b.journal _ is sound.fits;
+  }
+
+  sound_busy : (b : BookState) (s : Session) (base : ℕ) (job : Option Job) → s.job ≡ job → Sound b s base → Sound b (record s { job = busy_once_more job }) base
+  sound_busy b s base None is sound = subst (λ o. Sound b (record s { job = o }) base) is sound
+  sound_busy b s base (Some job) is sound = sound_again b s base job _ _ is sound
+
+  pub sound_cancelling : (b : BookState) (s : Session) (base : ℕ) (job : Option Job) → s.job ≡ job → Sound b s base → Sound b (record s { job = marked job }) base
+  sound_cancelling b s base None is sound = subst (λ o. Sound b (record s { job = o }) base) is sound
+  sound_cancelling b s base (Some job) is sound = sound_again b s base job _ _ is sound
+
+  -- nor is the mode
+  pub sound_moved : (b : BookState) (s : Session) (base : ℕ) (mode : Mode) (why : Option Why) → Sound b s base → Sound b (record s { mode = mode; why = why }) base
+  sound_moved b s base mode why sound = record { replayed = sound.replayed; same = sound.same; sure = sound.sure; alone = sound.alone; within = sound.within; fits = sound.fits }
+
+  sound_after : (m : Moment) (step : Step) (b : BookState) (s : Session) (base : ℕ) → MayBook step b → MaySession m step s → Sound b s base → Sound (book_after step b) (session_after step s) base
+  sound_after m (Take t q) b s base next may sound = sound_take (ticket_of t) q b s base next may.1 may.2 sound
+  sound_after m (Deny t) b s base next may sound = sound_deny (ticket_of t) b s base next sound
+  sound_after m (Carry a) b s base next may sound =
+      let (job, is, none) = some_of (λ job. job.answer ≡ None) s.job may in sound_carry a job b s base is none sound
+  sound_after m (Done a) b s base next may sound =
+      let (job, is, answered) = some_of (λ job. job.answer ≡ Some a) s.job may in
+      sound_post (outcome.Done a) job b s base is (leaves_done a job.answer b answered sound.replayed) (λ t standing. refl) sound
+  sound_after m (Unknown cause) b s base next may sound =
+      let (job, is, cut) = some_of (λ job. MayCut m cause job) s.job may in sound_cut cause b s base job is sound
+  sound_after m (LateCarry a) b s base next may sound = sound_late a s.late b s base refl sound
+  sound_after m Reset b s base next may sound = sound_reset b s base sound
+  sound_after m Busy b s base next may sound = sound_busy b s base s.job refl sound
+  sound_after m (Move mode why) b s base next may sound = sound_moved b s base mode why sound
+  sound_after m _ b s base next may sound = sound
+
+  -- a list of steps
+  pub sound_through : (m : Moment) (steps : List Step) (b : BookState) (s : Session) (base : ℕ) → MayBookAll steps b → MaySessionAll m steps s → Sound b s base → Sound (book_through steps b) (session_through steps s) base
+  sound_through m [] b s base next may sound = sound
+  sound_through m (step ∷ steps) b s base next may sound =
+      sound_through m steps _ _ base next.1 may.1 (sound_after m step b s base next.0 may.0 sound)

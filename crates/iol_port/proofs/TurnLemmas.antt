@@ -154,8 +154,6 @@ last_posted b o = by_taken b.standing.taken
 last_after : (step : Step) (b : BookState) → (book_after step b).last ≡ b.last
 last_after (Done a) b = last_posted b (outcome.Done a)
 last_after (Unknown c) b = last_posted b (outcome.Unknown c)
-last_after (Take t q) b = refl
-last_after (Deny t) b = refl
 last_after _ b = refl
 
 last_through : (steps : List Step) (b : BookState) → (book_through steps b).last ≡ b.last

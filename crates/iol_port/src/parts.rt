@@ -3,7 +3,7 @@ ghost use Rattle.std.specs.Prelude.{◌≡◌, ◌<◌, ◌≤◌, None, IfOk, I
 ghost use Rattle.std.specs.Option.{option_copied};
 ghost use Rattle.std.specs.Result.{result_map_both};
 ghost use Rattle.iol_book.specs.declared.fault.BookFault.TheVariants.{OutOfMemory};
-ghost use Rattle.iol_book.specs.BookModel.{AreLimits, IsReplayed, submitted, submitted_urgent};
+ghost use Rattle.iol_book.specs.BookModel.{AreLimits, IsReplayed, opened as opened_book, submitted, submitted_urgent};
 ghost use Rattle.iol_app.specs.StationState.{wire_of};
 ghost use Rattle.iol_port.specs.declared.fault.PortFault.TheVariants as fault;
 ghost use Rattle.iol_port.specs.declared.call.Call.TheVariants as call;
@@ -52,22 +52,18 @@ impl<W: Wire, A: Allocator + Copy> Model for Parts<W, A> {
 }
 
 impl<W: Wire, A: Allocator + Copy> Parts<W, A> {
-    pub(crate) fn open(alloc: A, wire: W, limits: &Limits) -> Result<Parts<W, A>, (PortFault, W)>
+    /// With a book that is new, over a link that is down.
+    pub(crate) fn with_book(book: Book<A>, wire: W, limits: &Limits) -> Parts<W, A>
         requires limits { AreLimits limits.now }
-        ensures parts { IfOk result (λ p. IsOpened
-            (opening_of W.honest W.far W.silence limits.now wire) p) }
-        ensures stands { IfOk result (λ p. OpensWell (opening_of W.honest W.far W.silence limits.now wire)
-            → StandsFor W.honest W.far W.silence p (opened limits.now (W.far wire) (W.silence wire))) }
-        ensures refused { IfErr result (λ e. e.0 ≡ fault.Book OutOfMemory) }
-        ensures back { IfErr result (λ e. e.1 ≡ wire) }
+        requires book { book.state ≡ opened_book limits.now }
+        ensures parts { IsOpened (opening_of W.honest W.far W.silence limits.now wire) result }
+        ensures stands { OpensWell (opening_of W.honest W.far W.silence limits.now wire)
+            → StandsFor W.honest W.far W.silence result (opened limits.now (W.far wire) (W.silence wire)) }
     {
-        match Book::open(alloc, limits) {
-            Ok(book) => Ok(Parts {
-                station: Station::new(wire, limits.busy),
-                book,
-                kept: ArrayVec::new(),
-            }),
-            Err(fault) => Err((PortFault::Book(fault), wire)),
+        Parts {
+            station: Station::new(wire, limits.busy),
+            book,
+            kept: ArrayVec::new(),
         }
     }
 

@@ -24,7 +24,7 @@ ghost use Rattle.iol_port.specs.Replies.{ticket_reply, outcome_reply, nothing_re
 use crate::parts::Parts;
 use crate::{Answered, Call, PortFault, record_fits_journal};
 use iol_app::{Asked, Status};
-use iol_book::{Entry, Limits, Outcome, Ticket};
+use iol_book::{Book, Entry, Limits, Outcome, Ticket};
 use iol_cell::{Handle, ImageWriter};
 use iol_event::Event;
 use iol_far::{ends_stay_level, modes_have_layouts};
@@ -82,13 +82,15 @@ impl<W: Wire, A: Handle> Port<W, A> {
         ensures back { IfErr result (λ e. e.1 ≡ wire) }
     {
         let wire_then = Snapshot::of(&wire);
-        let parts = Parts::open(alloc, wire, limits)?;
-        Ok(Port {
-            parts,
-            wire_then,
-            limits: Snapshot::of(limits),
-            writer: None,
-        })
+        match Book::open(alloc, limits) {
+            Ok(book) => Ok(Port {
+                parts: Parts::with_book(book, wire, limits),
+                wire_then,
+                limits: Snapshot::of(limits),
+                writer: None,
+            }),
+            Err(fault) => Err((PortFault::Book(fault), wire)),
+        }
     }
 
     /// Enters a request and answers its ticket. The request then waits behind all that wait already; an urgent one that

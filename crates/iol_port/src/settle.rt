@@ -119,6 +119,20 @@ pub(crate) fn settle<A: Allocator + Copy>(
     }
     match said {
         Said::Idle | Said::Busy => {}
+        said => tell(book, kept, said),
+    }
+}
+
+#[inline(never)]
+fn tell<A: Allocator + Copy>(book: &mut Book<A>, kept: &mut ArrayVec<Event, KEPT>, said: Said)
+    requires asked { Asks said book.old.state.standing.taken }
+    requires room { HasRoom said kept.old.items }
+    ensures book { book.new.state
+        ≡ book_through (book_said said) book.old.state }
+    ensures kept { kept.new.items ≡ kept_through (reports_said said) kept.old.items }
+{
+    match said {
+        Said::Idle | Said::Busy => {}
         Said::Answered(answer) => book.post(Outcome::Done(answer)),
         Said::Cut(cause) => book.post(Outcome::Unknown(cause)),
         Said::Reported(events) => keep(kept, &events),

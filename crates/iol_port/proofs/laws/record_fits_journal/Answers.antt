@@ -1,4 +1,4 @@
-use Rattle.iol_port.proofs.SoundLemmas.{BookLaws}
+use Rattle.iol_port.proofs.Replaying.{BookLaws}
 use Rattle.iol_port.proofs.CallsSound.{opened_sound, run_sound, sound_fits}
 use Rattle.iol_port.proofs.laws.record_fits_journal.Goals as goal
 

@@ -1,5 +1,5 @@
 use Rattle.std.proofs.Common.{refl}
-use Rattle.iol_port.proofs.RewireLemmas.{rewire_stands}
+use Rattle.iol_port.proofs.RunLemmas.{rewire_stands}
 use Rattle.iol_port.proofs.parts.Parts.rewire.Goals as goal
 
 pub returns-clause-stands : goal.returns-clause-stands

@@ -5,7 +5,7 @@ use Rattle.std.specs.Prelude.{is_ok, true}
 use Rattle.iol_port.specs.EveryWire.{CallGives}
 use Rattle.iol_port.proofs.RunLemmas.{Runs-none, Runs-more}
 use Rattle.iol_port.proofs.WireLemmas.{run_none, run_more}
-use Rattle.iol_port.proofs.CleanRuns.{so_far_none, so_far_more, clean_runs}
+use Rattle.iol_port.proofs.CleanTurns.{so_far_none, so_far_more, clean_runs}
 use Rattle.iol_port.proofs.parts.Parts.run.Goals as goal
 
 pub loop-call-init : goal.loop-call-init

@@ -1,11 +1,7 @@
-use Rattle.iol_port.proofs.CallLemmas.{submit_does, submit_book}
+use Rattle.iol_port.proofs.CallLemmas.{submit_does}
 use Rattle.iol_port.proofs.parts.Parts.submit.Goals as goal
 
 pub returns-clause-does : goal.returns-clause-does
 returns-clause-does g c =
     rw (← c.self.view_is, c.by_book.ensures)
-    (record {
-      follows = submit_does g.W.Wire.honest g.W.Wire.far g.W.Wire.silence (record { station = c.self.inside.station; book = c.self.inside.book; kept = c.self.inside.kept.items })
-          c.args.request c.submit.result c.submit.new.self c.submit.ensures.allowed c.submit.ensures.ticket c.submit.ensures.state c.submit.ensures.unchanged c.submit.ensures.refused;
-      book = submit_book _ _ _ c.submit.result c.submit.ensures.ticket c.submit.ensures.state c.submit.ensures.unchanged;
-    })
+    (submit_does g.W.Wire.honest g.W.Wire.far g.W.Wire.silence _ c.args.request c.submit.result c.submit.new.self c.submit.ensures.allowed c.submit.ensures.ticket c.submit.ensures.state c.submit.ensures.unchanged c.submit.ensures.refused)

@@ -10,8 +10,7 @@ use Rattle.iol_port.specs.Asks.{has_room, lacks_isdu, to_begin}
 use Rattle.iol_port.specs.View.{Parts}
 use Rattle.iol_port.specs.EveryWire.{taken_where}
 use Rattle.iol_port.specs.Steps.{book_through}
-use Rattle.iol_port.proofs.AskLemmas.{call_asked, book_told}
-use Rattle.iol_port.proofs.AskedTurns.{turn_begun_asked}
+use Rattle.iol_port.proofs.AskLemmas.{call_asked, book_told, turn_begun_asked}
 use Rattle.iol_port.proofs.Denying.{turn_denies}
 use Rattle.iol_port.proofs.TieLemmas.{begun_same, ends_ask, turn_tied, turn_limit}
 use Rattle.iol_port.proofs.TurnLemmas.{turn_does, turn_gives_none}
