@@ -1,5 +1,5 @@
 -- What C is shown of a status, an outcome and an entry of a journal, as numbers.
-use Rattle.std.specs.Prelude.{◌≡◌, ℕ, List, [], ◌∷◌, take, Option, Some, None}
+use Rattle.std.specs.Prelude.{◌≡◌, ℕ, List, [], ◌∷◌, length, take, Option, Some, None}
 use Rattle.iol_isdu.specs.declared.values.Place.{Place}
 use Rattle.iol_isdu.specs.declared.values.Request.{Request}
 use Rattle.iol_isdu.specs.declared.values.Request.TheVariants as request
@@ -75,10 +75,14 @@ abbrev pub outcome_octets : Outcome → List ℕ
 outcome_octets (Done answer) = answer_octets answer
 outcome_octets other = []
 
+-- octets as C is shown them: how many, at the front of their room
+abbrev pub AreShown : List ℕ → ℕ → List ℕ → Type 0
+AreShown octets count room = (count ≡ length octets) × (take count room ≡ octets)
+
 -- an outcome as C is shown it
 abbrev pub IsOutcome : Outcome → IolOutcome → Type 0
 IsOutcome outcome out =
-    (out.kind ≡ outcome_kind outcome) × (out.cause ≡ outcome_cause outcome) × (take out.length out.octets ≡ outcome_octets outcome)
+    (out.kind ≡ outcome_kind outcome) × (out.cause ≡ outcome_cause outcome) × AreShown (outcome_octets outcome) out.length out.octets
 
 -- the place of a request
 abbrev pub IsAt : Place → IolRequest → Type 0
@@ -87,18 +91,25 @@ IsAt place out = (out.index ≡ place.index) × (out.sub ≡ place.sub)
 -- a request as C is shown it
 abbrev pub IsRequest : Request → IolRequest → Type 0
 IsRequest (request.Read place) out = (out.kind ≡ 1) × IsAt place out × (out.length ≡ 0)
-IsRequest (request.Write place octets) out = (out.kind ≡ 2) × IsAt place out × (take out.length out.octets ≡ octets.items)
+IsRequest (request.Write place octets) out = (out.kind ≡ 2) × IsAt place out × AreShown octets.items out.length out.octets
+
+-- whether a request or an outcome is shown: their kinds are 0 where none is
+abbrev pub HasNoRequest : IolEntry → Type 0
+HasNoRequest out = out.request.kind ≡ 0
+
+abbrev pub HasNoOutcome : IolEntry → Type 0
+HasNoOutcome out = out.outcome.kind ≡ 0
 
 -- an entry of a journal as C is shown it
 abbrev pub IsEntry : Entry → IolEntry → Type 0
-IsEntry (entry.Submitted ticket request) out = (out.kind ≡ 1) × (out.ticket ≡ ticket.0) × IsRequest request out.request
-IsEntry (entry.Urgent ticket request) out = (out.kind ≡ 2) × (out.ticket ≡ ticket.0) × IsRequest request out.request
-IsEntry (entry.Taken ticket) out = (out.kind ≡ 8) × (out.ticket ≡ ticket.0)
-IsEntry (entry.Answered ticket outcome) out = (out.kind ≡ 9) × (out.ticket ≡ ticket.0) × IsOutcome outcome out.outcome
-IsEntry (entry.Withdrawn ticket) out = (out.kind ≡ 12) × (out.ticket ≡ ticket.0)
-IsEntry (entry.Collected ticket) out = (out.kind ≡ 16) × (out.ticket ≡ ticket.0)
+IsEntry (entry.Submitted ticket request) out = (out.kind ≡ 1) × (out.ticket ≡ ticket.0) × IsRequest request out.request × HasNoOutcome out
+IsEntry (entry.Urgent ticket request) out = (out.kind ≡ 2) × (out.ticket ≡ ticket.0) × IsRequest request out.request × HasNoOutcome out
+IsEntry (entry.Taken ticket) out = (out.kind ≡ 8) × (out.ticket ≡ ticket.0) × HasNoRequest out × HasNoOutcome out
+IsEntry (entry.Answered ticket outcome) out = (out.kind ≡ 9) × (out.ticket ≡ ticket.0) × IsOutcome outcome out.outcome × HasNoRequest out
+IsEntry (entry.Withdrawn ticket) out = (out.kind ≡ 12) × (out.ticket ≡ ticket.0) × HasNoRequest out × HasNoOutcome out
+IsEntry (entry.Collected ticket) out = (out.kind ≡ 16) × (out.ticket ≡ ticket.0) × HasNoRequest out × HasNoOutcome out
 
 -- the next entry, or kind 0 at the end
 abbrev pub IsNext : Option Entry → IolEntry → Type 0
-IsNext None out = out.kind ≡ 0
+IsNext None out = (out.kind ≡ 0) × HasNoRequest out × HasNoOutcome out
 IsNext (Some entry) out = IsEntry entry out

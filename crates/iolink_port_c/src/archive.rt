@@ -4,7 +4,7 @@ ghost use Rattle.iol_book.specs.BookModel.{may_archive, archived};
 ghost use Rattle.iol_port.specs.EveryWire.{IsBookCall};
 ghost use Rattle.iolink_port_c.specs.Calls.{parts_of, IsRefused};
 ghost use Rattle.iolink_port_c.specs.JournalCalls.{Archives, RefusesArchive, KeepsNone};
-ghost use Rattle.iolink_port_c.specs.Shown.{IsRequest, IsEntry, IsNext};
+ghost use Rattle.iolink_port_c.specs.Shown.{IsRequest, IsEntry, IsNext, HasNoRequest, HasNoOutcome};
 
 use crate::held::{IolPort, Master};
 use crate::outcome::{IolOutcome, show_outcome};
@@ -123,12 +123,9 @@ pub extern "C" fn iol_port_entry(alloc: Global, handle: &mut IolPort, out: &mut 
         let next = next_entry(alloc, &mut master);
         (IolPort::of(master), next)
     });
-    out.kind = 0;
-    out.ticket = 0;
-    out.request.kind = 0;
-    out.outcome.kind = 0;
-    if let Some(entry) = next {
-        show_entry(&entry, out);
+    match next {
+        Some(entry) => show_entry(&entry, out),
+        None => show_end(out),
     }
     0
 }
@@ -153,9 +150,21 @@ fn next_entry(alloc: Global, master: &mut Master) -> Option<Entry>
     }
 }
 
+fn show_end(out: &mut IolEntry)
+    ensures kind { out.new.kind ≡ 0 }
+    ensures request { HasNoRequest out.new }
+    ensures outcome { HasNoOutcome out.new }
+{
+    out.kind = 0;
+    out.ticket = 0;
+    out.request.kind = 0;
+    out.outcome.kind = 0;
+}
+
 fn show_entry(entry: &Entry, out: &mut IolEntry)
     ensures { IsEntry entry.now out.new }
 {
+    show_end(out);
     let (kind, Ticket(ticket)) = match entry {
         Entry::Submitted(ticket, request) => {
             show_request(request, &mut out.request);

@@ -1,5 +1,5 @@
 //! The line: what goes out, and what came.
-ghost use Rattle.std.specs.Prelude.{◌≡◌, ◌≤◌, ◌<◌, None, Some, length, take, IsTrue, IsFalse};
+ghost use Rattle.std.specs.Prelude.{◌≡◌, ◌≤◌, ◌<◌, None, Some, length, IsTrue, IsFalse};
 ghost use Rattle.iol_app.specs.declared.asked.Asked.{Asked};
 ghost use Rattle.iol_port.specs.declared.call.Call.TheVariants as call;
 ghost use Rattle.iol_port.specs.declared.call.Answered.TheVariants as answered;
@@ -8,6 +8,7 @@ ghost use Rattle.iol_line.specs.Told.{is_honest, far_of, silence_of};
 ghost use Rattle.iol_line.specs.Driving.{TurnWoken, TurnAnswered};
 ghost use Rattle.iolink_port_c.specs.Calls.{parts_of, IsRefused, Stays, CallDoes};
 ghost use Rattle.iolink_port_c.specs.Calls.{rate_of, answer_of};
+ghost use Rattle.iolink_port_c.specs.Shown.{AreShown};
 
 use crate::held::IolPort;
 use core::mem::replace_with;
@@ -40,7 +41,7 @@ pub extern "C" fn iol_port_asks(alloc: Global, handle: &mut IolPort, out: &mut I
         → out.new.length ≡ 0 }
     ensures exchange { IsTrue handle.old.is_open →
         (sent : _) → asks_of (parts_of handle.old) ≡ Asked.Exchange sent →
-        take out.new.length out.new.octets ≡ sent.items }
+        AreShown sent.items out.new.length out.new.octets }
 {
     if !handle.is_open {
         return CLOSED;

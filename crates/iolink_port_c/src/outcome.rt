@@ -1,6 +1,6 @@
 //! How a request ended, as C sees it.
-ghost use Rattle.std.specs.Prelude.{◌≡◌, take};
-ghost use Rattle.iolink_port_c.specs.Shown.{IsOutcome, answer_kind, answer_octets, cause_number};
+ghost use Rattle.std.specs.Prelude.{◌≡◌};
+ghost use Rattle.iolink_port_c.specs.Shown.{IsOutcome, AreShown, answer_kind, answer_octets, cause_number};
 
 use iol_book::Outcome;
 use iol_isdu::{Answer, Cause};
@@ -51,7 +51,7 @@ pub(crate) fn show_outcome(outcome: &Outcome, out: &mut IolOutcome)
 
 fn show_answer(answer: &Answer, out: &mut IolOutcome)
     ensures kind { out.new.kind ≡ answer_kind answer.now }
-    ensures octets { take out.new.length out.new.octets ≡ answer_octets answer.now }
+    ensures octets { AreShown (answer_octets answer.now) out.new.length out.new.octets }
     ensures cause { out.new.cause ≡ out.old.cause }
 {
     match answer {

@@ -4,6 +4,7 @@ ghost use Rattle.iol_book.specs.BookModel.{AreLimits};
 ghost use Rattle.iol_port.specs.View.{IsOpened, opening_of};
 ghost use Rattle.iol_line.specs.Told.{is_honest, far_of, silence_of};
 ghost use Rattle.iolink_port_c.specs.Calls.{parts_of, IsRefused};
+ghost use Rattle.iolink_port_c.specs.JournalCalls.{KeepsNone};
 
 use crate::held::{IolPort, Master};
 use core::mem::replace_with;
@@ -45,6 +46,7 @@ pub extern "C" fn iol_port_open(
         (record { journal = journal; busy = busy; given = given }) None }
     ensures parts { result ≡ 0 → IsOpened handle.new.held.value.port.opening (parts_of handle.new) }
     ensures writer { result ≡ 0 → handle.new.held.value.port.writer ≡ None }
+    ensures journal { result ≡ 0 → KeepsNone handle.new }
 {
     if handle.is_open {
         return IS_OPEN;

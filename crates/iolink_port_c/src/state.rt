@@ -1,10 +1,10 @@
 //! The link, process data and events.
-ghost use Rattle.std.specs.Prelude.{◌≡◌, take, unwrap_or, [], IsTrue, IsFalse};
+ghost use Rattle.std.specs.Prelude.{◌≡◌, unwrap_or, [], IsTrue, IsFalse};
 ghost use Rattle.iol_port.specs.declared.call.Call.TheVariants as call;
 ghost use Rattle.iol_port.specs.declared.call.Answered.TheVariants as answered;
 ghost use Rattle.iol_image.specs.Image.{IsImage};
 ghost use Rattle.iol_port.specs.View.{status_of};
-ghost use Rattle.iolink_port_c.specs.Shown.{IsShown};
+ghost use Rattle.iolink_port_c.specs.Shown.{IsShown, AreShown};
 ghost use Rattle.iolink_port_c.specs.Calls.{parts_of, IsRefused, Stays, CallDoes};
 ghost use Rattle.iolink_port_c.specs.StateCalls.{Restarts, SetsOutput, ClearsOutput, TakesEvent};
 
@@ -96,8 +96,9 @@ pub extern "C" fn iol_port_image(alloc: Global, handle: &mut IolPort, out: &mut 
     ensures unwritten { IsFalse handle.old.is_open → out.new ≡ out.old }
     ensures stays { handle.new.is_open ≡ handle.old.is_open }
     ensures same { handle.new.held.value ≡ handle.old.held.value }
-    ensures image { IsTrue handle.old.is_open → (result ≡ 0) × (take out.new.length out.new.octets
-        ≡ unwrap_or (parts_of handle.old).station.session.image []) }
+    ensures image { IsTrue handle.old.is_open → (result ≡ 0)
+        × AreShown (unwrap_or (parts_of handle.old).station.session.image [])
+        out.new.length out.new.octets }
     ensures does { IsTrue handle.old.is_open → CallDoes handle.old
         call.Look (answered.Image (parts_of handle.old).station.session.image) handle.new }
 {
