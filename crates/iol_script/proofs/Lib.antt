@@ -1,7 +1,9 @@
 pub mod Cutting
 pub mod Decimals
 pub mod FieldsLemmas
+pub mod FitsLemmas
 pub mod LinesLemmas
 pub mod OctetsLemmas
+pub mod PairsLemmas
 pub mod PlanLemmas
 pub mod ScriptLemmas

@@ -3,6 +3,7 @@ pub mod Numerals
 pub mod CheckLines
 pub mod RunLines
 pub mod Script
+pub mod DraftLines
 pub mod DraftInside
 pub mod PlanRanges
 pub mod Plan

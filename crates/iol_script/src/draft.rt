@@ -4,14 +4,18 @@ ghost use Rattle.std.specs.Vec.{vec_len};
 ghost use Rattle.iol_book.specs.BookModel.{AreLimits};
 ghost use Rattle.iol_page.specs.Page.{layouts_of};
 ghost use Rattle.iol_script.specs.declared.fault.ScriptFault.TheVariants.{Line};
-ghost use Rattle.iol_script.specs.RunLines.{IsGoodSetting};
+ghost use Rattle.iol_script.specs.DraftLines.{after_call, after_setting, after_turns, after_wire, after_words, with_calls};
+ghost use Rattle.iol_script.specs.RunLines.{call_form, limits_form, page_form, param_form, turns_form, wire_form};
+ghost use Rattle.iol_script.specs.Text.{words_left};
 
-use crate::call_line::CallLine;
+use crate::call_check::fits_call;
+use crate::call_line::turns_of;
 use crate::fault::ScriptFault;
-use crate::run_line::RunLine;
+use crate::fields::is;
+use crate::parts::Words;
 use crate::script::Script;
-use crate::setting::Setting;
-use crate::wire_line::WireLine;
+use crate::setting::{limits_of, page_of, param_of};
+use crate::wire_line::{WireLine, parse_wire};
 use iol_book::Limits;
 use iol_page::Page;
 use iol_sim::{Fate, Params, Step};
@@ -82,45 +86,107 @@ impl<A: Allocator> Draft<A> {
         ensures bad { (n : ℕ) → result ≡ Err (Line n) → draft_after (Ok self.old) (number, line.now)
             ≡ Err n }
     {
+        let words = Words::of(line).ok_or(ScriptFault::Line(number))?;
+        self.take_words(number, words)
+    }
+
+    /// One more line is read, by its words. Each kind has a function of its own, and no line is built as a value: of a
+    /// call it is only asked whether the words fit.
+    fn take_words(&mut self, number: u64, mut words: Words) -> Result<(), ScriptFault>
+        ensures good { OnOk result (after_words self.old (words_left words.entry) ≡ Some self.new) }
+        ensures bad { (n : ℕ) → result ≡ Err (Line n) → (n ≡ number)
+            × (after_words self.old (words_left words.entry) ≡ None) }
+    {
         let bad = ScriptFault::Line(number);
-        match RunLine::parse(line).ok_or(bad)? {
-            RunLine::Skip => Ok(()),
-            RunLine::Setting(setting) => self.set(setting).ok_or(bad),
-            RunLine::Wire(wire) => self.add_steps(number, wire),
-            RunLine::Call(call) => self.add_calls(&call).ok_or(bad),
+        let Some(name) = words.next() else {
+            return Ok(());
+        };
+        if is(name, b"page") {
+            self.take_page(words).ok_or(bad)
+        } else if is(name, b"limits") {
+            self.take_limits(words).ok_or(bad)
+        } else if is(name, b"param") {
+            self.take_param(words).ok_or(bad)
+        } else if is(name, b"wire") {
+            self.take_wire(number, words)
+        } else if is(name, b"turn") {
+            self.take_turns(words).ok_or(bad)
+        } else {
+            self.take_call(name, words).ok_or(bad)
         }
     }
 
-    /// A setting is taken before the first step and the first call: the page and the limits once, and a parameter
-    /// where the device takes one more.
-    fn set(&mut self, setting: Setting) -> Option<()>
-        requires { IsGoodSetting setting }
+    /// The words behind `page`.
+    fn take_page(&mut self, words: Words) -> Option<()>
         ensures { option_map (λ _. self.new) result
-            ≡ script_after self.old (RunLine.Setting setting) }
+            ≡ after_setting self.old (page_form (words_left words.entry)) }
     {
+        let page = page_of(words)?;
+        if self.begun || self.page.is_some() {
+            return None;
+        }
+        self.page = Some(page);
+        Some(())
+    }
+
+    /// The words behind `limits`.
+    fn take_limits(&mut self, words: Words) -> Option<()>
+        ensures { option_map (λ _. self.new) result
+            ≡ after_setting self.old (limits_form (words_left words.entry)) }
+    {
+        let (busy, journal) = limits_of(words)?;
+        if self.begun || self.limits.is_some() {
+            return None;
+        }
+        self.limits = Some(Limits {
+            journal,
+            busy,
+            given: 0,
+        });
+        Some(())
+    }
+
+    /// The words behind `param`.
+    fn take_param(&mut self, words: Words) -> Option<()>
+        ensures { option_map (λ _. self.new) result
+            ≡ after_setting self.old (param_form (words_left words.entry)) }
+    {
+        let (place, writable, value) = param_of(words)?;
         if self.begun {
             return None;
         }
-        match setting {
-            Setting::Page(page) if self.page.is_none() => {
-                self.page = Some(page);
-                Some(())
-            }
-            Setting::Limits { busy, journal } if self.limits.is_none() => {
-                self.limits = Some(Limits {
-                    journal,
-                    busy,
-                    given: 0,
-                });
-                Some(())
-            }
-            Setting::Param {
-                place,
-                writable,
-                value,
-            } => self.params.add(place, writable, value.as_slice()).ok(),
-            _ => None,
+        self.params.add(place, writable, value.as_slice()).ok()
+    }
+
+    /// The words behind `wire`.
+    fn take_wire(&mut self, number: u64, words: Words) -> Result<(), ScriptFault>
+        ensures good { OnOk result (after_wire self.old (wire_form (words_left words.entry))
+            ≡ Some self.new) }
+        ensures bad { (n : ℕ) → result ≡ Err (Line n) → (n ≡ number)
+            × (after_wire self.old (wire_form (words_left words.entry)) ≡ None) }
+    {
+        let line = parse_wire(words).ok_or(ScriptFault::Line(number))?;
+        self.add_steps(number, line)
+    }
+
+    /// The words behind `turn`.
+    fn take_turns(&mut self, words: Words) -> Option<()>
+        ensures { option_map (λ _. self.new) result
+            ≡ after_turns self.old (turns_form (words_left words.entry)) }
+    {
+        let count = turns_of(words)?;
+        self.add_calls(count)
+    }
+
+    /// The words of one call.
+    fn take_call(&mut self, name: &[u8], words: Words) -> Option<()>
+        ensures { option_map (λ _. self.new) result
+            ≡ after_call self.old (call_form name.now (words_left words.entry)) }
+    {
+        if !fits_call(name, words) {
+            return None;
         }
+        self.add_calls(1)
     }
 
     /// Steps are taken up to 1,000,000. The memory for all of them is taken before the first.
@@ -141,11 +207,10 @@ impl<A: Allocator> Draft<A> {
     }
 
     /// Calls are counted up to 1,000,000.
-    fn add_calls(&mut self, line: &CallLine) -> Option<()>
-        ensures { option_map (λ _. self.new) result
-            ≡ script_after self.old (RunLine.Call line.now) }
+    fn add_calls(&mut self, count: u32) -> Option<()>
+        ensures { option_map (λ _. self.new) result ≡ with_calls self.old count }
     {
-        let calls = self.calls + line.count() as usize;
+        let calls = self.calls + count as usize;
         if calls > CALLS {
             return None;
         }

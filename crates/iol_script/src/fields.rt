@@ -1,11 +1,11 @@
 //! What several lines of `run` have.
-ghost use Rattle.std.specs.Prelude.{◌≡◌, ◌∷◌, ℕ, List, [], option_map, option_and_then, MatchOption};
+ghost use Rattle.std.specs.Prelude.{◌≡◌, ◌∷◌, ℕ, List, [], is_some, option_map, option_and_then, MatchOption};
 ghost use Rattle.std.specs.Str.{bytes_eq};
 ghost use Rattle.iol_script.specs.Numerals.{within, word_octets};
 ghost use Rattle.iol_script.specs.RunLines.{count_of, image_form, place_of, value_of};
 ghost use Rattle.iol_script.specs.Text.{words_left};
 
-use crate::numerals::{decimal_number, hexadecimal_octets};
+use crate::numerals::{decimal_number, fits_octets, hexadecimal_octets};
 use crate::parts::Words;
 use arrayvec::ArrayVec;
 use iol_image::Image;
@@ -15,7 +15,7 @@ use iol_isdu::{Octets, Place};
 pub(crate) fn is(word: &[u8], name: &[u8]) -> bool
     ensures { result ≡ bytes_eq word.now name.now }
 {
-    word == name
+    word.len() == name.len() && word == name
 }
 
 /// No word is left.
@@ -71,4 +71,21 @@ fn image_of(word: &[u8]) -> Option<Image>
 {
     let octets: ArrayVec<u8, 32> = hexadecimal_octets(word)?;
     Image::new(octets.as_slice()).ok()
+}
+
+/// Whether a word gives the octets of a parameter.
+pub(crate) fn fits_value(word: &[u8]) -> bool
+    ensures { result ≡ is_some (value_of word.now) }
+{
+    fits_octets(word, 0, 232)
+}
+
+/// Whether the words give an image, or `none`.
+pub(crate) fn fits_image(mut words: Words) -> bool
+    ensures { result ≡ is_some (image_form (words_left words.entry)) }
+{
+    match words.next() {
+        Some(word) => end_of(words).is_some() && (is(word, b"none") || fits_octets(word, 1, 32)),
+        None => false,
+    }
 }

@@ -6,6 +6,7 @@
 //! text say that many ports and their clients are to do. All of this is this project's own format (profile).
 #![tactic(auto)]
 
+mod call_check;
 mod call_line;
 mod check_line;
 mod draft;

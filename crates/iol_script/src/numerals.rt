@@ -1,5 +1,6 @@
 //! Numbers and octets as words: hexadecimal octets, and decimal numbers.
-ghost use Rattle.std.specs.Prelude.{◌≡◌, ◌<◌, ◌≤◌, ◌^◌, ◌↔◌, ℕ, Some, IfSome, option_map, option_and_then};
+ghost use Rattle.std.specs.Prelude.{◌≡◌, ◌<◌, ◌≤◌, ◌^◌, ◌↔◌, ℕ, Some, IfSome, is_some, option_map, option_and_then};
+ghost use Rattle.std.specs.List.{list_all};
 ghost use Rattle.std.specs.Fmt.{decimal};
 ghost use Rattle.iol_script.specs.Numerals.{digit_of, octet_of, word_octet, word_code, pairs_of, word_octets, octets_of, within, number_in, is_plain_of};
 ghost use Rattle.iol_script.specs.Text.{words_left};
@@ -75,6 +76,38 @@ pub fn hexadecimal_octets<const N: usize>(word: &[u8]) -> Option<ArrayVec<u8, N>
         b"-" => Some(ArrayVec::new()),
         _ => pairs_of(word),
     }
+}
+
+/// Whether a word gives octets in pairs of digits, or none by `-`, and how many is from `least` to `most`.
+pub(crate) fn fits_octets(word: &[u8], least: usize, most: usize) -> bool
+    ensures { result ≡ is_some (option_and_then (within least most) (word_octets word.now)) }
+{
+    match word {
+        [] => false,
+        b"-" => least == 0,
+        _ => are_pairs(word, least, most),
+    }
+}
+
+/// Whether they are pairs of hexadecimal digits, from `least` to `most` of them.
+fn are_pairs(word: &[u8], least: usize, most: usize) -> bool
+    ensures { result ≡ is_some (option_and_then (within least most) (pairs_of word.now)) }
+{
+    let count = word.len() / 2;
+    if word.len() > 2 * count {
+        return false;
+    }
+    if count < least || count > most {
+        return false;
+    }
+    are_digits(word)
+}
+
+/// Whether all are hexadecimal digits.
+fn are_digits(word: &[u8]) -> bool
+    ensures { result ≡ list_all (λ c. is_some (digit_of c)) word.now }
+{
+    word.iter().all(|c| digit(*c).is_some())
 }
 
 /// The octets of words of two hexadecimal digits each, up to `N`.

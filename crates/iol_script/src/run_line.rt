@@ -3,10 +3,10 @@ ghost use Rattle.std.specs.Prelude.{◌≡◌, IfSome};
 ghost use Rattle.iol_script.specs.RunLines.{run_words, IsGoodLine};
 ghost use Rattle.iol_script.specs.Text.{words_left};
 
-use crate::call_line::{CallLine, parse_call, parse_turns};
+use crate::call_line::{CallLine, parse_call, turns_of};
 use crate::fields::is;
 use crate::parts::Words;
-use crate::setting::{Setting, parse_limits, parse_page, parse_param};
+use crate::setting::{Setting, limits_of, page_of, param_of};
 use crate::wire_line::{WireLine, parse_wire};
 
 /// A line of `run`.
@@ -42,15 +42,21 @@ fn parse_words(mut words: Words) -> Option<RunLine>
         return Some(RunLine::Skip);
     };
     if is(name, b"page") {
-        Some(RunLine::Setting(parse_page(words)?))
+        Some(RunLine::Setting(Setting::Page(page_of(words)?)))
     } else if is(name, b"limits") {
-        Some(RunLine::Setting(parse_limits(words)?))
+        let (busy, journal) = limits_of(words)?;
+        Some(RunLine::Setting(Setting::Limits { busy, journal }))
     } else if is(name, b"param") {
-        Some(RunLine::Setting(parse_param(words)?))
+        let (place, writable, value) = param_of(words)?;
+        Some(RunLine::Setting(Setting::Param {
+            place,
+            writable,
+            value,
+        }))
     } else if is(name, b"wire") {
         Some(RunLine::Wire(parse_wire(words)?))
     } else if is(name, b"turn") {
-        Some(RunLine::Call(parse_turns(words)?))
+        Some(RunLine::Call(CallLine::Turns(turns_of(words)?)))
     } else {
         Some(RunLine::Call(CallLine::Once(parse_call(name, words)?)))
     }

@@ -18,8 +18,8 @@ use std::alloc::{Allocator, Global};
 
 /// What the lines of `run` set up: the device, the port and the wire between them.
 ///
-/// The calls are not kept, so that they take no memory: each line with a call is parsed once more when it is carried
-/// out.
+/// The calls are not kept, so that they take no memory. Of a line with a call it is only seen that it fits a form; it is
+/// parsed when it is carried out.
 #[derive(Drop)]
 pub struct Script<A: Allocator = Global> {
     /// Direct parameter page 1 of the device.

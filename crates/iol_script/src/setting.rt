@@ -1,6 +1,9 @@
 //! The lines of `run` that set something up.
-ghost use Rattle.std.specs.Prelude.{◌≡◌, IfSome};
-ghost use Rattle.iol_script.specs.RunLines.{access_of, limits_form, page_form, param_form, IsGoodSetting};
+ghost use Rattle.std.specs.Prelude.{◌≡◌, IfSome, IsOk, option_map};
+ghost use Rattle.iol_book.specs.BookModel.{AreLimits};
+ghost use Rattle.iol_page.specs.Page.{layouts_of};
+ghost use Rattle.iol_script.specs.RunLines.{access_of, limits_form, page_form, param_form};
+ghost use Rattle.iol_script.specs.declared.setting.Setting.{Setting};
 ghost use Rattle.iol_script.specs.Text.{words_left};
 
 use crate::fields::{end_of, place_of, value_of};
@@ -34,43 +37,41 @@ pub enum Setting {
 }
 
 /// The words behind `page`: ten octets whose layouts are not refused.
-pub(crate) fn parse_page(words: Words) -> Option<Setting>
-    ensures form { result ≡ page_form (words_left words.entry) }
-    ensures range { IfSome result IsGoodSetting }
+pub(crate) fn page_of(words: Words) -> Option<Page>
+    ensures form { option_map Setting.Page result ≡ page_form (words_left words.entry) }
+    ensures range { IfSome result (λ page. IsOk (layouts_of page)) }
 {
     let octets: ArrayVec<u8, 10> = parted_octets(words)?;
     let page = Page::from_octets(&octets.into_inner().ok()?);
     match page.layouts() {
-        Ok(_) => Some(Setting::Page(page)),
+        Ok(_) => Some(page),
         Err(_) => None,
     }
 }
 
-/// The words behind `limits`: two numbers, each in its range.
-pub(crate) fn parse_limits(mut words: Words) -> Option<Setting>
-    ensures form { result ≡ limits_form (words_left words.entry) }
-    ensures range { IfSome result IsGoodSetting }
+/// The words behind `limits`: the limit of busy replies and that of the journal, each in its range.
+pub(crate) fn limits_of(mut words: Words) -> Option<(u16, u32)>
+    ensures form { option_map (λ limits. Setting.Limits limits.0 limits.1) result
+        ≡ limits_form (words_left words.entry) }
+    ensures range { IfSome result (λ limits.
+        AreLimits (record { journal = limits.1; busy = limits.0; given = 0 })) }
 {
     let busy = decimal_number(words.next()?, 2, 65_535)? as u16;
     let journal = decimal_number(words.next()?, 4, 1_000_000)? as u32;
     end_of(words)?;
-    Some(Setting::Limits { busy, journal })
+    Some((busy, journal))
 }
 
-/// The words behind `param`: a place, how it may be accessed, its octets.
-pub(crate) fn parse_param(mut words: Words) -> Option<Setting>
-    ensures form { result ≡ param_form (words_left words.entry) }
-    ensures range { IfSome result IsGoodSetting }
+/// The words behind `param`: a place, whether it may be written, its octets.
+pub(crate) fn param_of(mut words: Words) -> Option<(Place, bool, Octets)>
+    ensures { option_map (λ param. Setting.Param param.0 param.1 param.2) result
+        ≡ param_form (words_left words.entry) }
 {
     let place = place_of(words.next()?, words.next()?)?;
     let writable = access_of(words.next()?)?;
     let value = value_of(words.next()?)?;
     end_of(words)?;
-    Some(Setting::Param {
-        place,
-        writable,
-        value,
-    })
+    Some((place, writable, value))
 }
 
 /// Whether it may be written.

@@ -1,7 +1,7 @@
 use Rattle.std.proofs.Common.{rules}
 use Rattle.iol_script.specs.Text.{words_left}
 use Rattle.iol_script.proofs.FieldsLemmas.{page_read, no_page_read}
-use Rattle.iol_script.proofs.setting.parse_page.Goals as goal
+use Rattle.iol_script.proofs.setting.page_of.Goals as goal
 
 pub returns-in-Ok-clause-form : goal.returns-in-Ok-clause-form
 returns-in-Ok-clause-form c =
