@@ -1,3 +1,4 @@
+//! The cases, by their names, and the work of each.
 use crate::check_word::CheckWord;
 use crate::fault::BenchFault;
 use crate::{messages, requests, scripts, seats, served, turns};

@@ -1,3 +1,4 @@
+//! A word that everything which came out of a case has a part in.
 use std::fmt;
 
 /// What the fold begins with, and its factor: those of the hash FNV-1a.

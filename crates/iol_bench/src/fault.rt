@@ -1,3 +1,4 @@
+//! Why a case was not done.
 use iol_cell::CellFault;
 use iol_image::ImageFault;
 use iol_isdu::IsduFault;

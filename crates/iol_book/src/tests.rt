@@ -1,3 +1,4 @@
+//! Tests of a book: each call on its happy path, each refusal, and memory refused in turn.
 mod generated;
 mod named;
 mod plain;

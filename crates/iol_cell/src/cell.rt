@@ -1,3 +1,4 @@
+//! The cell of one image: its writer, and the seats of its readers.
 ghost use Rattle.std.specs.Prelude.{◌≡◌, ◌≤◌, ◌++◌, [], ◌∷◌, IfOk, IfErr, All, vec_len, option_map};
 ghost use Rattle.iol_cell.specs.declared.fault.CellFault.TheVariants.{OutOfMemory};
 

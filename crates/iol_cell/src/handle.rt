@@ -1,3 +1,4 @@
+//! The allocators whose handles may cross threads.
 ghost use Rattle.std.proofs.Common.{rules};
 ghost use Rattle.iol_cell.specs.Handle.{IsSmall};
 

@@ -1,3 +1,4 @@
+//! The law of the cell's rule, without code.
 ghost use Rattle.iol_cell.specs.Steps.{ReadsKeepTheRule, PublishesKeepTheRule, SplitsKeepTheRule, JoinsKeepTheRule};
 
 /// A law of a cell's rule, without code: each of its four kinds of step keeps it.

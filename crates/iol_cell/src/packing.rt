@@ -1,3 +1,4 @@
+//! An image as five words, and back.
 ghost use Rattle.std.specs.Prelude.{◌≡◌, ◌+◌, ◌≤◌, ◌++◌, length, drop, take, option_map};
 ghost use Rattle.std.specs.Int.{to_le_bytes, w64};
 ghost use Rattle.iol_cell.specs.Packing.{image_of, octets_of, with_padding};

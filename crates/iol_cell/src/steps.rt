@@ -1,3 +1,4 @@
+//! The kinds of atomic step at a cell, and the rule that they keep.
 use atomic_table::Split;
 use crossbeam_utils::atomic::seq_cell::RuledSeqCell;
 use crossbeam_utils::rule::{Outcome, Protocol};

@@ -1,3 +1,4 @@
+//! A client of one port: its desk, and the tickets that it was given.
 ghost use Rattle.std.specs.Prelude.{◌≡◌, ◌+◌, ◌*◌, ◌≤◌, vec_len};
 
 use crate::counts::Counted;

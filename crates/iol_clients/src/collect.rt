@@ -1,3 +1,4 @@
+//! Tickets are collected and counted, and desks settled.
 ghost use Rattle.std.specs.Prelude.{◌≡◌, ◌≤◌, All, IfOk, length, vec_len};
 ghost use Rattle.std.specs.List.{sum_by};
 ghost use Rattle.iol_clients.specs.Counts.{AddsUp, accepted_at};

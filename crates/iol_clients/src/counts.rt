@@ -1,3 +1,4 @@
+//! What is counted at each port.
 ghost use Rattle.std.specs.Prelude.{◌≡◌, ◌+◌, ◌<◌, ◌^◌};
 
 use iol_book::Outcome;

@@ -1,3 +1,4 @@
+//! Why a plan was not carried out.
 ghost use Rattle.std.specs.Prelude.{◌≡◌};
 ghost use Rattle.iol_clients.specs.declared.fault.ClientsFault.TheVariants.{OutOfMemory};
 

@@ -1,3 +1,4 @@
+//! The ports of a plan, each over a simulated wire and device.
 ghost use Rattle.std.specs.Prelude.{◌≡◌, All, IfOk, vec_len};
 ghost use Rattle.iol_master.specs.Tickets.{HasGiven};
 

@@ -1,3 +1,4 @@
+//! Clients and workers in threads: who submits while turns are made.
 ghost use Rattle.std.specs.Prelude.{◌≤◌, IfOk, vec_len};
 
 use crate::client::Client;

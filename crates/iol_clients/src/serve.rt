@@ -1,3 +1,4 @@
+//! A plan from its ports to its counts.
 ghost use Rattle.std.specs.Prelude.{◌≡◌, All, IfOk, vec_len};
 ghost use Rattle.iol_clients.specs.Counts.{AddsUp};
 

@@ -1,3 +1,4 @@
+//! The refusals of a device, and their numbers.
 ghost use Rattle.std.specs.Prelude.{◌≡◌};
 
 use thiserror::Error;

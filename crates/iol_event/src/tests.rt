@@ -1,3 +1,4 @@
+//! Tests of both ends of events: a frozen list that is read, holds, refusals.
 use super::*;
 use std::test::Fail;
 

@@ -1,3 +1,4 @@
+//! An image: 1 to 32 octets of process data.
 ghost use Rattle.std.specs.Prelude.{◌≡◌, ◌↔◌, ℕ, List, IfOk, IsOk, IfErr};
 ghost use Rattle.iol_image.specs.Image.{IsImage};
 ghost use Rattle.iol_image.specs.declared.fault.ImageFault.TheVariants.{WrongImageLength};

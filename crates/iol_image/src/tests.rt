@@ -1,3 +1,4 @@
+//! A test of an image's lengths.
 use crate::{Image, ImageFault};
 use std::test::Fail;
 

@@ -1,3 +1,4 @@
+//! Texts of answers, written and read (IEC 61131-9, A.5.2 to A.5.6).
 ghost use Rattle.std.specs.Prelude.{◌≡◌, ◌/◌, slice_index, IfOk, IfSome, Ok, is_some, length};
 ghost use Rattle.std.specs.Result.{result_err};
 ghost use Rattle.iol_isdu.specs.Frame.{text_at, isdu_fault, total_of};

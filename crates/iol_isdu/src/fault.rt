@@ -1,3 +1,4 @@
+//! The refusals of a text, and their numbers.
 ghost use Rattle.std.specs.Prelude.{◌≡◌};
 
 use thiserror::Error;

@@ -1,3 +1,4 @@
+//! A text but its CHKPDU, in two pieces: what whole texts are written from, and segments are cut from.
 ghost use Rattle.std.specs.Prelude.{◌≡◌, ◌≤◌, ◌<◌, ◌+◌, ◌++◌, length, slice_index};
 ghost use Rattle.iol_isdu.specs.Services.{service_number};
 ghost use Rattle.iol_isdu.specs.Frame.{head, xor_of};

@@ -1,3 +1,4 @@
+//! Laws of texts, without code.
 ghost use Rattle.iol_isdu.specs.Laws.{OneRequestInFront, OneAnswerInFront, OneShortText, OneAnswerText, RequestHoldsLength, AnswerHoldsLength, EachTextIsFound, NoAnswerIsRefused};
 
 /// A text, whatever octets follow it, is the only text that they begin with.

@@ -1,3 +1,4 @@
+//! Texts of requests, written and read, in three forms of index (IEC 61131-9, A.5.4 and A.5.5).
 ghost use Rattle.std.specs.Prelude.{◌≡◌, ◌+◌, ◌++◌, ◌∷◌, [], IfOk, IfSome, Ok, is_some, nat_le, length};
 ghost use Rattle.std.specs.Result.{result_err, result_ok};
 ghost use Rattle.iol_isdu.specs.Frame.{text_at, isdu_fault, total_of};

@@ -1,3 +1,4 @@
+//! The services of texts, and the total lengths of each (IEC 61131-9, A.5.2).
 ghost use Rattle.std.specs.Prelude.{◌≡◌, ◌<◌, ℕ, false, IfSome, IfNone};
 ghost use Rattle.iol_isdu.specs.Services.{form_of, service_number};
 ghost use Rattle.iol_isdu.specs.Requests.{Holds, index_part, shortest, request_accepts};

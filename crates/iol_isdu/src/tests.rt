@@ -1,3 +1,4 @@
+//! Tests of texts: vectors of each service, and each refusal.
 use super::*;
 use std::test::Fail;
 

@@ -1,3 +1,4 @@
+//! Requests, answers and places, as values.
 ghost use Rattle.std.specs.Prelude.{◌≡◌, ◌<◌, ◌↔◌, IsErr, IfErr, IfOk, length};
 
 use crate::fault::IsduFault;

@@ -1,3 +1,4 @@
+//! Tests of ports over told lines, with a device at the far end and a loop between them.
 mod honest;
 mod named;
 mod store;

@@ -1,3 +1,4 @@
+//! The refusals of layouts and messages, and their numbers.
 ghost use Rattle.std.specs.Prelude.{◌≡◌};
 
 use thiserror::Error;

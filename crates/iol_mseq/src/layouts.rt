@@ -1,3 +1,4 @@
+//! Layouts: the sizes of a message's parts in each mode (IEC 61131-9, A.2).
 ghost use Rattle.std.specs.Prelude.{◌≡◌, ◌≤◌, Ok, IsTrue};
 ghost use Rattle.iol_mseq.specs.Shape.{IsLayout, is_size, shape, startup_shape, preoperate_shape, operate_shape};
 

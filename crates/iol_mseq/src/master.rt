@@ -1,3 +1,4 @@
+//! A master's messages, written and read (IEC 61131-9, A.1.2, A.1.3 and A.2).
 ghost use Rattle.std.specs.Prelude.{◌≡◌, ◌≤◌, ◌↔◌, [], length, IsOk, IfOk, Ok};
 ghost use Rattle.std.specs.Result.{result_err, result_ok};
 ghost use Rattle.iol_mseq.specs.Master.{master_fault, master_in, message_of, HasMasterParts, SpellsMaster, IsGoodMaster};

@@ -1,3 +1,4 @@
+//! A device's replies, written and read (IEC 61131-9, A.1.5 and A.2).
 ghost use Rattle.std.specs.Prelude.{◌≡◌, Bool, ◌%◌, ◌<◌, ◌≤◌, ◌↔◌, [], ◌∷◌, ◌++◌, length, IsOk, IfOk, IsTrue, Ok};
 ghost use Rattle.arrayvec.specs.ArrayVec.{array_vec_len};
 ghost use Rattle.std.specs.Result.{result_err, result_ok};

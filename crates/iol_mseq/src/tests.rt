@@ -1,3 +1,4 @@
+//! Tests of messages: vectors of each layout, and each refusal.
 use super::*;
 use iol_octets::Channel;
 use std::test::Fail;

@@ -1,3 +1,4 @@
+//! CKT and CKS, the octets with a checksum in them (IEC 61131-9, A.1.3 and A.1.5).
 ghost use Rattle.std.specs.Prelude.{◌≡◌, ◌<◌, ◌≤◌, ◌↔◌, IfOk, IsErrOf};
 
 use crate::fault::OctetFault;

@@ -1,3 +1,4 @@
+//! The checksum of a message (IEC 61131-9, A.1.6).
 ghost use Rattle.std.specs.Prelude.{◌≡◌, ◌<◌, length};
 ghost use Rattle.iol_octets.specs.Checksum.{checksum_of, compressed, folded, has_checksum, ChecksumFits};
 
@@ -35,7 +36,7 @@ fn fold(octets: &[u8]) -> u8
     octets.iter().fold(SEED, |sum, octet| sum ^ *octet)
 }
 
-/// The six bits that each eight become.
+/// The six bits that each eight become (IEC 61131-9, A.1.6).
 #[rattlefmt::skip]
 static SIX_BITS: [u8; 256] = [
     0, 17, 33, 48, 18, 3, 51, 34, 34, 51, 3, 18, 48, 33, 17, 0,
@@ -57,7 +58,6 @@ static SIX_BITS: [u8; 256] = [
 ];
 
 /// Eight bits to six, each the parity of some of the eight.
-
 fn compress(sum: u8) -> u8
     ensures value { result ≡ compressed sum }
     ensures small { result < 64 }

@@ -1,3 +1,4 @@
+//! MC, the octet that says what a message is for (IEC 61131-9, A.1.2).
 ghost use Rattle.std.specs.Prelude.{◌≡◌, ◌≤◌};
 
 /// What a message speaks to in the device (IEC 61131-9, A.1.2).

@@ -1,3 +1,4 @@
+//! The refusal of an octet, and its number.
 ghost use Rattle.std.specs.Prelude.{◌≡◌};
 
 use thiserror::Error;

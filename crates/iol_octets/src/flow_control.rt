@@ -1,3 +1,4 @@
+//! FlowCTRL, the place of a segment on the ISDU channel (IEC 61131-9, 7.3.6).
 ghost use Rattle.std.specs.Prelude.{◌≡◌, ◌≤◌};
 
 /// FlowCTRL: what the address of a control octet means on the ISDU channel (IEC 61131-9, 7.3.6).

@@ -1,3 +1,4 @@
+//! Tests of octets and checksums.
 use super::*;
 use std::test::Fail;
 

@@ -1,3 +1,4 @@
+//! M-sequence Capability (IEC 61131-9, B.1.4).
 ghost use Rattle.std.specs.Prelude.{◌≡◌, ◌≤◌};
 
 /// The M-sequence Capability octet, at address 0x03 (IEC 61131-9, B.1.4). Bits 7 and 6 are ignored.

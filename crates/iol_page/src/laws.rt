@@ -1,3 +1,4 @@
+//! The law of the layouts that a page asks for, without code.
 ghost use Rattle.iol_page.specs.Page.{PagesAskForLayouts};
 
 /// A law of the definitions, without code: what a page asks for are layouts, that of PREOPERATE without process data

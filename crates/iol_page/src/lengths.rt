@@ -1,3 +1,4 @@
+//! ProcessDataIn and ProcessDataOut, the lengths of process data (IEC 61131-9, B.1.6 and B.1.7).
 ghost use Rattle.std.specs.Prelude.{◌≡◌, ◌≤◌, option_map, IfOk};
 ghost use Rattle.std.specs.Result.{result_err, result_ok};
 

@@ -1,3 +1,4 @@
+//! MasterCommand (IEC 61131-9, B.1.2).
 ghost use Rattle.std.specs.Prelude.{◌≡◌, IfSome, Some};
 
 /// A MasterCommand, written to address 0x00 (IEC 61131-9, B.1.2).

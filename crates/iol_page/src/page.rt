@@ -1,3 +1,4 @@
+//! Direct parameter page 1, and the layouts that it asks for (IEC 61131-9, B.1).
 ghost use Rattle.std.specs.Prelude.{◌≡◌, length};
 
 use crate::capability::Capability;

@@ -1,3 +1,4 @@
+//! Tests of pages: commands, lengths, layouts, and the first of each page's faults.
 use super::*;
 use iol_mseq::Layout;
 use std::test::Fail;

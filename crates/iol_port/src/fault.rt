@@ -1,3 +1,4 @@
+//! The refusals of a port, and their numbers.
 ghost use Rattle.std.specs.Prelude.{◌≡◌};
 
 use iol_app::OutputFault;

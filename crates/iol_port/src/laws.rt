@@ -1,3 +1,4 @@
+//! What a client may conclude of a whole run of a port: laws, without code.
 ghost use Rattle.iol_port.specs.Promises.{OpensSound, RunsSound, SoundFits, GoodLinkStays, NothingIsNoTurn, RunsJoin};
 ghost use Rattle.iol_port.specs.Promises.{CancelledWasAsked, AskedByCancel};
 ghost use Rattle.iol_port.specs.Clean.{CleanLaws};

@@ -1,3 +1,4 @@
+//! Why a text is no script and no plan.
 use std::alloc::{AllocError, AllocFailed};
 use thiserror::Error;
 

@@ -1,3 +1,4 @@
+//! Octets that are appended up to a size.
 ghost use Rattle.std.specs.Prelude.{◌≡◌, ◌≤◌, ◌++◌, length, take};
 
 use arrayvec::ArrayVec;

@@ -1,3 +1,4 @@
+//! Segments, joined into a text (IEC 61131-9, 7.3.6).
 ghost use Rattle.std.specs.Prelude.{◌≡◌, ◌<◌, ◌+◌, ◌++◌, true, false, None, Some, Ok, Err, IfOk, IfSome, IsTrue, length};
 ghost use Rattle.std.specs.Result.{result_err, result_ok};
 ghost use Rattle.iol_isdu.specs.declared.values.Request.{Request};

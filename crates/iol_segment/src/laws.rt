@@ -1,3 +1,4 @@
+//! Laws of texts in segments, without code.
 ghost use Rattle.std.specs.Prelude.{◌≤◌, ℕ};
 ghost use Rattle.iol_segment.specs.Cut.{CutIsPairs, SegmentsHaveSize};
 ghost use Rattle.iol_segment.specs.JoinLaws.{JoinLaws};

@@ -1,3 +1,4 @@
+//! What a text is cut from, octet by octet: a request, or a request's answer.
 ghost use Rattle.std.specs.Prelude.{◌≡◌, ◌≤◌, ◌<◌, ◌+◌, ◌++◌, ℕ, List, length, slice_index};
 
 use iol_isdu::{Answer, Front, Request, answer_front, request_front};

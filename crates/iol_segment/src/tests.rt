@@ -1,3 +1,4 @@
+//! Tests of segments: vectors, each length and size, repeats, each refusal.
 ghost use Rattle.std.specs.Prelude.{◌≡◌, ◌≤◌, IfOk};
 ghost use Rattle.iol_isdu.specs.Answers.{AnswersKind, is_read};
 

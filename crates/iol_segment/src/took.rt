@@ -1,3 +1,4 @@
+//! What a joiner says of a segment.
 ghost use Rattle.std.specs.Prelude.{◌≡◌};
 
 use thiserror::Error;

@@ -1,3 +1,4 @@
+//! The refusals of simulated wires and parameters, and their numbers.
 ghost use Rattle.std.specs.Prelude.{◌≡◌};
 
 use thiserror::Error;

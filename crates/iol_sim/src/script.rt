@@ -1,3 +1,4 @@
+//! The steps of a script: what happens to each call of the wire, and at the device.
 use iol_event::Event;
 use iol_image::Image;
 

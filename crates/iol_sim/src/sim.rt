@@ -1,3 +1,4 @@
+//! A simulated wire, with a device at its far end.
 ghost use Rattle.std.specs.Prelude.{◌≡◌, ℕ, [], true, None, Option, false, List, Some, IfOk, IfErr, IfSome, IsTrue, MatchBool, is_some, length, min, ◌+◌, ◌≤◌, if◌then◌else◌, ◌∷◌};
 ghost use Rattle.arrayvec.specs.ArrayVec.{ArrayVec};
 ghost use Rattle.std.specs.Vec.Iter.{into_iter_items};

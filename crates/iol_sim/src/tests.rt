@@ -1,3 +1,4 @@
+//! Tests of the simulated wire and its parameters, by tables, and memory refused in turn.
 ghost use Rattle.std.specs.Prelude.{IfOk};
 ghost use Rattle.iol_mseq.specs.Master.{HasMasterParts};
 ghost use Rattle.iol_mseq.specs.Shape.{startup_shape};

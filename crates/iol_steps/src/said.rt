@@ -1,3 +1,4 @@
+//! What a turn says.
 use iol_event::EventList;
 use iol_isdu::{Answer, Cause};
 

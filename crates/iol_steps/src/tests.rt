@@ -1,3 +1,4 @@
+//! The laws are called once each.
 use crate::{
     begin_takes_the_request, cancel_marks_the_request, denial_changes_nothing,
     good_reply_gives_steps, good_reply_tells, lost_link_gives_steps, missed_attempt_gives_steps,

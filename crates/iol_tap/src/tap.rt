@@ -1,3 +1,4 @@
+//! A wire that notes the last call that passed over the wire within.
 ghost use Rattle.std.specs.Prelude.{◌≡◌, None, take};
 ghost use Rattle.std.specs.Option.{option_copied};
 

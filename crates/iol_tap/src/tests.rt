@@ -1,3 +1,4 @@
+//! Tests of a tap: what it notes, and that it changes nothing.
 ghost use Rattle.std.proofs.Common.{rules};
 ghost use Rattle.std.specs.Prelude.{[], false, ⊤, None};
 ghost use Rattle.iol_far.specs.Far.{opened};

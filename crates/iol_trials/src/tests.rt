@@ -1,3 +1,4 @@
+//! Links over the simulated wire, in whole runs.
 use crate::runs::{At, after, linked, place_of, script, wire_of, wired};
 use crate::watched::{Row, START_UP, Watched};
 use crate::wires::AnyWire;

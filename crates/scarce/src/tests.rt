@@ -1,3 +1,4 @@
+//! Tests of an allocator that refuses chosen requests.
 use crate::{Refusal, Scarce};
 use std::alloc::{Allocator, Global};
 use std::test::Fail;

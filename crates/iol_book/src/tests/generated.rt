@@ -1,3 +1,4 @@
+//! Lists of pseudo-random calls, made of a book and of a plain one.
 use super::plain::{PlainBook, read};
 use crate::{Book, Limits, Outcome, Ticket};
 use iol_isdu::{Answer, Cause};

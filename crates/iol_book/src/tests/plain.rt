@@ -1,3 +1,4 @@
+//! A plain book, which looks through one list: what a book is compared with.
 ghost use Rattle.std.specs.Prelude.{◌≡◌, ◌<◌, IfSome};
 ghost use Rattle.std.specs.Vec.{vec_len};
 
