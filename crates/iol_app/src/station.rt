@@ -288,7 +288,8 @@ fn waked<W: Wire>(link: &mut AnyLink<W>, session: &mut Session) -> Said
         ≡ request_after (request_in session.old.current) result }
     ensures turn { (room : Bool)
         → IsTurn W.honest W.far W.silence W.wake_gives W.exchange_gives room
-        (record { link = link.old; session = session.old }) result (record { link = link.new; session = session.new }) }
+        (record { link = link.old; session = session.old }) result
+        (record { link = link.new; session = session.new }) }
     ensures fits { LinkFits link.new session.new }
 {
     let rate = link.wake();
@@ -297,6 +298,7 @@ fn waked<W: Wire>(link: &mut AnyLink<W>, session: &mut Session) -> Said
 
 /// Takes up what a wake brought: a start-up begins, or the link is still down.
 fn follow_wake(session: &mut Session, rate: Option<Rate>) -> Said
+    requires free { session.old.current ≡ None }
     ensures session { session.new
         ≡ settled_session (waked (is_some rate)) (waked_session (is_some rate) session.old) }
     ensures said { IsSettledSaid (waked (is_some rate))
@@ -309,7 +311,10 @@ fn follow_wake(session: &mut Session, rate: Option<Rate>) -> Said
             session.start();
             Said::Idle
         }
-        None => session.lose(),
+        None => {
+            session.leave();
+            Said::Idle
+        }
     }
 }
 
@@ -321,7 +326,8 @@ fn risen<W: Wire>(link: &mut AnyLink<W>, session: &mut Session) -> Said
         ≡ request_after (request_in session.old.current) result }
     ensures turn { (room : Bool)
         → IsTurn W.honest W.far W.silence W.wake_gives W.exchange_gives room
-        (record { link = link.old; session = session.old }) result (record { link = link.new; session = session.new }) }
+        (record { link = link.old; session = session.old }) result
+        (record { link = link.new; session = session.new }) }
     ensures fits { LinkFits link.new session.new }
 {
     let attempt = link.rise();
@@ -360,7 +366,8 @@ fn operated<W: Wire>(link: &mut AnyLink<W>, session: &mut Session, room: bool) -
     ensures request { request_in session.new.current
         ≡ request_after (request_in session.old.current) result }
     ensures turn { IsTurn W.honest W.far W.silence W.wake_gives W.exchange_gives room
-        (record { link = link.old; session = session.old }) result (record { link = link.new; session = session.new }) }
+        (record { link = link.old; session = session.old }) result
+        (record { link = link.new; session = session.new }) }
     ensures fits { LinkFits link.new session.new }
 {
     let State::Operate(operate) = link.state() else {
