@@ -123,6 +123,7 @@ pub(crate) fn settle<A: Allocator + Copy>(
     }
 }
 
+/// Out of line, since most turns say nothing, and what the others say is large.
 #[inline(never)]
 fn tell<A: Allocator + Copy>(book: &mut Book<A>, kept: &mut ArrayVec<Event, KEPT>, said: Said)
     requires asked { Asks said book.old.state.standing.taken }
