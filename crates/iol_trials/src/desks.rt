@@ -116,12 +116,12 @@ fn desks_run_out(rt: HostRuntime) -> Result<(), Fail> {
     run_out::<Brand, Brand, HostRuntime>(&rt, rt.alloc(), Blank::new(1025), Blank::new(1))
 }
 
-/// Opens a master while this request for memory is refused, and says whether there was one.
+/// Opens a master under an order to refuse memory, and says whether a request was refused.
 fn open_is_refused<A: Handle, L: Ledger, K: Ledger, R: Abort>(
     rt: &R,
     alloc: A,
     scarce: &Scarce,
-    number: u64,
+    refusal: Refusal,
     clients: Blank,
     tickets: Blank,
 ) -> Result<bool, Fail>
@@ -130,7 +130,7 @@ fn open_is_refused<A: Handle, L: Ledger, K: Ledger, R: Abort>(
 {
     scarce.order(Refusal::Never);
     let ports = one_port(alloc)?;
-    scarce.order(Refusal::Only(number));
+    scarce.order(refusal);
     match Master::<Bare, L, K, A>::open(alloc, ports, clients, tickets) {
         Ok(_master) => {
             assert!(rt; !scarce.has_refused());
@@ -176,17 +176,16 @@ fn submit<W: Wire, L: Ledger, K: Ledger, A: Handle, R: Wait>(
     }
 }
 
-/// Submits at a desk without submits while this request for memory is refused, and says whether
-/// there was one.
+/// Submits at a desk without submits under an order to refuse memory, and says whether a request was refused.
 fn submit_refusing<L: Ledger, K: Ledger, R: Wait + Abort>(
     rt: &R,
     scarce: &Scarce,
-    number: u64,
+    refusal: Refusal,
     master: &Master<Bare, L, K, &Scarce>,
     desk: &mut Desk<L>,
     kind: Kind,
 ) -> bool {
-    scarce.order(Refusal::Only(number));
+    scarce.order(refusal);
     let answer = submit(rt, master, desk, kind);
     let refused = scarce.has_refused();
     let wanted = if refused {
@@ -220,9 +219,17 @@ fn submit_is_refused<L: Ledger, K: Ledger, R: Wait + Abort>(
     let master = opened.ok().expect(rt, "memory");
     scarce.order(Refusal::Only(0));
     let mut desk = master.desk(rt, 1)?;
-    assert!(rt; submit_refusing(rt, scarce, 0, &master, &mut desk, kind));
-    for number in 1..64u64 {
-        if !submit_refusing(rt, scarce, number, &master, &mut desk, kind) {
+    assert!(rt; submit_refusing(rt, scarce, Refusal::Only(0), &master, &mut desk, kind));
+    for number in 0..64u64 {
+        assert!(rt; submit_refusing(rt, scarce, Refusal::From(number), &master, &mut desk, kind));
+        if !submit_refusing(
+            rt,
+            scarce,
+            Refusal::Only(number.saturating_add(1)),
+            &master,
+            &mut desk,
+            kind,
+        ) {
             break;
         }
     }
@@ -243,12 +250,17 @@ fn submit_is_refused<L: Ledger, K: Ledger, R: Wait + Abort>(
 #[test]
 fn refused_memory_changes_nothing(rt: HostRuntime) -> Result<(), Fail> {
     let scarce = Scarce::new(rt.alloc());
-    for (number, wanted) in [(0u64, true), (1, false)] {
+    for (refusal, wanted) in [
+        (Refusal::Only(0), true),
+        (Refusal::From(0), true),
+        (Refusal::From(1), false),
+        (Refusal::Only(1), false),
+    ] {
         let refused = open_is_refused::<&Scarce, Brand, Brand, HostRuntime>(
             &rt,
             &scarce,
             &scarce,
-            number,
+            refusal,
             Blank::new(1025),
             Blank::new(1),
         )?;
