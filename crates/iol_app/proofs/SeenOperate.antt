@@ -294,7 +294,7 @@ module _ {W : Type 0} (honest : W → Bool) (far : W → Far) (silence : W → �
       -- a request under way means a device with ISDU
       may_begin : (what : Move) → move_for exchange session.current ≡ what → MayBegin s.terms.page what
       may_begin (Begin request) e = stands.isdu (ap (λ (r : Option Request). is_some r) (seen.request ∙ begins_request exchange session.current request e))
-      may_begin other e = tt
+      may_begin _ e = tt
 
       goes : IsSent s.terms.page (layout_at s).od s.link s.progress new_octets message (move_for exchange session.current)
       goes = record {

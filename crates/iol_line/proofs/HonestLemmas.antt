@@ -1,12 +1,12 @@
 -- What a line gives that was told under the premise is honest.
-use Rattle.std.proofs.Common.{◌≡◌, refl, sym, subst, ap, ℕ, Bool, true, false, List, [], ◌∷◌, Option, Some, None, is_some}
+use Rattle.std.proofs.Common.{◌≡◌, refl, sym, subst, ℕ, Bool, true, false, List, [], ◌∷◌, Option, Some, None, is_some}
 use Rattle.std.specs.Prelude.{bytes_eq, if◌then◌else◌}
 use Rattle.std.proofs.lemmas.Slice.Eq.{bytes_eq-Decides}
 use Rattle.std.proofs.lemmas.Grind.{common_steps}
 use Rattle.std.proofs.Common.{arith}
 use Rattle.arrayvec.specs.ArrayVec.{ArrayVec}
 use Rattle.iol_far.specs.Octets.{octets_in}
-use Rattle.iol_far.specs.Far.{Far, hear}
+use Rattle.iol_far.specs.Far.{Far}
 use Rattle.iol_far.specs.Local.{LocalStep, local, locals, woken}
 use Rattle.iol_far.specs.Laws.{IsRegular}
 use Rattle.iol_far.specs.Regular.{RegularStays}

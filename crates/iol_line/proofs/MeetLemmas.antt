@@ -1,5 +1,5 @@
 -- An exchange with a device that is there, on a line that loses, is an honest one.
-use Rattle.std.proofs.Common.{◌≡◌, refl, sym, ◌∙◌, ap, Bool, true, false, List, [], ◌∷◌, ℕ, Option, Some, None, IsTrue}
+use Rattle.std.proofs.Common.{◌≡◌, refl, ◌∙◌, ap, Bool, true, false, List, [], ◌∷◌, ℕ, Option, Some, None, IsTrue}
 use Rattle.std.specs.Prelude.{MatchBool}
 use Rattle.iol_isdu.specs.declared.values.Request.{Request}
 use Rattle.iol_isdu.specs.declared.values.Answer.{Answer}

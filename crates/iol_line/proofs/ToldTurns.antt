@@ -1,5 +1,5 @@
 -- The exact turn of a port over a line that was told is the exact turn over a line that brings just that.
-use Rattle.std.proofs.Common.{◌≡◌, ◌∙◌, refl, sym, subst, ap, ℕ, Bool, List, Option, Some, None, is_some, IsTrue, ⊎_elim, inl, inr}
+use Rattle.std.proofs.Common.{◌≡◌, ◌∙◌, sym, subst, ℕ, Bool, List, Option, is_some, IsTrue, ⊎_elim, inl, inr}
 use Rattle.std.specs.Prelude.{◌&&◌}
 use Rattle.arrayvec.specs.ArrayVec.{ArrayVec}
 use Rattle.iol_event.specs.declared.event.Event.{Event}
@@ -23,7 +23,7 @@ use Rattle.iol_mode.specs.Next.{AnyLink}
 use Rattle.iol_mode.specs.declared.states.State.{State}
 use Rattle.iol_mode.specs.declared.states.State.TheVariants.{Down as AtDown, Startup as AtStartup, Preoperate as AtPreoperate, Operate as AtOperate}
 use Rattle.iol_app.specs.State.{SessionState}
-use Rattle.iol_app.specs.StationState.{StationState, wire_of, IsLinkTurn, IsTurn, IsWake, IsExchange}
+use Rattle.iol_app.specs.StationState.{StationState, wire_of, IsLinkTurn, IsWake, IsExchange}
 use Rattle.iol_app.specs.AskedCalls.{AskedWakes, AskedGives}
 use Rattle.iol_app.specs.Rewire.{rewired}
 use Rattle.iol_book.specs.BookModel.{BookValue}

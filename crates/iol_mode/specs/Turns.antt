@@ -14,7 +14,6 @@ use Rattle.iol_link.specs.Attempts.{Sending, good_reply}
 use Rattle.iol_link.specs.Honest.{HonestExchange}
 use Rattle.iol_mode.specs.declared.states.State.{State}
 use Rattle.iol_mode.specs.declared.states.State.TheVariants.{Startup as AtStartup, Preoperate as AtPreoperate, Operate as AtOperate}
-use Rattle.iol_mode.specs.declared.states.Startup.{Startup}
 use Rattle.iol_mode.specs.declared.states.Operate.{Operate}
 use Rattle.iol_mode.specs.States.{Outcome, OutcomeFits, OperateFits, startup_turned, preoperate_turned, operate_by, operate_turned, sending_of}
 use Rattle.iol_mode.specs.Stands.{OperateStands, OutcomeStands, IsOperating, IsAccepted}

@@ -11,7 +11,7 @@ use Rattle.iol_book.specs.declared.entries.Outcome.TheVariants.{NoIsdu}
 use Rattle.iol_book.specs.Replay.{same_ticket}
 use Rattle.iol_book.specs.BookModel.{BookState, next_taken, denied, posted, ended_with, waits}
 use Rattle.iol_steps.specs.declared.said.Said.{Said}
-use Rattle.iol_steps.specs.declared.said.Said.TheVariants.{Idle, Busy, Answered as SaidAnswered, Cut, Reported}
+use Rattle.iol_steps.specs.declared.said.Said.TheVariants.{Answered as SaidAnswered, Cut}
 use Rattle.iol_steps.specs.Step.{Reset, book_said}
 use Rattle.iol_port.specs.Steps.{book_through}
 use Rattle.iol_port.specs.Asks.{lacks_isdu}

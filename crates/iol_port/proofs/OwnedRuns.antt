@@ -1,5 +1,5 @@
 -- what is carried out in a run is each request once, and none that was cut off before a wake that had success, or for good
-use Rattle.std.proofs.Common.{◌≡◌, ◌⊎◌, ◌∷◌, ◌++◌, [], List, ℕ, ◌+◌, ◌≤◌, Option, Some, None, length, append-nil, true, false, refl, ap, sym, ◌∙◌, inl, inr, subst, arith}
+use Rattle.std.proofs.Common.{◌≡◌, ◌⊎◌, ◌∷◌, ◌++◌, [], List, ℕ, ◌+◌, ◌≤◌, Option, Some, None, append-nil, refl, ap, sym, ◌∙◌, inl, inr, subst, arith}
 use Rattle.std.specs.Map.{lookup, remove_entry}
 use Rattle.indexmap.specs.IndexMap.{insert_entry}
 use Rattle.iol_isdu.specs.declared.values.Request.{Request}
@@ -17,7 +17,7 @@ use Rattle.iol_book.specs.declared.entries.Entry.TheVariants.{Withdrawn as Withd
 use Rattle.iol_book.specs.Replay.{same_ticket, without, others_without}
 use Rattle.iol_book.specs.BookModel.{BookState, submitted, submitted_urgent, next_ticket, entered}
 use Rattle.iol_steps.specs.declared.mode.Mode.{Mode}
-use Rattle.iol_steps.specs.declared.mode.Mode.TheVariants.{Down, Startup, Preoperate, Operate}
+use Rattle.iol_steps.specs.declared.mode.Mode.TheVariants.{Down, Startup}
 use Rattle.iol_steps.specs.Step.{Step, Take, Carry, Done, Unknown, LateCarry, Reset, Busy, Move, Moment}
 use Rattle.iol_steps.specs.Session.{Job, Session, MayMove, MaySession, MaySessionAll, session_after, session_through, marked}
 use Rattle.iol_steps.specs.Kinds.{restart_steps}

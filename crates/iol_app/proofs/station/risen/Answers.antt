@@ -1,7 +1,7 @@
 -- A turn of a start-up.
 use Rattle.std.proofs.Common.{◌≡◌, subst, sym, ap, ◌∙◌}
 use Rattle.iol_mode.specs.declared.states.State.{State}
-use Rattle.iol_mode.specs.States.{Outcome, outcome_with, state_of}
+use Rattle.iol_mode.specs.States.{Outcome, outcome_with}
 use Rattle.iol_app.specs.State.{SessionState}
 use Rattle.iol_app.specs.StationState.{StationState, StateFits, NextFits, settled_session, IsSettledSaid}
 use Rattle.iol_app.proofs.Settling.{outcome_state, rise_turn, rise_next, settled_fits}

@@ -5,7 +5,7 @@ use Rattle.iol_link.specs.Attempts.{good_reply}
 use Rattle.iol_mseq.specs.Master.{HasMasterParts}
 use Rattle.iol_mode.specs.States.{PreoperateSends}
 use Rattle.iol_mode.specs.declared.states.State.{State}
-use Rattle.iol_mode.specs.States.{Outcome, IsPreoperate, PreoperateFits, StateFits, outcome_with, preoperate_turned}
+use Rattle.iol_mode.specs.States.{Outcome, IsPreoperate, PreoperateFits, StateFits, outcome_with}
 use Rattle.iol_mode.specs.Stands.{StateStands}
 use Rattle.iol_mode.specs.Turns.{IsRisen, IsStartTurn}
 use Rattle.iol_mode.proofs.Outs.{preoperate_is, outcome_state}

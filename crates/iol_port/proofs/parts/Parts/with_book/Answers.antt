@@ -1,4 +1,4 @@
-use Rattle.iol_port.specs.View.{IsOpened, opening_of}
+use Rattle.iol_port.specs.View.{opening_of}
 use Rattle.iol_port.proofs.RunLemmas.{opened_stands, opened_tied}
 use Rattle.iol_port.proofs.parts.Parts.with_book.Goals as goal
 
