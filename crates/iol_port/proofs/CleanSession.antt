@@ -235,6 +235,7 @@ module _ {W : Type 0} (honest : W → Bool) (far : W → Far) (silence : W → �
                 is_honest = subst IsTrue (sym t.exchange.both.honesty) stood.is_honest;
                 is_clean = done.1;
                 calm = subst IsCalm (sym settled.session) (absorbed_calm s reply stood.calm well.event);
+                told = ap (λ (z : SessionState). z.isdu) settled.session ∙ stood.told;
                 operating = inr_link;
                 awake = well.awake;
                 at = well.link_is;

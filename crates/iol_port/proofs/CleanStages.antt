@@ -338,7 +338,7 @@ module _ {W : Type 0} (honest : W → Bool) (far : W → Far) (silence : W → �
           let text = has_text old wire c said new t (answer_text request answer)
           (outcome ∙ joined_last size (laws.texts size low) (laws.joins size low) laws.one (laws.segments size low).fitting request answer fitting given j all) in
           let last = segments_last size (laws.texts size low) (answer_text request answer) j begins all in
-          next_is old wire c said new t n some limit (Ended answer) (text.0, carried, fitting) (omega (arith, count, last))
+          next_is old wire c said new t n some limit (Ended answer) (text.0, carried, fitting, (j, state)) (omega (arith, count, last))
           (said_last size (laws.texts size low) (laws.joins size low) laws.one (laws.segments size low).fitting request answer fitting said
           (subst (λ (q : Request). IsOutcomeSaid (is_read q) (HasText (answer_text request answer)) said) source text.1)))
           (cases_lt (suc j * size) (length (answer_text request answer)))

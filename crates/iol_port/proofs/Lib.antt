@@ -14,6 +14,7 @@ pub mod CleanHearing
 pub mod CleanSession
 pub mod CleanStages
 pub mod CleanTurns
+pub mod Served
 pub mod CleanLevel
 pub mod Crosses
 pub mod OwnedLists

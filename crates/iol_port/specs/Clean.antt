@@ -1,5 +1,5 @@
 -- What a port does on a clean wire, turn by turn.
-use Rattle.std.specs.Prelude.{◌≡◌, ◌⊎◌, ℕ, suc, ◌+◌, ◌<◌, ◌≤◌, Bool, true, false, ◌&&◌, List, [], ◌++◌, length, replicate, Option, Some, None, is_some, IsTrue}
+use Rattle.std.specs.Prelude.{◌≡◌, ◌⊎◌, ℕ, zero, suc, ◌+◌, ◌-◌, ◌<◌, ◌≤◌, nat_le, Bool, true, false, ◌&&◌, List, [], ◌∷◌, ◌++◌, length, replicate, Option, Some, None, is_some, IsTrue}
 use Rattle.arrayvec.specs.ArrayVec.{ArrayVec}
 use Rattle.iol_isdu.specs.declared.values.Request.{Request}
 use Rattle.iol_isdu.specs.declared.values.Answer.{Answer}
@@ -51,6 +51,11 @@ pub record CleanLaws : Type 0 where
   pub modes : ModesHaveLayouts
   pub much : MuchStays
 
+-- whether a record takes so many more pairs
+abbrev pub takes_all : Option ℕ → List Carried → ℕ → Bool
+takes_all None carried count = true
+takes_all (Some room) carried count = nat_le (length carried + count) room
+
 -- no event is at the device
 pub record IsQuiet (memory : Events) : Type 0 where
   pub frozen : memory.frozen ≡ []
@@ -80,12 +85,14 @@ IsLevelBetween {W} far p =
     → (link : Link) × IsOperating layouts link × IsBefore (far wire).page layouts.run.od (far wire).carried link Quiet (far wire)
 
 module _ {W : Type 0} (honest : W → Bool) (far : W → Far) (clean : W → Bool) where
-  -- in OPERATE over a clean wire, with no message out; the device is awake, in that link, has ISDU, and has no events
+  -- in OPERATE over a clean wire, with no message out; the device is awake, in that link, has
+  -- ISDU, as the port was told, and has no events
   pub record Stood (layouts : Layouts) (link : Link) (station : StationState W) (wire : W) : Type 0 where
     pub link_is : station.link ≡ InOperate (record { wire = wire; state = record { out = None; layouts = layouts } })
     pub is_honest : IsTrue (honest wire)
     pub is_clean : IsTrue (clean wire)
     pub calm : IsCalm station.session
+    pub told : station.session.isdu ≡ Some true
     pub operating : IsOperating layouts link
     pub awake : (far wire).awake ≡ true
     pub at : link_of (far wire) ≡ link
@@ -136,13 +143,52 @@ module _ {W : Type 0} (honest : W → Bool) (far : W → Far) (clean : W → Boo
       × (new.book.state ≡ posted (took old.book.state (ticket, request)) (Done answer)))
       ⊎ ((answer : Answer) × (more : List Carried) × (record_of far new ≡ grown_by (record_of far old) request answer ++ more) × (turns_needed layouts.run.od request answer < n))
 
+  -- From here requests that wait take the sum of their turns: the first may start, they wait in
+  -- this order before all others, and the device's record has room for the pairs of all of them
+  pub record MayServe (layouts : Layouts) (first : Ticket × Request)
+      (rest : List (Ticket × Request)) (p : Parts W) : Type 0 where
+    pub starts : MayStart layouts first.0 first.1 p
+    pub others : List (Ticket × Request)
+    pub in_order : p.book.state.standing.urgent ++ p.book.state.standing.waiting
+        ≡ first ∷ (rest ++ others)
+    pub room : IsTrue (takes_all (far (wire_of p.station.link)).room (record_of far p)
+        (suc (length rest)))
+
+  -- how a request stands that is taken and not done after so many turns, the record having been
+  -- `base` and the book this one: nothing entered the record yet, or its answer did
+  abbrev pub IsOnItsWay :
+      Layouts → ℕ → Ticket × Request → List Carried → BookState → Parts W → Type 0
+  IsOnItsWay layouts n next base book new =
+      (new.book.state ≡ took book next)
+      × (((n ≤ segments layouts.run.od (request_text next.1) + 1) × (record_of far new ≡ base))
+          ⊎ ((answer : Answer) × (n < turns_needed layouts.run.od next.1 answer)
+          × (record_of far new ≡ grown_by base next.1 answer)))
+
+  -- How requests that wait stand after so many turns. Before the first turn none is taken. Then
+  -- the first of them is on its way; or it is done with an answer, after as many turns as are
+  -- needed, and the others stand so after the turns that are left. Where none is left more turns
+  -- may have been made, of which only the record is said.
+  abbrev pub AreServed :
+      Layouts → ℕ → List (Ticket × Request) → List Carried → BookState → Parts W → Type 0
+  AreServed layouts zero requests base book new =
+      (record_of far new ≡ base) × (new.book.state ≡ book)
+  AreServed layouts (suc n) [] base book new =
+      (more : List Carried) × (record_of far new ≡ base ++ more)
+  AreServed layouts (suc n) (next ∷ rest) base book new =
+      IsOnItsWay layouts (suc n) next base book new
+      ⊎ ((answer : Answer)
+      × (turns_needed layouts.run.od next.1 answer ≤ suc n)
+      × AreServed layouts (suc n - turns_needed layouts.run.od next.1 answer) rest
+          (grown_by base next.1 answer) (posted (took book next) (Done answer)) new)
+
   -- at some stage, so many turns on
   pub record IsAfter (layouts : Layouts) (ticket : Ticket) (request : Request) (base : List Carried) (book : BookState) (turns : ℕ) (p : Parts W) : Type 0 where
     pub stage : Stage
     pub is_at : IsAt layouts ticket request base book stage p
     pub turns_are : turns_at layouts.run.od request stage ≡ turns
 
-  -- one turn: the next request begins, or goes one stage on; on an honest wire the record only grows
+  -- one turn: the next request begins, or goes one stage on; on an honest wire the record only
+  -- grows, and may grow as far as before
   pub record CleanTurn (p next : Parts W) : Type 0 where
     pub starts : (layouts : Layouts) (ticket : Ticket) (request : Request) → MayStart layouts ticket request p
         → IsAfter layouts ticket request (record_of far p) p.book.state 1 next
@@ -151,9 +197,18 @@ module _ {W : Type 0} (honest : W → Bool) (far : W → Far) (clean : W → Boo
         → IsAfter layouts ticket request base book (suc (turns_at layouts.run.od request stage)) next
     pub honesty : honest (wire_of next.station.link) ≡ honest (wire_of p.station.link)
     pub grows : IsTrue (honest (wire_of p.station.link)) → (more : List Carried) × (record_of far next ≡ record_of far p ++ more)
+    pub room : IsTrue (honest (wire_of p.station.link))
+        → (far (wire_of next.station.link)).room ≡ (far (wire_of p.station.link)).room
 
   -- so many turns and no other call: a request stands as it is to then
   abbrev pub CleanRuns : Parts W → List Call → Parts W → Type 0
   CleanRuns p calls next =
       (n : ℕ) → calls ≡ replicate (suc n) call.Turn → (layouts : Layouts) (ticket : Ticket) (request : Request) → MayStart layouts ticket request p
       → IsOnTime layouts ticket request p (suc n) next
+
+  -- and requests that wait are served one behind the other
+  abbrev pub CleanServes : Parts W → List Call → Parts W → Type 0
+  CleanServes p calls next =
+      (n : ℕ) → calls ≡ replicate n call.Turn → (layouts : Layouts) (first : Ticket × Request)
+      (rest : List (Ticket × Request)) → MayServe layouts first rest p
+      → AreServed layouts n (first ∷ rest) (record_of far p) p.book.state next

@@ -16,7 +16,7 @@ ghost use Rattle.iol_port.specs.EveryWire.{SubmitGives, CollectGives, WithdrawGi
 ghost use Rattle.iol_port.specs.Rewire.{rewired_parts, StandsStill};
 ghost use Rattle.iol_port.specs.EveryWire.{TakeEventGives, SetOutputGives, ClearOutputGives, RestartGives};
 ghost use Rattle.iol_port.specs.EveryWire.{TurnGives, CallGives, RunGives};
-ghost use Rattle.iol_port.specs.Clean.{CleanTurn, CleanRuns};
+ghost use Rattle.iol_port.specs.Clean.{CleanTurn, CleanRuns, CleanServes};
 ghost use Rattle.iol_port.specs.Replies.{ticket_reply, outcome_reply, nothing_reply, event_reply};
 ghost use Rattle.iol_port.specs.Replies.{archive_reply, reply_of};
 
@@ -290,6 +290,8 @@ impl<W: Wire, A: Allocator + Copy> Parts<W, A> {
         ensures gives { IfOk result (λ replies. RunGives W.honest W.far W.silence W.wake_gives W.exchange_gives
             self.old calls.now replies.items self.new) }
         ensures clean { IfOk result (λ _. CleanRuns W.honest W.far W.clean self.old calls.now
+            self.new) }
+        ensures served { IfOk result (λ _. CleanServes W.honest W.far W.clean self.old calls.now
             self.new) }
         ensures refused { IfErr result (λ e. e ≡ fault.Book OutOfMemory) }
         ensures unchanged { IfErr result (λ _. self.new ≡ self.old) }

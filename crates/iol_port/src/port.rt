@@ -18,7 +18,7 @@ ghost use Rattle.iol_port.specs.EveryWire.{TurnGives, CallGives, RunGives};
 ghost use Rattle.iol_port.specs.WireCalls.{ComesFrom};
 ghost use Rattle.iol_port.specs.View.{Does, Runs, StandsFor, IsOpened, IsRun, OpensWell, opening_of};
 ghost use Rattle.iol_port.specs.View.{KeepsRecord, shown_in, status_of};
-ghost use Rattle.iol_port.specs.Clean.{CleanTurn, CleanRuns, IsLevelBetween};
+ghost use Rattle.iol_port.specs.Clean.{CleanTurn, CleanRuns, CleanServes, IsLevelBetween};
 ghost use Rattle.iol_port.specs.Replies.{ticket_reply, outcome_reply, nothing_reply, event_reply, reply_of};
 
 use crate::parts::Parts;
@@ -305,6 +305,8 @@ impl<W: Wire, A: Handle> Port<W, A> {
         ensures gives { IfOk result (λ replies. RunGives W.honest W.far W.silence W.wake_gives W.exchange_gives
             self.old.parts calls.now replies.items self.new.parts) }
         ensures clean { IfOk result (λ _. CleanRuns W.honest W.far W.clean self.old.parts calls.now
+            self.new.parts) }
+        ensures served { IfOk result (λ _. CleanServes W.honest W.far W.clean self.old.parts calls.now
             self.new.parts) }
         ensures rest { self.new ≡ record self.old { parts = self.new.parts } }
         ensures refused { IfErr result (λ e. e ≡ fault.Book OutOfMemory) }

@@ -5,7 +5,7 @@ use Rattle.std.specs.Prelude.{is_ok, true}
 use Rattle.iol_port.specs.EveryWire.{CallGives}
 use Rattle.iol_port.proofs.RunLemmas.{Runs-none, Runs-more}
 use Rattle.iol_port.proofs.WireLemmas.{run_none, run_more}
-use Rattle.iol_port.proofs.CleanTurns.{so_far_none, so_far_more, clean_runs}
+use Rattle.iol_port.proofs.Served.{so_far_none, so_far_more, clean_serves, clean_runs}
 use Rattle.iol_port.proofs.parts.Parts.run.Goals as goal
 
 pub loop-call-init : goal.loop-call-init
@@ -30,5 +30,8 @@ loop-call-preserved g c =
       room = omega arith;
     }
 
+pub returns-clause-served : goal.returns-clause-served
+returns-clause-served g c = clean_serves g.W.Wire.honest g.W.Wire.far g.W.Wire.clean c.clean_laws.ensures c.args.self.now c.loop-call.self c.args.calls.now c.loop-call.call-index (omega (arith, c.loop-call-test.false)) c.loop-call.invariant.clean
+
 pub returns-clause-clean : goal.returns-clause-clean
-returns-clause-clean g c = clean_runs g.W.Wire.honest g.W.Wire.far g.W.Wire.clean c.clean_laws.ensures c.args.self.now c.loop-call.self c.args.calls.now c.loop-call.call-index (omega (arith, c.loop-call-test.false)) c.loop-call.invariant.clean
+returns-clause-clean g c = clean_runs g.W.Wire.honest g.W.Wire.far g.W.Wire.clean c.args.self.now c.loop-call.self c.args.calls.now (clean_serves g.W.Wire.honest g.W.Wire.far g.W.Wire.clean c.clean_laws.ensures c.args.self.now c.loop-call.self c.args.calls.now c.loop-call.call-index (omega (arith, c.loop-call-test.false)) c.loop-call.invariant.clean)

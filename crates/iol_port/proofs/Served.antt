@@ -1,0 +1,322 @@
+-- Turns of a port over a clean wire, one after the other: requests that wait are served in order, each in its number of turns.
+use Rattle.std.proofs.Common.{◌≡◌, ◌⊎◌, inl, inr, ⊎_elim, ℕ, zero, suc, ◌+◌, ◌-◌, ◌<◌, ◌≤◌, Bool, true, false, List, [], ◌∷◌, ◌++◌, length, append_assoc, refl, sym, ap, subst, ◌∙◌, Option, Some, None, take_all, take, get_or, replicate, arith}
+use Rattle.std.specs.Prelude.{IsTrue, is_some, if◌then◌else◌, slice_get, drop}
+use Rattle.std.proofs.lemmas.Bool.Decides.{nat_tests}
+use Rattle.std.proofs.lemmas.List.{take_more, length-append}
+use Rattle.iol_page.specs.declared.page.Layouts.{Layouts}
+use Rattle.iol_isdu.specs.declared.values.Request.{Request}
+use Rattle.iol_isdu.specs.declared.values.Answer.{Answer}
+use Rattle.iol_isdu.specs.Texts.{request_text}
+use Rattle.iol_far.specs.declared.carried.Carried.{Carried}
+use Rattle.iol_far.specs.Isdu.{IsduState, Answered, answer_text}
+use Rattle.iol_far.specs.Far.{Far}
+use Rattle.iol_far.specs.Local.{has_room}
+use Rattle.iol_far.specs.Record.{takes_more}
+use Rattle.iol_far.specs.Level.{Quiet, Stands, grown_by}
+use Rattle.iol_mode.specs.Stands.{operate_link}
+use Rattle.iol_mode.specs.Next.{AnyLink}
+use Rattle.iol_book.specs.declared.entries.Ticket.{Ticket}
+use Rattle.iol_book.specs.declared.entries.Outcome.TheVariants.{Done}
+use Rattle.iol_book.specs.BookModel.{BookState, next_taken, others_behind, took, posted}
+use Rattle.iol_app.specs.State.{SessionState}
+use Rattle.iol_app.specs.StationState.{wire_of}
+use Rattle.iol_port.specs.declared.call.Call.{Call}
+use Rattle.iol_port.specs.declared.call.Call.TheVariants as call
+use Rattle.iol_port.specs.View.{Parts}
+use Rattle.iol_port.specs.Turns.{Stage, Written, Waiting, Reading, Ended, turns_at, turns_needed}
+use Rattle.iol_port.specs.Clean.{CleanLaws, IsCalm, IsAt, MayStart, MayServe, IsAfter, CleanTurn, takes_all, record_of, IsOnTime, IsOnItsWay, AreServed, CleanRuns, CleanServes}
+use Rattle.iol_port.proofs.CleanStages.{segment_within}
+use Rattle.iol_port.proofs.CleanTurns.{calm_ready}
+
+-- Room in the record
+
+takes_first : (room : Option ℕ) (base : List Carried) (count : ℕ) → takes_all room base (suc count) ≡ true → takes_more room base ≡ true
+takes_first None base count h = refl
+takes_first (Some room) base count h = grind (arith, nat_tests)
+
+takes_one : (room : Option ℕ) (base : List Carried) → takes_more room base ≡ true → takes_all room base 1 ≡ true
+takes_one None base h = refl
+takes_one (Some room) base h = grind (arith, nat_tests)
+
+takes_rest : (room : Option ℕ) (base : List Carried) (count : ℕ) (request : Request) (answer : Answer) → takes_all room base (suc count) ≡ true → takes_all room (grown_by base request answer) count ≡ true
+takes_rest None base count request answer h = refl
+takes_rest (Some room) base count request answer h =
+    let pair : Carried = record { request = request; answer = answer } in
+    let more : length (base ++ pair ∷ []) ≡ length base + 1 = length-append base (pair ∷ []) in
+    grind (arith, nat_tests, more)
+
+-- Requests that wait in a book
+
+-- none is taken, and these are the first that wait
+record Queue (book : BookState) (requests : List (Ticket × Request)) : Type 0 where
+  free : is_some book.standing.taken ≡ false
+  others : List (Ticket × Request)
+  order : book.standing.urgent ++ book.standing.waiting ≡ requests ++ others
+
+queue_next : (book : BookState) (first : Ticket × Request) (rest : List (Ticket × Request)) → Queue book (first ∷ rest) → next_taken book.standing ≡ Some first
+queue_next book first rest queue = rw (queue.free, queue.order) refl
+
+behind : (urgent waiting : List (Ticket × Request)) (first : Ticket × Request) (rest : List (Ticket × Request)) → urgent ++ waiting ≡ first ∷ rest → drop 1 urgent ++ others_behind urgent waiting ≡ rest
+behind [] waiting first rest e = ap (drop 1) e
+behind (next ∷ urgent) waiting first rest e = let same : next ∷ (urgent ++ waiting) ≡ first ∷ rest = e in cc
+
+queue_rest : (book : BookState) (first : Ticket × Request) (rest : List (Ticket × Request)) (answer : Answer) → Queue book (first ∷ rest) → Queue (posted (took book first) (Done answer)) rest
+queue_rest book first rest answer queue = record {
+  free = refl;
+  others = queue.others;
+  order = behind book.standing.urgent book.standing.waiting first (rest ++ queue.others) queue.order;
+}
+
+was_free : (taken : Option (Ticket × Request)) (list : List (Ticket × Request)) (first : Ticket × Request) → (if is_some taken then None else slice_get list 0) ≡ Some first → is_some taken ≡ false
+was_free None list first e = refl
+was_free (Some taken) list first e = absurd (let k : None ≡ Some first = e in cc)
+
+headed : (list : List (Ticket × Request)) (first : Ticket × Request) → slice_get list 0 ≡ Some first → list ≡ first ∷ drop 1 list
+headed [] first e = absurd (let k : None ≡ Some first = e in cc)
+headed (next ∷ list) first e = let k : Some next ≡ Some first = e in let same : next ≡ first = cc in ap (λ (q : Ticket × Request). q ∷ list) same
+
+-- Calls
+
+-- one call more than so many turns
+snoc_turns : (calls : List Call) (c : Call) (n : ℕ) → calls ++ c ∷ [] ≡ replicate n call.Turn → (k : ℕ) × (n ≡ suc k) × (calls ≡ replicate k call.Turn) × (c ≡ call.Turn)
+snoc_turns [] c zero e = absurd (let k : c ∷ [] ≡ [] = e in cc)
+snoc_turns [] c (suc zero) e = (0, refl, refl, let k : c ∷ [] ≡ call.Turn ∷ [] = e in cc)
+snoc_turns [] c (suc (suc n)) e = absurd (let k : c ∷ [] ≡ call.Turn ∷ (call.Turn ∷ replicate n call.Turn) = e in cc)
+snoc_turns (d ∷ calls) c zero e = absurd (let k : d ∷ (calls ++ c ∷ []) ≡ [] = e in cc)
+snoc_turns (d ∷ calls) c (suc n) e =
+    let k : d ∷ (calls ++ c ∷ []) ≡ call.Turn ∷ replicate n call.Turn = e in
+    let head : d ≡ call.Turn = cc in
+    let rest = snoc_turns calls c n cc in
+    (suc rest.0, ap suc rest.1, ap (λ (x : Call). x ∷ calls) head ∙ ap (λ (xs : List Call). call.Turn ∷ xs) rest.2, rest.3)
+
+-- Numbers of turns
+
+none_left : (needed n : ℕ) → needed ≡ suc n → suc n - needed ≡ 0
+none_left needed n e = omega (arith, e)
+
+one_more : (needed n : ℕ) → needed ≤ suc n → suc (suc n - needed) ≡ suc (suc n) - needed
+one_more needed n few = omega (arith, few)
+
+module _ {W : Type 0} (honest : W → Bool) (far : W → Far) (clean : W → Bool) where
+  record_at : (layouts : Layouts) (ticket : Ticket) (request : Request) (base : List Carried) (book : BookState) (stage : Stage) (now : Parts W)
+      (is : IsAt honest far clean layouts ticket request base book stage now) → record_of far now ≡ (far is.wire).carried
+  record_at layouts ticket request base book stage now is = ap (λ (l : AnyLink W). (far (wire_of l)).carried) is.at.stood.link_is
+
+  -- the wire is honest, and the device's record has this room
+  pub record Steady (room : Option ℕ) (now : Parts W) : Type 0 where
+    pub is_honest : IsTrue (honest (wire_of now.station.link))
+    pub room_is : (far (wire_of now.station.link)).room ≡ room
+
+  steady_more : (room : Option ℕ) (mid next : Parts W) → Steady room mid → CleanTurn honest far clean mid next → Steady room next
+  steady_more room mid next steady turn = record {
+    is_honest = subst IsTrue (sym turn.honesty) steady.is_honest;
+    room_is = turn.room steady.is_honest ∙ steady.room_is;
+  }
+
+  module _ (layouts : Layouts) where
+    abbrev pub needed : Request → Answer → ℕ
+    needed request answer = turns_needed layouts.run.od request answer
+
+    abbrev pub After : ℕ → Ticket × Request → List Carried → BookState → Parts W → Type 0
+    After n next base book now = IsAfter honest far clean layouts next.0 next.1 base book n now
+
+    -- between requests: the next one may start, if there is one and the record has room
+    pub record Idle (base : List Carried) (book : BookState) (now : Parts W) : Type 0 where
+      pub record_is : record_of far now ≡ base
+      pub book_is : now.book.state ≡ book
+      pub may : (ticket : Ticket) (request : Request) → next_taken now.book.state.standing ≡ Some (ticket, request) → IsTrue (has_room (far (wire_of now.station.link)))
+          → MayStart honest far clean layouts ticket request now
+
+    -- where the port stands after so many turns
+    abbrev pub Going : ℕ → List (Ticket × Request) → List Carried → BookState → Parts W → Type 0
+    Going zero requests base book now = Idle base book now
+    Going (suc n) [] base book now = (more : List Carried) × (record_of far now ≡ base ++ more)
+    Going (suc n) (next ∷ rest) base book now =
+        ((after : After (suc n) next base book now) × ((answer : Answer) → after.stage ≡ Ended answer → ⊥))
+        ⊎ ((answer : Answer) × (needed next.1 answer ≤ suc n) × Going (suc n - needed next.1 answer) rest (grown_by base next.1 answer) (posted (took book next) (Done answer)) now)
+
+    idle_at : (ticket : Ticket) (request : Request) (base : List Carried) (book : BookState) (answer : Answer) (now : Parts W)
+        → IsAt honest far clean layouts ticket request base book (Ended answer) now → Idle (grown_by base request answer) (posted (took book (ticket, request)) (Done answer)) now
+    idle_at ticket request base book answer now is = record {
+      record_is = record_at layouts ticket request base book (Ended answer) now is ∙ is.at.fits.1;
+      book_is = is.book_is;
+      may = λ next other is_next room. record {
+        wire = is.wire;
+        link_is = is.at.stood.link_is;
+        is_honest = is.at.stood.is_honest;
+        is_clean = is.at.stood.is_clean;
+        ready = calm_ready now.station.session true is.at.stood.calm is.at.fits.0;
+        link = operate_link;
+        operating = is.at.stood.operating;
+        level = record {
+          awake = is.at.stood.awake;
+          page_is = refl;
+          link_is = is.at.stood.at;
+          isdu = _;
+          stands = subst (λ (s : IsduState). Stands layouts.run.od (far is.wire).carried Quiet s (far is.wire).carried) (sym is.at.fits.3.1) refl;
+        };
+        isdu = is.at.stood.isdu;
+        told = is.at.stood.told;
+        quiet = is.at.stood.quiet;
+        room = subst (λ (l : AnyLink W). IsTrue (has_room (far (wire_of l)))) is.at.stood.link_is room;
+        next = is_next;
+      };
+    }
+
+    -- a request after one more turn
+    went : (n : ℕ) (next : Ticket × Request) (rest : List (Ticket × Request)) (base : List Carried) (book : BookState) (now : Parts W) → After (suc n) next base book now → Going (suc n) (next ∷ rest) base book now
+    went n next rest base book now after = by after.stage after.is_at after.turns_are
+      where
+        by : (stage : Stage) → IsAt honest far clean layouts next.0 next.1 base book stage now → turns_at layouts.run.od next.1 stage ≡ suc n → Going (suc n) (next ∷ rest) base book now
+        by (Ended answer) is turns = inr (
+          answer,
+          omega (arith, turns),
+          subst (λ (k : ℕ). Going k rest (grown_by base next.1 answer) (posted (took book next) (Done answer)) now) (sym (none_left (needed next.1 answer) n turns))
+          (idle_at next.0 next.1 base book answer now is),
+        )
+        by stage is turns = inl (record { stage = stage; is_at = is; turns_are = turns }, λ answer e. cc)
+
+    -- one turn more
+    going_more : (room : Option ℕ) (n : ℕ) (requests : List (Ticket × Request)) (base : List Carried) (book : BookState) (mid next : Parts W)
+        → Queue book requests → takes_all room base (length requests) ≡ true → Steady room mid → CleanTurn honest far clean mid next
+        → Going n requests base book mid → Going (suc n) requests base book next
+    going_more room zero [] base book mid next queue fits steady turn idle =
+        let grown = turn.grows steady.is_honest in
+        (grown.0, grown.1 ∙ ap (λ (xs : List Carried). xs ++ grown.0) idle.record_is)
+    going_more room (suc n) [] base book mid next queue fits steady turn (more, is) =
+        let grown = turn.grows steady.is_honest in
+        (more ++ grown.0, grown.1 ∙ ap (λ (xs : List Carried). xs ++ grown.0) is ∙ append_assoc base more grown.0)
+    going_more room zero (first ∷ rest) base book mid next queue fits steady turn idle =
+        let some : has_room (far (wire_of mid.station.link)) ≡ true = rw (steady.room_is, idle.record_is) (takes_first room base (length rest) fits) in
+        let is_next : next_taken mid.book.state.standing ≡ Some first = ap (λ (b : BookState). next_taken b.standing) idle.book_is ∙ queue_next book first rest queue in
+        let after : After 1 first (record_of far mid) mid.book.state next = turn.starts layouts first.0 first.1 (idle.may first.0 first.1 is_next some) in
+        went 0 first rest base book next
+        (subst (λ (b : BookState). After 1 first base b next) idle.book_is (subst (λ (xs : List Carried). After 1 first xs mid.book.state next) idle.record_is after))
+    going_more room (suc n) (first ∷ rest) base book mid next queue fits steady turn (inl (after, goes)) =
+        went (suc n) first rest base book next
+        (subst (λ (k : ℕ). After (suc k) first base book next) after.turns_are (turn.goes_on layouts first.0 first.1 base book after.stage after.is_at goes))
+    going_more room (suc n) (first ∷ rest) base book mid next queue fits steady turn (inr (answer, few, going)) = inr (
+      answer,
+      omega (arith, few),
+      subst (λ (k : ℕ). Going k rest (grown_by base first.1 answer) (posted (took book first) (Done answer)) next) (one_more (needed first.1 answer) n few)
+      (going_more room (suc n - needed first.1 answer) rest (grown_by base first.1 answer) (posted (took book first) (Done answer)) mid next
+      (queue_rest book first rest answer queue) (takes_rest room base (length rest) first.1 answer fits) steady turn going),
+    )
+
+    -- what that says of the record and of the book
+    on_its_way : CleanLaws → (stage : Stage) (n : ℕ) (next : Ticket × Request) (base : List Carried) (book : BookState) (now : Parts W) → IsAt honest far clean layouts next.0 next.1 base book stage now
+        → turns_at layouts.run.od next.1 stage ≡ n → ((answer : Answer) → stage ≡ Ended answer → ⊥) → IsOnItsWay honest far clean layouts n next base book now
+    on_its_way laws (Written zero) n next base book now is turns goes = absurd is.at.fits
+    on_its_way laws (Written (suc i)) n next base book now is turns goes =
+        let few = segment_within layouts.run.od (laws.texts layouts.run.od is.low) (request_text next.1) i is.at.fits.0 in
+        (is.book_is, inl (omega (arith, few, turns), record_at layouts next.0 next.1 base book (Written (suc i)) now is ∙ is.at.fits.3))
+    on_its_way laws Waiting n next base book now is turns goes = (is.book_is, inl (omega (arith, turns), record_at layouts next.0 next.1 base book Waiting now is ∙ is.at.fits.3))
+    on_its_way laws (Reading answer zero) n next base book now is turns goes = absurd is.at.fits
+    on_its_way laws (Reading answer (suc j)) n next base book now is turns goes =
+        let few = segment_within layouts.run.od (laws.texts layouts.run.od is.low) (answer_text next.1 answer) (suc j) is.at.fits.5 in
+        (is.book_is, inr (answer, omega (arith, few, turns), record_at layouts next.0 next.1 base book (Reading answer (suc j)) now is ∙ is.at.fits.3))
+    on_its_way laws (Ended answer) n next base book now is turns goes = absurd (goes answer refl)
+
+    are_served : CleanLaws → (n : ℕ) (requests : List (Ticket × Request)) (base : List Carried) (book : BookState) (now : Parts W) → Going n requests base book now → AreServed honest far clean layouts n requests base book now
+    are_served laws zero requests base book now idle = (idle.record_is, idle.book_is)
+    are_served laws (suc n) [] base book now grown = grown
+    are_served laws (suc n) (next ∷ rest) base book now (inl (after, goes)) = inl (on_its_way laws after.stage (suc n) next base book now after.is_at after.turns_are goes)
+    are_served laws (suc n) (next ∷ rest) base book now (inr (answer, few, going)) =
+        inr (answer, few, are_served laws (suc n - needed next.1 answer) rest (grown_by base next.1 answer) (posted (took book next) (Done answer)) now going)
+
+    -- of one request alone
+    on_time : (ticket : Ticket) (request : Request) (p : Parts W) (n : ℕ) (now : Parts W) → AreServed honest far clean layouts (suc n) ((ticket, request) ∷ []) (record_of far p) p.book.state now
+        → IsOnTime honest far clean layouts ticket request p (suc n) now
+    on_time ticket request p n now (inl (book, inl (few, is))) = inl (few, is, book)
+    on_time ticket request p n now (inl (book, inr (answer, few, is))) = inr (inl (answer, is, few, book))
+    on_time ticket request p n now (inr (answer, few, rest)) = by (suc n - needed request answer) refl rest
+      where
+        by : (left : ℕ) → suc n - needed request answer ≡ left
+            → AreServed honest far clean layouts left [] (grown_by (record_of far p) request answer) (posted (took p.book.state (ticket, request)) (Done answer)) now
+            → IsOnTime honest far clean layouts ticket request p (suc n) now
+        by zero left (is, book) = inr (inr (inl (answer, is, omega (arith, few, left), book)))
+        by (suc k) left (more, is) = inr (inr (inr (answer, more, is, omega (arith, few, left))))
+
+    -- where it begins
+    begins : (first : Ticket × Request) (rest : List (Ticket × Request)) (p : Parts W) → MayServe honest far clean layouts first rest p → Going zero (first ∷ rest) (record_of far p) p.book.state p
+    begins first rest p may = record {
+      record_is = refl;
+      book_is = refl;
+      may = λ ticket request is_next room. record {
+        wire = may.starts.wire;
+        link_is = may.starts.link_is;
+        is_honest = may.starts.is_honest;
+        is_clean = may.starts.is_clean;
+        ready = may.starts.ready;
+        link = may.starts.link;
+        operating = may.starts.operating;
+        level = may.starts.level;
+        isdu = may.starts.isdu;
+        told = may.starts.told;
+        quiet = may.starts.quiet;
+        room = may.starts.room;
+        next = is_next;
+      };
+    }
+
+    steady_first : (ticket : Ticket) (request : Request) (p : Parts W) → MayStart honest far clean layouts ticket request p → Steady (far (wire_of p.station.link)).room p
+    steady_first ticket request p may = record {
+      is_honest = subst (λ (l : AnyLink W). IsTrue (honest (wire_of l))) (sym may.link_is) may.is_honest;
+      room_is = refl;
+    }
+
+    queue_first : (first : Ticket × Request) (rest : List (Ticket × Request)) (p : Parts W) → MayServe honest far clean layouts first rest p → Queue p.book.state (first ∷ rest)
+    queue_first first rest p may = record {
+      free = was_free p.book.state.standing.taken (p.book.state.standing.urgent ++ p.book.state.standing.waiting) first may.starts.next;
+      others = may.others;
+      order = may.in_order;
+    }
+
+    -- one request may be served where it may start
+    may_serve : (ticket : Ticket) (request : Request) (p : Parts W) → MayStart honest far clean layouts ticket request p → MayServe honest far clean layouts (ticket, request) [] p
+    may_serve ticket request p may =
+        let s = p.book.state.standing in
+        let list : List (Ticket × Request) = s.urgent ++ s.waiting in
+        let free = was_free s.taken list (ticket, request) may.next in
+        let head : slice_get list 0 ≡ Some (ticket, request) = subst (λ (b : Bool). (if b then None else slice_get list 0) ≡ Some (ticket, request)) free may.next in
+        let some : has_room (far (wire_of p.station.link)) ≡ true = subst (λ (l : AnyLink W). IsTrue (has_room (far (wire_of l)))) (sym may.link_is) may.room in
+        record {
+          starts = may;
+          others = drop 1 list;
+          in_order = headed list (ticket, request) head;
+          room = takes_one (far (wire_of p.station.link)).room (record_of far p) some;
+        }
+
+  -- Whole runs
+
+  -- where the port stands after so many turns and no other call
+  abbrev pub SoFar : Parts W → List Call → Parts W → Type 0
+  SoFar p calls now =
+      (n : ℕ) → calls ≡ replicate n call.Turn → (layouts : Layouts) (first : Ticket × Request) (rest : List (Ticket × Request)) → MayServe honest far clean layouts first rest p
+      → Steady (far (wire_of p.station.link)).room now × Going layouts n (first ∷ rest) (record_of far p) p.book.state now
+
+  pub so_far_none : (p : Parts W) → SoFar p [] p
+  so_far_none p zero e layouts first rest may = (steady_first layouts first.0 first.1 p may.starts, begins layouts first rest p may)
+  so_far_none p (suc n) e layouts first rest may = absurd (let k : [] ≡ call.Turn ∷ replicate n call.Turn = e in cc)
+
+  so_far_snoc : (p mid next : Parts W) (calls : List Call) (c : Call) → SoFar p calls mid → (c ≡ call.Turn → CleanTurn honest far clean mid next) → SoFar p (calls ++ c ∷ []) next
+  so_far_snoc p mid next calls c so_far turn n e layouts first rest may =
+      let found = snoc_turns calls c n e in
+      let mid_is = so_far found.0 found.2 layouts first rest may in
+      let t : CleanTurn honest far clean mid next = turn found.3 in
+      let room : Option ℕ = (far (wire_of p.station.link)).room in (
+        steady_more room mid next mid_is.0 t,
+        subst (λ (k : ℕ). Going layouts k (first ∷ rest) (record_of far p) p.book.state next) (sym found.1)
+        (going_more layouts room found.0 (first ∷ rest) (record_of far p) p.book.state mid next (queue_first layouts first rest p may) may.room mid_is.0 t mid_is.1),
+      )
+
+  pub so_far_more : (p mid next : Parts W) (calls : List Call) (i : ℕ) (d : Call) → i < length calls → SoFar p (take i calls) mid → (get_or calls i d ≡ call.Turn → CleanTurn honest far clean mid next)
+      → SoFar p (take (i + 1) calls) next
+  so_far_more p mid next calls i d below so_far turn = rw (take_more calls i d below) (so_far_snoc p mid next (take i calls) (get_or calls i d) so_far turn)
+
+  pub clean_serves : CleanLaws → (p next : Parts W) (calls : List Call) (i : ℕ) → length calls ≤ i → SoFar p (take i calls) next → CleanServes honest far clean p calls next
+  clean_serves laws p next calls i all so_far n e layouts first rest may =
+      are_served layouts laws n (first ∷ rest) (record_of far p) p.book.state next (so_far n (take_all i calls all ∙ e) layouts first rest may).1
+
+  pub clean_runs : (p next : Parts W) (calls : List Call) → CleanServes honest far clean p calls next → CleanRuns honest far clean p calls next
+  clean_runs p next calls serves n e layouts ticket request may = on_time layouts ticket request p n next (serves (suc n) e layouts (ticket, request) [] (may_serve layouts ticket request p may))
