@@ -13,7 +13,7 @@ use Rattle.iol_isdu.specs.declared.values.Request.{Request}
 use Rattle.iol_isdu.specs.declared.values.Answer.{Answer}
 use Rattle.iol_far.specs.declared.carried.Carried.{Carried}
 use Rattle.iol_far.specs.Octets.{octets_in}
-use Rattle.iol_far.specs.Isdu.{IsduState, Receiving, Handed, Answered, handed, fits}
+use Rattle.iol_far.specs.Isdu.{IsduState, Handed, Answered, handed, fits}
 use Rattle.iol_far.specs.Far.{Far, hear}
 use Rattle.iol_far.specs.Local.{Carry, local, carried_by, has_room, IsWorkedOff}
 use Rattle.iol_far.specs.Level.{Link, link_of}
@@ -26,7 +26,7 @@ use Rattle.iol_steps.specs.Step.{Image}
 use Rattle.iol_steps.specs.declared.said.Said.{Said}
 use Rattle.iol_app.specs.declared.request.Current.{Current}
 use Rattle.iol_app.specs.declared.request.Progress.{Progress}
-use Rattle.iol_app.specs.declared.request.Progress.TheVariants.{Sending, Receiving}
+use Rattle.iol_app.specs.declared.request.Progress.TheVariants.{Sending}
 use Rattle.iol_app.specs.declared.session.Exchange.{Exchange}
 use Rattle.iol_app.specs.declared.session.Exchange.TheVariants.{TellOutput, DropOutput, Abort, ReadEvent, ConfirmEvents, Request as NextMessage, Idle}
 use Rattle.iol_mode.specs.Next.{AnyLink}

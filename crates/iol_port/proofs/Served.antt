@@ -1,5 +1,5 @@
 -- Turns of a port over a clean wire, one after the other: requests that wait are served in order, each in its number of turns.
-use Rattle.std.proofs.Common.{◌≡◌, ◌⊎◌, inl, inr, ⊎_elim, ℕ, zero, suc, ◌+◌, ◌-◌, ◌<◌, ◌≤◌, Bool, true, false, List, [], ◌∷◌, ◌++◌, length, append_assoc, refl, sym, ap, subst, ◌∙◌, Option, Some, None, take_all, take, get_or, replicate, arith}
+use Rattle.std.proofs.Common.{◌≡◌, ◌⊎◌, inl, inr, ℕ, zero, suc, ◌+◌, ◌-◌, ◌<◌, ◌≤◌, Bool, true, false, List, [], ◌∷◌, ◌++◌, length, append_assoc, refl, sym, ap, subst, ◌∙◌, Option, Some, None, take_all, take, get_or, replicate, arith}
 use Rattle.std.specs.Prelude.{IsTrue, is_some, if◌then◌else◌, slice_get, drop}
 use Rattle.std.proofs.lemmas.Bool.Decides.{nat_tests}
 use Rattle.std.proofs.lemmas.List.{take_more, length-append}
@@ -8,7 +8,7 @@ use Rattle.iol_isdu.specs.declared.values.Request.{Request}
 use Rattle.iol_isdu.specs.declared.values.Answer.{Answer}
 use Rattle.iol_isdu.specs.Texts.{request_text}
 use Rattle.iol_far.specs.declared.carried.Carried.{Carried}
-use Rattle.iol_far.specs.Isdu.{IsduState, Answered, answer_text}
+use Rattle.iol_far.specs.Isdu.{IsduState, answer_text}
 use Rattle.iol_far.specs.Far.{Far}
 use Rattle.iol_far.specs.Local.{has_room}
 use Rattle.iol_far.specs.Record.{takes_more}
@@ -18,13 +18,12 @@ use Rattle.iol_mode.specs.Next.{AnyLink}
 use Rattle.iol_book.specs.declared.entries.Ticket.{Ticket}
 use Rattle.iol_book.specs.declared.entries.Outcome.TheVariants.{Done}
 use Rattle.iol_book.specs.BookModel.{BookState, next_taken, others_behind, took, posted}
-use Rattle.iol_app.specs.State.{SessionState}
 use Rattle.iol_app.specs.StationState.{wire_of}
 use Rattle.iol_port.specs.declared.call.Call.{Call}
 use Rattle.iol_port.specs.declared.call.Call.TheVariants as call
 use Rattle.iol_port.specs.View.{Parts}
 use Rattle.iol_port.specs.Turns.{Stage, Written, Waiting, Reading, Ended, turns_at, turns_needed}
-use Rattle.iol_port.specs.Clean.{CleanLaws, IsCalm, IsAt, MayStart, MayServe, IsAfter, CleanTurn, takes_all, record_of, IsOnTime, IsOnItsWay, AreServed, CleanRuns, CleanServes}
+use Rattle.iol_port.specs.Clean.{CleanLaws, IsAt, MayStart, MayServe, IsAfter, CleanTurn, takes_all, record_of, IsOnTime, IsOnItsWay, AreServed, CleanRuns, CleanServes}
 use Rattle.iol_port.proofs.CleanStages.{segment_within}
 use Rattle.iol_port.proofs.CleanTurns.{calm_ready}
 
@@ -172,7 +171,7 @@ module _ {W : Type 0} (honest : W → Bool) (far : W → Far) (clean : W → Boo
           answer,
           omega (arith, turns),
           subst (λ (k : ℕ). Going k rest (grown_by base next.1 answer) (posted (took book next) (Done answer)) now) (sym (none_left (needed next.1 answer) n turns))
-          (idle_at next.0 next.1 base book answer now is),
+              (idle_at next.0 next.1 base book answer now is),
         )
         by stage is turns = inl (record { stage = stage; is_at = is; turns_are = turns }, λ answer e. cc)
 
@@ -199,8 +198,8 @@ module _ {W : Type 0} (honest : W → Bool) (far : W → Far) (clean : W → Boo
       answer,
       omega (arith, few),
       subst (λ (k : ℕ). Going k rest (grown_by base first.1 answer) (posted (took book first) (Done answer)) next) (one_more (needed first.1 answer) n few)
-      (going_more room (suc n - needed first.1 answer) rest (grown_by base first.1 answer) (posted (took book first) (Done answer)) mid next
-      (queue_rest book first rest answer queue) (takes_rest room base (length rest) first.1 answer fits) steady turn going),
+          (going_more room (suc n - needed first.1 answer) rest (grown_by base first.1 answer) (posted (took book first) (Done answer)) mid next
+          (queue_rest book first rest answer queue) (takes_rest room base (length rest) first.1 answer fits) steady turn going),
     )
 
     -- what that says of the record and of the book
@@ -307,7 +306,7 @@ module _ {W : Type 0} (honest : W → Bool) (far : W → Far) (clean : W → Boo
       let room : Option ℕ = (far (wire_of p.station.link)).room in (
         steady_more room mid next mid_is.0 t,
         subst (λ (k : ℕ). Going layouts k (first ∷ rest) (record_of far p) p.book.state next) (sym found.1)
-        (going_more layouts room found.0 (first ∷ rest) (record_of far p) p.book.state mid next (queue_first layouts first rest p may) may.room mid_is.0 t mid_is.1),
+            (going_more layouts room found.0 (first ∷ rest) (record_of far p) p.book.state mid next (queue_first layouts first rest p may) may.room mid_is.0 t mid_is.1),
       )
 
   pub so_far_more : (p mid next : Parts W) (calls : List Call) (i : ℕ) (d : Call) → i < length calls → SoFar p (take i calls) mid → (get_or calls i d ≡ call.Turn → CleanTurn honest far clean mid next)

@@ -161,8 +161,8 @@ module _ {W : Type 0} (honest : W → Bool) (far : W → Far) (clean : W → Boo
   IsOnItsWay layouts n next base book new =
       (new.book.state ≡ took book next)
       × (((n ≤ segments layouts.run.od (request_text next.1) + 1) × (record_of far new ≡ base))
-          ⊎ ((answer : Answer) × (n < turns_needed layouts.run.od next.1 answer)
-          × (record_of far new ≡ grown_by base next.1 answer)))
+      ⊎ ((answer : Answer) × (n < turns_needed layouts.run.od next.1 answer)
+      × (record_of far new ≡ grown_by base next.1 answer)))
 
   -- How requests that wait stand after so many turns. Before the first turn none is taken. Then
   -- the first of them is on its way; or it is done with an answer, after as many turns as are
@@ -179,7 +179,7 @@ module _ {W : Type 0} (honest : W → Bool) (far : W → Far) (clean : W → Boo
       ⊎ ((answer : Answer)
       × (turns_needed layouts.run.od next.1 answer ≤ suc n)
       × AreServed layouts (suc n - turns_needed layouts.run.od next.1 answer) rest
-          (grown_by base next.1 answer) (posted (took book next) (Done answer)) new)
+      (grown_by base next.1 answer) (posted (took book next) (Done answer)) new)
 
   -- at some stage, so many turns on
   pub record IsAfter (layouts : Layouts) (ticket : Ticket) (request : Request) (base : List Carried) (book : BookState) (turns : ℕ) (p : Parts W) : Type 0 where
