@@ -247,23 +247,49 @@ impl<W: Wire> Station<W> {
         ensures exact { IsTurn W.honest W.far W.silence (AskedWakes W.wake_gives (asked_of self.old room))
             (AskedGives W.exchange_gives (asked_of self.old room)) room self.old result self.new }
     {
-        station_laws();
-        self.turned(room)
+        let mut said = Said::Idle;
+        self.turn_into(room, &mut said);
+        said
     }
 
-    fn turned(&mut self, room: bool) -> Said
+    /// The same turn, which says what it does in a place that holds `Idle`. A turn that says `Idle` writes nothing there.
+    pub fn turn_into(&mut self, room: bool, said: &mut Said)
+        requires idle { said.old ≡ Said.Idle }
         ensures request { request_in self.new.session.current
-            ≡ request_after (request_in self.old.session.current) result }
+            ≡ request_after (request_in self.old.session.current) said.new }
         ensures turn { IsTurn W.honest W.far W.silence W.wake_gives W.exchange_gives room self.old
-            result self.new }
+            said.new self.new }
+        ensures ends { EndsRequest said.new (request_in self.old.session.current) }
+        ensures reading { ReadingAfter room (is_reading self.old.session) said.new
+            (is_reading self.new.session) }
+        ensures steps { TurnSteps W.honest W.far W.silence self.old said.new self.new }
+        ensures asked { IsCall W.wake_gives W.exchange_gives (asked_of self.old room)
+            (wire_of self.old.link) (wire_of self.new.link) }
+        ensures exact { IsTurn W.honest W.far W.silence (AskedWakes W.wake_gives (asked_of self.old room))
+            (AskedGives W.exchange_gives (asked_of self.old room)) room self.old said.new self.new }
+    {
+        station_laws();
+        self.turned(room, said);
+    }
+
+    fn turned(&mut self, room: bool, said: &mut Said)
+        requires idle { said.old ≡ Said.Idle }
+        ensures request { request_in self.new.session.current
+            ≡ request_after (request_in self.old.session.current) said.new }
+        ensures turn { IsTurn W.honest W.far W.silence W.wake_gives W.exchange_gives room self.old
+            said.new self.new }
         ensures fits { LinkFits self.old.link self.old.session }
         ensures valid { IsSession self.old.session }
     {
         self.session.is_valid();
         match self.link.state() {
-            State::Down(_) => waked(&mut self.link, &mut self.session),
-            State::Startup(_) | State::Preoperate(_) => risen(&mut self.link, &mut self.session),
-            State::Operate(_) => operated(&mut self.link, &mut self.session, room),
+            State::Down(_) => waked(&mut self.link, &mut self.session, said),
+            State::Startup(_) | State::Preoperate(_) => risen(
+                &mut self.link,
+                &mut self.session,
+                said,
+            ),
+            State::Operate(_) => operated(&mut self.link, &mut self.session, room, said),
         }
     }
 
@@ -281,92 +307,92 @@ impl<W: Wire> Station<W> {
 }
 
 /// A turn in Down, in place: a wake, and where it is answered a start-up begins.
-fn waked<W: Wire>(link: &mut AnyLink<W>, session: &mut Session) -> Said
+fn waked<W: Wire>(link: &mut AnyLink<W>, session: &mut Session, said: &mut Said)
+    requires idle { said.old ≡ Said.Idle }
     requires mode { mode_of link.old ≡ Mode.Down }
     requires fits { LinkFits link.old session.old }
     ensures request { request_in session.new.current
-        ≡ request_after (request_in session.old.current) result }
+        ≡ request_after (request_in session.old.current) said.new }
     ensures turn { (room : Bool)
         → IsTurn W.honest W.far W.silence W.wake_gives W.exchange_gives room
-        (record { link = link.old; session = session.old }) result
+        (record { link = link.old; session = session.old }) said.new
         (record { link = link.new; session = session.new }) }
     ensures fits { LinkFits link.new session.new }
 {
     let rate = link.wake();
-    follow_wake(session, rate)
+    follow_wake(session, rate, said)
 }
 
 /// Takes up what a wake brought: a start-up begins, or the link is still down.
-fn follow_wake(session: &mut Session, rate: Option<Rate>) -> Said
+fn follow_wake(session: &mut Session, rate: Option<Rate>, said: &mut Said)
+    requires idle { said.old ≡ Said.Idle }
     requires free { session.old.current ≡ None }
     ensures session { session.new
         ≡ settled_session (waked (is_some rate)) (waked_session (is_some rate) session.old) }
     ensures said { IsSettledSaid (waked (is_some rate))
-        (waked_session (is_some rate) session.old) result }
+        (waked_session (is_some rate) session.old) said.new }
     ensures request { request_in session.new.current
-        ≡ request_after (request_in session.old.current) result }
+        ≡ request_after (request_in session.old.current) said.new }
 {
     match rate {
-        Some(_) => {
-            session.start();
-            Said::Idle
-        }
+        Some(_) => session.start(),
         None => {
             session.leave();
-            Said::Idle
         }
     }
 }
 
 /// A turn of a start-up, in place.
-fn risen<W: Wire>(link: &mut AnyLink<W>, session: &mut Session) -> Said
+fn risen<W: Wire>(link: &mut AnyLink<W>, session: &mut Session, said: &mut Said)
+    requires idle { said.old ≡ Said.Idle }
     requires mode { is_starting link.old.state ≡ true }
     requires fits { LinkFits link.old session.old }
     ensures request { request_in session.new.current
-        ≡ request_after (request_in session.old.current) result }
+        ≡ request_after (request_in session.old.current) said.new }
     ensures turn { (room : Bool)
         → IsTurn W.honest W.far W.silence W.wake_gives W.exchange_gives room
-        (record { link = link.old; session = session.old }) result
+        (record { link = link.old; session = session.old }) said.new
         (record { link = link.new; session = session.new }) }
     ensures fits { LinkFits link.new session.new }
 {
     let attempt = link.rise();
-    settled(link.state(), &attempt, session)
+    settled(link.state(), &attempt, session, said)
 }
 
 /// Takes up the mode after a turn of a start-up, in OPERATE with the reply that led there.
-fn settled(state: &State, attempt: &Attempt, session: &mut Session) -> Said
-    requires { NextFits (outcome_with attempt.now state.now) session.old }
+fn settled(state: &State, attempt: &Attempt, session: &mut Session, said: &mut Said)
+    requires idle { said.old ≡ Said.Idle }
+    requires fits { NextFits (outcome_with attempt.now state.now) session.old }
     ensures session { session.new
         ≡ settled_session (outcome_with attempt.now state.now) session.old }
-    ensures said { IsSettledSaid (outcome_with attempt.now state.now) session.old result }
+    ensures said { IsSettledSaid (outcome_with attempt.now state.now) session.old said.new }
     ensures request { request_in session.new.current
-        ≡ request_after (request_in session.old.current) result }
+        ≡ request_after (request_in session.old.current) said.new }
 {
     match state {
-        State::Down(_) => session.lose(),
+        State::Down(_) => session.lose(said),
         State::Startup(startup) => {
             if let Some(layouts) = startup.told() {
                 session.take_layout(&layouts.run, layouts.isdu);
             }
-            Said::Idle
         }
-        State::Preoperate(_) => Said::Idle,
+        State::Preoperate(_) => {}
         State::Operate(_) => match attempt {
-            Attempt::Got(first) => session.hear(first),
-            Attempt::Again | Attempt::Lost => session.quiet(),
+            Attempt::Got(first) => session.hear(first, said),
+            Attempt::Again | Attempt::Lost => session.quiet(said),
         },
     }
 }
 
 /// A turn in OPERATE, in place: the message out again, or a new one for what is due.
-fn operated<W: Wire>(link: &mut AnyLink<W>, session: &mut Session, room: bool) -> Said
+fn operated<W: Wire>(link: &mut AnyLink<W>, session: &mut Session, room: bool, said: &mut Said)
+    requires idle { said.old ≡ Said.Idle }
     requires mode { is_operating link.old ≡ true }
     requires fits { LinkFits link.old session.old }
     ensures request { request_in session.new.current
-        ≡ request_after (request_in session.old.current) result }
+        ≡ request_after (request_in session.old.current) said.new }
     ensures turn { IsTurn W.honest W.far W.silence W.wake_gives W.exchange_gives room
-        (record { link = link.old; session = session.old }) result
+        (record { link = link.old; session = session.old }) said.new
         (record { link = link.new; session = session.new }) }
     ensures fits { LinkFits link.new session.new }
 {
@@ -375,20 +401,21 @@ fn operated<W: Wire>(link: &mut AnyLink<W>, session: &mut Session, room: bool) -
     };
     let message = session.next_message(operate.out(), room);
     let attempt = link.exchange(&message);
-    taken_up(session, &attempt)
+    taken_up(session, &attempt, said)
 }
 
 /// Takes up how the attempt of a turn in OPERATE ended.
-fn taken_up(session: &mut Session, attempt: &Attempt) -> Said
-    requires { IsReplyHearable attempt.now session.old }
+fn taken_up(session: &mut Session, attempt: &Attempt, said: &mut Said)
+    requires idle { said.old ≡ Said.Idle }
+    requires hearable { IsReplyHearable attempt.now session.old }
     ensures session { session.new ≡ attempt_session attempt.now session.old }
-    ensures said { IsAttemptSaid attempt.now session.old result }
+    ensures said { IsAttemptSaid attempt.now session.old said.new }
     ensures request { request_in session.new.current
-        ≡ request_after (request_in session.old.current) result }
+        ≡ request_after (request_in session.old.current) said.new }
 {
     match attempt {
-        Attempt::Got(reply) => session.hear(reply),
-        Attempt::Again => session.quiet(),
-        Attempt::Lost => session.lose(),
+        Attempt::Got(reply) => session.hear(reply, said),
+        Attempt::Again => session.quiet(said),
+        Attempt::Lost => session.lose(said),
     }
 }

@@ -31,6 +31,7 @@ use iol_event::Event;
 use iol_image::Image;
 use iol_isdu::{Cause, Request};
 use iol_link::Wire;
+use iol_steps::Said;
 use std::alloc::{Allocator, Global};
 use std::marker::Model;
 
@@ -229,7 +230,8 @@ impl<W: Wire, A: Allocator + Copy> Parts<W, A> {
         let room = self.has_room();
         begin_next(&mut self.station, &mut self.book, room);
         let began = self.station.status().mode;
-        let said = self.station.turn(room);
+        let mut said = Said::Idle;
+        self.station.turn_into(room, &mut said);
         let woke = woke_up(began, self.station.status().mode);
         settle(&mut self.book, &mut self.kept, woke, said);
     }

@@ -1,9 +1,12 @@
 //! The pieces of a turn: the next request is begun, and what the turn says goes to the book and to the kept events.
-ghost use Rattle.std.specs.Prelude.{◌≡◌, ◌+◌, ◌≤◌, ◌&&◌, [], ◌∷◌, ◌++◌, cond, not, length};
-ghost use Rattle.iol_book.specs.BookModel.{next_taken};
+ghost use Rattle.std.specs.Prelude.{◌≡◌, ◌≢◌, ◌+◌, ◌≤◌, ◌&&◌, [], ◌∷◌, ◌++◌, cond, not, length, None, Some, false, IsSome, IfSome};
+ghost use Rattle.iol_isdu.specs.Texts.{IsRequest};
+ghost use Rattle.iol_book.specs.BookModel.{next_taken, took};
 ghost use Rattle.iol_app.specs.Asking.{prepared};
 ghost use Rattle.iol_app.specs.Due.{is_ready};
-ghost use Rattle.iol_app.specs.StationState.{is_operating};
+ghost use Rattle.iol_app.specs.Seen.{BeginSteps};
+ghost use Rattle.iol_app.specs.State.{begun_in};
+ghost use Rattle.iol_app.specs.StationState.{is_operating, mode_of};
 ghost use Rattle.iol_port.specs.Asks.{lacks_isdu, to_begin};
 ghost use Rattle.iol_port.specs.EveryWire.{taken_where};
 ghost use Rattle.iol_steps.specs.Step.{Reset, is_down as is_down_mode, book_said, reports_said};
@@ -96,9 +99,28 @@ pub(crate) fn begin_next<W: Wire, A: Allocator + Copy>(
     if lacks_isdu(station.isdu()) {
         station.may_deny();
         let _denied = book.deny();
-    } else if let Some((_, request)) = book.take() {
-        station.begin(request);
+    } else if book.next().is_some() {
+        take_next(station, book);
     }
+}
+
+/// The request that is next is taken and begun. Out of line, since most turns take none, and a request is large.
+#[inline(never)]
+fn take_next<W: Wire, A: Allocator + Copy>(station: &mut Station<W>, book: &mut Book<A>)
+    requires operate { mode_of station.old.link ≡ Mode.Operate }
+    requires free { station.old.session.current ≡ None }
+    requires isdu { station.old.session.isdu ≢ Some false }
+    requires waits { IsSome (next_taken book.old.state.standing) }
+    ensures station { IfSome (next_taken book.old.state.standing) (λ next. station.new
+        ≡ record station.old { session = begun_in next.1 station.old.session }) }
+    ensures book { IfSome (next_taken book.old.state.standing) (λ next. book.new.state
+        ≡ took book.old.state next) }
+    ensures steps { IfSome (next_taken book.old.state.standing) (λ next.
+        BeginSteps W.honest W.far W.silence next.1 station.old station.new) }
+    ensures request { IfSome (next_taken book.old.state.standing) (λ next. IsRequest next.1) }
+{
+    let (_, request) = book.take().unwrap();
+    station.begin(request);
 }
 
 /// What a turn says goes to the book and to the kept events.

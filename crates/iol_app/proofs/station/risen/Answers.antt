@@ -7,8 +7,8 @@ use Rattle.iol_app.specs.StationState.{StationState, StateFits, NextFits, settle
 use Rattle.iol_app.proofs.Settling.{outcome_state, rise_turn, rise_next, settled_fits}
 use Rattle.iol_app.proofs.station.risen.Goals as goal
 
-pub settled-requires : goal.settled-requires
-settled-requires g c =
+pub settled-requires-clause-fits : goal.settled-requires-clause-fits
+settled-requires-clause-fits g c =
     let wire = g.W.Wire in
     let rise = c.rise-attempt in
     subst (λ (t : State). NextFits (outcome_with rise.result t) c.args.session.now) (sym c.state.ensures.state)
@@ -31,7 +31,7 @@ pub returns-clause-turn : goal.returns-clause-turn
 returns-clause-turn g c room =
     let wire = g.W.Wire in
     let s = c.args.session.now in
-    let said = c.settled.result in
+    let said = c.settled.new.said in
     let rise = c.rise-attempt in
     let outcome : Outcome = outcome_with rise.result rise.new.self.state in
     let new : StationState _ = record { link = rise.new.self; session = c.settled.new.session } in

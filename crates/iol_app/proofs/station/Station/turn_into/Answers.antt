@@ -4,32 +4,32 @@ use Rattle.iol_app.proofs.AskedTurns.{turn_asked}
 use Rattle.iol_app.proofs.Ending.{turn_ends}
 use Rattle.iol_app.proofs.Reporting.{turn_reading}
 use Rattle.iol_app.proofs.Stepping.{turn_steps}
-use Rattle.iol_app.proofs.station.Station.turn.Goals as goal
+use Rattle.iol_app.proofs.station.Station.turn_into.Goals as goal
 
 pub returns-clause-steps : goal.returns-clause-steps
 returns-clause-steps g c =
     let wire = g.W.Wire in
     let turned = c.turned.ensures in
-    turn_steps wire.honest wire.far wire.silence wire.wake_gives wire.exchange_gives c.station_laws.ensures c.args.room c.args.self.now c.turned.result c.turned.new.self
+    turn_steps wire.honest wire.far wire.silence wire.wake_gives wire.exchange_gives c.station_laws.ensures c.args.room c.args.self.now c.turned.new.said c.turned.new.self
     turned.valid turned.fits turned.turn
 
 pub returns-clause-reading : goal.returns-clause-reading
 returns-clause-reading g c =
     let wire = g.W.Wire in
     let turned = c.turned.ensures in
-    turn_reading wire.honest wire.far wire.silence wire.wake_gives wire.exchange_gives c.args.room c.args.self.now c.turned.result c.turned.new.self turned.valid turned.fits turned.turn
+    turn_reading wire.honest wire.far wire.silence wire.wake_gives wire.exchange_gives c.args.room c.args.self.now c.turned.new.said c.turned.new.self turned.valid turned.fits turned.turn
 
 pub returns-clause-ends : goal.returns-clause-ends
 returns-clause-ends g c =
     let wire = g.W.Wire in
-    turn_ends wire.honest wire.far wire.silence wire.wake_gives wire.exchange_gives c.args.room c.args.self.now c.turned.result c.turned.new.self c.turned.ensures.turn
+    turn_ends wire.honest wire.far wire.silence wire.wake_gives wire.exchange_gives c.args.room c.args.self.now c.turned.new.said c.turned.new.self c.turned.ensures.turn
 
 pub returns-clause-asked : goal.returns-clause-asked
 returns-clause-asked g c =
     let wire = g.W.Wire in
-    turn_call wire.honest wire.far wire.silence wire.wake_gives wire.exchange_gives c.args.self.now c.args.room c.turned.result c.turned.new.self c.turned.ensures.fits c.turned.ensures.turn
+    turn_call wire.honest wire.far wire.silence wire.wake_gives wire.exchange_gives c.args.self.now c.args.room c.turned.new.said c.turned.new.self c.turned.ensures.fits c.turned.ensures.turn
 
 pub returns-clause-exact : goal.returns-clause-exact
 returns-clause-exact g c =
     let wire = g.W.Wire in
-    turn_asked wire.honest wire.far wire.silence wire.wake_gives wire.exchange_gives c.args.self.now c.args.room c.turned.result c.turned.new.self c.turned.ensures.fits c.turned.ensures.turn
+    turn_asked wire.honest wire.far wire.silence wire.wake_gives wire.exchange_gives c.args.self.now c.args.room c.turned.new.said c.turned.new.self c.turned.ensures.fits c.turned.ensures.turn
