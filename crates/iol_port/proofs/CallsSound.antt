@@ -15,7 +15,9 @@ use Rattle.iol_book.specs.declared.entries.Entry.TheVariants.{Submitted, Collect
 use Rattle.iol_book.specs.Replay.{same_ticket}
 use Rattle.iol_book.specs.BookModel.{BookState, IsReplayed, entered, submitted, next_ticket, collected, withdrawn, withdraw_refusal, may_archive, posted, submitted_urgent, outcome_or, waits, is_taken, flight_refusal}
 use Rattle.iol_book.specs.Takings.{ended, FitsTakings, FitsEnded, FitsJournal}
-use Rattle.iol_steps.specs.Session.{Job, Session, cut_for, cancelling}
+use Rattle.iol_steps.specs.Session.{Job, Session, cut_for, cancelling, session_through}
+use Rattle.iol_steps.specs.Kinds.{restart_steps}
+use Rattle.iol_port.specs.Steps.{book_through}
 use Rattle.iol_steps.specs.declared.mode.Mode.TheVariants.{Down}
 use Rattle.iol_port.specs.declared.call.Call.{Call}
 use Rattle.iol_port.specs.declared.call.Answered.{Answered}
@@ -124,8 +126,7 @@ module _ (P : PortState → Type 0) (keeps : (a b : PortState) (c : Call) (reply
 -- Every call keeps it sound, so every run does
 
 no_job : (job : Option Job) → request_of job ≡ None → job ≡ None
-no_job None h = refl
-no_job (Some job) h = absurd (cc)
+no_job job h = grind arith
 
 collected_kept : (b : BookState) (t : Ticket) (o : Outcome) → lookup (same_ticket t) b.standing.outcomes ≡ Some o → collected b t ≡ entered b (Collected t)
 collected_kept b t o is = rw is refl
@@ -155,10 +156,10 @@ module _ (laws : BookLaws) where
             (subst (λ xs. FitsEnded [] (map (λ pair. (pair.request, pair.answer)) xs)) (sym (drop-length s.carried)) laws.archived.0));
       }
 
-  restart_sound : (a : PortState) (job : Option Job) → a.session.job ≡ job → IsSound a → IsSound (restarted a)
-  restart_sound a None e sound = rw e (let moved : Sound a.book (record a.session { mode = Down; why = None }) a.base = sound_moved laws a.book a.session a.base Down None sound in rw e at moved)
-  restart_sound a (Some job) e sound =
-      rw e (let moved : Sound (posted a.book (outcome.Unknown Restarted)) (record (cut_for Restarted a.session) { mode = Down; why = None }) a.base = sound_moved laws _ (cut_for Restarted a.session) a.base Down None (sound_cut laws Restarted a.book a.session a.base job e sound) in rw e at moved)
+  restart_sound : (b : BookState) (s : Session) (job : Option Job) (base : ℕ) → Sound b (record s { job = job }) base
+      → Sound (book_through (restart_steps (request_of job)) b) (session_through (restart_steps (request_of job)) (record s { job = job })) base
+  restart_sound b s None base sound = sound_moved laws b (record s { job = None }) base Down None sound
+  restart_sound b s (Some job) base sound = sound_moved laws _ (cut_for Restarted (record s { job = Some job })) base Down None (sound_cut laws Restarted job b s base sound)
 
   pub call_sound : (a b : PortState) (c : Call) (reply : Answered) → CallOf a c reply b → IsSound a → IsSound b
   call_sound a b c reply is sound = call_leaves IsSound a b c reply is (record {
@@ -167,8 +168,8 @@ module _ (laws : BookLaws) where
     urgent = λ q e r. sound_book a.book (submitted_urgent a.book q) a.session a.base (entered_replayed a.book (Urgent (next_ticket a.book) q) sound.replayed) refl refl (laws.submit_urgent a.book q).0 sound;
     collect = λ t out e. entry_sound a (collected a.book t) (Collected t) (collected_kept a.book t out e) refl (laws.collect a.book t).0 sound;
     withdraw = λ t e. entry_sound a (withdrawn a.book t) (Withdrawn t) (withdrawn_kept a.book t e) refl (laws.withdraw a.book t).0 sound;
-    cancel = λ t e r free. sound_cancelling laws a.book a.session a.base a.session.job refl sound;
-    restart = restart_sound a a.session.job refl sound;
+    cancel = λ t e r free. sound_cancelling laws a.book a.session a.base a.session.job sound;
+    restart = restart_sound a.book a.session a.session.job a.base sound;
     archive = λ may. archived_sound a.book a.session a.base may sound;
     turn = λ t b all work. rw (work.book, work.session, work.base) (sound_through laws (moment_in a t) t.steps a.book a.session a.base work.may_book work.may_session sound);
   })
