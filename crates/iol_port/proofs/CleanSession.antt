@@ -1,7 +1,7 @@
 -- A session that has nothing to do but its request, and one turn of it over a clean wire.
-use Rattle.std.proofs.Common.{append-nil, ◌≡◌, inr, ℕ, Bool, true, false, not, ◌&&◌, List, [], ◌∷◌, ◌++◌, refl, sym, ap, subst, ◌∙◌, Option, Some, None, arith}
+use Rattle.std.proofs.Common.{append-nil, ◌≡◌, inr, ℕ, Bool, true, false, ◌&&◌, List, [], ◌∷◌, ◌++◌, refl, sym, ap, subst, ◌∙◌, Option, Some, None, arith}
 use Rattle.std.proofs.lemmas.Grind.{common_steps}
-use Rattle.std.specs.Prelude.{IsTrue, is_some, is_none, if◌then◌else◌, MatchBool}
+use Rattle.std.specs.Prelude.{IsTrue, if◌then◌else◌, MatchBool}
 use Rattle.arrayvec.specs.ArrayVec.{ArrayVec}
 use Rattle.iol_octets.specs.declared.control.Channel.TheVariants.{Isdu}
 use Rattle.iol_mseq.specs.Master.{HasMasterParts}
@@ -14,7 +14,7 @@ use Rattle.iol_isdu.specs.declared.values.Request.{Request}
 use Rattle.iol_isdu.specs.declared.values.Answer.{Answer}
 use Rattle.iol_far.specs.declared.carried.Carried.{Carried}
 use Rattle.iol_far.specs.Octets.{octets_in}
-use Rattle.iol_far.specs.Isdu.{IsduState, Receiving, Handed, Answered, handed, fits}
+use Rattle.iol_far.specs.Isdu.{IsduState, Handed, Answered, handed, fits}
 use Rattle.iol_far.specs.Far.{Far, hear}
 use Rattle.iol_far.specs.Local.{Carry, local, carried_by, has_room, IsWorkedOff}
 use Rattle.iol_far.specs.Level.{Link, link_of}
@@ -23,16 +23,14 @@ use Rattle.iol_link.specs.declared.wire.Rate.{Rate}
 use Rattle.iol_mode.specs.States.{InOperate as OutOperate}
 use Rattle.iol_mode.specs.Stands.{operate_link, IsOperating, IsAccepted}
 use Rattle.iol_mode.specs.States.{operate_turned}
-use Rattle.iol_steps.specs.Step.{Image}
 use Rattle.iol_steps.specs.declared.said.Said.{Said}
 use Rattle.iol_app.specs.declared.request.Current.{Current}
 use Rattle.iol_app.specs.declared.request.Progress.{Progress}
-use Rattle.iol_app.specs.declared.request.Progress.TheVariants.{Sending, Receiving}
 use Rattle.iol_app.specs.declared.session.Exchange.{Exchange}
-use Rattle.iol_app.specs.declared.session.Exchange.TheVariants.{TellOutput, DropOutput, Abort, ReadEvent, ConfirmEvents, Request as NextMessage, Idle}
+use Rattle.iol_app.specs.declared.session.Exchange.TheVariants.{Request as NextMessage}
 use Rattle.iol_mode.specs.Next.{AnyLink}
-use Rattle.iol_app.specs.Requests.{aborts, current_after, IsSaid}
-use Rattle.iol_app.specs.Due.{is_under_way, is_confirm_due, is_resting, due_of, is_idle, is_ready}
+use Rattle.iol_app.specs.Requests.{current_after, IsSaid}
+use Rattle.iol_app.specs.Due.{due_of, is_ready}
 use Rattle.iol_app.specs.Messages.{Head, head_of, progress_head, progress_data, request_head, request_data}
 use Rattle.iol_app.specs.State.{SessionState, sending, sent, sent_by, absorbed, IsMessageFor, IsOutFor}
 use Rattle.iol_app.specs.StationState.{StationState, wire_of, IsSettled, IsTurn, IsLinkTurn, IsOperateTurn}

@@ -1,6 +1,6 @@
 -- One turn brings a request one stage on.
 use Rattle.std.proofs.Common.{◌≡◌, ⊎_elim, ℕ, zero, suc, ◌+◌, ◌*◌, ◌%◌, ◌<◌, ◌≤◌, Bool, true, false, ◌&&◌, ◌==◌, List, [], length, refl, sym, ap, ◌∙◌, arith, Option, Some, None, Ok, ◌∷◌, ◌++◌, subst}
-use Rattle.std.specs.Prelude.{IsTrue, nat_lt, nat_le, if◌then◌else◌, MatchBool}
+use Rattle.std.specs.Prelude.{IsTrue, nat_le, if◌then◌else◌, MatchBool}
 use Rattle.std.proofs.lemmas.Bool.{cases_lt}
 use Rattle.std.proofs.lemmas.Bool.Decides.{nat_tests}
 use Rattle.std.proofs.lemmas.List.{length-append, append-nil}

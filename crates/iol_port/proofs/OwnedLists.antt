@@ -1,5 +1,5 @@
 -- how often a ticket stands in lists: of what was carried out, and of what waits
-use Rattle.std.proofs.Common.{◌≡◌, ◌∷◌, ◌++◌, [], List, ℕ, ◌+◌, Bool, true, false, cond, if◌then◌else◌, ◌≤◌, nat_eq, nat_lt, Option, Some, None, append_assoc, refl, ap, sym, ◌∙◌, inl, inr, subst, arith, drop, append-nil}
+use Rattle.std.proofs.Common.{◌≡◌, ◌∷◌, ◌++◌, [], List, ℕ, ◌+◌, Bool, true, false, cond, ◌≤◌, nat_eq, nat_lt, Option, Some, None, append_assoc, refl, ap, sym, ◌∙◌, inl, inr, subst, arith, drop, append-nil}
 use Rattle.std.proofs.Math.Nat.{lt_of_not-le}
 use Rattle.std.proofs.lemmas.Bool.{eq-eqb}
 use Rattle.std.proofs.lemmas.Bool.Decides.{nat_tests}
@@ -10,18 +10,17 @@ use Rattle.indexmap.specs.IndexMap.{insert_entry}
 use Rattle.iol_isdu.specs.declared.values.Request.{Request}
 use Rattle.iol_far.specs.declared.carried.Carried.{Carried}
 use Rattle.iol_book.specs.declared.entries.Ticket.{Ticket}
-use Rattle.iol_book.specs.Replay.{Standing, same_ticket, is_among, without, others_without}
+use Rattle.iol_book.specs.Replay.{Standing, same_ticket, without, others_without}
 use Rattle.iol_book.specs.BookModel.{next_taken, others_behind, BookState, took, denied, posted, leaves_unsure, ended_with}
-use Rattle.iol_port.specs.Steps.{ticket_of, MayBook, MayBookAll, book_after, book_through}
+use Rattle.iol_port.specs.Steps.{ticket_of, MayBook, book_after}
 use Rattle.iol_port.specs.Owned.{Owned, pairs_of, AreApart, IsOneOf}
 use Rattle.iol_isdu.specs.declared.values.Answer.{Answer}
 use Rattle.iol_isdu.specs.declared.values.Cause.{Cause}
 use Rattle.iol_isdu.specs.declared.values.Cause.TheVariants.{LinkLost, Restarted}
 use Rattle.iol_book.specs.declared.entries.Outcome.{Outcome}
 use Rattle.iol_book.specs.declared.entries.Outcome.TheVariants as outcome
-use Rattle.iol_steps.specs.Step.{Step, Take, Deny, Carry, Done, Unknown, LateCarry, Reset, Busy, Move, Moment}
-use Rattle.iol_steps.specs.Session.{Job, Session, MayCut, MaySession, MaySessionAll, session_after, session_through, carried_out, carried_late, cut_for, left_of, unanswered, marked, busy_once_more}
-use Rattle.iol_port.proofs.Replaying.{steps_keep}
+use Rattle.iol_steps.specs.Step.{Step, Take, Deny, Carry, Done, Unknown, LateCarry, Reset, Busy, Moment}
+use Rattle.iol_steps.specs.Session.{Job, Session, MaySession, session_after, carried_out, carried_late, cut_for, left_of, unanswered, marked, busy_once_more}
 
 -- Numbers
 

@@ -1,6 +1,5 @@
 -- what is carried out in a run is each request once, and none that was cut off before a wake that had success, or for good
-use Rattle.std.proofs.Common.{◌≡◌, ◌⊎◌, ◌∷◌, ◌++◌, [], List, ℕ, ◌+◌, ◌≤◌, Option, Some, None, append-nil, refl, ap, sym, ◌∙◌, inl, inr, subst, arith}
-use Rattle.std.proofs.lemmas.Grind.{common_steps}
+use Rattle.std.proofs.Common.{◌≡◌, ◌⊎◌, ◌∷◌, ◌++◌, [], List, ℕ, ◌+◌, ◌≤◌, Option, Some, None, append-nil, refl, sym, ◌∙◌, inl, inr, subst, arith}
 use Rattle.std.specs.Map.{lookup, remove_entry}
 use Rattle.indexmap.specs.IndexMap.{insert_entry}
 use Rattle.iol_isdu.specs.declared.values.Request.{Request}
@@ -14,12 +13,11 @@ use Rattle.iol_book.specs.declared.entries.Limits.{Limits}
 use Rattle.iol_book.specs.declared.entries.Ticket.{Ticket}
 use Rattle.iol_book.specs.declared.entries.Outcome.{Outcome}
 use Rattle.iol_book.specs.declared.entries.Outcome.TheVariants as outcome
-use Rattle.iol_book.specs.declared.entries.Entry.TheVariants.{Withdrawn as WithdrawnEntry, Collected as CollectedEntry}
 use Rattle.iol_book.specs.Replay.{same_ticket, without, others_without}
-use Rattle.iol_book.specs.BookModel.{BookState, submitted, submitted_urgent, next_ticket, entered}
+use Rattle.iol_book.specs.BookModel.{BookState, next_ticket}
 use Rattle.iol_steps.specs.declared.mode.Mode.{Mode}
-use Rattle.iol_steps.specs.declared.mode.Mode.TheVariants.{Down, Startup}
-use Rattle.iol_steps.specs.Step.{Step, Take, Carry, Done, Unknown, LateCarry, Reset, Busy, Move, Moment}
+use Rattle.iol_steps.specs.declared.mode.Mode.TheVariants.{Down}
+use Rattle.iol_steps.specs.Step.{Step, Carry, Unknown, LateCarry, Reset, Move, Moment}
 use Rattle.iol_steps.specs.Session.{Job, Session, MayMove, MaySession, MaySessionAll, session_after, session_through, marked}
 use Rattle.iol_steps.specs.Kinds.{restart_steps}
 use Rattle.iol_port.specs.declared.call.Call.{Call}

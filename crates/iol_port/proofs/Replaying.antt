@@ -1,5 +1,5 @@
 -- each change of a book keeps it the replay of its journal
-use Rattle.std.proofs.Common.{◌≡◌, Bool, true, false, List, [], ◌∷◌, ◌++◌, Option, None, Some, drop, refl, ap, sym, ◌∙◌, arith, ◌||◌, ◌⊎◌, ℕ, IsSomeAnd, append-nil, length, map, length-append, inl, inr, subst, ◌≤◌}
+use Rattle.std.proofs.Common.{◌≡◌, Bool, true, false, List, [], ◌∷◌, ◌++◌, Option, None, Some, drop, refl, ap, sym, ◌∙◌, arith, ◌||◌, ◌⊎◌, ℕ, append-nil, length, map, length-append, inl, inr, subst, ◌≤◌}
 use Rattle.std.proofs.lemmas.Bool.{eq-eqb}
 use Rattle.std.proofs.lemmas.Grind.{common_steps}
 use Rattle.std.specs.Option.{option_map}
@@ -23,9 +23,8 @@ use Rattle.iol_book.specs.TakingLaws.{SubmitTakesNone, CollectTakesNone, Withdra
 use Rattle.iol_steps.specs.declared.mode.Mode.{Mode}
 use Rattle.iol_mode.specs.declared.why.Why.{Why}
 use Rattle.iol_steps.specs.Step.{Step, Take, Deny, Carry, Done, Unknown, LateCarry, Reset, Busy, Move, Moment}
-use Rattle.iol_steps.specs.Session.{Job, Session, MaySession, MaySessionAll, MayCut, session_after, session_through, carried_out, carried_late, unanswered, left_of, cut_for, busy_once_more, marked}
+use Rattle.iol_steps.specs.Session.{Job, Session, MaySession, MaySessionAll, session_after, session_through, carried_out, carried_late, unanswered, cut_for, busy_once_more, marked}
 use Rattle.iol_port.specs.Steps.{ticket_of, MayBook, MayBookAll, book_after, book_through}
-use Rattle.iol_port.specs.Run.{request_of}
 use Rattle.iol_port.specs.Sound.{pairs_from, written, FitsOpen, request_taken, Sound}
 
 replay_from-push : (s : Standing) (entries : List Entry) (entry : Entry) → replay_from s (entries ++ entry ∷ []) ≡ step (replay_from s entries) entry

@@ -1,6 +1,5 @@
 -- in a run a device without ISDU carries out nothing, and one with ISDU has no request denied
-use Rattle.std.proofs.Common.{◌≡◌, ◌∷◌, [], List, ℕ, Bool, true, false, Option, Some, None, IsSome, refl, ap, sym, ◌∙◌, subst, arith}
-use Rattle.std.specs.Map.{lookup}
+use Rattle.std.proofs.Common.{◌≡◌, List, ℕ, Bool, true, false, Option, Some, None, IsSome, refl, ap, sym, ◌∙◌, subst, arith}
 use Rattle.iol_page.specs.Page.{knows_isdu}
 use Rattle.iol_isdu.specs.declared.values.Request.{Request}
 use Rattle.iol_isdu.specs.declared.values.Cause.TheVariants.{Restarted}
@@ -12,14 +11,14 @@ use Rattle.iol_book.specs.declared.entries.Outcome.{Outcome}
 use Rattle.iol_book.specs.declared.entries.Outcome.TheVariants as outcome
 use Rattle.iol_book.specs.declared.entries.Outcome.TheVariants.{NoIsdu}
 use Rattle.iol_book.specs.Replay.{same_ticket}
-use Rattle.iol_book.specs.BookModel.{BookState, posted, ended_with, submitted, submitted_urgent, collected, withdrawn, withdraw_refusal}
-use Rattle.iol_steps.specs.Step.{Step, Take, Deny, Carry, Done, Unknown, LateCarry, Reset, Busy, Move, Moment}
-use Rattle.iol_steps.specs.Session.{Job, Session, MayCut, MaySession, MaySessionAll, session_after, session_through, busy_once_more, marked}
+use Rattle.iol_book.specs.BookModel.{BookState, posted, ended_with}
+use Rattle.iol_steps.specs.Step.{Step, Take, Deny, Carry, Done, Unknown, LateCarry, Moment}
+use Rattle.iol_steps.specs.Session.{Job, Session, MaySession, session_after, session_through, marked}
 use Rattle.iol_steps.specs.Kinds.{restart_steps}
 use Rattle.iol_port.specs.declared.call.Call.{Call}
 use Rattle.iol_port.specs.declared.call.Answered.{Answered}
 use Rattle.iol_port.specs.Steps.{MayBook, book_after, book_through}
-use Rattle.iol_port.specs.Run.{PortState, CallOf, opened, moment_in, request_of, restarted}
+use Rattle.iol_port.specs.Run.{PortState, CallOf, opened, moment_in, request_of}
 use Rattle.iol_port.specs.Denials.{CarriesNone, IsDeniedWithoutIsdu}
 use Rattle.iol_port.proofs.Replaying.{steps_keep}
 use Rattle.iol_port.proofs.CallsSound.{call_leaves, run_keeps, run_told}
