@@ -1,6 +1,7 @@
 -- what a call of the abstract port leaves, and that it keeps the port sound
-use Rattle.std.proofs.Common.{◌≡◌, ◌∷◌, ◌++◌, [], List, ℕ, true, Option, Some, None, refl, ap, sym, ◌∙◌, length, map, append-nil, inl, arith, subst, Bool, false, inr}
+use Rattle.std.proofs.Common.{◌≡◌, ◌∷◌, ◌++◌, [], List, ℕ, true, Option, Some, None, refl, ap, sym, ◌∙◌, length, map, append-nil, arith, subst, inl, inr, ◌⊎◌, drop}
 use Rattle.std.proofs.Math.Seq.{drop-length}
+use Rattle.std.proofs.lemmas.Grind.{common_steps}
 use Rattle.std.specs.Map.{lookup}
 use Rattle.iol_isdu.specs.declared.values.Request.{Request}
 use Rattle.iol_isdu.specs.declared.values.Answer.{Answer}
@@ -13,21 +14,20 @@ use Rattle.iol_book.specs.declared.entries.Outcome.TheVariants as outcome
 use Rattle.iol_book.specs.declared.entries.Entry.{Entry}
 use Rattle.iol_book.specs.declared.entries.Entry.TheVariants.{Submitted, Collected, Withdrawn, Urgent}
 use Rattle.iol_book.specs.Replay.{same_ticket}
-use Rattle.iol_book.specs.BookModel.{BookState, IsReplayed, entered, submitted, next_ticket, collected, withdrawn, withdraw_refusal, may_archive, posted, submitted_urgent, outcome_or, waits, is_taken, flight_refusal}
+use Rattle.iol_book.specs.BookModel.{BookState, IsReplayed, entered, submitted, next_ticket, collected, withdrawn, withdraw_refusal, may_archive, submitted_urgent, flight_refusal, submit_refusal}
 use Rattle.iol_book.specs.Takings.{ended, FitsTakings, FitsEnded, FitsJournal}
-use Rattle.iol_steps.specs.Session.{Job, Session, cut_for, cancelling}
+use Rattle.iol_steps.specs.Session.{Job, Session, cut_for, cancelling, session_through}
+use Rattle.iol_steps.specs.Kinds.{restart_steps}
+use Rattle.iol_port.specs.Steps.{book_through}
 use Rattle.iol_steps.specs.declared.mode.Mode.TheVariants.{Down}
 use Rattle.iol_port.specs.declared.call.Call.{Call}
 use Rattle.iol_port.specs.declared.call.Answered.{Answered}
-use Rattle.iol_port.specs.Run.{PortState, CallOf, Run, opened, moment_in, request_of, restarted, Is, Turn, TurnsAll, TurnsWork, submit_of, collect_of, withdraw_of, cancel_of, archive_of, take_event_of, set_output_of}
+use Rattle.iol_port.specs.Run.{PortState, CallOf, Run, opened, moment_in, request_of, restarted, Is, Turn, TurnsAll, TurnsWork, submit_of, LacksMemory}
 use Rattle.iol_port.specs.Sound.{Sound, IsSound, RecordFits, FitsOpen, pairs_from, request_taken, written}
 use Rattle.iol_port.proofs.Replaying.{entered_replayed, free_archive, BookLaws, taken_is, sound_book, sound_cut, sound_cancelling, sound_moved, sound_through}
-use Rattle.std.specs.Prelude.{if◌then◌else◌, ◌||◌}
 use Rattle.iol_event.specs.declared.event.Event.{Event}
-use Rattle.iol_book.specs.declared.fault.BookFault.{BookFault}
-use Rattle.iol_book.specs.declared.fault.BookFault.TheVariants.{NotYet, UnknownTicket}
 use Rattle.iol_steps.specs.Images.{Images}
-use Rattle.iol_app.specs.declared.output.OutputFault.{OutputFault}
+use Rattle.iol_steps.specs.Step.{Image}
 use Rattle.iol_port.specs.declared.call.Call.TheVariants as call
 use Rattle.iol_port.specs.declared.call.Answered.TheVariants as answered
 use Rattle.iol_port.specs.Owned.{Happens}
@@ -44,67 +44,57 @@ pub record Leaves (P : PortState → Type 0) (a : PortState) (c : Call) (reply :
   pub archive : may_archive a.book ≡ true → P (record a { book = record a.book { journal = [] }; base = length a.session.carried })
   pub turn : (t : Turn) (b : PortState) → TurnsAll t a b → TurnsWork t a b → P b
 
+module _ (a b : PortState) where
+  -- what a call does that may be refused
+  submit_does : (next : BookState) (reply : Answered) → Is reply b (submit_of a next (submit_refusal a.book)) ⊎ LacksMemory a reply b → (b ≡ a) ⊎ ((reply ≡ answered.Ticket (next_ticket a.book)) × (b ≡ record a { book = next }))
+  submit_does next reply e = grind (arith, common_steps)
+
+  withdraw_does : (t : Ticket) (reply : Answered) → CallOf a (call.Withdraw t) reply b → (b ≡ a) ⊎ ((withdraw_refusal a.book.standing t ≡ None) × (b ≡ record a { book = withdrawn a.book t }))
+  withdraw_does t reply e = grind (arith, common_steps)
+
+  cancel_does : (t : Ticket) (reply : Answered) → CallOf a (call.Cancel t) reply b
+      → (b ≡ a) ⊎ (((reply ≡ answered.Nothing) × (flight_refusal a.book.standing t ≡ None)) × (b ≡ record a { session = cancelling a.session }))
+  cancel_does t reply e = grind (arith, common_steps)
+
+  archive_does : (reply : Answered) → CallOf a call.Archive reply b → (b ≡ a) ⊎ ((may_archive a.book ≡ true) × (b ≡ record a { book = record a.book { journal = [] }; base = length a.session.carried }))
+  archive_does reply e = grind (arith, common_steps)
+
+  output_does : (image : Image) (reply : Answered) → CallOf a (call.SetOutput image) reply b → b ≡ record a { images = b.images }
+  output_does image reply e = grind (arith, common_steps)
+
+  event_does : (reply : Answered) → CallOf a call.TakeEvent reply b → b ≡ record a { kept = drop 1 a.kept }
+  event_does reply e = grind (arith, common_steps)
+
+  -- an outcome that a collect hands out was there
+  pub told_outcome : (t : Ticket) (out : Outcome) → CallOf a (call.Collect t) (answered.Outcome out) b → lookup (same_ticket t) a.book.standing.outcomes ≡ Some out
+  told_outcome t out e = grind (arith, common_steps)
+
 module _ (P : PortState → Type 0) (a b : PortState) where
   is : (next : PortState) → P next → b ≡ next → P b
   is next holds e = subst P (sym e) holds
 
-  by_submit : (next : BookState) (reply : Answered) (why : Option BookFault) → P a → (reply ≡ answered.Ticket (next_ticket a.book) → P (record a { book = next })) → Is reply b (submit_of a next why) → P b
-  by_submit next reply None stays enters e = is (record a { book = next }) (enters e.0) e.1
-  by_submit next reply (Some why) stays enters e = is a stays e.1
-
-  by_collect : (t : Ticket) (reply : Answered) (out : Option Outcome) → lookup (same_ticket t) a.book.standing.outcomes ≡ out → P a
-      → ((o : Outcome) → lookup (same_ticket t) a.book.standing.outcomes ≡ Some o → P (record a { book = collected a.book t }))
-      → Is reply b (collect_of a t (outcome_or out (if waits a.book.standing t || is_taken a.book.standing t then NotYet else UnknownTicket))) → P b
-  by_collect t reply None found stays leaves e = is a stays e.1
-  by_collect t reply (Some o) found stays leaves e = is (record a { book = collected a.book t }) (leaves o found) e.1
-
-  by_withdraw : (t : Ticket) (reply : Answered) (why : Option BookFault) → withdraw_refusal a.book.standing t ≡ why → P a
-      → (withdraw_refusal a.book.standing t ≡ None → P (record a { book = withdrawn a.book t })) → Is reply b (withdraw_of a t why) → P b
-  by_withdraw t reply None why stays leaves e = is (record a { book = withdrawn a.book t }) (leaves why) e.1
-  by_withdraw t reply (Some fault) why stays leaves e = is a stays e.1
-
-  by_cancel : (t : Ticket) (reply : Answered) (why : Option BookFault) → flight_refusal a.book.standing t ≡ why → P a
-      → (reply ≡ answered.Nothing → flight_refusal a.book.standing t ≡ None → P (record a { session = cancelling a.session })) → Is reply b (cancel_of a why) → P b
-  by_cancel t reply None why stays leaves e = is (record a { session = cancelling a.session }) (leaves e.0 why) e.1
-  by_cancel t reply (Some fault) why stays leaves e = is a stays e.1
-
-  by_archive : (reply : Answered) (may : Bool) → may_archive a.book ≡ may → P a
-      → (may_archive a.book ≡ true → P (record a { book = record a.book { journal = [] }; base = length a.session.carried })) → Is reply b (archive_of a) → P b
-  by_archive reply true may stays leaves e = is (record a { book = record a.book { journal = [] }; base = length a.session.carried }) (leaves may) (rw may at e.1)
-  by_archive reply false may stays leaves e = is a stays (rw may at e.1)
+  may_be : {Q : Type 0} (next : PortState) → P a → (Q → P next) → (b ≡ a) ⊎ (Q × (b ≡ next)) → P b
+  may_be next stays leaves (inl e) = is a stays e
+  may_be next stays leaves (inr (q, e)) = is next (leaves q) e
 
   pub call_leaves : (c : Call) (reply : Answered) → CallOf a c reply b → Leaves P a c reply → P b
-  call_leaves (call.Submit q) reply (inl e) l = by_submit (submitted a.book q) reply _ (l.stays a.kept a.images) (l.submit q refl) e
-  call_leaves (call.Submit q) reply (inr lacks) l = is a (l.stays a.kept a.images) lacks.2
-  call_leaves (call.SubmitUrgent q) reply (inl e) l = by_submit (submitted_urgent a.book q) reply _ (l.stays a.kept a.images) (l.urgent q refl) e
-  call_leaves (call.SubmitUrgent q) reply (inr lacks) l = is a (l.stays a.kept a.images) lacks.2
-  call_leaves (call.Collect t) reply e l = by_collect t reply _ refl (l.stays a.kept a.images) (l.collect t) e
-  call_leaves (call.Withdraw t) reply e l = by_withdraw t reply _ refl (l.stays a.kept a.images) (l.withdraw t) e
-  call_leaves (call.Cancel t) reply e l = by_cancel t reply _ refl (l.stays a.kept a.images) (l.cancel t refl) e
-  call_leaves call.Restart reply e l = is (restarted a) l.restart e.1
-  call_leaves (call.SetOutput image) reply e l = by_output _ e
+  call_leaves (call.Submit q) reply e l = may_be (record a { book = submitted a.book q }) (l.stays a.kept a.images) (l.submit q refl) (submit_does a b (submitted a.book q) reply e)
+  call_leaves (call.SubmitUrgent q) reply e l = may_be (record a { book = submitted_urgent a.book q }) (l.stays a.kept a.images) (l.urgent q refl) (submit_does a b (submitted_urgent a.book q) reply e)
+  call_leaves (call.Collect t) reply e l = by_found (lookup (same_ticket t) a.book.standing.outcomes) refl
     where
-      by_output : (why : Option OutputFault) → Is reply b (set_output_of a image why) → P b
-      by_output None e = is (record a { images = record a.images { wanted = Some image } }) (l.stays a.kept (record a.images { wanted = Some image })) e.1
-      by_output (Some why) e = is a (l.stays a.kept a.images) e.1
+      by_found : (found : Option Outcome) → lookup (same_ticket t) a.book.standing.outcomes ≡ found → P b
+      by_found None none = let f = rw none at e in is a (l.stays a.kept a.images) f.1
+      by_found (Some o) some = let f = rw some at e in is (record a { book = collected a.book t }) (l.collect t o some) f.1
+  call_leaves (call.Withdraw t) reply e l = may_be (record a { book = withdrawn a.book t }) (l.stays a.kept a.images) (l.withdraw t) (withdraw_does a b t reply e)
+  call_leaves (call.Cancel t) reply e l = may_be (record a { session = cancelling a.session }) (l.stays a.kept a.images) (λ q. l.cancel t refl q.0 q.1) (cancel_does a b t reply e)
+  call_leaves call.Restart reply e l = is (restarted a) l.restart e.1
+  call_leaves (call.SetOutput image) reply e l = is (record a { images = b.images }) (l.stays a.kept b.images) (output_does a b image reply e)
   call_leaves call.ClearOutput reply e l = is (record a { images = record a.images { wanted = None } }) (l.stays a.kept (record a.images { wanted = None })) e.1
   call_leaves call.Look reply e l = is a (l.stays a.kept a.images) e.1
-  call_leaves call.TakeEvent reply e l = by_kept a.kept e
-    where
-      by_kept : (kept : List Event) → Is reply b (take_event_of a kept) → P b
-      by_kept [] e = is a (l.stays a.kept a.images) e.1
-      by_kept (event ∷ kept) e = is (record a { kept = kept }) (l.stays kept a.images) e.1
+  call_leaves call.TakeEvent reply e l = is (record a { kept = drop 1 a.kept }) (l.stays (drop 1 a.kept) a.images) (event_does a b reply e)
   call_leaves call.Status reply e l = is a (l.stays a.kept a.images) e.1
-  call_leaves call.Archive reply e l = by_archive reply _ refl (l.stays a.kept a.images) l.archive e
+  call_leaves call.Archive reply e l = may_be (record a { book = record a.book { journal = [] }; base = length a.session.carried }) (l.stays a.kept a.images) l.archive (archive_does a b reply e)
   call_leaves call.Turn reply (_, (t, all, work, _, _)) l = l.turn t b all work
-
--- An outcome that a collect hands out was there
-pub told_outcome : (a b : PortState) (t : Ticket) (out : Outcome) → CallOf a (call.Collect t) (answered.Outcome out) b → lookup (same_ticket t) a.book.standing.outcomes ≡ Some out
-told_outcome a b t out e = by (lookup (same_ticket t) a.book.standing.outcomes) e
-  where
-    by : (found : Option Outcome) → Is (answered.Outcome out) b (collect_of a t (outcome_or found (if waits a.book.standing t || is_taken a.book.standing t then NotYet else UnknownTicket))) → found ≡ Some out
-    by None e = absurd (let k : answered.Outcome out ≡ answered.Refused _ = e.0 in cc)
-    by (Some o) e = let k : answered.Outcome out ≡ answered.Outcome o = e.0 in cc
 
 -- What each call keeps, a run keeps; and it held where an outcome was handed out
 module _ (P : PortState → Type 0) (keeps : (a b : PortState) (c : Call) (reply : Answered) → CallOf a c reply b → P a → P b) where
@@ -124,8 +114,7 @@ module _ (P : PortState → Type 0) (keeps : (a b : PortState) (c : Call) (reply
 -- Every call keeps it sound, so every run does
 
 no_job : (job : Option Job) → request_of job ≡ None → job ≡ None
-no_job None h = refl
-no_job (Some job) h = absurd (cc)
+no_job job h = grind arith
 
 collected_kept : (b : BookState) (t : Ticket) (o : Outcome) → lookup (same_ticket t) b.standing.outcomes ≡ Some o → collected b t ≡ entered b (Collected t)
 collected_kept b t o is = rw is refl
@@ -155,10 +144,10 @@ module _ (laws : BookLaws) where
             (subst (λ xs. FitsEnded [] (map (λ pair. (pair.request, pair.answer)) xs)) (sym (drop-length s.carried)) laws.archived.0));
       }
 
-  restart_sound : (a : PortState) (job : Option Job) → a.session.job ≡ job → IsSound a → IsSound (restarted a)
-  restart_sound a None e sound = rw e (let moved : Sound a.book (record a.session { mode = Down; why = None }) a.base = sound_moved laws a.book a.session a.base Down None sound in rw e at moved)
-  restart_sound a (Some job) e sound =
-      rw e (let moved : Sound (posted a.book (outcome.Unknown Restarted)) (record (cut_for Restarted a.session) { mode = Down; why = None }) a.base = sound_moved laws _ (cut_for Restarted a.session) a.base Down None (sound_cut laws Restarted a.book a.session a.base job e sound) in rw e at moved)
+  restart_sound : (b : BookState) (s : Session) (job : Option Job) (base : ℕ) → Sound b (record s { job = job }) base
+      → Sound (book_through (restart_steps (request_of job)) b) (session_through (restart_steps (request_of job)) (record s { job = job })) base
+  restart_sound b s None base sound = sound_moved laws b (record s { job = None }) base Down None sound
+  restart_sound b s (Some job) base sound = sound_moved laws _ (cut_for Restarted (record s { job = Some job })) base Down None (sound_cut laws Restarted job b s base sound)
 
   pub call_sound : (a b : PortState) (c : Call) (reply : Answered) → CallOf a c reply b → IsSound a → IsSound b
   call_sound a b c reply is sound = call_leaves IsSound a b c reply is (record {
@@ -167,8 +156,8 @@ module _ (laws : BookLaws) where
     urgent = λ q e r. sound_book a.book (submitted_urgent a.book q) a.session a.base (entered_replayed a.book (Urgent (next_ticket a.book) q) sound.replayed) refl refl (laws.submit_urgent a.book q).0 sound;
     collect = λ t out e. entry_sound a (collected a.book t) (Collected t) (collected_kept a.book t out e) refl (laws.collect a.book t).0 sound;
     withdraw = λ t e. entry_sound a (withdrawn a.book t) (Withdrawn t) (withdrawn_kept a.book t e) refl (laws.withdraw a.book t).0 sound;
-    cancel = λ t e r free. sound_cancelling laws a.book a.session a.base a.session.job refl sound;
-    restart = restart_sound a a.session.job refl sound;
+    cancel = λ t e r free. sound_cancelling laws a.book a.session a.base a.session.job sound;
+    restart = restart_sound a.book a.session a.session.job a.base sound;
     archive = λ may. archived_sound a.book a.session a.base may sound;
     turn = λ t b all work. rw (work.book, work.session, work.base) (sound_through laws (moment_in a t) t.steps a.book a.session a.base work.may_book work.may_session sound);
   })

@@ -1,6 +1,7 @@
 -- A session that has nothing to do but its request, and one turn of it over a clean wire.
-use Rattle.std.proofs.Common.{append-nil, ◌≡◌, inr, ℕ, Bool, true, false, not, ◌&&◌, List, [], ◌∷◌, ◌++◌, refl, sym, ap, subst, ◌∙◌, Option, Some, None}
-use Rattle.std.specs.Prelude.{IsTrue, is_some, is_none, if◌then◌else◌, MatchBool}
+use Rattle.std.proofs.Common.{append-nil, ◌≡◌, inr, ℕ, Bool, true, false, ◌&&◌, List, [], ◌∷◌, ◌++◌, refl, sym, ap, subst, ◌∙◌, Option, Some, None, arith}
+use Rattle.std.proofs.lemmas.Grind.{common_steps}
+use Rattle.std.specs.Prelude.{IsTrue, if◌then◌else◌, MatchBool}
 use Rattle.arrayvec.specs.ArrayVec.{ArrayVec}
 use Rattle.iol_octets.specs.declared.control.Channel.TheVariants.{Isdu}
 use Rattle.iol_mseq.specs.Master.{HasMasterParts}
@@ -22,16 +23,14 @@ use Rattle.iol_link.specs.declared.wire.Rate.{Rate}
 use Rattle.iol_mode.specs.States.{InOperate as OutOperate}
 use Rattle.iol_mode.specs.Stands.{operate_link, IsOperating, IsAccepted}
 use Rattle.iol_mode.specs.States.{operate_turned}
-use Rattle.iol_steps.specs.Step.{Image}
 use Rattle.iol_steps.specs.declared.said.Said.{Said}
 use Rattle.iol_app.specs.declared.request.Current.{Current}
 use Rattle.iol_app.specs.declared.request.Progress.{Progress}
-use Rattle.iol_app.specs.declared.request.Progress.TheVariants.{Sending}
 use Rattle.iol_app.specs.declared.session.Exchange.{Exchange}
-use Rattle.iol_app.specs.declared.session.Exchange.TheVariants.{TellOutput, DropOutput, Abort, ReadEvent, ConfirmEvents, Request as NextMessage, Idle}
+use Rattle.iol_app.specs.declared.session.Exchange.TheVariants.{Request as NextMessage}
 use Rattle.iol_mode.specs.Next.{AnyLink}
-use Rattle.iol_app.specs.Requests.{aborts, current_after, IsSaid}
-use Rattle.iol_app.specs.Due.{is_under_way, is_confirm_due, is_resting, due_of, is_idle, is_ready}
+use Rattle.iol_app.specs.Requests.{current_after, IsSaid}
+use Rattle.iol_app.specs.Due.{due_of, is_ready}
 use Rattle.iol_app.specs.Messages.{Head, head_of, progress_head, progress_data, request_head, request_data}
 use Rattle.iol_app.specs.State.{SessionState, sending, sent, sent_by, absorbed, IsMessageFor, IsOutFor}
 use Rattle.iol_app.specs.StationState.{StationState, wire_of, IsSettled, IsTurn, IsLinkTurn, IsOperateTurn}
@@ -41,91 +40,30 @@ use Rattle.iol_port.proofs.CleanHearing.{HeardWell, heard_well}
 
 -- What is due
 
-pub none_to_tell : (wanted : Option Image) (told : Bool) → is_some wanted ≡ told → (is_some wanted && not told) ≡ false
-none_to_tell None told e = refl
-none_to_tell (Some image) true e = refl
-none_to_tell (Some image) false e = absurd (let k : true ≡ false = e in cc)
-
-pub none_to_drop : (wanted : Option Image) (told : Bool) → is_some wanted ≡ told → (is_none wanted && told) ≡ false
-none_to_drop None true e = absurd (let k : false ≡ true = e in cc)
-none_to_drop None false e = refl
-none_to_drop (Some image) told e = refl
-
-pub none_to_read : (resting flag room : Bool) → (resting && flag) ≡ false → (resting && flag && room) ≡ false
-none_to_read true true room e = absurd (let k : true ≡ false = e in cc)
-none_to_read true false room e = refl
-none_to_read false flag room e = refl
-
 request_due : (s : SessionState) (room : Bool) (c : Current) → IsCalm s → s.current ≡ Some c → c.abort ≡ None → due_of s room ≡ NextMessage
-request_due s room c calm is abort =
-    let free : aborts s.current ≡ false = ap aborts is ∙ ap is_some abort in
-    let some : is_some s.current ≡ true = ap is_some is in
-    rw (
-      none_to_tell s.output.wanted s.output.told calm.output,
-      none_to_drop s.output.wanted s.output.told calm.output,
-      free,
-      calm.reading,
-      calm.confirm,
-      none_to_read (is_resting s.events.reading) s.events.flag room calm.flag,
-      some,
-    ) refl
+request_due s room c calm is abort = grind (arith, common_steps)
 
--- where IDLE 1 is due
-test_failed : (b : Bool) (here other : Exchange) → is_idle here ≡ false → is_idle (if b then here else other) ≡ true → (b ≡ false) × (is_idle other ≡ true)
-test_failed true here other busy e = absurd (let k : false ≡ true = sym busy ∙ e in cc)
-test_failed false here other busy e = (refl, e)
+-- a session that would send IDLE 1 is calm, without a request
+pub ready_calm : (s : SessionState) → is_ready s true ≡ true → IsCalm s
+ready_calm s e = record {
+  exchange = grind (arith, common_steps);
+  output = grind (arith, common_steps);
+  reading = grind (arith, common_steps);
+  confirm = grind (arith, common_steps);
+  flag = grind (arith, common_steps);
+}
 
-both_true : (a b : Bool) → (a && b) ≡ true → (a ≡ true) × (b ≡ true)
-both_true true b e = (refl, e)
-both_true false b e = absurd (let k : false ≡ true = e in cc)
+-- whether there is room for events or not
+pub ready_any : (s : SessionState) (room : Bool) → is_ready s true ≡ true → is_ready s room ≡ true
+ready_any s room e = grind (arith, common_steps)
 
-told_as_wanted : (wanted : Option Image) (told : Bool) → (is_some wanted && not told) ≡ false → (is_none wanted && told) ≡ false → is_some wanted ≡ told
-told_as_wanted None true e f = absurd (let k : true ≡ false = f in cc)
-told_as_wanted None false e f = refl
-told_as_wanted (Some image) true e f = refl
-told_as_wanted (Some image) false e f = absurd (let k : true ≡ false = e in cc)
-
-none_out : (exchange : Option Exchange) → is_none exchange ≡ true → exchange ≡ None
-none_out None e = refl
-none_out (Some exchange) e = absurd (let k : false ≡ true = e in cc)
-
-none_current : (current : Option Current) → is_some current ≡ false → current ≡ None
-none_current None e = refl
-none_current (Some current) e = absurd (let k : true ≡ false = e in cc)
-
-not_flagged : (resting flag : Bool) → (resting && flag && true) ≡ false → (resting && flag) ≡ false
-not_flagged true true e = absurd (let k : true ≡ false = e in cc)
-not_flagged true false e = refl
-not_flagged false flag e = refl
-
--- a session that would send IDLE 1, whether there is room for events or not, is calm, without a request
-pub ready_calm : (s : SessionState) → is_ready s true ≡ true → IsCalm s × (s.current ≡ None)
-ready_calm s e =
-    let both = both_true (is_none s.exchange) (is_idle (due_of s true)) e in
-    let tell = test_failed (is_some s.output.wanted && not s.output.told) TellOutput _ refl both.1 in
-    let drop = test_failed (is_none s.output.wanted && s.output.told) DropOutput _ refl tell.1 in
-    let abort = test_failed (aborts s.current) Abort _ refl drop.1 in
-    let under = test_failed (is_under_way s.events.reading) ReadEvent _ refl abort.1 in
-    let confirm = test_failed (is_confirm_due s.events.reading) ConfirmEvents _ refl under.1 in
-    let flag = test_failed (is_resting s.events.reading && s.events.flag && true) ReadEvent _ refl confirm.1 in
-    let free = test_failed (is_some s.current) NextMessage Idle refl flag.1 in (
-      record {
-        exchange = none_out s.exchange both.0;
-        output = told_as_wanted s.output.wanted s.output.told tell.0 drop.0;
-        reading = under.0;
-        confirm = confirm.0;
-        flag = not_flagged (is_resting s.events.reading) s.events.flag flag.0;
-      },
-      none_current s.current free.0,
-    )
+-- and a calm session without a request would send it
+pub calm_ready : (s : SessionState) (room : Bool) → IsCalm s → s.current ≡ None → is_ready s room ≡ true
+calm_ready s room calm free = grind (arith, common_steps)
 
 -- and with a request begun it is calm too
 pub begun_calm : (s : SessionState) (current : Option Current) → IsCalm s → IsCalm (record s { current = current })
 begun_calm s current h = record { exchange = h.exchange; output = h.output; reading = h.reading; confirm = h.confirm; flag = h.flag }
-
-and_false : (a : Bool) → (a && false) ≡ false
-and_false true = refl
-and_false false = refl
 
 -- after the good reply to the request's message, without the Event flag
 absorbed_calm : (s : SessionState) (reply : Reply) → IsCalm s → reply.event ≡ false → IsCalm (absorbed NextMessage reply (sending NextMessage s))
@@ -134,14 +72,13 @@ absorbed_calm s reply h e = record {
   output = h.output;
   reading = h.reading;
   confirm = h.confirm;
-  flag = ap (λ (b : Bool). is_resting s.events.reading && b) e ∙ and_false (is_resting s.events.reading);
+  flag = grind (arith, common_steps);
 }
 
 -- The request's messages are of the ISDU channel
 
 progress_channel : (p : Progress) → (progress_head p).channel ≡ Isdu
-progress_channel (Sending flow segment) = refl
-progress_channel _ = refl
+progress_channel p = grind (arith, common_steps)
 
 -- What carrying out leaves as it was
 
@@ -157,13 +94,12 @@ pub record SameBut (far ready : Far) : Type 0 where
 same_far : (far : Far) → SameBut far far
 same_far far = record { awake = refl; events = refl; page = refl; link_is = refl; room = refl; sized = λ h. h; grows = ([], sym (append-nil far.carried)) }
 
-same_if : (far : Far) (request : Request) (answer : Answer) (b : Bool)
-    → SameBut far (if b then record far { isdu = Answered request answer None; carried = far.carried ++ record { request = request; answer = answer } ∷ [] } else far)
-same_if far request answer true = record { awake = refl; events = refl; page = refl; link_is = refl; room = refl; sized = λ h. h; grows = (record { request = request; answer = answer } ∷ [], refl) }
-same_if far request answer false = same_far far
-
 pub same_carried : (far : Far) (answer : Answer) (state : IsduState) → SameBut far (carried_by state far answer)
-same_carried far answer (Handed request) = same_if far request answer (has_room far && fits request answer)
+same_carried far answer (Handed request) = by (has_room far && fits request answer)
+  where
+    by : (b : Bool) → SameBut far (if b then record far { isdu = Answered request answer None; carried = far.carried ++ record { request = request; answer = answer } ∷ [] } else far)
+    by true = record { awake = refl; events = refl; page = refl; link_is = refl; room = refl; sized = λ h. h; grows = (record { request = request; answer = answer } ∷ [], refl) }
+    by false = same_far far
 same_carried far answer _ = same_far far
 
 pub work_same : (far ready : Far) (request : Option Request) → IsWorkedOff request far ready → SameBut far ready

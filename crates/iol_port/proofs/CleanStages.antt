@@ -1,6 +1,6 @@
 -- One turn brings a request one stage on.
 use Rattle.std.proofs.Common.{◌≡◌, ⊎_elim, ℕ, zero, suc, ◌+◌, ◌*◌, ◌%◌, ◌<◌, ◌≤◌, Bool, true, false, ◌&&◌, ◌==◌, List, [], length, refl, sym, ap, ◌∙◌, arith, Option, Some, None, Ok, ◌∷◌, ◌++◌, subst}
-use Rattle.std.specs.Prelude.{IsTrue, nat_lt, nat_le, if◌then◌else◌, MatchBool}
+use Rattle.std.specs.Prelude.{IsTrue, nat_le, if◌then◌else◌, MatchBool}
 use Rattle.std.proofs.lemmas.Bool.{cases_lt}
 use Rattle.std.proofs.lemmas.Bool.Decides.{nat_tests}
 use Rattle.std.proofs.lemmas.List.{length-append, append-nil}
@@ -44,25 +44,16 @@ use Rattle.iol_port.proofs.CleanSession.{SameBut, work_same, Turned, turned}
 
 -- a segment that begins within a text is one of its segments
 pub segment_within : (size : ℕ) → TextLaws size → (text : List ℕ) (i : ℕ) → i * size < length text → i < segments size text
-segment_within size laws text i begins = ⊎_elim
-    (λ (h : i < segments size text). h)
-    (λ (few : segments size text ≤ i). let past = laws.past text i few in absurd (omega (arith, past, begins)))
-    (cases_lt i (segments size text))
+segment_within size laws text i begins = grind (arith, laws.past text i)
 
 pub segments_last : (size : ℕ) → TextLaws size → (text : List ℕ) (i : ℕ) → i * size < length text → length text ≤ suc i * size → segments size text ≡ suc i
-segments_last size laws text i begins ends =
-    let high : segments size text ≤ suc i = ⊎_elim
-    (λ (more : suc i < segments size text). let far = laws.within text (suc i) more in absurd (omega (arith, far, ends)))
-    (λ (h : segments size text ≤ suc i). h)
-    (cases_lt (suc i) (segments size text)) in
-    let some = segment_within size laws text i begins in
-    omega (arith, high, some)
+segments_last size laws text i begins ends = grind (arith, laws.past text i, laws.within text (suc i))
 
 pub text_some : (request : Request) → 0 < length (request_text request)
-text_some request = let whole = length-append (request_front request) in omega (arith, whole)
+text_some request = omega (arith, length-append (request_front request))
 
 pub answer_some : (request : Request) (answer : Answer) → 0 < length (answer_text request answer)
-answer_some request answer = let whole = length-append (answer_front (is_read request) answer) in omega (arith, whole)
+answer_some request answer = omega (arith, length-append (answer_front (is_read request) answer))
 
 -- Flows
 
@@ -72,10 +63,10 @@ flow_start = refl
 
 pub flow_count : (n : ℕ) → flow_of (n % 16) ≡ Count (n % 16)
 unfolding flow_of
-flow_count n = let e : nat_lt (n % 16) 0x10 ≡ true = grind (arith, nat_tests) in rw e refl
+flow_count n = grind (arith, nat_tests)
 
 pub flow_next : (i : ℕ) → flow_at (suc i) ≡ Count (suc i % 16)
-flow_next i = let other : (suc i == 0) ≡ false = grind (arith, nat_tests) in rw other refl
+flow_next i = grind (arith, nat_tests)
 
 -- The request's side
 
@@ -87,35 +78,24 @@ abbrev pub asks : Request → ℕ → ℕ → ℕ → Current
 asks request size given busy = record { cutter = cutting request size given; progress = Asking busy; abort = None }
 
 pub sends_is : (request : Request) (size i : ℕ) → i * size < length (request_text request) → sent_on (cutting request size i) None ≡ sends request size i
-sends_is request size i h =
-    let more : nat_lt (i * size) (length (request_text request)) ≡ true = grind (arith, nat_tests) in
-    rw (more, add-one i) refl
+sends_is request size i h = grind (arith, nat_tests)
 
 pub asks_is : (request : Request) (size i : ℕ) → length (request_text request) ≤ i * size → sent_on (cutting request size i) None ≡ asks request size i 0
-asks_is request size i h =
-    let none : nat_lt (i * size) (length (request_text request)) ≡ false = grind (arith, nat_tests) in
-    rw none refl
+asks_is request size i h = grind (arith, nat_tests)
 
 -- The device's side
 
-not_last : (i : ℕ) → (last : Option ℕ) → last ≡ count_at i → is_last last (suc i % 16) ≡ false
-not_last i last e = rw e (by i)
-  where
-    by : (i : ℕ) → is_last (count_at i) (suc i % 16) ≡ false
-    by zero = refl
-    by (suc i) = grind (arith, nat_tests)
+not_last : (i : ℕ) → is_last (count_at i) (suc i % 16) ≡ false
+not_last i = grind (arith, nat_tests)
 
 is_next : (i : ℕ) → (suc i % 16 == next_count (count_at i)) ≡ true
-is_next zero = refl
-is_next (suc i) = grind (arith, nat_tests)
+is_next i = grind (arith, nat_tests)
 
 -- the next segment of a request
 pub written_next : (size : ℕ) → SegmentLaws size → (request : Request) (i : ℕ) → IsRequest request → suc i * size < length (request_text request)
     → isdu_written (received (joined size (request_text request) i) (count_at i)) (flow_of (flow_address (flow_at (suc i)))) (segment size (request_text request) (suc i))
     ≡ received (joined size (request_text request) (suc i)) (count_at (suc i))
-written_next size laws request i valid more =
-    let last : is_last (count_at i) (suc i % 16) ≡ false = not_last i (count_at i) refl in
-    rw (laws.grows request i (count_at i) valid more, flow_next i, flow_count (suc i), last, is_next i) refl
+written_next size laws request i valid more = rw (laws.grows request i (count_at i) valid more, flow_next i, flow_count (suc i), not_last i, is_next i) refl
 
 -- START once it is whole
 pub handed_over : (size : ℕ) → SegmentLaws size → (request : Request) (i : ℕ) → IsRequest request → i * size < length (request_text request) → length (request_text request) ≤ suc i * size
@@ -133,16 +113,7 @@ none_handed size laws request i valid begins = ⊎_elim
 -- the answer's next segment
 pub read_next : (size : ℕ) (request : Request) (answer : Answer) (j : ℕ) → suc j * size < length (answer_text request answer)
     → isdu_read size (Answered request answer (Some j)) (flow_of ((j + 1) % 16)) ≡ Answered request answer (Some (suc j))
-read_next size request answer j more =
-    let same : (suc j % 16 == j % 16) ≡ false = grind (arith, nat_tests) in
-    let next : (suc j % 16 == suc j % 16) ≡ true = grind (arith, nat_tests) in
-    let has : nat_lt (suc j * size) (length (answer_text request answer)) ≡ true = grind (arith, nat_tests) in
-    let none : (nat_lt 0 j && false) ≡ false = by (nat_lt 0 j) in
-    rw (add-one j, flow_count (suc j), same, none, add-one j, next, has) refl
-  where
-    by : (b : Bool) → (b && false) ≡ false
-    by true = refl
-    by false = refl
+read_next size request answer j more = rw (add-one j, flow_count (suc j)) (grind (arith, nat_tests))
 
 -- The answer's side at the master
 

@@ -1,6 +1,7 @@
 -- What a turn denies: a request that waited, and only where the device has no ISDU.
-use Rattle.std.proofs.Common.{◌≡◌, ◌⊎◌, ◌∷◌, ◌++◌, [], List, Bool, true, false, cond, if◌then◌else◌, IsSome, Option, Some, None, refl, ap, sym, ◌∙◌, subst, inl, inr, arith}
+use Rattle.std.proofs.Common.{◌≡◌, ◌⊎◌, ◌∷◌, ◌++◌, [], List, Bool, true, false, cond, IsSome, Option, Some, None, refl, ap, sym, ◌∙◌, subst, inl, inr, arith}
 use Rattle.std.proofs.lemmas.Bool.Decides.{nat_tests}
+use Rattle.std.proofs.lemmas.Grind.{common_steps}
 use Rattle.std.specs.Map.{lookup}
 use Rattle.indexmap.specs.IndexMap.{insert_entry}
 use Rattle.iol_isdu.specs.declared.values.Request.{Request}
@@ -22,46 +23,13 @@ use Rattle.iol_port.proofs.Replaying.{next_is}
 
 -- what was told, by the test on it
 pub none_there : (told : Option Bool) → lacks_isdu told ≡ true → told ≡ Some false
-none_there None e = absurd (let k : false ≡ true = e in cc)
-none_there (Some true) e = absurd (let k : false ≡ true = e in cc)
-none_there (Some false) e = refl
+none_there told e = grind arith
 
--- The outcome of a ticket, once one is entered
-
-pick : (c : Bool) (x : Outcome) (before after : Option Outcome) → (after ≡ Some NoIsdu → before ≡ Some NoIsdu) → cond c (Some x) after ≡ Some NoIsdu → cond c (Some x) before ≡ Some NoIsdu
-pick true x before after more h = h
-pick false x before after more h = more h
-
-pick_other : (c : Bool) (o x : Outcome) (rest : Option Outcome) → (o ≡ NoIsdu → ⊥) → cond c (Some o) rest ≡ Some NoIsdu → cond c (Some x) rest ≡ Some NoIsdu
-pick_other true o x rest differs h = absurd (differs (let e : Some o ≡ Some NoIsdu = h in cc))
-pick_other false o x rest differs h = h
-
--- one of another kind
-entered_other : (outs : List (Ticket × Outcome)) (t k : Ticket) (o : Outcome) → (o ≡ NoIsdu → ⊥) → lookup (same_ticket k) (insert_entry same_ticket outs t o) ≡ Some NoIsdu → lookup (same_ticket k) outs ≡ Some NoIsdu
-entered_other [] t k o differs h = absurd (last (same_ticket k t) h)
-  where
-    last : (c : Bool) → cond c (Some o) None ≡ Some NoIsdu → ⊥
-    last true h = differs (let e : Some o ≡ Some NoIsdu = h in cc)
-    last false h = let e : None ≡ Some NoIsdu = h in cc
-entered_other (e ∷ es) t k o differs h = by (same_ticket t e.0) h (entered_other es t k o differs)
-  where
-    by : (b : Bool) → lookup (same_ticket k) (if b then (e.0, o) ∷ es else e ∷ insert_entry same_ticket es t o) ≡ Some NoIsdu
-        → (lookup (same_ticket k) (insert_entry same_ticket es t o) ≡ Some NoIsdu → lookup (same_ticket k) es ≡ Some NoIsdu) → lookup (same_ticket k) (e ∷ es) ≡ Some NoIsdu
-    by true h later = pick_other (same_ticket k e.0) o e.1 (lookup (same_ticket k) es) differs h
-    by false h later = pick (same_ticket k e.0) e.1 (lookup (same_ticket k) es) (lookup (same_ticket k) (insert_entry same_ticket es t o)) later h
-
--- one of another ticket
-entered_apart : (outs : List (Ticket × Outcome)) (t k : Ticket) → same_ticket k t ≡ false → lookup (same_ticket k) (insert_entry same_ticket outs t NoIsdu) ≡ Some NoIsdu → lookup (same_ticket k) outs ≡ Some NoIsdu
-entered_apart [] t k apart h = absurd (let e : None ≡ Some NoIsdu = sym (ap (λ (c : Bool). cond c (Some NoIsdu) None) apart) ∙ h in cc)
-entered_apart (e ∷ es) t k apart h = by (same_ticket t e.0) refl h (entered_apart es t k apart)
-  where
-    by : (b : Bool) → same_ticket t e.0 ≡ b → lookup (same_ticket k) (if b then (e.0, NoIsdu) ∷ es else e ∷ insert_entry same_ticket es t NoIsdu) ≡ Some NoIsdu
-        → (lookup (same_ticket k) (insert_entry same_ticket es t NoIsdu) ≡ Some NoIsdu → lookup (same_ticket k) es ≡ Some NoIsdu) → lookup (same_ticket k) (e ∷ es) ≡ Some NoIsdu
-    by true is h later =
-        let here : same_ticket k e.0 ≡ false = ap (same_ticket k) (ticket_is t e.0 is) ∙ apart in
-        let rest : lookup (same_ticket k) es ≡ Some NoIsdu = sym (ap (λ (c : Bool). cond c (Some NoIsdu) (lookup (same_ticket k) es)) here) ∙ h in
-        ap (λ (c : Bool). cond c (Some e.1) (lookup (same_ticket k) es)) here ∙ rest
-    by false is h later = pick (same_ticket k e.0) e.1 (lookup (same_ticket k) es) (lookup (same_ticket k) (insert_entry same_ticket es t NoIsdu)) later h
+-- the outcome of a ticket, once one is entered
+lookup-entered : (outs : List (Ticket × Outcome)) (t k : Ticket) (o : Outcome)
+    → lookup (same_ticket k) (insert_entry same_ticket outs t o) ≡ cond (same_ticket k t) (Some o) (lookup (same_ticket k) outs)
+lookup-entered [] t k o = refl
+lookup-entered (e ∷ es) t k o = grind (arith, common_steps, lookup-entered es t k o)
 
 -- What a turn says enters none
 
@@ -70,7 +38,11 @@ posted_none b o k differs h = by_taken b.standing.taken h
   where
     by_taken : (taken : Option (Ticket × Request)) → lookup (same_ticket k) (ended_with b taken o).standing.outcomes ≡ Some NoIsdu → HasNoIsdu b k
     by_taken None h = h
-    by_taken (Some t) h = entered_other b.standing.outcomes t.0 k o differs h
+    by_taken (Some t) h = by (same_ticket k t.0) (sym (lookup-entered b.standing.outcomes t.0 k o) ∙ h)
+      where
+        by : (same : Bool) → cond same (Some o) (lookup (same_ticket k) b.standing.outcomes) ≡ Some NoIsdu → HasNoIsdu b k
+        by true h = absurd (differs (let e : Some o ≡ Some NoIsdu = h in cc))
+        by false h = h
 
 said_none : (said : Said) (b : BookState) (k : Ticket) → HasNoIsdu (book_through (book_said said) b) k → HasNoIsdu b k
 said_none (SaidAnswered answer) b k h = posted_none b (outcome.Done answer) k (λ e. cc) h
@@ -118,7 +90,7 @@ module _ {W : Type 0} (old next : Parts W) (mid : BookState) (woke : Bool) (said
       by true e = inr (subst (λ (x : Ticket). IsDenied old next x) (sym (ticket_is t k e)) (denial t q head told asleep is))
       by false e =
           let apart : same_ticket k t ≡ false = grind (arith, nat_tests) in
-          inl (entered_apart b.standing.outcomes t k apart (subst (λ (x : BookState). HasNoIsdu x k) is had))
+          inl (rw (lookup-entered b.standing.outcomes t k NoIsdu, apart) at (subst (λ (x : BookState). HasNoIsdu x k) is had))
 
   pub turn_denies : (ready : Bool) → mid ≡ taken_where ready (lacks_isdu old.station.session.isdu) (next_taken b.standing) b → (ready ≡ true → woke ≡ false) → HasNoIsdu b k ⊎ IsDenied old next k
   turn_denies ready mid_is asleep = by (next_taken b.standing) ready (lacks_isdu old.station.session.isdu) refl refl refl mid_is

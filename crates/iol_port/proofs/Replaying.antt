@@ -1,7 +1,7 @@
 -- each change of a book keeps it the replay of its journal
-use Rattle.std.proofs.Common.{◌≡◌, Bool, true, false, List, [], ◌∷◌, ◌++◌, Option, None, Some, drop, refl, ap, sym, ◌∙◌, arith, ◌||◌, ◌⊎◌, ℕ, IsSomeAnd, append-nil, length, map, length-append, inl, inr, subst, ◌≤◌}
+use Rattle.std.proofs.Common.{◌≡◌, Bool, true, false, List, [], ◌∷◌, ◌++◌, Option, None, Some, drop, refl, ap, sym, ◌∙◌, arith, ◌||◌, ◌⊎◌, ℕ, append-nil, length, map, length-append, inl, inr, subst, ◌≤◌}
 use Rattle.std.proofs.lemmas.Bool.{eq-eqb}
-use Rattle.std.proofs.lemmas.Bool.Decides.{nat_tests}
+use Rattle.std.proofs.lemmas.Grind.{common_steps}
 use Rattle.std.specs.Option.{option_map}
 use Rattle.indexmap.specs.IndexMap.{insert_entry}
 use Rattle.iol_isdu.specs.declared.values.Request.{Request}
@@ -23,9 +23,8 @@ use Rattle.iol_book.specs.TakingLaws.{SubmitTakesNone, CollectTakesNone, Withdra
 use Rattle.iol_steps.specs.declared.mode.Mode.{Mode}
 use Rattle.iol_mode.specs.declared.why.Why.{Why}
 use Rattle.iol_steps.specs.Step.{Step, Take, Deny, Carry, Done, Unknown, LateCarry, Reset, Busy, Move, Moment}
-use Rattle.iol_steps.specs.Session.{Job, Session, MaySession, MaySessionAll, MayCut, session_after, session_through, carried_out, carried_late, unanswered, left_of, cut_for, busy_once_more, marked}
+use Rattle.iol_steps.specs.Session.{Job, Session, MaySession, MaySessionAll, session_after, session_through, carried_out, carried_late, unanswered, cut_for, busy_once_more, marked}
 use Rattle.iol_port.specs.Steps.{ticket_of, MayBook, MayBookAll, book_after, book_through}
-use Rattle.iol_port.specs.Run.{request_of}
 use Rattle.iol_port.specs.Sound.{pairs_from, written, FitsOpen, request_taken, Sound}
 
 replay_from-push : (s : Standing) (entries : List Entry) (entry : Entry) → replay_from s (entries ++ entry ∷ []) ≡ step (replay_from s entries) entry
@@ -47,14 +46,14 @@ pub record IsNext (s : Standing) (t : Ticket) (q : Request) : Type 0 where
   pub rest : behind s ≡ record (without_waiting s t) { taken = None }
 
 pub next_is : (s : Standing) (t : Ticket) (q : Request) → next_taken s ≡ Some (t, q) → IsNext s t q
-next_is s t q h = by_lists s.taken s.urgent s.waiting h
+next_is s t q h = by_lists s.taken s.urgent s.waiting (eq-eqb t.0 t.0 refl) h
   where
-    by_lists : (taken : Option (Ticket × Request)) (urgent waiting : List (Ticket × Request)) → next_taken (record s { urgent = urgent; waiting = waiting; taken = taken }) ≡ Some (t, q)
-        → IsNext (record s { urgent = urgent; waiting = waiting; taken = taken }) t q
-    by_lists (Some taken) urgent waiting h = absurd (cc)
-    by_lists None [] [] h = absurd (cc)
-    by_lists None [] (first ∷ rest) h = let e : first ≡ (t, q) = cc in rw e (let same : same_ticket t t ≡ true = eq-eqb t.0 t.0 refl in record { free = refl; found = rw same refl; waits = rw same refl; rest = rw same refl })
-    by_lists None (first ∷ rest) waiting h = let e : first ≡ (t, q) = cc in rw e (let same : same_ticket t t ≡ true = eq-eqb t.0 t.0 refl in record { free = refl; found = rw same refl; waits = rw same refl; rest = rw same refl })
+    by_lists : (taken : Option (Ticket × Request)) (us ws : List (Ticket × Request)) → same_ticket t t ≡ true → next_taken (record s { urgent = us; waiting = ws; taken = taken }) ≡ Some (t, q)
+        → IsNext (record s { urgent = us; waiting = ws; taken = taken }) t q
+    by_lists (Some taken) us ws same h = absurd (cc)
+    by_lists None [] [] same h = absurd (cc)
+    by_lists None [] (w ∷ ws) same h = let e : w ≡ (t, q) = cc in rw e (record { free = refl; found = rw same refl; waits = rw same refl; rest = rw same refl })
+    by_lists None (u ∷ us) ws same h = let e : u ≡ (t, q) = cc in rw e (record { free = refl; found = rw same refl; waits = rw same refl; rest = rw same refl })
 
 pub took_replayed : (book : BookState) (t : Ticket) (q : Request) → next_taken book.standing ≡ Some (t, q) → IsReplayed book → IsReplayed (took book (t, q))
 took_replayed book t q next h =
@@ -80,7 +79,7 @@ posted_replayed book o leaves h = by_taken book.standing.taken
 -- the ticket that is next is that of a request
 pub next_ticket_is : (next : Option (Ticket × Request)) (t : Ticket) → option_map (λ p. p.0) next ≡ Some t → (q : Request) × (next ≡ Some (t, q))
 next_ticket_is None t h = absurd (cc)
-next_ticket_is (Some p) t h = let e : p.0 ≡ t = cc in (p.1, ap (λ (k : Ticket). Some (k, p.1)) e)
+next_ticket_is (Some p) t h = (p.1, grind (arith, common_steps))
 
 -- a denied request was the next one
 pub denied_replayed : (book : BookState) (t : Ticket) (q : Request) → next_taken book.standing ≡ Some (t, q) → IsReplayed book → IsReplayed (denied book t)
@@ -93,11 +92,7 @@ denied_replayed book t q next h =
 
 -- nothing is outstanding in a book that may be archived, and it is sure
 pub free_archive : (book : BookState) → may_archive book ≡ true → (book.standing ≡ nothing) × (book.unsure ≡ false)
-free_archive book may = by_parts book.standing.urgent book.standing.waiting book.standing.taken book.standing.outcomes book.unsure may
-  where
-    by_parts : (urgent waiting : List (Ticket × Request)) (taken : Option (Ticket × Request)) (outcomes : List (Ticket × Outcome)) (unsure : Bool) → may_archive (record book { standing = record { urgent = urgent; waiting = waiting; taken = taken; outcomes = outcomes }; unsure = unsure }) ≡ true → (record { urgent = urgent; waiting = waiting; taken = taken; outcomes = outcomes } ≡ nothing) × (unsure ≡ false)
-    by_parts [] [] None [] false h = (refl, refl)
-    by_parts urgent waiting taken outcomes unsure h = absurd (let z : ⊥ = grind (arith, nat_tests) in z)
+free_archive book may = grind (arith, common_steps)
 
 -- every step of the abstract port keeps it sound
 
@@ -117,14 +112,9 @@ pub record BookLaws : Type 0 where
   pub taken : TakenFits
   pub archived : ArchivedFits
 
--- what is in an option that has a value with a property
-pub some_of : {X : Type 0} (P : X → Type 0) (o : Option X) → IsSomeAnd o P → (x : X) × (o ≡ Some x) × P x
-some_of P None h = absurd h
-some_of P (Some x) h = (x, refl, h)
-
 pub taken_is : (taken : Option (Ticket × Request)) (q : Request) → request_taken taken ≡ Some q → (t : Ticket) × (taken ≡ Some (t, q))
 taken_is None q h = absurd (cc)
-taken_is (Some (t, r)) q h = let e : r ≡ q = cc in (t, ap (λ x. Some (t, x)) e)
+taken_is (Some p) q h = (p.0, grind (arith, common_steps))
 
 -- a record that has grown by a pair
 pub pairs_from-grown : (base : ℕ) (carried : List Carried) (q : Request) (a : Answer) → base ≤ length carried →
@@ -137,22 +127,14 @@ grown_within : (base : ℕ) (carried : List Carried) (pair : Carried) → base �
 grown_within base carried pair within = omega (arith, length-append carried (pair ∷ []))
 
 -- a job under way: nothing is late
-alone_late : (s : Session) (job : Job) → s.job ≡ Some job → (s.job ≡ None) ⊎ (s.late ≡ None) → s.late ≡ None
-alone_late s job is (inl h) = absurd (let e : Some job ≡ None = sym is ∙ h in cc)
-alone_late s job is (inr h) = h
+alone_late : (job : Job) (late : Option Request) → (Some job ≡ None) ⊎ (late ≡ None) → late ≡ None
+alone_late job late alone = grind arith
 
-late_alone : (s : Session) (q : Request) → s.late ≡ Some q → (s.job ≡ None) ⊎ (s.late ≡ None) → s.job ≡ None
-late_alone s q is (inl h) = h
-late_alone s q is (inr h) = absurd (let e : Some q ≡ None = sym is ∙ h in cc)
-
-fits_job : (s : Session) (job : Job) (journal : List Entry) (pairs : List (Request × Answer)) → s.job ≡ Some job → FitsOpen s.job s.late journal pairs → FitsOpen (Some job) s.late journal pairs
-fits_job s job journal pairs is fits = subst (λ o. FitsOpen o s.late journal pairs) is fits
+late_alone : (job : Option Job) (q : Request) → (job ≡ None) ⊎ (Some q ≡ None) → job ≡ None
+late_alone job q alone = grind arith
 
 unanswered_pairs : (q : Request) (answer : Option Answer) (earlier : List (Request × Answer)) → answer ≡ None → earlier ++ written q answer ≡ earlier
 unanswered_pairs q answer earlier none = ap (λ o. earlier ++ written q o) none ∙ append-nil earlier
-
-answered_pairs : (q : Request) (a : Answer) (answer : Option Answer) (earlier : List (Request × Answer)) → answer ≡ Some a → earlier ++ written q answer ≡ earlier ++ (q, a) ∷ []
-answered_pairs q a answer earlier is = ap (λ o. earlier ++ written q o) is
 
 -- an outcome leaves no request taken
 posted_free : (b : BookState) (o : Outcome) (t : Ticket) (q : Request) → b.standing.taken ≡ Some (t, q) → request_taken (posted b o).standing.taken ≡ None
@@ -175,6 +157,13 @@ sound_book b next s base replayed taken unsure same sound = record {
   fits = fits_same s.job s.late b.journal next.journal _ same sound.fits;
 }
 
+-- what each step keeps, a list of steps keeps
+pub steps_keep : (P : BookState → Session → Type 0) (m : Moment)
+    → ((step : Step) (b : BookState) (s : Session) → MayBook step b → MaySession m step s → P b s → P (book_after step b) (session_after step s))
+    → (steps : List Step) (b : BookState) (s : Session) → MayBookAll steps b → MaySessionAll m steps s → P b s → P (book_through steps b) (session_through steps s)
+steps_keep P m keeps [] b s next may holds = holds
+steps_keep P m keeps (step ∷ steps) b s next may holds = steps_keep P m keeps steps _ _ next.1 may.1 (keeps step b s next.0 may.0 holds)
+
 module _ (laws : BookLaws) where
   -- a denied request was never taken
   sound_deny : (t : Ticket) (b : BookState) (s : Session) (base : ℕ) → option_map (λ p. p.0) (next_taken b.standing) ≡ Some t → Sound b s base → Sound (denied b t) s base
@@ -185,7 +174,7 @@ module _ (laws : BookLaws) where
 
   sound_take : (t : Ticket) (q : Request) (b : BookState) (s : Session) (base : ℕ) → next_taken b.standing ≡ Some (t, q) → s.job ≡ None → s.late ≡ None → Sound b s base → Sound (took b (t, q)) (record s { job = Some (record { request = q; answer = None; busy = 0; asked = false }) }) base
   sound_take t q b s base next free none sound =
-      let fits : FitsOpen None None b.journal (pairs_from base s.carried) = subst (λ l. FitsOpen None l b.journal (pairs_from base s.carried)) none (subst (λ o. FitsOpen o s.late b.journal (pairs_from base s.carried)) free sound.fits) in
+      let fits : FitsOpen None None b.journal (pairs_from base s.carried) = rw (free, none) at sound.fits in
       record {
         replayed = took_replayed b t q next sound.replayed;
         same = refl;
@@ -195,26 +184,27 @@ module _ (laws : BookLaws) where
         fits = (pairs_from base s.carried, sym (append-nil _), subst (λ e. FitsTakings e (pairs_from base s.carried)) (sym (laws.take b (t, q))) fits);
       }
 
-  sound_carry : (a : Answer) (job : Job) (b : BookState) (s : Session) (base : ℕ) → s.job ≡ Some job → job.answer ≡ None → Sound b s base → Sound b (carried_out a s.job s) base
-  sound_carry a job b s base is none sound =
-      let (earlier, pairs_are, fits) = fits_job s job b.journal _ is sound.fits in
+  sound_carry : (a : Answer) (job : Job) (b : BookState) (s : Session) (base : ℕ) → job.answer ≡ None → Sound b (record s { job = Some job }) base → Sound b (carried_out a (Some job) s) base
+  sound_carry a job b s base none sound =
+      let (earlier, pairs_are, fits) = sound.fits in
       let pairs : pairs_from base s.carried ≡ earlier = pairs_are ∙ unanswered_pairs job.request job.answer earlier none in
-      let goal : Sound b (carried_out a (Some job) s) base = record {
+      record {
         replayed = sound.replayed;
-        same = sound.same ∙ ap request_of is;
+        same = sound.same;
         sure = sound.sure;
-        alone = inr (alone_late s job is sound.alone);
+        alone = inr (alone_late job s.late sound.alone);
         within = grown_within base s.carried _ sound.within;
         fits = (earlier, pairs_from-grown base s.carried job.request a sound.within ∙ ap (λ xs. xs ++ (job.request, a) ∷ []) pairs, fits);
       }
-      in subst (λ o. Sound b (carried_out a o s) base) (sym is) goal
 
   -- the request under way has an outcome, and the record fits with what is written of it
-  sound_post : (o : Outcome) (job : Job) (b : BookState) (s : Session) (base : ℕ) → s.job ≡ Some job → ((taken : Ticket × Request) → b.standing.taken ≡ Some taken → (earlier : List (Request × Answer)) → FitsEnded b.journal earlier → FitsEnded (posted b o).journal (earlier ++ written taken.1 job.answer)) → LeavesWaiting o → Sound b s base → Sound (posted b o) (record s { job = None }) base
-  sound_post o job b s base is leaves waiting sound =
-      let (earlier, pairs_are, fits) = fits_job s job b.journal _ is sound.fits in
-      let (t, taken) = taken_is b.standing.taken job.request (sound.same ∙ ap request_of is) in
-      let none : s.late ≡ None = alone_late s job is sound.alone in
+  sound_post : (o : Outcome) (job : Job) (b : BookState) (s : Session) (base : ℕ)
+      → ((taken : Ticket × Request) → b.standing.taken ≡ Some taken → (earlier : List (Request × Answer)) → FitsEnded b.journal earlier → FitsEnded (posted b o).journal (earlier ++ written taken.1 job.answer))
+      → LeavesWaiting o → Sound b (record s { job = Some job }) base → Sound (posted b o) (record s { job = None }) base
+  sound_post o job b s base leaves waiting sound =
+      let (earlier, pairs_are, fits) = sound.fits in
+      let (t, taken) = taken_is b.standing.taken job.request sound.same in
+      let none : s.late ≡ None = alone_late job s.late sound.alone in
       let fits' : FitsOpen None None (posted b o).journal (pairs_from base s.carried) = subst (λ pairs. FitsEnded (posted b o).journal pairs) (sym pairs_are) (leaves (t, job.request) taken earlier fits) in
       record {
         replayed = posted_replayed b o waiting sound.replayed;
@@ -225,55 +215,52 @@ module _ (laws : BookLaws) where
         fits = subst (λ l. FitsOpen None l (posted b o).journal (pairs_from base s.carried)) (sym none) fits';
       }
 
-  -- a request that is cut off without an answer, and that the device may still carry out
-  sound_lose : (cause : Cause) (job : Job) (b : BookState) (s : Session) (base : ℕ) → s.job ≡ Some job → job.answer ≡ None → leaves_unsure (outcome.Unknown cause) ≡ true → Sound b s base → Sound (posted b (outcome.Unknown cause)) (record s { job = None; late = Some job.request }) base
-  sound_lose cause job b s base is none unsure sound =
-      let (earlier, pairs_are, fits) = fits_job s job b.journal _ is sound.fits in
-      let pairs : pairs_from base s.carried ≡ earlier = pairs_are ∙ unanswered_pairs job.request job.answer earlier none in
-      let (t, taken) = taken_is b.standing.taken job.request (sound.same ∙ ap request_of is) in
-      record {
-        replayed = posted_replayed b _ (λ t standing. refl) sound.replayed;
-        same = posted_free b _ t job.request taken;
-        sure = λ h. absurd (let u = either b.unsure _ unsure in let v : false ≡ true = sym h ∙ u in cc);
-        alone = inl refl;
-        within = sound.within;
-        fits = (ended b.journal, cause, laws.post b (t, job.request) (outcome.Unknown cause) sound.replayed taken, subst (λ xs. FitsEnded b.journal xs) (sym pairs) fits);
-      }
-    where
-      either : (x y : Bool) → y ≡ true → (x || y) ≡ true
-      either true y h = refl
-      either false y h = h
-
   -- what an Unknown leaves, with an answer or without
   leaves_unknown : (cause : Cause) (answer : Option Answer) (b : BookState) → IsReplayed b → (taken : Ticket × Request) → b.standing.taken ≡ Some taken → (earlier : List (Request × Answer)) → FitsEnded b.journal earlier → FitsEnded (posted b (outcome.Unknown cause)).journal (earlier ++ written taken.1 answer)
   leaves_unknown cause None b replayed taken is earlier fits =
       subst (λ xs. FitsEnded (posted b (outcome.Unknown cause)).journal xs) (sym (append-nil earlier)) (laws.cut_off b taken cause earlier replayed is fits).0
   leaves_unknown cause (Some a) b replayed taken is earlier fits = (laws.cut_off b taken cause earlier replayed is fits).1 a
 
-  leaves_done : (a : Answer) (answer : Option Answer) (b : BookState) → answer ≡ Some a → IsReplayed b → (taken : Ticket × Request) → b.standing.taken ≡ Some taken → (earlier : List (Request × Answer)) → FitsEnded b.journal earlier → FitsEnded (posted b (outcome.Done a)).journal (earlier ++ written taken.1 answer)
-  leaves_done a answer b is replayed taken taken_is earlier fits =
-      subst (λ xs. FitsEnded (posted b (outcome.Done a)).journal xs) (sym (answered_pairs taken.1 a answer earlier is)) (laws.done b taken a earlier replayed taken_is fits)
+  sound_unknown : (cause : Cause) (job : Job) (b : BookState) (s : Session) (base : ℕ) → Sound b (record s { job = Some job }) base → Sound (posted b (outcome.Unknown cause)) (record s { job = None }) base
+  sound_unknown cause job b s base sound = sound_post (outcome.Unknown cause) job b s base (leaves_unknown cause job.answer b sound.replayed) (λ t standing. refl) sound
 
-  sound_cut_off : (cause : Cause) (job : Job) (answer : Option Answer) (b : BookState) (s : Session) (base : ℕ) → s.job ≡ Some job → job.answer ≡ answer → leaves_unsure (outcome.Unknown cause) ≡ true → Sound b s base → Sound (posted b (outcome.Unknown cause)) (record s { job = None; late = left_of s.job }) base
-  sound_cut_off cause job None b s base is e unsure sound =
-      subst (λ l. Sound (posted b (outcome.Unknown cause)) (record s { job = None; late = l }) base)
-      (sym (ap left_of is ∙ ap (λ o. unanswered o job.request) e)) (sound_lose cause job b s base is e unsure sound)
-  sound_cut_off cause job (Some a) b s base is e unsure sound =
-      subst (λ l. Sound (posted b (outcome.Unknown cause)) (record s { job = None; late = l }) base)
-      (alone_late s job is sound.alone ∙ sym (ap left_of is ∙ ap (λ o. unanswered o job.request) e))
-      (sound_post (outcome.Unknown cause) job b s base is (leaves_unknown cause job.answer b sound.replayed) (λ t standing. refl) sound)
+  -- a request that is cut off may still be carried out where it has no answer
+  sound_lose : (cause : Cause) (job : Job) (answer : Option Answer) (b : BookState) (s : Session) (base : ℕ) → job.answer ≡ answer → leaves_unsure (outcome.Unknown cause) ≡ true
+      → Sound b (record s { job = Some job }) base → Sound (posted b (outcome.Unknown cause)) (record s { job = None; late = unanswered answer job.request }) base
+  sound_lose cause job (Some a) b s base is unsure sound =
+      subst (λ l. Sound (posted b (outcome.Unknown cause)) (record s { job = None; late = l }) base) (alone_late job s.late sound.alone) (sound_unknown cause job b s base sound)
+  sound_lose cause job None b s base is unsure sound =
+      let (earlier, pairs_are, fits) = sound.fits in
+      let pairs : pairs_from base s.carried ≡ earlier = pairs_are ∙ unanswered_pairs job.request job.answer earlier is in
+      let (t, taken) = taken_is b.standing.taken job.request sound.same in
+      record {
+        replayed = posted_replayed b _ (λ t standing. refl) sound.replayed;
+        same = posted_free b _ t job.request taken;
+        sure = λ h. absurd (let both : (b.unsure || leaves_unsure (outcome.Unknown cause)) ≡ true = (rw unsure (or_true b.unsure)) in let v : false ≡ true = sym h ∙ both in cc);
+        alone = inl refl;
+        within = sound.within;
+        fits = (ended b.journal, cause, laws.post b (t, job.request) (outcome.Unknown cause) sound.replayed taken, subst (λ xs. FitsEnded b.journal xs) (sym pairs) fits);
+      }
+    where
+      or_true : (x : Bool) → (x || true) ≡ true
+      or_true x = grind arith
 
-  pub sound_cut : (cause : Cause) (b : BookState) (s : Session) (base : ℕ) (job : Job) → s.job ≡ Some job → Sound b s base → Sound (posted b (outcome.Unknown cause)) (cut_for cause s) base
-  sound_cut LinkLost b s base job is sound = sound_cut_off LinkLost job job.answer b s base is refl refl sound
-  sound_cut Restarted b s base job is sound = sound_cut_off Restarted job job.answer b s base is refl refl sound
-  sound_cut cause b s base job is sound = sound_post (outcome.Unknown cause) job b s base is (leaves_unknown cause job.answer b sound.replayed) (λ t standing. refl) sound
+  pub sound_cut : (cause : Cause) (job : Job) (b : BookState) (s : Session) (base : ℕ) → Sound b (record s { job = Some job }) base
+      → Sound (posted b (outcome.Unknown cause)) (cut_for cause (record s { job = Some job })) base
+  sound_cut LinkLost job b s base sound = sound_lose LinkLost job job.answer b s base refl refl sound
+  sound_cut Restarted job b s base sound = sound_lose Restarted job job.answer b s base refl refl sound
+  sound_cut cause job b s base sound = sound_unknown cause job b s base sound
+
+  sound_done : (a : Answer) (job : Job) (b : BookState) (s : Session) (base : ℕ) → job.answer ≡ Some a → Sound b (record s { job = Some job }) base → Sound (posted b (outcome.Done a)) (record s { job = None }) base
+  sound_done a job b s base answered sound =
+      sound_post (outcome.Done a) job b s base (λ taken is earlier fits. rw answered (laws.done b taken a earlier sound.replayed is fits)) (λ t standing. refl) sound
 
   -- a late request is in the record
-  sound_late : (a : Answer) (late : Option Request) (b : BookState) (s : Session) (base : ℕ) → s.late ≡ late → Sound b s base → Sound b (carried_late a late s) base
-  sound_late a None b s base is sound = sound
-  sound_late a (Some q) b s base is sound =
-      let free : s.job ≡ None = late_alone s q is sound.alone in
-      let (earlier, cause, ended_is, fits) = late_fits q b s base is free sound in
+  sound_late : (a : Answer) (late : Option Request) (b : BookState) (s : Session) (base : ℕ) → Sound b (record s { late = late }) base → Sound b (carried_late a late (record s { late = late })) base
+  sound_late a None b s base sound = sound
+  sound_late a (Some q) b s base sound =
+      let free : s.job ≡ None = late_alone s.job q sound.alone in
+      let (earlier, cause, ended_is, fits) = subst (λ o. FitsOpen o (Some q) b.journal (pairs_from base s.carried)) free sound.fits in
       let grown : FitsEnded b.journal (pairs_from base s.carried ++ (q, a) ∷ []) = subst (λ ts. FitsTakings ts (pairs_from base s.carried ++ (q, a) ∷ [])) (sym ended_is) (laws.with_pair earlier (q, Some (outcome.Unknown cause)) a _ tt fits) in
       record {
         replayed = sound.replayed;
@@ -284,9 +271,6 @@ module _ (laws : BookLaws) where
         fits = subst (λ o. FitsOpen o None b.journal (pairs_from base (s.carried ++ record { request = q; answer = a } ∷ []))) (sym free)
             (subst (λ xs. FitsEnded b.journal xs) (sym (pairs_from-grown base s.carried q a sound.within)) grown);
       }
-    where
-      late_fits : (q : Request) (b : BookState) (s : Session) (base : ℕ) → s.late ≡ Some q → s.job ≡ None → Sound b s base → FitsOpen None (Some q) b.journal (pairs_from base s.carried)
-      late_fits q b s base is free sound = subst (λ l. FitsOpen None l b.journal (pairs_from base s.carried)) is (subst (λ o. FitsOpen o s.late b.journal (pairs_from base s.carried)) free sound.fits)
 
   -- after a wake nothing is late
   settled : (job : Option Job) (late : Option Request) (journal : List Entry) (pairs : List (Request × Answer)) → ((job ≡ None) ⊎ (late ≡ None)) → FitsOpen job late journal pairs → FitsOpen job None journal pairs
@@ -306,46 +290,44 @@ module _ (laws : BookLaws) where
   }
 
   -- busy replies and the mark are no business of the record
-  sound_again : (b : BookState) (s : Session) (base : ℕ) (job : Job) (busy : ℕ) (asked : Bool) → s.job ≡ Some job → Sound b s base → Sound b (record s { job = Some (record job { busy = busy; asked = asked }) }) base
-  sound_again b s base job busy asked is sound = record {
+  sound_again : (b : BookState) (s : Session) (base : ℕ) (job : Job) (busy : ℕ) (asked : Bool) → Sound b (record s { job = Some job }) base → Sound b (record s { job = Some (record job { busy = busy; asked = asked }) }) base
+  sound_again b s base job busy asked sound = record {
     replayed = sound.replayed;
-    same = sound.same ∙ ap request_of is;
+    same = sound.same;
     sure = sound.sure;
-    alone = inr (alone_late s job is sound.alone);
+    alone = inr (alone_late job s.late sound.alone);
     within = sound.within;
-    fits = fits_job s job b.journal _ is sound.fits;
+    fits = sound.fits;
   }
 
-  sound_busy : (b : BookState) (s : Session) (base : ℕ) (job : Option Job) → s.job ≡ job → Sound b s base → Sound b (record s { job = busy_once_more job }) base
-  sound_busy b s base None is sound = subst (λ o. Sound b (record s { job = o }) base) is sound
-  sound_busy b s base (Some job) is sound = sound_again b s base job _ _ is sound
+  sound_busy : (b : BookState) (s : Session) (base : ℕ) (job : Option Job) → Sound b (record s { job = job }) base → Sound b (record s { job = busy_once_more job }) base
+  sound_busy b s base None sound = sound
+  sound_busy b s base (Some job) sound = sound_again b s base job _ _ sound
 
-  pub sound_cancelling : (b : BookState) (s : Session) (base : ℕ) (job : Option Job) → s.job ≡ job → Sound b s base → Sound b (record s { job = marked job }) base
-  sound_cancelling b s base None is sound = subst (λ o. Sound b (record s { job = o }) base) is sound
-  sound_cancelling b s base (Some job) is sound = sound_again b s base job _ _ is sound
+  pub sound_cancelling : (b : BookState) (s : Session) (base : ℕ) (job : Option Job) → Sound b (record s { job = job }) base → Sound b (record s { job = marked job }) base
+  sound_cancelling b s base None sound = sound
+  sound_cancelling b s base (Some job) sound = sound_again b s base job _ _ sound
 
   -- nor is the mode
   pub sound_moved : (b : BookState) (s : Session) (base : ℕ) (mode : Mode) (why : Option Why) → Sound b s base → Sound b (record s { mode = mode; why = why }) base
   sound_moved b s base mode why sound = record { replayed = sound.replayed; same = sound.same; sure = sound.sure; alone = sound.alone; within = sound.within; fits = sound.fits }
 
-  sound_after : (m : Moment) (step : Step) (b : BookState) (s : Session) (base : ℕ) → MayBook step b → MaySession m step s → Sound b s base → Sound (book_after step b) (session_after step s) base
-  sound_after m (Take t q) b s base next may sound = sound_take (ticket_of t) q b s base next may.1 may.2 sound
-  sound_after m (Deny t) b s base next may sound = sound_deny (ticket_of t) b s base next sound
-  sound_after m (Carry a) b s base next may sound =
-      let (job, is, none) = some_of (λ job. job.answer ≡ None) s.job may in sound_carry a job b s base is none sound
-  sound_after m (Done a) b s base next may sound =
-      let (job, is, answered) = some_of (λ job. job.answer ≡ Some a) s.job may in
-      sound_post (outcome.Done a) job b s base is (leaves_done a job.answer b answered sound.replayed) (λ t standing. refl) sound
-  sound_after m (Unknown cause) b s base next may sound =
-      let (job, is, cut) = some_of (λ job. MayCut m cause job) s.job may in sound_cut cause b s base job is sound
-  sound_after m (LateCarry a) b s base next may sound = sound_late a s.late b s base refl sound
-  sound_after m Reset b s base next may sound = sound_reset b s base sound
-  sound_after m Busy b s base next may sound = sound_busy b s base s.job refl sound
-  sound_after m (Move mode why) b s base next may sound = sound_moved b s base mode why sound
-  sound_after m _ b s base next may sound = sound
+  sound_after : (m : Moment) (step : Step) (b : BookState) (s : Session) (job : Option Job) (base : ℕ) → MayBook step b → MaySession m step (record s { job = job }) → Sound b (record s { job = job }) base
+      → Sound (book_after step b) (session_after step (record s { job = job })) base
+  sound_after m (Take t q) b s job base next may sound = sound_take (ticket_of t) q b (record s { job = job }) base next may.1 may.2 sound
+  sound_after m (Deny t) b s job base next may sound = sound_deny (ticket_of t) b (record s { job = job }) base next sound
+  sound_after m (Carry a) b s None base next may sound = absurd may
+  sound_after m (Carry a) b s (Some job) base next none sound = sound_carry a job b s base none sound
+  sound_after m (Done a) b s None base next may sound = absurd may
+  sound_after m (Done a) b s (Some job) base next answered sound = sound_done a job b s base answered sound
+  sound_after m (Unknown cause) b s None base next may sound = absurd may
+  sound_after m (Unknown cause) b s (Some job) base next may sound = sound_cut cause job b s base sound
+  sound_after m (LateCarry a) b s job base next may sound = sound_late a s.late b (record s { job = job }) base sound
+  sound_after m Reset b s job base next may sound = sound_reset b (record s { job = job }) base sound
+  sound_after m Busy b s job base next may sound = sound_busy b s base job sound
+  sound_after m (Move mode why) b s job base next may sound = sound_moved b (record s { job = job }) base mode why sound
+  sound_after m _ b s job base next may sound = sound
 
   -- a list of steps
   pub sound_through : (m : Moment) (steps : List Step) (b : BookState) (s : Session) (base : ℕ) → MayBookAll steps b → MaySessionAll m steps s → Sound b s base → Sound (book_through steps b) (session_through steps s) base
-  sound_through m [] b s base next may sound = sound
-  sound_through m (step ∷ steps) b s base next may sound =
-      sound_through m steps _ _ base next.1 may.1 (sound_after m step b s base next.0 may.0 sound)
+  sound_through m steps b s base next may sound = steps_keep (λ c t. Sound c t base) m (λ step c t may_book may_session h. sound_after m step c t t.job base may_book may_session h) steps b s next may sound

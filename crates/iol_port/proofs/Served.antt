@@ -25,7 +25,7 @@ use Rattle.iol_port.specs.View.{Parts}
 use Rattle.iol_port.specs.Turns.{Stage, Written, Waiting, Reading, Ended, turns_at, turns_needed}
 use Rattle.iol_port.specs.Clean.{CleanLaws, IsAt, MayStart, MayServe, IsAfter, CleanTurn, takes_all, record_of, IsOnTime, IsOnItsWay, AreServed, CleanRuns, CleanServes}
 use Rattle.iol_port.proofs.CleanStages.{segment_within}
-use Rattle.iol_port.proofs.CleanTurns.{calm_ready}
+use Rattle.iol_port.proofs.CleanSession.{calm_ready}
 
 -- Room in the record
 
