@@ -134,10 +134,18 @@ fn reply_to(session: &mut Session, layout: &Layout, call: Call<'_>) -> Told
         Call::Image => image(session),
         Call::Begin => begin(session, layout),
         Call::Turn(room, answered) => Told::Sent(turn(session, layout, room, answered)),
-        Call::Lose => Told::Said(session.lose()),
+        Call::Lose => Told::Said(lose(session)),
         Call::SetOutput(octets) => set_output(session, octets),
         Call::Start | Call::Enter(_) | Call::ClearOutput => change(session, call),
     }
+}
+
+fn lose(session: &mut Session) -> Said
+    ensures { session.new.layout ≡ session.old.layout }
+{
+    let mut said = Said::Idle;
+    session.lose(&mut said);
+    said
 }
 
 /// Makes the calls of the rows in turn, each of which has to say what stands beside it.
