@@ -334,6 +334,17 @@ impl<R: Record> FarEnd<R> {
     pub fn work<P: App>(&mut self, app: &mut P)
         ensures { IsCarriedOut P.carry_out_gives (handed self.old.isdu) self.old app.old self.new app.new }
     {
+        // Most calls find none.
+        if self.isdu.handed().is_some() {
+            self.carry_out(app);
+        }
+    }
+
+    /// The same, in a function of its own, whose locals are large.
+    #[inline(never)]
+    fn carry_out<P: App>(&mut self, app: &mut P)
+        ensures { IsCarriedOut P.carry_out_gives (handed self.old.isdu) self.old app.old self.new app.new }
+    {
         let Some(request) = self.isdu.handed() else {
             return;
         };
