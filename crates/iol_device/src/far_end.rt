@@ -78,6 +78,7 @@ impl<R: Record> FarEnd<R> {
     ghost use Rattle.iol_device.specs.declared.fault.DeviceFault.{DeviceFault};
 
     /// Asleep, as a device is delivered.
+    #[inline(never)]
     pub fn open(carried: R, page: Page) -> FarEnd<R>
         requires page { IsOk (layouts_of page) }
         requires empty { R.carried carried ≡ [] }
