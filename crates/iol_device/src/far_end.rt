@@ -78,6 +78,7 @@ impl<R: Record> FarEnd<R> {
     ghost use Rattle.iol_device.specs.declared.fault.DeviceFault.{DeviceFault};
 
     /// Asleep, as a device is delivered.
+    #[inline(never)]
     pub fn open(carried: R, page: Page) -> FarEnd<R>
         requires page { IsOk (layouts_of page) }
         requires empty { R.carried carried ≡ [] }
@@ -332,6 +333,17 @@ impl<R: Record> FarEnd<R> {
 
     /// A handed request is carried out, where the record has room.
     pub fn work<P: App>(&mut self, app: &mut P)
+        ensures { IsCarriedOut P.carry_out_gives (handed self.old.isdu) self.old app.old self.new app.new }
+    {
+        // Most calls find none.
+        if self.isdu.handed().is_some() {
+            self.carry_out(app);
+        }
+    }
+
+    /// The same, in a function of its own, whose locals are large.
+    #[inline(never)]
+    fn carry_out<P: App>(&mut self, app: &mut P)
         ensures { IsCarriedOut P.carry_out_gives (handed self.old.isdu) self.old app.old self.new app.new }
     {
         let Some(request) = self.isdu.handed() else {

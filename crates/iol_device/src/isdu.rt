@@ -9,12 +9,15 @@ ghost use Rattle.iol_far.specs.Isdu.{Empty, Receiving, IsduState, isdu_written, 
 ghost use Rattle.iol_device.specs.Inside.{IsduValue, IsKept, IsReceiving, GoesOn, IsSent, state_of, joining_in, count_in, handed_over, sent_flow, is_sent, is_next};
 
 use crate::app::App;
-use iol_isdu::{Answer, Request};
+use iol_isdu::{Answer, Place, Request};
 use iol_mseq::{Message, append, append_first, append_zeros};
 use iol_octets::Flow;
 use iol_segment::{Cutter, Joiner, Reaction, cut_is_whole};
 use std::marker::Model;
 use std::mem;
+
+/// What stands in a request's place while that moves from one stage to the next.
+const NOTHING: Request = Request::Read(Place { index: 0, sub: 0 });
 
 /// How far a request has come.
 #[derive(Drop)]
@@ -113,15 +116,12 @@ impl IsduSide {
         requires { IfSome (handed self.old.state) (λ request. IsTrue (fits request answer)) }
         ensures { self.new ≡ record self.old { state = answered self.old.state answer } }
     {
-        match mem::replace(&mut self.stage, Stage::Empty) {
-            Stage::Handed(request) => {
-                self.stage = Stage::Answered(Cutter::new(
-                    Reaction { request, answer },
-                    self.size as usize,
-                ));
-            }
-            other => self.stage = other,
-        }
+        let Stage::Handed(request) = &mut self.stage else {
+            return;
+        };
+        let request = mem::replace(request, NOTHING);
+        let cutter = Cutter::new(Reaction { request, answer }, self.size as usize);
+        self.stage = Stage::Answered(cutter);
     }
 }
 
@@ -153,6 +153,15 @@ pub(crate) fn answer_of<P: App>(app: &mut P, request: &Request) -> Answer
     answer
 }
 
+/// No request is under way from now on. Where none is, nothing is written: most messages find it so.
+fn empty(stage: &mut Stage)
+    ensures { stage.new ≡ Stage.Empty }
+{
+    if !matches!(stage, Stage::Empty) {
+        *stage = Stage::Empty;
+    }
+}
+
 /// A write under this flow.
 fn write_to(stage: &mut Stage, size: u8, flow: Flow, octets: &[u8])
     requires { IsKept size stage.old }
@@ -165,7 +174,7 @@ fn write_to(stage: &mut Stage, size: u8, flow: Flow, octets: &[u8])
             take_into(stage, size, flow, octets);
         }
         Flow::Count(count) => write_count(stage, size, count, octets),
-        _ => *stage = Stage::Empty,
+        _ => empty(stage),
     }
 }
 
@@ -182,7 +191,7 @@ fn write_count(stage: &mut Stage, size: u8, count: u8, octets: &[u8])
                 *stage = Stage::Empty;
             }
         }
-        _ => *stage = Stage::Empty,
+        _ => empty(stage),
     }
 }
 
@@ -210,25 +219,17 @@ fn complete(stage: &mut Stage, size: u8, flow: Flow)
     ensures state { state_of stage.new ≡ completed (request_of (joining_in stage.old).text) (count_in flow) }
     ensures kept { IsKept size stage.new }
 {
-    let Stage::Receiving(joiner) = mem::replace(stage, Stage::Empty) else {
+    let Stage::Receiving(joiner) = &*stage else {
         unreachable!()
     };
     let last = match flow {
         Flow::Count(count) => Some(count),
         _ => None,
     };
-    if let Some(request) = request_in(joiner) {
-        *stage = Stage::Whole(request, last);
+    match joiner.request() {
+        Ok(request) => *stage = Stage::Whole(request, last),
+        Err(_) => *stage = Stage::Empty,
     }
-}
-
-/// The request whose text was taken.
-fn request_in(joiner: Joiner) -> Option<Request>
-    requires requests { joiner.requests ≡ true }
-    requires whole { is_whole joiner.text ≡ true }
-    ensures { result ≡ request_of joiner.text }
-{
-    joiner.into_request().ok()
 }
 
 /// A read under this flow.
@@ -240,7 +241,7 @@ fn read_from(stage: &mut Stage, size: u8, flow: Flow)
     match flow {
         Flow::Start => read_start(stage, size),
         Flow::Count(count) => read_count(stage, size, count),
-        _ => *stage = Stage::Empty,
+        _ => empty(stage),
     }
 }
 
@@ -257,7 +258,7 @@ fn read_start(stage: &mut Stage, size: u8)
             cutter.restart();
             cutter.next();
         }
-        _ => *stage = Stage::Empty,
+        _ => empty(stage),
     }
 }
 
@@ -265,9 +266,9 @@ fn read_start(stage: &mut Stage, size: u8)
 fn hand_over(stage: &mut Stage)
     ensures { stage.new ≡ handed_over stage.old }
 {
-    match mem::replace(stage, Stage::Empty) {
-        Stage::Whole(request, _) => *stage = Stage::Handed(request),
-        other => *stage = other,
+    if let Stage::Whole(request, _) = stage {
+        let request = mem::replace(request, NOTHING);
+        *stage = Stage::Handed(request);
     }
 }
 

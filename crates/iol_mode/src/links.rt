@@ -102,10 +102,9 @@ fn send<W: Wire>(
             attempt
         }
         None => {
-            let mut sent = Handler::new(copy_of(message));
-            let attempt = sent.attempt(wire, layout);
+            let attempt = Handler::first_attempt(message, wire, layout);
             if matches!(attempt, Attempt::Again) {
-                *out = Some(sent);
+                *out = Some(Handler::tried_once(copy_of(message)));
             }
             attempt
         }

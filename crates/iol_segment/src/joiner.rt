@@ -93,6 +93,22 @@ impl Joiner {
         is_whole(&self.text)
     }
 
+    /// The request whose text was taken, as `iol_isdu::read_request` reads it, where the joiner lies.
+    ///
+    /// The text is whole, as [`take`](Joiner::take) has answered. The first of these that holds refuses:
+    /// - 12 `BadService`: the service is no request's, or its texts don't have this total length;
+    /// - 13 `BadChkpdu`: the XOR of all octets of the text is not 0.
+    pub fn request(&self) -> Result<Request, IsduFault>
+        requires kind { self.now.requests ≡ true }
+        requires whole { is_whole self.now.text ≡ true }
+        ensures refused { result_err result ≡ isdu_fault request_accepts self.now.text }
+        ensures found { IfOk result (BeginsWithRequest self.now.text) }
+        ensures only { (r : Request) → BeginsWithRequest self.now.text r → result ≡ Ok r }
+        ensures value { result_ok result ≡ request_of self.now.text }
+    {
+        read_request(&self.text)
+    }
+
     /// The request whose text was taken, as `iol_isdu::read_request` reads it. A refusal gives the joiner
     /// up all the same.
     ///
@@ -107,7 +123,7 @@ impl Joiner {
         ensures only { (r : Request) → BeginsWithRequest self.text r → result ≡ Ok r }
         ensures value { result_ok result ≡ request_of self.text }
     {
-        read_request(&self.text)
+        self.request()
     }
 
     /// The answer to this request whose text was taken, as `iol_isdu::read_answer` reads it. A refusal

@@ -2,7 +2,7 @@ use Rattle.std.proofs.Common.{◌≡◌, ap, subst, ◌∙◌, Ok}
 use Rattle.iol_isdu.specs.declared.values.Request.{Request}
 use Rattle.iol_isdu.specs.Requests.{BeginsWithRequest}
 use Rattle.iol_segment.specs.Join.{Joining}
-use Rattle.iol_segment.proofs.joiner.Joiner.into_request.Goals as goal
+use Rattle.iol_segment.proofs.joiner.Joiner.request.Goals as goal
 
 pub returns-clause-only : goal.returns-clause-only
 returns-clause-only c =
