@@ -23,7 +23,8 @@ use Rattle.iol_port.specs.declared.call.Answered.{Answered}
 use Rattle.iol_port.specs.declared.call.Answered.TheVariants as answered
 use Rattle.iol_port.specs.Asks.{IsWireCall}
 use Rattle.iol_port.specs.Run.{PortState, CallOf}
-use Rattle.iol_port.specs.View.{Parts, Follows, StandsFor}
+use Rattle.iol_port.specs.View.{Parts, Opening, Follows, StandsFor, IsOpened, opening_of}
+use Rattle.iol_port.specs.EveryWire.{CallGives}
 use Rattle.iol_commands.specs.Passing.{PrintsPassed}
 use Rattle.iol_far.specs.declared.carried.Carried.{Carried}
 use Rattle.iol_sim.specs.Params.{Stores}
@@ -33,9 +34,9 @@ use Rattle.iol_page.specs.Page.{layouts_of}
 use Rattle.iol_script.specs.Script.{ScriptValue, script_in, calls_in}
 use Rattle.iol_script.specs.Text.{numbered_lines}
 use Rattle.iol_commands.proofs.RunLemmas.{carried_is}
-use Rattle.iol_commands.specs.RunPlayed.{first_port, first_wire, lacks_memory}
+use Rattle.iol_commands.specs.RunPlayed.{first_port, lacks_memory}
 use Rattle.iol_commands.specs.RunPrinted.{answer_text, record_text}
-use Rattle.iol_commands.specs.TracePrinted.{layout_in, first_stage, TracesOut, PrintsTrace, Stage, Passes, TracesCall, Traces, stage_of, PortTraces, Flows, PrintsNote, PrintsNoteOf}
+use Rattle.iol_commands.specs.TracePrinted.{layout_in, first_stage, first_tap, TracesOut, TracesOverWire, PrintsTrace, Stage, wire_at, Passes, TracesCall, Traces, stage_of, PortTraces, Flows, PrintsNote, PrintsNoteOf}
 
 -- Text that is written in pieces
 
@@ -56,7 +57,7 @@ flows_join a b c x y z text later p q = record {
       ∙ ap (λ (l : List ℕ). p.written ++ l) q.rest ∙ sym (append_assoc p.written q.written z);
 }
 
-module _ {W : Type 0} (wakes : W → Option Rate → W → Type 0) (gives : W → List ℕ → Option (ArrayVec ℕ) → W → Type 0) where
+module _ {W : Type 0} (honest : W → Bool) (far : W → Far) (silence : W → ℕ) (wakes : W → Option Rate → W → Type 0) (gives : W → List ℕ → Option (ArrayVec ℕ) → W → Type 0) where
   -- a call of the wire, and the note of it
   noted : (asked : Asked) (old new : Tapped W) → IsCall (TapWakes wakes gives) (TapGives wakes gives) asked old new → (note : Passed) × (new.last ≡ Some note) × IsNoteOf wakes gives note old.wire new.wire
   noted Wake old new (answer, called) = (wake_noted answer, called.1, called.0)
@@ -65,14 +66,14 @@ module _ {W : Type 0} (wakes : W → Option Rate → W → Type 0) (gives : W �
   module _ (layouts : Layouts) where
     -- what passes in a call is what is noted of it
     passes_of : (call : Call) (asked : Asked) (old new : Tapped W) (s : Stage W) (t : Stage W) (layout : Shape) (text : List ℕ)
-        → s.wire ≡ old.wire → t.wire ≡ new.wire → layout ≡ layout_in s.port.session.mode layouts
+        → wire_at s ≡ old.wire → wire_at t ≡ new.wire → layout ≡ layout_in s.port.session.mode layouts
         → IsWireCall (TapWakes wakes gives) (TapGives wakes gives) call asked old new → PrintsNoteOf call s.number layout new.last t.number text
-        → Passes wakes gives layouts s call t text
+        → Passes honest far silence wakes gives layouts s call t text
     passes_of call.Turn asked old new s t layout text before after shape called printed =
         let (note, last, is) = noted asked old new called in
         let shown : PrintsNote s.number (layout_in s.port.session.mode layouts) (Some note) t.number text =
         subst (λ (l : Shape). PrintsNote s.number l (Some note) t.number text) shape (subst (λ (o : Option Passed). PrintsNote s.number layout o t.number text) last printed) in
-        (note, subst (λ (w : W). IsNoteOf wakes gives note w t.wire) (sym before) (subst (λ (w : W). IsNoteOf wakes gives note old.wire w) (sym after) is), shown.0, shown.1)
+        (note, subst (λ (w : W). IsNoteOf wakes gives note w (wire_at t)) (sym before) (subst (λ (w : W). IsNoteOf wakes gives note old.wire w) (sym after) is), shown.0, shown.1)
     passes_of (call.Submit request) asked old new s t layout text before after shape called printed = (printed.0, after ∙ ap (λ (w : Tapped W). w.wire) called ∙ sym before, printed.1)
     passes_of (call.SubmitUrgent request) asked old new s t layout text before after shape called printed = (printed.0, after ∙ ap (λ (w : Tapped W). w.wire) called ∙ sym before, printed.1)
     passes_of (call.Collect ticket) asked old new s t layout text before after shape called printed = (printed.0, after ∙ ap (λ (w : Tapped W). w.wire) called ∙ sym before, printed.1)
@@ -86,9 +87,9 @@ module _ {W : Type 0} (wakes : W → Option Rate → W → Type 0) (gives : W �
     passes_of call.Status asked old new s t layout text before after shape called printed = (printed.0, after ∙ ap (λ (w : Tapped W). w.wire) called ∙ sym before, printed.1)
     passes_of call.Archive asked old new s t layout text before after shape called printed = (printed.0, after ∙ ap (λ (w : Tapped W). w.wire) called ∙ sym before, printed.1)
 
-    traces_join : (s m t : Stage W) (calls more : List Call) (text later : List ℕ) → Traces wakes gives layouts s calls m text → Traces wakes gives layouts m more t later → Traces wakes gives layouts s (calls ++ more) t (text ++ later)
+    traces_join : (s m t : Stage W) (calls more : List Call) (text later : List ℕ) → Traces honest far silence wakes gives layouts s calls m text → Traces honest far silence wakes gives layouts m more t later → Traces honest far silence wakes gives layouts s (calls ++ more) t (text ++ later)
     traces_join s m t [] more text later (same, none) second =
-        subst (λ (l : List ℕ). Traces wakes gives layouts s more t (l ++ later)) (sym none) (subst (λ (x : Stage W). Traces wakes gives layouts x more t later) same second)
+        subst (λ (l : List ℕ). Traces honest far silence wakes gives layouts s more t (l ++ later)) (sym none) (subst (λ (x : Stage W). Traces honest far silence wakes gives layouts x more t later) same second)
     traces_join s m t (call ∷ calls) more text later (mid, first, rest, is, one, others) second =
         (mid, first, rest ++ later, ap (λ (l : List ℕ). l ++ later) is ∙ append_assoc first rest later, one, traces_join mid m t calls more rest later others second)
 
@@ -106,44 +107,46 @@ module _ {W : Type 0} (honest : W → Bool) (far : W → Far) (silence : W → �
   port_traces_join n m k p q r calls more text later first second a stands =
       let (b, traces, there) = first a stands in
       let (c, goes_on, last) = second b there in
-      (c, traces_join wakes gives layouts (stage_of n a p) (stage_of m b q) (stage_of k c r) calls more text later traces goes_on, last)
+      (c, traces_join honest far silence wakes gives layouts (stage_of n a p) (stage_of m b q) (stage_of k c r) calls more text later traces goes_on, last)
 
   -- one call, by what its port says of itself, of the call and of the wire
   pub call_traced : (n m : ℕ) (p q : Parts (Tapped W)) (made : Call) (reply : Answered) (status : Status) (asked : Asked) (text passed : List ℕ)
       → Follows (through honest) (through far) (through silence) p call.Status (answered.Status status) p
       → Follows (through honest) (through far) (through silence) p made reply q
+      → CallGives (through honest) (through far) (through silence) (TapWakes wakes gives) (TapGives wakes gives) p made reply q
       → IsWireCall (TapWakes wakes gives) (TapGives wakes gives) made asked (wire_of p.station.link) (wire_of q.station.link)
       → lacks_memory reply ≡ false → PrintsNoteOf made n (layout_in status.mode layouts) (wire_of q.station.link).last m passed
       → text ≡ passed ++ answer_text made reply → PortTraces honest far silence wakes gives layouts n p (made ∷ []) m q text
   unfolding PortTraces Follows
-  call_traced n m p q made reply status asked text passed says goes called granted printed is a stands =
+  call_traced n m p q made reply status asked text passed says goes gives_it called granted printed is a stands =
       let (same, said, still) = says a stands in
       let (b, call_is, there) = goes a stands in
       let inner : status ≡ record { mode = a.session.mode; why = a.session.why; event_form = false } = cc (said.0) in
       let mode : status.mode ≡ a.session.mode = ap (λ (s : Status). s.mode) inner in
-      let passes : Passes wakes gives layouts (stage_of n a p) made (stage_of m b q) passed =
-      passes_of wakes gives layouts made asked (wire_of p.station.link) (wire_of q.station.link) (stage_of n a p) (stage_of m b q) (layout_in status.mode layouts) passed
+      let passes : Passes honest far silence wakes gives layouts (stage_of n a p) made (stage_of m b q) passed =
+      passes_of honest far silence wakes gives layouts made asked (wire_of p.station.link) (wire_of q.station.link) (stage_of n a p) (stage_of m b q) (layout_in status.mode layouts) passed
       refl refl (ap (λ (x : Mode). layout_in x layouts) mode) called printed in
-      let one : TracesCall wakes gives layouts (stage_of n a p) made (stage_of m b q) text = record { reply = reply; passed = passed; call_is = call_is; granted = granted; passes = passes; text_is = is } in
+      let one : TracesCall honest far silence wakes gives layouts (stage_of n a p) made (stage_of m b q) text = record { reply = reply; passed = passed; call_is = call_is; made = gives_it; granted = granted; passes = passes; text_is = is } in
       (b, (stage_of m b q, text, [], sym (append-nil text), one, (refl, refl)), there)
 
   -- the same as it is printed
   pub call_printed : {T E : Type 0} (r : Result T E) (old mid new : List ℕ) (n m : ℕ) (p q : Parts (Tapped W)) (made : Call) (reply : Answered) (status : Status) (asked : Asked) (layout : Shape) (wire : Tapped W) (passed : List ℕ)
       → Follows (through honest) (through far) (through silence) p call.Status (answered.Status status) p
       → Follows (through honest) (through far) (through silence) p made reply q
+      → CallGives (through honest) (through far) (through silence) (TapWakes wakes gives) (TapGives wakes gives) p made reply q
       → IsWireCall (TapWakes wakes gives) (TapGives wakes gives) made asked (wire_of p.station.link) (wire_of q.station.link)
       → false ≡ lacks_memory reply → layout ≡ layout_in status.mode layouts → wire ≡ wire_of q.station.link → PrintsNoteOf made n layout wire.last m passed
       → mid ≡ old ++ passed → OnOk r (new ≡ mid ++ answer_text made reply)
       → OnOk r ((text : List ℕ) × (new ≡ old ++ text) × PortTraces honest far silence wakes gives layouts n p (made ∷ []) m q text)
-  call_printed (Ok x) old mid new n m p q made reply status asked layout wire passed says goes called granted shape same printed before wrote =
+  call_printed (Ok x) old mid new n m p q made reply status asked layout wire passed says goes gives_it called granted shape same printed before wrote =
       let text : List ℕ = passed ++ answer_text made reply in
       let noted_by : PrintsNoteOf made n (layout_in status.mode layouts) (wire_of q.station.link).last m passed =
       subst (λ (w : Tapped W). PrintsNoteOf made n (layout_in status.mode layouts) w.last m passed) same (subst (λ (l : Shape). PrintsNoteOf made n l wire.last m passed) shape printed) in (
         text,
         wrote ∙ ap (λ (l : List ℕ). l ++ answer_text made reply) before ∙ append_assoc old passed (answer_text made reply),
-        call_traced n m p q made reply status asked text passed says goes called (sym granted) noted_by refl,
+        call_traced n m p q made reply status asked text passed says goes gives_it called (sym granted) noted_by refl,
       )
-  call_printed (Err x) old mid new n m p q made reply status asked layout wire passed says goes called granted shape same printed before wrote = tt
+  call_printed (Err x) old mid new n m p q made reply status asked layout wire passed says goes gives_it called granted shape same printed before wrote = tt
 
   -- some calls are traced, and what is printed is written or waits
   abbrev pub Goes : Layouts → Option (List ℕ) → Option (List ℕ) → List ℕ → List ℕ → ℕ → Parts (Tapped W) → List Call → ℕ → Parts (Tapped W) → Type 0
@@ -190,26 +193,38 @@ whole_written (Ok v) a b d empty waits out shown text record_is P none flows is 
     (flows.written ++ shown, Appends-trans a b d flows.written shown flows.appends wrote, subst P (sym all) holds)
 whole_written (Err v) a b d empty waits out shown text record_is P none flows is same holds wrote = tt
 
+-- the wire of a script, as a port over a tap on it sees it
+abbrev sim_honest : Tapped (Simulated (List Entry)) → Bool
+sim_honest = through (λ (sim : Simulated (List Entry)). true)
+
+abbrev sim_far : Tapped (Simulated (List Entry)) → Far
+sim_far = through (λ (sim : Simulated (List Entry)). sim.device.far)
+
+abbrev sim_silence : Tapped (Simulated (List Entry)) → ℕ
+sim_silence = through (λ (sim : Simulated (List Entry)). sim.silence)
+
 -- a port over a tap on the first wire of a script, and its calls traced to the end
-pub traced_out : (script : ScriptValue) (layouts : Layouts) (p q : Parts (Tapped (Simulated (List Entry)))) (a : PortState) (wire : Simulated (List Entry)) (of : Layouts) (n m : ℕ) (calls : List Call) (text : List ℕ) (entries : List Carried)
-    → of ≡ layouts → n ≡ 1 → StandsFor (through (λ (sim : Simulated (List Entry)). true)) (through (λ (sim : Simulated (List Entry)). sim.device.far)) (through (λ (sim : Simulated (List Entry)). sim.silence)) p a
-    → a ≡ first_port script.limits script.page → wire_of p.station.link ≡ record { wire = wire; last = None } → wire ≡ first_wire script
+pub traced_out : (script : ScriptValue) (layouts : Layouts) (p q : Parts (Tapped (Simulated (List Entry)))) (a : PortState) (opening : Opening (Tapped (Simulated (List Entry)))) (tap : Tapped (Simulated (List Entry))) (of : Layouts) (n m : ℕ) (calls : List Call) (text : List ℕ) (entries : List Carried)
+    → of ≡ layouts → n ≡ 1 → StandsFor sim_honest sim_far sim_silence p a → a ≡ first_port script.limits script.page
+    → opening ≡ opening_of sim_honest sim_far sim_silence script.limits tap → tap ≡ first_tap script → IsOpened opening p
     → PortTraces (λ (sim : Simulated (List Entry)). true) (λ (sim : Simulated (List Entry)). sim.device.far) (λ (sim : Simulated (List Entry)). sim.silence) (IsWake Stores) (IsExchange Stores) of n p calls m q text
     → entries ≡ (wire_of q.station.link).wire.device.far.carried → TracesOut script layouts calls (text ++ record_text entries)
 unfolding PortTraces
-traced_out script layouts p q a wire of n m calls text entries told from_one stands first opened is goes those =
+traced_out script layouts p q a opening tap of n m calls text entries told from_one stands first over tap_is opens goes those =
     let (b, traces, there) = goes a stands in
     let begun : Stage (Simulated (List Entry)) = stage_of n a p in
-    let wires : begun.wire ≡ first_wire script = ap (λ (t : Tapped (Simulated (List Entry))). t.wire) opened ∙ is in
-    let stage : begun ≡ first_stage script =
-    ap (λ (k : ℕ). record { number = k; port = a; wire = begun.wire }) from_one ∙ ap (λ (x : PortState). record { number = 1; port = x; wire = begun.wire }) first ∙ ap (λ (w : Simulated (List Entry)). record { number = 1; port = first_port script.limits script.page; wire = w }) wires in
+    let stage : begun ≡ first_stage script p =
+    ap (λ (k : ℕ). stage_of k a p) from_one ∙ ap (λ (x : PortState). stage_of 1 x p) first in
+    let carried : (wire_of q.station.link).wire.device.far.carried ≡ b.session.carried = carried_is sim_honest sim_far sim_silence q b there in
     record {
+      first = p;
+      opens = subst (λ (o : Opening (Tapped (Simulated (List Entry)))). IsOpened o p) (over ∙ ap (λ (t : Tapped (Simulated (List Entry))). opening_of sim_honest sim_far sim_silence script.limits t) tap_is) opens;
       last = stage_of m b q;
       calls_text = text;
-      traces = subst (λ (s : Stage (Simulated (List Entry))). Traces (IsWake Stores) (IsExchange Stores) layouts s calls (stage_of m b q) text) stage
-          (subst (λ (l : Layouts). Traces (IsWake Stores) (IsExchange Stores) l begun calls (stage_of m b q) text) told traces);
-      text_is = ap (λ (l : List Carried). text ++ record_text l)
-          (those ∙ carried_is (through (λ (sim : Simulated (List Entry)). true)) (through (λ (sim : Simulated (List Entry)). sim.device.far)) (through (λ (sim : Simulated (List Entry)). sim.silence)) q b there);
+      traces = subst (λ (s : Stage (Simulated (List Entry))). TracesOverWire layouts s calls (stage_of m b q) text) stage
+          (subst (λ (l : Layouts). TracesOverWire l begun calls (stage_of m b q) text) told traces);
+      carried = carried;
+      text_is = ap (λ (l : List Carried). text ++ record_text l) (those ∙ carried);
     }
 
 -- the layouts of a page that has some

@@ -1,5 +1,5 @@
 -- What `trace` carries out, and what it prints of it.
-use Rattle.std.specs.Prelude.{◌≡◌, ℕ, ◌+◌, Bool, false, Option, Some, None, List, [], ◌∷◌, ◌++◌, IsSomeAnd, IsOkAnd, unwrap_or}
+use Rattle.std.specs.Prelude.{◌≡◌, ℕ, ◌+◌, Bool, true, false, Option, Some, None, List, [], ◌∷◌, ◌++◌, IsSomeAnd, IsOkAnd, unwrap_or}
 use Rattle.std.specs.Io.KnownBytes.{Appends}
 use Rattle.arrayvec.specs.ArrayVec.{ArrayVec}
 use Rattle.iol_mseq.specs.Shape.{Shape, startup_shape}
@@ -7,7 +7,7 @@ use Rattle.iol_page.specs.Page.{layouts_of}
 use Rattle.iol_page.specs.declared.page.Layouts.{Layouts}
 use Rattle.iol_far.specs.Far.{Far}
 use Rattle.iol_link.specs.declared.wire.Rate.{Rate}
-use Rattle.iol_tap.specs.Tapped.{Tapped, through, IsNoteOf}
+use Rattle.iol_tap.specs.Tapped.{Tapped, through, TapWakes, TapGives, IsNoteOf}
 use Rattle.iol_tap.specs.declared.tap.Passed.{Passed}
 use Rattle.iol_sim.specs.Params.{Stores}
 use Rattle.iol_sim.specs.declared.params.Entry.{Entry}
@@ -19,7 +19,8 @@ use Rattle.iol_port.specs.declared.call.Call.{Call}
 use Rattle.iol_port.specs.declared.call.Call.TheVariants.{Turn}
 use Rattle.iol_port.specs.declared.call.Answered.{Answered}
 use Rattle.iol_port.specs.Run.{PortState, CallOf}
-use Rattle.iol_port.specs.View.{Parts, StandsFor}
+use Rattle.iol_port.specs.View.{Parts, Opening, StandsFor, IsOpened, opening_of}
+use Rattle.iol_port.specs.EveryWire.{CallGives}
 use Rattle.iol_script.specs.Script.{ScriptValue, script_in, calls_in}
 use Rattle.iol_commands.specs.Passing.{PrintsPassed}
 use Rattle.iol_commands.specs.RunPlayed.{first_port, first_wire, lacks_memory}
@@ -32,26 +33,32 @@ layout_in Startup layouts = startup_shape
 layout_in Preoperate layouts = unwrap_or layouts.pre startup_shape
 layout_in Operate layouts = layouts.run
 
--- where a trace is: the number of the next call of the wire, the abstract port, and the wire
+-- where a trace is: the number of the next call of the wire, and the port over a tap, as the abstract port that it stands for and in its own parts
 pub record Stage (W : Type 0) : Type 0 where
   pub number : ℕ
   pub port : PortState
-  pub wire : W
+  pub parts : Parts (Tapped W)
 
-module _ {W : Type 0} (wakes : W → Option Rate → W → Type 0) (gives : W → List ℕ → Option (ArrayVec ℕ) → W → Type 0) (layouts : Layouts) where
+-- the wire within the tap
+abbrev pub wire_at : {W : Type 0} → Stage W → W
+wire_at s = (wire_of s.parts.station.link).wire
+
+module _ {W : Type 0} (honest : W → Bool) (far : W → Far) (silence : W → ℕ) (wakes : W → Option Rate → W → Type 0) (gives : W → List ℕ → Option (ArrayVec ℕ) → W → Type 0) (layouts : Layouts) where
   -- what passes in a call: a turn makes one call of the wire, whose octets are shown in the layout of the mode before it; no
   -- other call touches the wire
   abbrev pub Passes : Stage W → Call → Stage W → List ℕ → Type 0
   Passes s Turn t text =
-      (note : Passed) × IsNoteOf wakes gives note s.wire t.wire × PrintsPassed s.number (layout_in s.port.session.mode layouts) note text
+      (note : Passed) × IsNoteOf wakes gives note (wire_at s) (wire_at t) × PrintsPassed s.number (layout_in s.port.session.mode layouts) note text
       × (t.number ≡ s.number + 1)
-  Passes s other t text = (text ≡ []) × (t.wire ≡ s.wire) × (t.number ≡ s.number)
+  Passes s other t text = (text ≡ []) × (wire_at t ≡ wire_at s) × (t.number ≡ s.number)
 
-  -- one call, which doesn't lack memory: what passes, and then what it answers
+  -- one call, which doesn't lack memory: it is the abstract port's, and does to the port's own parts and to its wire just what a call does there;
+  -- what passes is printed, and then what it answers
   pub record TracesCall (s : Stage W) (call : Call) (t : Stage W) (text : List ℕ) : Type 0 where
     pub reply : Answered
     pub passed : List ℕ
     pub call_is : CallOf s.port call reply t.port
+    pub made : CallGives (through honest) (through far) (through silence) (TapWakes wakes gives) (TapGives wakes gives) s.parts call reply t.parts
     pub granted : lacks_memory reply ≡ false
     pub passes : Passes s call t passed
     pub text_is : text ≡ passed ++ answer_text call reply
@@ -62,14 +69,31 @@ module _ {W : Type 0} (wakes : W → Option Rate → W → Type 0) (gives : W �
   Traces s (call ∷ calls) t text =
       (mid : Stage W) × (first : List ℕ) × (later : List ℕ) × (text ≡ first ++ later) × TracesCall s call mid first × Traces mid calls t later
 
-abbrev pub first_stage : ScriptValue → Stage (Simulated (List Entry))
-first_stage script = record { number = 1; port = first_port script.limits script.page; wire = first_wire script }
+-- a tap on the wire of a script at first, with nothing noted
+abbrev pub first_tap : ScriptValue → Tapped (Simulated (List Entry))
+first_tap script = record { wire = first_wire script; last = None }
 
--- what is printed for calls: what passes and what they answer, and then the device's record
+-- with what the port of a script is opened, over that tap
+abbrev pub tapped_opening : ScriptValue → Opening (Tapped (Simulated (List Entry)))
+tapped_opening script = opening_of (through (λ sim. true)) (through (λ sim. sim.device.far)) (through (λ sim. sim.silence)) script.limits (first_tap script)
+
+-- a new port over the tap, before its first call
+abbrev pub first_stage : ScriptValue → Parts (Tapped (Simulated (List Entry))) → Stage (Simulated (List Entry))
+first_stage script first = record { number = 1; port = first_port script.limits script.page; parts = first }
+
+-- calls are traced over the wire of a script
+abbrev pub TracesOverWire : Layouts → Stage (Simulated (List Entry)) → List Call → Stage (Simulated (List Entry)) → List ℕ → Type 0
+TracesOverWire layouts s calls t text = Traces (λ sim. true) (λ sim. sim.device.far) (λ sim. sim.silence) (IsWake Stores) (IsExchange Stores) layouts s calls t text
+
+-- What is printed for calls: what passes and what they answer, and then the device's record. They are made on a new port over a tap on the script's
+-- wire.
 pub record TracesOut (script : ScriptValue) (layouts : Layouts) (calls : List Call) (text : List ℕ) : Type 0 where
+  pub first : Parts (Tapped (Simulated (List Entry)))
+  pub opens : IsOpened (tapped_opening script) first
   pub last : Stage (Simulated (List Entry))
   pub calls_text : List ℕ
-  pub traces : Traces (IsWake Stores) (IsExchange Stores) layouts (first_stage script) calls last calls_text
+  pub traces : TracesOverWire layouts (first_stage script first) calls last calls_text
+  pub carried : (wire_at last).device.far.carried ≡ last.port.session.carried
   pub text_is : text ≡ calls_text ++ record_text last.port.session.carried
 
 -- what `trace` prints for lines, which are a script
@@ -79,7 +103,7 @@ PrintsTrace lines text =
 
 -- the stage of a port over a tap, where it stands for this abstract port
 abbrev pub stage_of : {W : Type 0} → ℕ → PortState → Parts (Tapped W) → Stage W
-stage_of number a p = record { number = number; port = a; wire = (wire_of p.station.link).wire }
+stage_of number a p = record { number = number; port = a; parts = p }
 
 -- a text is printed behind what waits to be written: of both, the first part is written, and the rest waits
 pub record Flows (old new : Option (List ℕ)) (waits left text : List ℕ) : Type 0 where
@@ -102,7 +126,7 @@ module _ {W : Type 0} (honest : W → Bool) (far : W → Far) (silence : W → �
   unfoldable pub PortTraces : ℕ → Parts (Tapped W) → List Call → ℕ → Parts (Tapped W) → List ℕ → Type 0
   PortTraces number p calls after next text =
       (a : PortState) → StandsFor (through honest) (through far) (through silence) p a
-      → (b : PortState) × Traces wakes gives layouts (stage_of number a p) calls (stage_of after b next) text
+      → (b : PortState) × Traces honest far silence wakes gives layouts (stage_of number a p) calls (stage_of after b next) text
       × StandsFor (through honest) (through far) (through silence) next b
 
   -- from one place to the next: these calls are traced, and their text is printed behind what waits

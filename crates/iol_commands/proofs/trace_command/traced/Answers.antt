@@ -1,10 +1,9 @@
-use Rattle.std.proofs.Common.{◌≡◌, ℕ, List, true, IsOkAnd, refl, ap, ◌∙◌}
+use Rattle.std.proofs.Common.{◌≡◌, ℕ, List, true, None, IsOkAnd, refl, ap, ◌∙◌}
 use Rattle.std.specs.String.{string_bytes}
 use Rattle.iol_device.specs.Device.{Running}
 use Rattle.iol_page.specs.Page.{layouts_of}
 use Rattle.iol_page.specs.declared.page.Layouts.{Layouts}
 use Rattle.iol_port.specs.Run.{opened}
-use Rattle.iol_port.specs.View.{Opening}
 use Rattle.iol_script.specs.Script.{ScriptValue, calls_in}
 use Rattle.iol_script.specs.Text.{numbered_lines}
 use Rattle.iol_sim.specs.Sim.{Simulated}
@@ -30,9 +29,9 @@ returns-clause-printed g c =
     ∙ ap (λ (t : Tapped (Simulated (List Entry))). t.wire.device.far.carried) c.wire.ensures in
     let followed = c.in_ok-follow.ensures.traced in
     let calls = calls_in (numbered_lines c.args.input.now) in
-    let out = traced_out script c.in-Ok.layouts port.parts c.follow.new.port.parts (opened given.limits tap.wire.device.far tap.wire.silence) wire c.new-tracer.result.layouts c.new-tracer.result.number c.follow.new.self.number
+    let out = traced_out script c.in-Ok.layouts port.parts c.follow.new.port.parts (opened given.limits tap.wire.device.far tap.wire.silence) port.opening tap c.new-tracer.result.layouts c.new-tracer.result.number c.follow.new.self.number
     calls followed.0 c.carried.result.now c.new-tracer.ensures.layouts c.new-tracer.ensures.number stands (opened_first given.limits tap.wire.device.far tap.wire.silence given.page new quiet)
-    (c.in-Ok-open.ensures.parts.wire_is ∙ ap (λ (o : Opening (Tapped (Simulated (List Entry)))). o.wire) c.in-Ok-open.ensures.opening ∙ c.new-wire.ensures) c.in_ok-wire_of.ensures.whole followed.2 record_is in
+    c.in-Ok-open.ensures.opening (c.new-wire.ensures ∙ ap (λ (s : Simulated (List Entry)). record { wire = s; last = None }) c.in_ok-wire_of.ensures.whole) c.in-Ok-open.ensures.parts followed.2 record_is in
     whole_written c.write_output.result (g.W.Write.contents c.args.writer.now) (g.W.Write.contents c.follow.new.writer) (g.W.Write.contents c.write_output.new.writer)
     (string_bytes c.new-tracer.result.output) (string_bytes c.follow.new.self.output) (string_bytes c.print_record.new.output) c.as_str.result.now followed.0 (record_text c.carried.result.now)
     (λ (text : List ℕ). IsOkAnd (layouts_of given.page) (λ (layouts : Layouts). TracesOut script layouts calls text))
