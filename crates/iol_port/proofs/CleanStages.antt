@@ -1,5 +1,6 @@
 -- One turn brings a request one stage on.
 use Rattle.std.proofs.Common.{◌≡◌, ⊎_elim, ℕ, zero, suc, ◌+◌, ◌*◌, ◌%◌, ◌<◌, ◌≤◌, Bool, true, false, ◌&&◌, ◌==◌, List, [], length, refl, sym, ap, ◌∙◌, arith, Option, Some, None, Ok, ◌∷◌, ◌++◌, subst}
+use Rattle.std.proofs.lemmas.Grind.{common_steps}
 use Rattle.std.specs.Prelude.{IsTrue, nat_le, if◌then◌else◌, MatchBool}
 use Rattle.std.proofs.lemmas.Bool.{cases_lt}
 use Rattle.std.proofs.lemmas.Bool.Decides.{nat_tests}
@@ -105,10 +106,7 @@ handed_over size laws request i valid begins ends = rw (flow_start, laws.ends re
 -- while it is written nothing is handed
 pub none_handed : (size : ℕ) → SegmentLaws size → (request : Request) (i : ℕ) → IsRequest request → i * size < length (request_text request)
     → handed (received (joined size (request_text request) i) (count_at i)) ≡ None
-none_handed size laws request i valid begins = ⊎_elim
-    (λ (more : suc i * size < length (request_text request)). ap handed (laws.grows request i (count_at i) valid more))
-    (λ (ends : length (request_text request) ≤ suc i * size). ap handed (laws.ends request i (count_at i) valid (begins, ends)))
-    (cases_lt (suc i * size) (length (request_text request)))
+none_handed size given request i given2 given3 = grind (arith, common_steps)
 
 -- the answer's next segment
 pub read_next : (size : ℕ) (request : Request) (answer : Answer) (j : ℕ) → suc j * size < length (answer_text request answer)
@@ -231,15 +229,10 @@ module _ {W : Type 0} (honest : W → Bool) (far : W → Far) (silence : W → �
       same = work_same (far wire) t.ready (handed (far wire).isdu) t.work
 
       pub state_by : (far t.next).isdu ≡ after c t.heard_as.before
-      state_by =
-          t.heard_as.isdu
-          ∙ ap (λ (h : Head). isdu_moved size t.heard_as.before h.read (flow_of h.address) t.message.od.items) t.head
-          ∙ ap (λ (xs : List ℕ). isdu_moved size t.heard_as.before (progress_head c.progress).read (flow_of (progress_head c.progress).address) xs) t.octets
+      state_by = grind (arith, common_steps)
 
       pub state_is : link_of (far wire) ≡ operate_link → (far t.next).isdu ≡ after c t.ready.isdu
-      state_is at =
-          let waits : t.ready.waits ≡ None = ap (λ (l : Link). l.waits) (same.link_is ∙ at) in
-          state_by ∙ ap (after c) (t.heard_as.before_is waits)
+      state_is given = grind (arith, common_steps)
 
       pub od_is : t.reply.od.items ≡ (if (progress_head c.progress).read then isdu_data size (far t.next).isdu else [])
       od_is = t.heard_as.od ∙ ap (λ (h : Head). if h.read then isdu_data size (far t.next).isdu else []) t.head

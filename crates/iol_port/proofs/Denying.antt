@@ -1,5 +1,5 @@
 -- What a turn denies: a request that waited, and only where the device has no ISDU.
-use Rattle.std.proofs.Common.{◌≡◌, ◌⊎◌, ◌∷◌, ◌++◌, [], List, Bool, true, false, cond, IsSome, Option, Some, None, refl, ap, sym, ◌∙◌, subst, inl, inr, arith}
+use Rattle.std.proofs.Common.{◌≡◌, ◌⊎◌, ◌∷◌, ◌++◌, [], List, Bool, true, false, cond, Option, Some, None, refl, ap, sym, ◌∙◌, subst, inl, inr, arith}
 use Rattle.std.proofs.lemmas.Bool.Decides.{nat_tests}
 use Rattle.std.proofs.lemmas.Grind.{common_steps}
 use Rattle.std.specs.Map.{lookup}
@@ -55,9 +55,7 @@ through_none false said b k h = said_none said b k h
 
 -- without a request that is taken it says nothing to the book
 quiet_said : (said : Said) (b : BookState) → Asks said None → book_through (book_said said) b ≡ b
-quiet_said (SaidAnswered answer) b asks = absurd (let e : IsSome {T = Ticket × Request} None = asks in cc)
-quiet_said (Cut cause) b asks = absurd (let e : IsSome {T = Ticket × Request} None = asks in cc)
-quiet_said _ b asks = refl
+quiet_said said b given = grind (arith, common_steps)
 
 module _ {W : Type 0} (old next : Parts W) (mid : BookState) (woke : Bool) (said : Said) (asks : Asks said mid.standing.taken)
     (book : next.book.state ≡ book_through (cond woke (Reset ∷ []) [] ++ book_said said) mid) (k : Ticket) (has : HasNoIsdu next.book.state k) where

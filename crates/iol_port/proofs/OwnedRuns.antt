@@ -1,5 +1,6 @@
 -- what is carried out in a run is each request once, and none that was cut off before a wake that had success, or for good
 use Rattle.std.proofs.Common.{◌≡◌, ◌⊎◌, ◌∷◌, ◌++◌, [], List, ℕ, ◌+◌, ◌≤◌, Option, Some, None, append-nil, refl, sym, ◌∙◌, inl, inr, subst, arith}
+use Rattle.std.proofs.lemmas.Grind.{common_steps}
 use Rattle.std.specs.Map.{lookup, remove_entry}
 use Rattle.indexmap.specs.IndexMap.{insert_entry}
 use Rattle.iol_isdu.specs.declared.values.Request.{Request}
@@ -17,7 +18,7 @@ use Rattle.iol_book.specs.Replay.{same_ticket, without, others_without}
 use Rattle.iol_book.specs.BookModel.{BookState, next_ticket}
 use Rattle.iol_steps.specs.declared.mode.Mode.{Mode}
 use Rattle.iol_steps.specs.declared.mode.Mode.TheVariants.{Down}
-use Rattle.iol_steps.specs.Step.{Step, Carry, Unknown, LateCarry, Reset, Move, Moment}
+use Rattle.iol_steps.specs.Step.{Step, Moment}
 use Rattle.iol_steps.specs.Session.{Job, Session, MayMove, MaySession, MaySessionAll, session_after, session_through, marked}
 use Rattle.iol_steps.specs.Kinds.{restart_steps}
 use Rattle.iol_port.specs.declared.call.Call.{Call}
@@ -28,23 +29,16 @@ use Rattle.iol_port.specs.Steps.{MayBook, MayBookAll, book_after, book_through, 
 use Rattle.iol_port.specs.Run.{PortState, CallOf, Run, opened, moment_in, request_of}
 use Rattle.iol_port.specs.Owned.{Owned, IsOneOf, pairs_of, CarriesOut, IsCutOff, IsCutForGood, Happens, EachDoneHasItsPair, LateEnds, CutForGoodStaysOut}
 use Rattle.iol_port.proofs.CallsSound.{call_leaves, told_outcome}
-use Rattle.iol_port.proofs.TurnsRuleOut.{mode_carried, mode_late, mode_cut}
 use Rattle.iol_port.proofs.Replaying.{steps_keep}
 use Rattle.iol_port.proofs.OwnedLists.{ahead_once, ahead_given, ahead_next, waiting_push, waiting_without, waiting_others, each_inserted, each_looked, each_removed, each_others, each_push, one_counts, apart_of, Tally, HasAnswer, OutcomeStands, outcome_then, marked_sent, tally_in, OwnsAll, GoesTo, still, goes_then, goes_step, waits_owns, same_sent, cut_owns, step_owns}
 
 -- Where the mode is down, it stays so until a wake has success
 
 down_move : (m : Moment) (mode : Mode) (why : Option Why) → MayMove m Down mode why → mode ≡ Down
-down_move m Down why may = refl
-down_move m _ why may = absurd may
+down_move m mode why given = grind (arith, common_steps)
 
 down_stays : (m : Moment) (step : Step) (s : Session) → s.mode ≡ Down → MaySession m step s → ((session_after step s).late ≡ None) ⊎ ((session_after step s).mode ≡ Down)
-down_stays m Reset s down may = inl refl
-down_stays m (Carry a) s down may = inr (mode_carried a s.job s ∙ down)
-down_stays m (Unknown cause) s down may = inr (mode_cut cause s ∙ down)
-down_stays m (LateCarry a) s down may = inr (mode_late a s.late s ∙ down)
-down_stays m (Move mode why) s down may = inr (down_move m mode why (rw down at may))
-down_stays m _ s down may = inr down
+down_stays m step s given given2 = grind (arith, common_steps)
 
 module _ (given : ℕ) (before : List Carried) (Whole : Call → Answered → Type 0) where
   abbrev Asked : Ticket → Request → Type 0

@@ -1,5 +1,5 @@
 -- each change of a book keeps it the replay of its journal
-use Rattle.std.proofs.Common.{◌≡◌, Bool, true, false, List, [], ◌∷◌, ◌++◌, Option, None, Some, drop, refl, ap, sym, ◌∙◌, arith, ◌||◌, ◌⊎◌, ℕ, append-nil, length, map, length-append, inl, inr, subst, ◌≤◌}
+use Rattle.std.proofs.Common.{◌≡◌, Bool, true, false, List, [], ◌∷◌, ◌++◌, Option, None, Some, drop, refl, ap, sym, ◌∙◌, arith, ◌||◌, ◌⊎◌, ℕ, append-nil, length, length-append, inl, inr, subst, ◌≤◌}
 use Rattle.std.proofs.lemmas.Bool.{eq-eqb}
 use Rattle.std.proofs.lemmas.Grind.{common_steps}
 use Rattle.std.specs.Option.{option_map}
@@ -12,7 +12,6 @@ use Rattle.iol_book.specs.declared.entries.Entry.{Entry}
 use Rattle.iol_book.specs.declared.entries.Entry.TheVariants.{Taken, Answered}
 use Rattle.iol_book.specs.Replay.{Standing, nothing, same_ticket, request_waiting, without_waiting, waiting_after, step, replay_from}
 use Rattle.iol_book.specs.BookModel.{BookState, IsReplayed, entered, leaves_unsure, took, denied, ended_with, posted, next_taken, may_archive, others_behind, waits, reset}
-use Rattle.std.proofs.lemmas.List.{drop-append-le, map-append}
 use Rattle.iol_isdu.specs.declared.values.Answer.{Answer}
 use Rattle.iol_isdu.specs.declared.values.Cause.{Cause}
 use Rattle.iol_isdu.specs.declared.values.Cause.TheVariants.{LinkLost, Restarted}
@@ -119,9 +118,7 @@ taken_is (Some p) q h = (p.0, grind (arith, common_steps))
 -- a record that has grown by a pair
 pub pairs_from-grown : (base : ℕ) (carried : List Carried) (q : Request) (a : Answer) → base ≤ length carried →
     pairs_from base (carried ++ record { request = q; answer = a } ∷ []) ≡ pairs_from base carried ++ (q, a) ∷ []
-pairs_from-grown base carried q a within =
-    ap (λ xs. map (λ pair. (pair.request, pair.answer)) xs) (drop-append-le base carried (record { request = q; answer = a } ∷ []) within)
-    ∙ map-append (λ pair. (pair.request, pair.answer)) (drop base carried) (record { request = q; answer = a } ∷ [])
+pairs_from-grown base carried q a given = grind (arith, common_steps)
 
 grown_within : (base : ℕ) (carried : List Carried) (pair : Carried) → base ≤ length carried → base ≤ length (carried ++ pair ∷ [])
 grown_within base carried pair within = omega (arith, length-append carried (pair ∷ []))

@@ -2,6 +2,7 @@
 use Rattle.std.proofs.Common.{◌≡◌, ◌⊎◌, inl, inr, ℕ, zero, suc, ◌+◌, ◌-◌, ◌<◌, ◌≤◌, Bool, true, false, List, [], ◌∷◌, ◌++◌, length, append_assoc, refl, sym, ap, subst, ◌∙◌, Option, Some, None, take_all, take, get_or, replicate, arith}
 use Rattle.std.specs.Prelude.{IsTrue, is_some, if◌then◌else◌, slice_get, drop}
 use Rattle.std.proofs.lemmas.Bool.Decides.{nat_tests}
+use Rattle.std.proofs.lemmas.Grind.{common_steps}
 use Rattle.std.proofs.lemmas.List.{take_more, length-append}
 use Rattle.iol_page.specs.declared.page.Layouts.{Layouts}
 use Rattle.iol_isdu.specs.declared.values.Request.{Request}
@@ -77,16 +78,12 @@ headed (next ∷ list) first e = let k : Some next ≡ Some first = e in let sam
 -- Calls
 
 -- one call more than so many turns
-snoc_turns : (calls : List Call) (c : Call) (n : ℕ) → calls ++ c ∷ [] ≡ replicate n call.Turn → (k : ℕ) × (n ≡ suc k) × (calls ≡ replicate k call.Turn) × (c ≡ call.Turn)
-snoc_turns [] c zero e = absurd (let k : c ∷ [] ≡ [] = e in cc)
-snoc_turns [] c (suc zero) e = (0, refl, refl, let k : c ∷ [] ≡ call.Turn ∷ [] = e in cc)
-snoc_turns [] c (suc (suc n)) e = absurd (let k : c ∷ [] ≡ call.Turn ∷ (call.Turn ∷ replicate n call.Turn) = e in cc)
-snoc_turns (d ∷ calls) c zero e = absurd (let k : d ∷ (calls ++ c ∷ []) ≡ [] = e in cc)
-snoc_turns (d ∷ calls) c (suc n) e =
-    let k : d ∷ (calls ++ c ∷ []) ≡ call.Turn ∷ replicate n call.Turn = e in
-    let head : d ≡ call.Turn = cc in
-    let rest = snoc_turns calls c n cc in
-    (suc rest.0, ap suc rest.1, ap (λ (x : Call). x ∷ calls) head ∙ ap (λ (xs : List Call). call.Turn ∷ xs) rest.2, rest.3)
+snoc_turns : (calls : List Call) (c : Call) (n : ℕ) → calls ++ c ∷ [] ≡ replicate n call.Turn → (n ≡ suc (length calls)) × (calls ≡ replicate (length calls) call.Turn) × (c ≡ call.Turn)
+snoc_turns [] c zero e = grind (arith, common_steps)
+snoc_turns [] c (suc zero) e = grind (arith, common_steps)
+snoc_turns [] c (suc (suc n)) e = grind (arith, common_steps)
+snoc_turns (d ∷ calls) c zero e = grind (arith, common_steps)
+snoc_turns (d ∷ calls) c (suc n) e = grind (arith, common_steps, snoc_turns calls c n)
 
 -- Numbers of turns
 
@@ -301,8 +298,8 @@ module _ {W : Type 0} (honest : W → Bool) (far : W → Far) (clean : W → Boo
   so_far_snoc : (p mid next : Parts W) (calls : List Call) (c : Call) → SoFar p calls mid → (c ≡ call.Turn → CleanTurn honest far clean mid next) → SoFar p (calls ++ c ∷ []) next
   so_far_snoc p mid next calls c so_far turn n e layouts first rest may =
       let found = snoc_turns calls c n e in
-      let mid_is = so_far found.0 found.2 layouts first rest may in
-      let t : CleanTurn honest far clean mid next = turn found.3 in
+      let mid_is = so_far (length calls) found.1 layouts first rest may in
+      let t : CleanTurn honest far clean mid next = turn found.2 in
       let room : Option ℕ = (far (wire_of p.station.link)).room in (
         steady_more room mid next mid_is.0 t,
         subst (λ (k : ℕ). Going layouts k (first ∷ rest) (record_of far p) p.book.state next) (sym found.1)

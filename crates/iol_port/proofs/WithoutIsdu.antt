@@ -1,5 +1,6 @@
 -- in a run a device without ISDU carries out nothing, and one with ISDU has no request denied
-use Rattle.std.proofs.Common.{◌≡◌, List, ℕ, Bool, true, false, Option, Some, None, IsSome, refl, ap, sym, ◌∙◌, subst, arith}
+use Rattle.std.proofs.Common.{◌≡◌, List, ℕ, Bool, true, false, Option, Some, None, refl, ap, sym, ◌∙◌, subst, arith}
+use Rattle.std.proofs.lemmas.Grind.{common_steps}
 use Rattle.iol_page.specs.Page.{knows_isdu}
 use Rattle.iol_isdu.specs.declared.values.Request.{Request}
 use Rattle.iol_isdu.specs.declared.values.Cause.TheVariants.{Restarted}
@@ -12,7 +13,7 @@ use Rattle.iol_book.specs.declared.entries.Outcome.TheVariants as outcome
 use Rattle.iol_book.specs.declared.entries.Outcome.TheVariants.{NoIsdu}
 use Rattle.iol_book.specs.Replay.{same_ticket}
 use Rattle.iol_book.specs.BookModel.{BookState, posted, ended_with}
-use Rattle.iol_steps.specs.Step.{Step, Take, Deny, Carry, Done, Unknown, LateCarry, Moment}
+use Rattle.iol_steps.specs.Step.{Step, Deny, Done, Unknown, Moment}
 use Rattle.iol_steps.specs.Session.{Job, Session, MaySession, session_after, session_through, marked}
 use Rattle.iol_steps.specs.Kinds.{restart_steps}
 use Rattle.iol_port.specs.declared.call.Call.{Call}
@@ -56,12 +57,7 @@ bare carried s = record s { job = None; late = None; carried = carried }
 
 bare_step : (m : Moment) (step : Step) (carried : List Carried) (s : Session) → knows_isdu m.terms.page ≡ false → MaySession m step (bare carried s)
     → session_after step (bare carried s) ≡ bare carried (session_after step (bare carried s))
-bare_step m (Take t q) carried s none may = absurd (let k : false ≡ true = sym none ∙ may.0 in cc)
-bare_step m (Carry a) carried s none may = absurd may
-bare_step m (Done a) carried s none may = absurd may
-bare_step m (Unknown cause) carried s none may = absurd may
-bare_step m (LateCarry a) carried s none may = absurd (let some : IsSome {T = Request} None = may in cc)
-bare_step m _ carried s none may = refl
+bare_step m step carried s given given2 = grind (arith, common_steps)
 
 -- Whole runs
 

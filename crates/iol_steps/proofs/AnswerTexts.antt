@@ -83,8 +83,7 @@ fits_answer read answer e = by_tests (is_kind read answer) refl (nat_le (length 
     kind_of Written k = written read k
       where
         written : (b : Bool) → not b ≡ true → b ≡ false
-        written true z = absurd (let y : false ≡ true = z in cc)
-        written false z = refl
+        written b given = grind (arith, common_steps)
     kind_of (Refused error additional) k = tt
 
     by_tests : (k : Bool) → is_kind read answer ≡ k → (l : Bool) → nat_le (length (answer_body answer)) 232 ≡ l → (k && l) ≡ true → FitsAnswer read answer

@@ -1,5 +1,6 @@
 -- The steps of the far end stand beside each other, and say nothing to the book nor of reports.
-use Rattle.std.proofs.Common.{◌≡◌, ℕ, Bool, true, false, not, ◌&&◌, List, [], ◌∷◌, ◌++◌, take, filter, refl, sym, ◌∙◌, ap}
+use Rattle.std.proofs.Common.{append_assoc, ◌≡◌, ℕ, Bool, true, false, not, ◌&&◌, List, [], ◌∷◌, ◌++◌, take, filter, refl, sym, ◌∙◌, ap, arith}
+use Rattle.std.proofs.lemmas.Grind.{common_steps}
 use Rattle.std.specs.Prelude.{Option, Some, None, if◌then◌else◌, IsTrue, ⊤}
 use Rattle.std.specs.List.{list_all}
 use Rattle.iol_mseq.specs.declared.master.MasterMsg.{MasterMsg}
@@ -11,7 +12,7 @@ use Rattle.iol_far.specs.Isdu.{IsduState, Empty, Receiving, Whole, Handed, Answe
 use Rattle.iol_far.specs.Far.{Far, accepted, worked, output_of}
 use Rattle.iol_far.specs.Local.{LocalStep, local, locals, has_room, is_input}
 use Rattle.iol_far.specs.Local.{Carry as OwnCarry, Raise as OwnRaise, Input as OwnInput, NoInput as OwnNoInput, Power as OwnPower}
-use Rattle.iol_steps.specs.Step.{Step, Take, Carry, LateCarry, Freeze, Confirm, Make, OutputOn, OutputOff, Input, PowerLoss, Busy, Image, clash, is_clash_free, is_for_book, is_report}
+use Rattle.iol_steps.specs.Step.{Step, Carry, LateCarry, Freeze, Confirm, Make, OutputOn, OutputOff, Input, PowerLoss, Busy, Image, clash, is_clash_free, is_for_book, is_report}
 use Rattle.iol_steps.specs.Bridge.{Hidden, carry_step, carry_steps, own_step, own_steps, hidden_carried, hidden_carry, hidden_after, hidden_through, release_steps, event_steps, output_steps, confirms_by, heard_steps_as, passed_steps, exchange_steps, woken_steps, wake_steps}
 use Rattle.iol_steps.specs.Kinds.{made_steps}
 
@@ -45,8 +46,7 @@ all_own-append [] ys h k = k
 all_own-append (x ∷ xs) ys h k = (h.0, all_own-append xs ys h.1 k)
 
 carry_own : (request : Option Request) (a : Answer) → AllOwn (carry_step request a ∷ [])
-carry_own None a = (refl, tt)
-carry_own (Some r) a = (refl, tt)
+carry_own request a = grind (arith, common_steps)
 
 carry_all_own : (request : Option Request) (s : IsduState) (far : Far) (a : Answer) → AllOwn (carry_steps request s far a)
 carry_all_own request (Handed r) far a = elim (has_room far && fits r a) as (λ b. AllOwn (if b then carry_step request a ∷ [] else [])) [ true ↦ carry_own request a | false ↦ tt ]
@@ -82,8 +82,7 @@ plain_apart x h (y ∷ ys) = rw (h y) (plain_apart x h ys)
 
 carry_apart : (a : Answer) (ys : List Step) → no_busy ys ≡ true → list_all (λ other. not (clash (Carry a) other)) ys ≡ true
 carry_apart a [] h = refl
-carry_apart a (Busy ∷ ys) h = absurd (let z : false ≡ true = h in cc)
-carry_apart a (_ ∷ ys) h = carry_apart a ys h
+carry_apart a (y ∷ ys) h = grind (arith, common_steps, carry_apart a ys)
 
 own_apart : (x : Step) (ys : List Step) → is_own x ≡ true → no_busy ys ≡ true → list_all (λ other. not (clash x other)) ys ≡ true
 own_apart (Carry a) ys own h = carry_apart a ys h
@@ -96,8 +95,7 @@ own_apart OutputOff ys own h = plain_apart OutputOff (λ y. refl) ys
 own_apart _ ys own h = absurd (let z : false ≡ true = own in cc)
 
 own_no_busy : (x : Step) (ys : List Step) → is_own x ≡ true → no_busy ys ≡ true → no_busy (x ∷ ys) ≡ true
-own_no_busy Busy ys own h = absurd (let z : false ≡ true = own in cc)
-own_no_busy _ ys own h = h
+own_no_busy x ys given given2 = grind (arith, common_steps)
 
 pub busy_free : (xs ys : List Step) → AllOwn xs → no_busy ys ≡ true → no_busy (xs ++ ys) ≡ true
 busy_free [] ys h k = k
@@ -110,14 +108,7 @@ own_clash_free (x ∷ xs) ys h k free = rw (own_apart x (xs ++ ys) h.0 (busy_fre
 -- they are no business of the book, and no reports
 
 own_unbooked : (x : Step) (ys : List Step) → is_own x ≡ true → (filter is_for_book (x ∷ ys) ≡ filter is_for_book ys) × (filter is_report (x ∷ ys) ≡ filter is_report ys)
-own_unbooked (Carry a) ys own = (refl, refl)
-own_unbooked (LateCarry a) ys own = (refl, refl)
-own_unbooked (Freeze e) ys own = (refl, refl)
-own_unbooked (Input i) ys own = (refl, refl)
-own_unbooked PowerLoss ys own = (refl, refl)
-own_unbooked OutputOn ys own = (refl, refl)
-own_unbooked OutputOff ys own = (refl, refl)
-own_unbooked _ ys own = absurd (let z : false ≡ true = own in cc)
+own_unbooked x ys given = grind (arith, common_steps)
 
 pub own_said : (xs ys : List Step) → AllOwn xs → (filter is_for_book (xs ++ ys) ≡ filter is_for_book ys) × (filter is_report (xs ++ ys) ≡ filter is_report ys)
 own_said [] ys h = (refl, refl)
@@ -133,17 +124,14 @@ no_make (x ∷ xs) = no_make xs
 
 confirm_apart : (ys : List Step) → no_confirm ys ≡ true → list_all (λ other. not (clash Confirm other)) ys ≡ true
 confirm_apart [] h = refl
-confirm_apart (Confirm ∷ ys) h = absurd (let z : false ≡ true = h in cc)
-confirm_apart (_ ∷ ys) h = confirm_apart ys h
+confirm_apart (y ∷ ys) h = grind (arith, common_steps, confirm_apart ys)
 
 make_apart : (ys : List Step) → no_make ys ≡ true → list_all (λ other. not (clash Make other)) ys ≡ true
 make_apart [] h = refl
-make_apart (Make ∷ ys) h = absurd (let z : false ≡ true = h in cc)
-make_apart (_ ∷ ys) h = make_apart ys h
+make_apart (y ∷ ys) h = grind (arith, common_steps, make_apart ys)
 
 own_no_make : (x : Step) (ys : List Step) → is_own x ≡ true → no_make ys ≡ true → no_make (x ∷ ys) ≡ true
-own_no_make Make ys own h = absurd (let z : false ≡ true = own in cc)
-own_no_make _ ys own h = h
+own_no_make x ys given given2 = grind (arith, common_steps)
 
 -- these steps may stand before those
 pub record Before (xs ys : List Step) : Type 0 where
@@ -173,8 +161,7 @@ output_before None ys free = before_calm OutputOff [] ys refl (λ y. refl) (befo
 output_before (Some image) ys free = before_calm OutputOn [] ys refl (λ y. refl) (before_none ys free)
 
 output_once : (output : Option Image) (ys : List Step) → no_confirm ys ≡ true → no_confirm (output_steps output ++ ys) ≡ true
-output_once None ys h = h
-output_once (Some image) ys h = h
+output_once output ys given = grind (arith, common_steps)
 
 worked_before : (e : Events) (c : Bool) (output : Option Image) (ys : List Step) → no_confirm ys ≡ true → IsTrue (is_clash_free ys) → Before (event_steps e c ++ output_steps output) ys
 worked_before e true output ys once free =
@@ -197,10 +184,6 @@ own_makes : (xs ys : List Step) → AllOwn xs → no_make ys ≡ true → no_mak
 own_makes [] ys h k = k
 own_makes (x ∷ xs) ys h k = own_no_make x (xs ++ ys) h.0 (own_makes xs ys h.1 k)
 
-assoc : (xs ys zs : List Step) → (xs ++ ys) ++ zs ≡ xs ++ (ys ++ zs)
-assoc [] ys zs = refl
-assoc (x ∷ xs) ys zs = ap (λ (t : List Step). x ∷ t) (assoc xs ys zs)
-
 -- an exchange before what it brought, where that is no busy reply
 pub exchange_before : (request : Option Request) (far : Far) (steps : List LocalStep) (passage : Passage) (o : List ℕ) (ys : List Step) → no_busy ys ≡ true → no_confirm ys ≡ true → IsTrue (is_clash_free ys) →
     Before (exchange_steps request far steps passage o) ys
@@ -208,11 +191,11 @@ exchange_before request far steps passage o ys calm once free =
     let xs = own_steps request far steps in let zs = passed_steps passage (locals far steps) o in
     let own = own_all request steps far in let k = passed_before passage (locals far steps) o ys once free in
     record {
-      busy = λ n. rw (assoc xs zs ys) (busy_free xs (zs ++ ys) own (k.busy n));
-      make = λ n. rw (assoc xs zs ys) (own_makes xs (zs ++ ys) own (k.make n));
-      free = rw (assoc xs zs ys) (own_clash_free xs (zs ++ ys) own (k.busy calm) k.free);
-      book = ap (filter is_for_book) (assoc xs zs ys) ∙ (own_said xs (zs ++ ys) own).0 ∙ k.book;
-      reports = ap (filter is_report) (assoc xs zs ys) ∙ (own_said xs (zs ++ ys) own).1 ∙ k.reports;
+      busy = λ n. rw (append_assoc xs zs ys) (busy_free xs (zs ++ ys) own (k.busy n));
+      make = λ n. rw (append_assoc xs zs ys) (own_makes xs (zs ++ ys) own (k.make n));
+      free = rw (append_assoc xs zs ys) (own_clash_free xs (zs ++ ys) own (k.busy calm) k.free);
+      book = ap (filter is_for_book) (append_assoc xs zs ys) ∙ (own_said xs (zs ++ ys) own).0 ∙ k.book;
+      reports = ap (filter is_report) (append_assoc xs zs ys) ∙ (own_said xs (zs ++ ys) own).1 ∙ k.reports;
     }
 
 -- and behind a message that is made
@@ -293,20 +276,10 @@ no_clash xs = list_all (λ step. not (clash Busy step)) xs ≡ true
 
 pub no_clash-append : (xs ys : List Step) → no_clash xs → no_clash ys → no_clash (xs ++ ys)
 no_clash-append [] ys h k = k
-no_clash-append (Take t q ∷ xs) ys h k = absurd (let z : false ≡ true = h in cc)
-no_clash-append (Carry a ∷ xs) ys h k = absurd (let z : false ≡ true = h in cc)
-no_clash-append (Busy ∷ xs) ys h k = absurd (let z : false ≡ true = h in cc)
-no_clash-append (_ ∷ xs) ys h k = no_clash-append xs ys h k
+no_clash-append (x ∷ xs) ys h k = grind (arith, common_steps, no_clash-append xs ys)
 
 calm_no_clash : (x : Step) (xs : List Step) → is_own x ≡ true → clash x Busy ≡ false → no_clash xs → no_clash (x ∷ xs)
-calm_no_clash (Carry a) xs own calm h = absurd (let z : true ≡ false = calm in cc)
-calm_no_clash (LateCarry a) xs own calm h = h
-calm_no_clash (Freeze e) xs own calm h = h
-calm_no_clash (Input i) xs own calm h = h
-calm_no_clash PowerLoss xs own calm h = h
-calm_no_clash OutputOn xs own calm h = h
-calm_no_clash OutputOff xs own calm h = h
-calm_no_clash _ xs own calm h = absurd (let z : false ≡ true = own in cc)
+calm_no_clash x xs own calm h = grind (arith, common_steps)
 
 pub all_calm_no_clash : (xs : List Step) → AllCalm xs → no_clash xs
 all_calm_no_clash [] h = refl

@@ -1,5 +1,5 @@
 -- The reading of events goes with the far end's frozen list.
-use Rattle.std.proofs.Common.{◌≡◌, ℕ, ◌+◌, ◌*◌, ◌≤◌, ◌<◌, Bool, true, false, not, ◌&&◌, List, [], ◌∷◌, length, take, drop, refl, sym, ◌∙◌, ap, subst, arith}
+use Rattle.std.proofs.Common.{◌≡◌, ℕ, ◌+◌, ◌*◌, ◌≤◌, ◌<◌, Bool, true, false, not, List, [], ◌∷◌, length, take, drop, refl, sym, ◌∙◌, ap, subst, arith}
 use Rattle.std.specs.Prelude.{Option, Some, None, if◌then◌else◌, nat_lt, IsOk}
 use Rattle.iol_mseq.specs.declared.master.MasterMsg.{MasterMsg}
 use Rattle.iol_isdu.specs.declared.values.Answer.{Answer}
@@ -7,12 +7,11 @@ use Rattle.iol_event.specs.declared.event.Event.{Event}
 use Rattle.iol_event.specs.Memory.{Events, IsEventMemory, is_empty, released, event_octet}
 use Rattle.iol_event.specs.Reading.{Taken, taken, next_address, reading, IsEventList}
 use Rattle.iol_event.specs.Laws.{MemoryStaysValid, WaitsForAll, GivesFrozen, taken_from}
-use Rattle.iol_far.specs.Isdu.{IsduState, Handed, Answered, fits}
+use Rattle.iol_far.specs.Isdu.{IsduState}
 use Rattle.iol_far.specs.Codec.{layout_in}
 use Rattle.iol_far.specs.Far.{Far, hear, heard_as, events_after}
-use Rattle.iol_far.specs.Local.{LocalStep, local, locals, carried_by, has_room, is_input}
+use Rattle.iol_far.specs.Local.{LocalStep, local, locals, carried_by, is_input}
 use Rattle.iol_far.specs.Local.{Carry as OwnCarry, Raise as OwnRaise, Input as OwnInput, NoInput as OwnNoInput, Power as OwnPower}
-use Rattle.iol_far.specs.Level.{grown_by}
 use Rattle.iol_far.specs.Laws.{IsFrozen}
 use Rattle.iol_far.specs.Laws.{confirms as octets_confirm}
 use Rattle.iol_steps.specs.Bridge.{confirms_by}
@@ -29,8 +28,7 @@ pub record ReaderLaws : Type 0 where
   pub gives : GivesFrozen
 
 carried_events : (g : Far) (a : Answer) (s : IsduState) → (carried_by s g a).events ≡ g.events
-carried_events g a (Handed r) = elim (has_room g && fits r a) as (λ b. (if b then record g { isdu = Answered r a None; carried = grown_by g.carried r a } else g).events ≡ g.events) [ true ↦ refl | false ↦ refl ]
-carried_events g a s = refl
+carried_events g a s = grind (arith, common_steps)
 
 module _ (laws : ReaderLaws) where
   memory_step : (far : Far) (step : LocalStep) → IsEventMemory far.events → IsEventMemory (local far step).events
@@ -95,31 +93,17 @@ module _ (laws : ReaderLaws) where
 
 -- the list that is whole then is the frozen one
 pub list_frozen : (r : Reading) (m : Events) (events : List Event) → list_of r ≡ Some events → EventsFit r false m → (m.frozen ≡ events) × (is_due r ≡ true)
-list_frozen Resting m events is fit = absurd (let z : Path (Option (List Event)) None (Some events) = is in cc)
-list_frozen Flagged m events is fit = absurd (let z : Path (Option (List Event)) None (Some events) = is in cc)
-list_frozen (Under octets) m events is fit = absurd (let z : Path (Option (List Event)) None (Some events) = is in cc)
-list_frozen (Due e es) m events is fit = let z : Path (Option (List Event)) (Some (e ∷ es)) (Some events) = is in let k : e ∷ es ≡ events = cc in (fit.0 ∙ k, refl)
+list_frozen r m events given given2 = grind (arith, common_steps)
 
 pub no_list : (r : Reading) → list_of r ≡ None → is_due r ≡ false
-no_list Resting is = refl
-no_list Flagged is = refl
-no_list (Under octets) is = refl
-no_list (Due e es) is = absurd (let z : Path (Option (List Event)) (Some (e ∷ es)) None = is in cc)
+no_list r given = grind (arith, common_steps)
 
 pub undue : (r : Reading) → wants_octet r ≡ true → is_due r ≡ false
-undue Resting h = refl
-undue Flagged h = refl
-undue (Under octets) h = refl
-undue (Due e es) h = absurd (let z : false ≡ true = h in cc)
+undue r given = grind (arith, common_steps)
 
 -- what is kept
 pub kept_due : (r : Reading) (event : Bool) → is_due (reading_kept r event) ≡ is_due r
-kept_due Resting true = refl
-kept_due Resting false = refl
-kept_due Flagged true = refl
-kept_due Flagged false = refl
-kept_due (Under octets) event = refl
-kept_due (Due e es) event = refl
+kept_due r event = grind (arith, common_steps)
 
 flagged_fits : (event : Bool) (m : Events) → event ≡ not (is_empty m.frozen) → m.held ≡ false → EventsFit (reading_flagged event) false m
 flagged_fits event m is held = by_list m.frozen refl event is

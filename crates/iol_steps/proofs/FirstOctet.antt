@@ -1,6 +1,7 @@
 -- The first octet alone says which message octets are, in every layout.
-use Rattle.std.proofs.Common.{◌≡◌, ℕ, Bool, true, false, List, sym, ap}
-use Rattle.std.specs.Prelude.{Option, Some, None, if◌then◌else◌, slice_index, is_some}
+use Rattle.std.proofs.Common.{◌≡◌, ℕ, Bool, List, ap, arith}
+use Rattle.std.proofs.lemmas.Grind.{common_steps}
+use Rattle.std.specs.Prelude.{Some, None, if◌then◌else◌, slice_index, is_some}
 use Rattle.iol_octets.specs.Control.{control_of}
 use Rattle.iol_mseq.specs.Shape.{Shape}
 use Rattle.iol_mseq.specs.declared.master.MasterMsg.{MasterMsg}
@@ -14,8 +15,7 @@ unfolding message_in
 mc_of layout o m e = split (is_some (master_fault layout o)) e
   where
     split : (b : Bool) → (if b then None else Some (message_of layout o)) ≡ Some m → m.mc ≡ control_of (slice_index o 0)
-    split true h = absurd (let z : None ≡ Some m = h in cc)
-    split false h = let z : Path (Option MasterMsg) (Some (message_of layout o)) (Some m) = h in let k : message_of layout o ≡ m = cc in sym (ap (λ (x : MasterMsg). x.mc) k)
+    split b given = grind (arith, common_steps)
 
 pub confirms_of : (layout : Shape) (o : List ℕ) (m : MasterMsg) → message_in layout o ≡ Some m → confirms_by m.mc ≡ octets_confirm o
 confirms_of layout o m e = ap confirms_by (mc_of layout o m e)

@@ -1,5 +1,6 @@
 -- In the turn of a request begun since the last one, no step clashes with its taking: nothing is handed yet.
-use Rattle.std.proofs.Common.{◌≡◌, ℕ, Bool, true, false, List, [], ◌∷◌, ◌++◌, refl}
+use Rattle.std.proofs.Common.{◌≡◌, ℕ, Bool, true, false, List, [], ◌∷◌, ◌++◌, refl, arith}
+use Rattle.std.proofs.lemmas.Grind.{common_steps}
 use Rattle.std.specs.Prelude.{Option, Some, None, if◌then◌else◌, IsTrue}
 use Rattle.std.specs.List.{list_all}
 use Rattle.iol_isdu.specs.declared.values.Request.{Request}
@@ -24,18 +25,10 @@ carry_unhanded request (Answered q c l) far a h = tt
 carry_unhanded request (Handed q) far a h = absurd (let z : Path (Option Request) (Some q) None = h in cc)
 
 carried_unhanded : (s : IsduState) (far : Far) (a : Answer) → handed s ≡ None → handed far.isdu ≡ None → handed (carried_by s far a).isdu ≡ None
-carried_unhanded Empty far a h k = k
-carried_unhanded (Receiving t l) far a h k = k
-carried_unhanded (Whole q l) far a h k = k
-carried_unhanded (Answered q c l) far a h k = k
-carried_unhanded (Handed q) far a h k = absurd (let z : Path (Option Request) (Some q) None = h in cc)
+carried_unhanded s far a given given2 = grind (arith, common_steps)
 
 step_unhanded : (far : Far) (step : LocalStep) → handed far.isdu ≡ None → handed (local far step).isdu ≡ None
-step_unhanded far (OwnCarry a) h = carried_unhanded far.isdu far a h h
-step_unhanded far (OwnRaise e) h = h
-step_unhanded far (OwnInput image) h = elim (is_input far image) as (λ b. handed (if b then record far { input = Some image } else far).isdu ≡ None) [ true ↦ h | false ↦ h ]
-step_unhanded far OwnNoInput h = h
-step_unhanded far OwnPower h = refl
+step_unhanded far step given = grind (arith, common_steps)
 
 calm_own : (request : Option Request) (far : Far) (step : LocalStep) → handed far.isdu ≡ None → AllCalm (own_step request far step)
 calm_own request far (OwnCarry a) h = carry_unhanded request far.isdu far a h

@@ -1,5 +1,6 @@
 -- The laws of the device's definitions, all together.
-use Rattle.std.proofs.Common.{◌≡◌, ℕ, suc, ◌≤◌, List, [], ◌∷◌, refl, ◌∙◌}
+use Rattle.std.proofs.Common.{◌≡◌, ℕ, suc, ◌≤◌, List, [], ◌∷◌, refl, ◌∙◌, arith}
+use Rattle.std.proofs.lemmas.Grind.{common_steps}
 use Rattle.iol_event.specs.declared.event.Event.{Event}
 use Rattle.iol_link.specs.Honest.{Passage, OutLost, BackLost, Clean, far_after}
 use Rattle.iol_far.specs.declared.carried.Carried.{Carried}
@@ -25,9 +26,7 @@ module _ (laws : Laws) where
   page_locals (step ∷ steps) far = page_locals steps (local far step) ∙ laws.much.page_kept far step
 
   pub page_after : (passage : Passage) (far : Far) (o : List ℕ) → (far_after passage far o).page ≡ far.page
-  page_after OutLost far o = refl
-  page_after BackLost far o = laws.much.page_heard far o
-  page_after Clean far o = laws.much.page_heard far o
+  page_after passage far o = grind (arith, common_steps)
 
   pub sized_locals : (steps : List LocalStep) (far : Far) → IsSized far → IsSized (locals far steps)
   sized_locals [] far h = h

@@ -1,6 +1,7 @@
 -- What the two ends' level says of the request that may still be carried out, and of its answer.
-use Rattle.std.proofs.Common.{◌≡◌, inl, inr, ℕ, suc, Bool, true, false, ◌&&◌, List, [], ◌∷◌, ◌++◌, refl, sym, ◌∙◌, ap, subst}
-use Rattle.std.specs.Prelude.{Option, Some, None, if◌then◌else◌, ◌==◌, slice_index}
+use Rattle.std.proofs.Common.{◌≡◌, inl, inr, ℕ, Bool, true, false, ◌&&◌, List, [], ◌∷◌, refl, sym, ◌∙◌, ap, subst, arith}
+use Rattle.std.proofs.lemmas.Grind.{common_steps}
+use Rattle.std.specs.Prelude.{Option, Some, None, if◌then◌else◌}
 use Rattle.iol_mseq.specs.declared.master.MasterMsg.{MasterMsg}
 use Rattle.iol_isdu.specs.declared.values.Request.{Request}
 use Rattle.iol_isdu.specs.declared.values.Answer.{Answer}
@@ -10,25 +11,20 @@ use Rattle.iol_far.specs.Isdu.{IsduState, Empty, Receiving, Whole, Handed, Answe
 use Rattle.iol_far.specs.Far.{Far, Heard, hear, heard_as}
 use Rattle.iol_far.specs.Local.{LocalStep, local, locals, carried_by, has_room, is_input}
 use Rattle.iol_far.specs.Local.{Carry as OwnCarry, Raise as OwnRaise, Input as OwnInput, NoInput as OwnNoInput, Power as OwnPower}
-use Rattle.iol_far.specs.Level.{Progress, Quiet, Written, Busy as IsBusy, Had as IsHad, grown_by, Stands as FarStands, Move, Begin, More, Ask, Next, Leave, Other, after, base_after, Link}
+use Rattle.iol_far.specs.Level.{Progress, Quiet, Written, Busy as IsBusy, Had as IsHad, grown_by, Stands as FarStands, Move, after, base_after, Link}
 use Rattle.iol_far.specs.Laws.{ReplySays}
-use Rattle.iol_steps.specs.Session.{unanswered}
 use Rattle.iol_steps.specs.Bridge.{Hidden, open_request, IsOpen, hidden_carried, hidden_carry, hidden_after, hidden_through}
 use Rattle.iol_steps.specs.Station.{AnswerFits, ProgressFits}
 use Rattle.iol_steps.proofs.Accepted.{by_accepted}
-use Rattle.iol_steps.proofs.Longer.{longer}
 use Rattle.iol_steps.proofs.OwnSession.{own_open_step}
 use Rattle.iol_isdu.specs.Texts.{request_text}
-use Rattle.iol_isdu.specs.Parse.{request_of}
 use Rattle.iol_segment.specs.JoinLaws.{count_at}
-use Rattle.iol_segment.specs.Join.{Stage, Open, Complete, Wrong, stage}
+use Rattle.iol_segment.specs.Join.{Stage, stage}
 use Rattle.iol_far.specs.Isdu.{received_at, completed}
 
 pub handed_opens : (base : List Carried) (request : Option Request) (h : Hidden) (carried : List Carried) (q : Request) →
     request ≡ Some q → carried ≡ base → AnswerFits base request h carried → open_request request h ≡ Some q
-handed_opens base None h carried q e same answer = absurd (let k : None ≡ Some q = e in cc)
-handed_opens base (Some r) h carried q e same (inl k) = ap (λ (a : Option Answer). unanswered a r) k.0 ∙ e
-handed_opens base (Some r) h carried q e same (inr k) = absurd (longer base (record { request = r; answer = k.0 }) (sym same ∙ k.2))
+handed_opens base request h carried q given given2 given3 = grind (arith, common_steps)
 
 -- own steps keep the record tied to the answer
 abbrev pub IsTied : List Carried → Option Request → Hidden → List Carried → Type 0
@@ -77,13 +73,10 @@ stands_handed size base Quiet q c h = absurd h
 stands_handed size base (Written r i) q c h = absurd (unhanded (joined size (request_text r) i) (count_at i) h.1)
   where
     by_complete : (text : Option Request) (last : Option ℕ) → Handed q ≡ completed text last → ⊥
-    by_complete None last e = let z : Handed q ≡ Empty = e in absurd (cc)
-    by_complete (Some x) last e = let z : Handed q ≡ Whole x last = e in absurd (cc)
+    by_complete text last given = grind (arith, common_steps)
 
     by_stage : (s : Stage) (o : List ℕ) (last : Option ℕ) → Handed q ≡ received_at s o last → ⊥
-    by_stage Open o last e = let z : Handed q ≡ Receiving o last = e in absurd (cc)
-    by_stage (Complete text) o last e = by_complete (request_of text) last e
-    by_stage Wrong o last e = let z : Handed q ≡ Empty = e in absurd (cc)
+    by_stage s o last given = grind (arith, common_steps)
 
     unhanded : (o : List ℕ) (last : Option ℕ) → Handed q ≡ received o last → ⊥
     unhanded o last e = by_stage (stage o) o last e
@@ -105,37 +98,16 @@ busy_named : (p : Progress) (what : Move) (data_in : List ℕ) (base carried : L
 busy_named p what d base carried request q = by_move p what
   where
     by_first : (b : Bool) (r : Request) → (if b then IsBusy r else IsHad r 0 d) ≡ IsBusy q → r ≡ q
-    by_first true r e = let z : Path Progress (IsBusy r) (IsBusy q) = e in let k : r ≡ q = cc in k
-    by_first false r e = absurd (let z : IsHad r 0 d ≡ IsBusy q = e in cc)
+    by_first b r given = grind (arith, common_steps)
 
     named : (r : Request) → request ≡ Some r → r ≡ q → request ≡ Some q
     named r e k = e ∙ ap (λ (x : Request). Some x) k
 
     same : (p : Progress) → p ≡ IsBusy q → ProgressFits p request → request ≡ Some q
-    same Quiet e f = absurd (let z : Quiet ≡ IsBusy q = e in cc)
-    same (Written r i) e f = absurd (let z : Written r i ≡ IsBusy q = e in cc)
-    same (IsBusy r) e f = named r f (by_first true r e)
-    same (IsHad r i t) e f = absurd (let z : IsHad r i t ≡ IsBusy q = e in cc)
+    same p given given2 = grind (arith, common_steps)
 
     by_move : (p : Progress) (what : Move) → after p what d ≡ IsBusy q → ProgressFits p request → (request ≡ Some q) × (base_after what base carried ≡ base)
-    by_move p (Begin r) e f = absurd (let z : Written r 0 ≡ IsBusy q = e in cc)
-    by_move (Written r i) More e f = absurd (let z : Written r (suc i) ≡ IsBusy q = e in cc)
-    by_move Quiet More e f = (same Quiet e f, refl)
-    by_move (IsBusy r) More e f = (same (IsBusy r) e f, refl)
-    by_move (IsHad r i t) More e f = (same (IsHad r i t) e f, refl)
-    by_move (Written r i) Ask e f = (named r f (by_first (slice_index d 0 == 1) r e), refl)
-    by_move (IsBusy r) Ask e f = (named r f (by_first (slice_index d 0 == 1) r e), refl)
-    by_move Quiet Ask e f = (same Quiet e f, refl)
-    by_move (IsHad r i t) Ask e f = (same (IsHad r i t) e f, refl)
-    by_move (IsHad r i t) Next e f = absurd (let z : IsHad r (suc i) (t ++ d) ≡ IsBusy q = e in cc)
-    by_move Quiet Next e f = (same Quiet e f, refl)
-    by_move (Written r i) Next e f = (same (Written r i) e f, refl)
-    by_move (IsBusy r) Next e f = (same (IsBusy r) e f, refl)
-    by_move p Leave e f = absurd (let z : Quiet ≡ IsBusy q = e in cc)
-    by_move Quiet Other e f = (same Quiet e f, refl)
-    by_move (Written r i) Other e f = (same (Written r i) e f, refl)
-    by_move (IsBusy r) Other e f = (same (IsBusy r) e f, refl)
-    by_move (IsHad r i t) Other e f = (same (IsHad r i t) e f, refl)
+    by_move p what given given2 = grind (arith, common_steps)
 
 -- the far end once it heard a message that it replies to
 pub replied_opens : (page : List ℕ) (size : ℕ) (base : List Carried) (link : Link) (p : Progress) (o : List ℕ) (m : MasterMsg) (what : Move) (heard : Heard) (request : Option Request) (h : Hidden) →

@@ -1,5 +1,6 @@
 -- What the octets that come back say, where they are a good reply and where they aren't.
-use Rattle.std.proofs.Common.{◌≡◌, ℕ, ◌+◌, min, List, refl, sym, ◌∙◌, ap, subst}
+use Rattle.std.proofs.Common.{◌≡◌, ℕ, ◌+◌, min, List, refl, sym, ◌∙◌, ap, subst, arith}
+use Rattle.std.proofs.lemmas.Grind.{common_steps}
 use Rattle.std.specs.Prelude.{Option, Some, None}
 use Rattle.iol_mseq.specs.Shape.{Shape}
 use Rattle.iol_mseq.specs.Replies.{reply_in}
@@ -70,8 +71,7 @@ module _ (laws : Laws) (s : Station) (u : Unseen) (base : List Carried) (w : Out
           subst Spells pair (subst (λ (x : List ℕ). message_in (layout_in x t.mode) w.octets ≡ Some n) same f)
 
       again : (there : Far) (m : MasterMsg) → message_in (layout_in s.terms.page there.mode) w.octets ≡ Some m → there.mode ≡ far_mode s.seen.mode → m ≡ w.message
-      again there m f is =
-          let z : Path (Option MasterMsg) (Some m) (Some w.message) = sym f ∙ ap (λ (x : device.Mode). message_in (layout_in s.terms.page x) w.octets) is ∙ spells in cc
+      again there m given given2 = grind (arith, common_steps)
 
   module _ (far : Far) (silence : ℕ) (answer : Option (List ℕ)) (h : HonestExchange s.far s.silence w.octets answer far silence) where
     pub level_now : IsLevel s.terms.page (layout_at s).od base s.link s.progress w.octets w.tries (locals s.far h.steps)

@@ -1,5 +1,6 @@
 -- The message of a turn, whether it is new or was out before: what holds of it, and of the far end.
 use Rattle.std.proofs.Common.{◌≡◌, inl, ℕ, ◌≤◌, Bool, true, false, List, refl, sym, ◌∙◌, ap, subst, arith}
+use Rattle.std.proofs.lemmas.Grind.{common_steps}
 use Rattle.std.specs.Prelude.{Option, Some, None, IsSome}
 use Rattle.iol_event.specs.Memory.{Events}
 use Rattle.iol_far.specs.declared.carried.Carried.{Carried}
@@ -9,7 +10,7 @@ use Rattle.iol_far.specs.Codec.{layout_in}
 use Rattle.iol_far.specs.Level.{taken as taken_link, IsLevel}
 use Rattle.iol_far.specs.Laws.{confirms as octets_confirm}
 use Rattle.iol_steps.specs.declared.mode.Mode.{Mode}
-use Rattle.iol_steps.specs.declared.mode.Mode.TheVariants.{Down, Startup, Preoperate, Operate}
+use Rattle.iol_steps.specs.declared.mode.Mode.TheVariants.{Operate}
 use Rattle.iol_steps.specs.Step.{Image}
 use Rattle.iol_steps.specs.Images.{image_or}
 use Rattle.iol_steps.specs.Station.{Out, Reading, Resting, Flagged, Under, Due, is_due, Shown, Station, Unseen, far_mode, layout_at, confirms, output_command, Suits, LevelAt, EventsFit, confirm_out, tries_of, output_out, OutFits, IsUp}
@@ -18,10 +19,7 @@ use Rattle.iol_steps.proofs.Given.{Laws}
 use Rattle.iol_steps.proofs.FirstOctet.{confirms_of}
 
 pub not_new : (mode : Mode) (w : Out) → is_new mode (Some w) ≡ false
-not_new Down w = refl
-not_new Startup w = refl
-not_new Preoperate w = refl
-not_new Operate w = refl
+not_new mode w = grind (arith, common_steps)
 
 keeps_some : (wanted sent : Option Image) → IsSome sent → IsSome (image_or wanted sent)
 keeps_some None sent h = h
@@ -70,31 +68,21 @@ module _ (laws : Laws) (s : Station) (u : Unseen) (up : IsUp s u) (w : Out) wher
   level_of (Some out) level e = subst (λ (x : Out). LevelAt s up.base (Some x)) (sym e) level
 
   few_of : (o : Option Out) → tries_of o ≤ s.silence → Sends s o w → w.tries ≤ s.silence
-  few_of None few new = let k : w.tries ≡ 0 = new.first in omega arith
-  few_of (Some out) few e = subst (λ (x : Out). x.tries ≤ s.silence) (sym e) few
+  few_of o given given2 = grind (arith, common_steps)
 
   confirm_of : (o : Option Out) → (c : Bool) → confirms w.message ≡ c → (c ≡ true → is_due s.reading ≡ true) → Sends s o w → (s.far.awake ≡ true → EventsFit s.reading (confirm_out o) s.far.events) → s.far.awake ≡ true → EventsFit s.reading c s.far.events
   confirm_of None c is due new fits awake = events_due s.reading c s.far.events due (fits awake)
   confirm_of (Some out) c is due e fits awake = subst (λ (b : Bool). EventsFit s.reading b s.far.events) (ap (λ (x : Out). confirms x.message) (sym e) ∙ is) (fits awake)
 
   output_of_out : (o : Option Out) → Sends s o w → (output_out s o ≡ None → s.far.valid ≡ s.output_told) → output_command s w ≡ None → s.far.valid ≡ s.output_told
-  output_of_out None new h none = h refl
-  output_of_out (Some out) e h none = h (ap (λ (x : Out). output_command s x) (sym e) ∙ none)
+  output_of_out o given given2 given3 = grind (arith, common_steps)
 
   made_of : (mode : Mode) (o : Option Out) → is_new mode o ≡ true → (mode ≡ Operate) × (o ≡ None)
-  made_of Operate None h = (refl, refl)
-  made_of Operate (Some out) h = absurd (let z : false ≡ true = h in cc)
-  made_of Down o h = absurd (let z : false ≡ true = h in cc)
-  made_of Startup o h = absurd (let z : false ≡ true = h in cc)
-  made_of Preoperate o h = absurd (let z : false ≡ true = h in cc)
+  made_of mode o given = grind (arith, common_steps)
 
   now_of : (o : Option Out) → tries_of o ≤ s.silence → OutFits s o → Sends s o w → s.silence ≡ 0 → (mode : Mode) → s.seen.mode ≡ mode → mode ≡ Operate →
       (output_command s w ≡ output_due s.shown.wanted s.output_told) × (is_new mode o ≡ true)
-  now_of None few fits new quiet Operate is op = (new.due is, refl)
-  now_of None few fits new quiet Down is op = absurd (let z : Down ≡ Operate = op in cc)
-  now_of None few fits new quiet Startup is op = absurd (let z : Startup ≡ Operate = op in cc)
-  now_of None few fits new quiet Preoperate is op = absurd (let z : Preoperate ≡ Operate = op in cc)
-  now_of (Some out) few fits e quiet mode is op = absurd (let a : 1 ≤ out.tries = fits.1 in let b : out.tries ≤ s.silence = few in let z : ⊥ = omega arith in z)
+  now_of o given given2 given3 given4 mode given5 given6 = grind (arith, common_steps)
 
   pub sending : Sends s s.out w → Sending s u up.base w
   sending sends =

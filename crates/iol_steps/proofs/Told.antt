@@ -1,17 +1,17 @@
 -- Outside down the frozen list is told exactly while the far end is awake and the confirm due or out.
-use Rattle.std.proofs.Common.{◌≡◌, inl, inr, ℕ, Bool, true, false, not, ◌&&◌, List, [], ◌∷◌, refl, sym, ◌∙◌, ap}
-use Rattle.std.specs.Prelude.{Some, None, if◌then◌else◌}
+use Rattle.std.proofs.Common.{◌≡◌, ℕ, Bool, true, false, ◌&&◌, List, [], ◌∷◌, refl, sym, ◌∙◌, ap, arith}
+use Rattle.std.proofs.lemmas.Grind.{common_steps}
+use Rattle.std.specs.Prelude.{Some, if◌then◌else◌}
 use Rattle.iol_isdu.specs.declared.values.Answer.{Answer}
 use Rattle.iol_event.specs.declared.event.Event.{Event}
-use Rattle.iol_event.specs.Memory.{Events, is_empty, freezes_at_once}
+use Rattle.iol_event.specs.Memory.{Events, freezes_at_once}
 use Rattle.iol_event.specs.Reading.{reading}
 use Rattle.iol_link.specs.Honest.{Passage, OutLost, BackLost, Clean, far_after}
-use Rattle.iol_far.specs.Isdu.{IsduState, Handed, Answered, fits}
+use Rattle.iol_far.specs.Isdu.{IsduState}
 use Rattle.iol_far.specs.Codec.{layout_in}
 use Rattle.iol_far.specs.Far.{Far, hear, heard_as}
-use Rattle.iol_far.specs.Local.{LocalStep, local, locals, carried_by, has_room, is_input}
-use Rattle.iol_far.specs.Local.{Carry as OwnCarry, Raise as OwnRaise, Input as OwnInput, NoInput as OwnNoInput, Power as OwnPower}
-use Rattle.iol_far.specs.Level.{grown_by}
+use Rattle.iol_far.specs.Local.{LocalStep, local, locals, carried_by, is_input}
+use Rattle.iol_far.specs.Local.{Input as OwnInput}
 use Rattle.iol_far.specs.Laws.{EventLaws}
 use Rattle.iol_far.specs.Laws.{confirms as octets_confirm}
 use Rattle.iol_steps.specs.Bridge.{told_after, told_through, told_released, told_worked, told_heard_as, told_heard, told_passed, told_exchanged}
@@ -22,18 +22,13 @@ use Rattle.iol_steps.proofs.FrozenPart.{ConfirmsTold}
 
 -- no local step wakes, and hearing neither wakes nor puts to sleep
 carried_awake : (g : Far) (a : Answer) (s : IsduState) → (carried_by s g a).awake ≡ g.awake
-carried_awake g a (Handed r) = elim (has_room g && fits r a) as (λ b. (if b then record g { isdu = Answered r a None; carried = grown_by g.carried r a } else g).awake ≡ g.awake) [ true ↦ refl | false ↦ refl ]
-carried_awake g a s = refl
+carried_awake g a s = grind (arith, common_steps)
 
 input_awake : (far : Far) (image : List ℕ) → (local far (OwnInput image)).awake ≡ far.awake
 input_awake far image = elim (is_input far image) as (λ b. (if b then record far { input = Some image } else far).awake ≡ far.awake) [ true ↦ refl | false ↦ refl ]
 
 pub was_awake : (far : Far) (step : LocalStep) → (local far step).awake ≡ true → far.awake ≡ true
-was_awake far (OwnCarry a) w = sym (carried_awake far a far.isdu) ∙ w
-was_awake far (OwnRaise e) w = w
-was_awake far (OwnInput image) w = sym (input_awake far image) ∙ w
-was_awake far OwnNoInput w = w
-was_awake far OwnPower w = absurd (let z : false ≡ true = w in cc)
+was_awake far step given = grind (arith, common_steps)
 
 pub heard_awake : (far : Far) (o : List ℕ) → (hear far o).far.awake ≡ far.awake
 heard_awake far o = by_accepted (λ q. (heard_as far o q).far.awake ≡ far.awake) far o refl (λ w m e. refl) (λ w command k m e. refl)
@@ -43,30 +38,19 @@ abbrev pub IsTold : Reading → Bool → Far → Bool → Type 0
 IsTold reading c far t = (far.awake ≡ true → EventsFit reading c far.events) × (t ≡ (far.awake && is_due reading))
 
 keeps_false : (b t : Bool) → t ≡ false → (if b then false else t) ≡ false
-keeps_false true t e = refl
-keeps_false false t e = e
+keeps_false b t given = grind (arith, common_steps)
 
 raise_due : (c : Bool) (x : Event) (xs : List Event) (m : Events) (t : Bool) → EventsFit (Due x xs) c m → (if freezes_at_once m then false else t) ≡ t
-raise_due false x xs m t h = rw h.0 refl
-raise_due true x xs m t (inl h) = rw h.0 refl
-raise_due true x xs m t (inr h) = rw (h.0, h.1) refl
+raise_due c x xs m t given = grind (arith, common_steps)
 
 raise_told : (reading : Reading) (c : Bool) (m : Events) (awake : Bool) (t : Bool) → (awake ≡ true → EventsFit reading c m) → t ≡ (awake && is_due reading) → (if freezes_at_once m then false else t) ≡ (awake && is_due reading)
-raise_told r c m false t fits is = keeps_false (freezes_at_once m) t is
-raise_told Resting c m true t fits is = keeps_false (freezes_at_once m) t is
-raise_told Flagged c m true t fits is = keeps_false (freezes_at_once m) t is
-raise_told (Under octets) c m true t fits is = keeps_false (freezes_at_once m) t is
-raise_told (Due x xs) c m true t fits is = raise_due c x xs m t (fits refl) ∙ is
+raise_told reading c m awake t given given2 = grind (arith, common_steps)
 
 release_told : (reading : Reading) (m : Events) (awake t : Bool) → (awake ≡ true → EventsFit reading false m) → awake ≡ true → t ≡ (awake && is_due reading) → told_released m t ≡ t
-release_told Resting m awake t fits w is = keeps_false (is_empty m.frozen && not (is_empty m.waiting)) t (is ∙ ap (λ (b : Bool). b && false) w) ∙ sym (is ∙ ap (λ (b : Bool). b && false) w)
-release_told Flagged m awake t fits w is = let h = fits w in rw h.2.0 refl
-release_told (Under octets) m awake t fits w is = let h = fits w in rw h.2.0 refl
-release_told (Due x xs) m awake t fits w is = let h = fits w in rw h.0 refl
+release_told reading m awake t given given2 given3 = grind (arith, common_steps)
 
 worked_told : (reading : Reading) (c : Bool) (m : Events) (awake t : Bool) → (awake ≡ true → EventsFit reading c m) → awake ≡ true → t ≡ (awake && is_due reading) → told_worked m c t ≡ t
-worked_told r true m awake t fits w is = refl
-worked_told r false m awake t fits w is = release_told r m awake t fits w is
+worked_told reading c m awake t given given2 given3 = grind (arith, common_steps)
 
 module _ (laws : (first : Event) (rest : List Event) → EventLaws first rest) where
   fit_step : (reading : Reading) (c : Bool) (far : Far) (step : LocalStep) → (far.awake ≡ true → EventsFit reading c far.events) → (local far step).awake ≡ true → EventsFit reading c (local far step).events
@@ -83,11 +67,7 @@ module _ (laws : (first : Event) (rest : List Event) → EventLaws first rest) w
       same g far e k = k ∙ ap (λ (b : Bool). b && is_due reading) (sym e)
 
       stays : (far : Far) (step : LocalStep) → IsTold reading c far t → told_after far step t ≡ ((local far step).awake && is_due reading)
-      stays far (OwnCarry a) h = same (local far (OwnCarry a)) far (carried_awake far a far.isdu) h.1
-      stays far (OwnRaise e) h = raise_told reading c far.events far.awake t h.0 h.1
-      stays far (OwnInput image) h = same (local far (OwnInput image)) far (input_awake far image) h.1
-      stays far OwnNoInput h = h.1
-      stays far OwnPower h = refl
+      stays far step given = grind (arith, common_steps)
 
   pub told_locals : (reading : Reading) (c : Bool) (steps : List LocalStep) (far : Far) (t : Bool) → IsTold reading c far t → IsTold reading c (locals far steps) (told_through far steps t)
   told_locals r c [] far t h = h
