@@ -1,5 +1,5 @@
 -- What each command reads and prints.
-use Rattle.std.specs.Prelude.{◌≡◌, ℕ, List, Some, Err}
+use Rattle.std.specs.Prelude.{◌≡◌, ℕ, List, Some, None, Err, IsOk}
 use Rattle.iol_mseq.specs.Shape.{startup_shape}
 use Rattle.iol_script.specs.CheckLines.{first_bad}
 use Rattle.iol_script.specs.Script.{first_bad_run}
@@ -17,6 +17,13 @@ IsBadAt Check lines n = first_bad lines ≡ Some n
 IsBadAt Run lines n = first_bad_run lines ≡ Some n
 IsBadAt Trace lines n = first_bad_run lines ≡ Some n
 IsBadAt Many lines n = plan_of lines ≡ Err n
+
+-- each line of a command's input is good
+abbrev pub IsGood : Mode → List (ℕ × List ℕ) → Type 0
+IsGood Check lines = first_bad lines ≡ None
+IsGood Run lines = first_bad_run lines ≡ None
+IsGood Trace lines = first_bad_run lines ≡ None
+IsGood Many lines = IsOk (plan_of lines)
 
 -- a command prints this text for the lines of its input
 abbrev pub Prints : Mode → List (ℕ × List ℕ) → List ℕ → Type 0

@@ -3,8 +3,8 @@ ghost use Rattle.std.specs.Prelude.{◌≡◌, ◌≢◌, ◌<◌, ℕ, Err, OnE
 ghost use Rattle.std.specs.Io.KnownBytes.{Keeps};
 ghost use Rattle.iolink.specs.declared.command.Mode.TheVariants.{Many, Trace};
 ghost use Rattle.iol_commands.specs.declared.fault.ProgramFault.TheVariants.{Line, NoThread, OutOfMemory, TooLong, WriteFailed};
-ghost use Rattle.iolink.specs.Performed.{IsBadAt, Prints};
-ghost use Rattle.iol_commands.specs.Input.{IsTooLong, OfLines, Writes};
+ghost use Rattle.iolink.specs.Performed.{IsBadAt, IsGood, Prints};
+ghost use Rattle.iol_commands.specs.Input.{IsTooLong, OfLines, TakesInput, Writes};
 
 use crate::command::Mode;
 use iol_commands::{ProgramFault, check, many, run, trace};
@@ -25,7 +25,10 @@ pub(crate) fn perform<T: Threads + Wait + Sync, R: Read, W: Write>(
     ensures too_long { result ≡ Err TooLong → IsTooLong (R.remaining reader.old) }
     ensures bad_line { (n : ℕ) → result ≡ Err (Line n)
         → OfLines (R.remaining reader.old) (λ lines. IsBadAt mode lines n) }
+    ensures good { OnOk result (OfLines (R.remaining reader.old) (IsGood mode)) }
     ensures threads { mode ≢ Many → result ≢ Err NoThread }
+    ensures no_thread { result ≡ Err NoThread → OfLines (R.remaining reader.old) (IsGood mode) }
+    ensures taken { TakesInput (R.remaining reader.old) (R.remaining reader.new) }
 
     // What is written.
     ensures printed { OnOk result (Writes (R.remaining reader.old)
