@@ -1,5 +1,6 @@
 -- What one good reply tells the master of the far end: the state before the next message.
-use Rattle.std.proofs.Common.{◌≡◌, inl, inr, ℕ, suc, ◌+◌, ◌≤◌, Bool, true, false, ◌&&◌, List, [], ◌∷◌, ◌++◌, refl, sym, ◌∙◌, ap, subst, arith}
+use Rattle.std.proofs.Common.{◌≡◌, inl, inr, ℕ, suc, ◌+◌, ◌≤◌, Bool, true, false, List, [], ◌∷◌, ◌++◌, refl, sym, ◌∙◌, ap, subst, arith}
+use Rattle.std.proofs.lemmas.Grind.{common_steps}
 use Rattle.std.specs.Prelude.{Option, Some, None, IfSome, if◌then◌else◌, ◌==◌, slice_index, bytes_eq}
 use Rattle.iol_octets.specs.declared.control.Channel.{Channel}
 use Rattle.iol_octets.specs.declared.control.Channel.TheVariants.{Isdu}
@@ -16,10 +17,10 @@ use Rattle.iol_segment.specs.TextLaws.{joined}
 use Rattle.iol_segment.specs.JoinLaws.{count_at}
 use Rattle.iol_far.specs.declared.carried.Carried.{Carried}
 use Rattle.iol_far.specs.Codec.{layout_in, message_in, octets_of, flow_of}
-use Rattle.iol_far.specs.Isdu.{IsduState, Empty, Receiving, Whole, Handed, Answered, isdu_read, isdu_data, fits}
+use Rattle.iol_far.specs.Isdu.{IsduState, Empty, Receiving, Whole, Handed, Answered, isdu_read, isdu_data}
 use Rattle.iol_far.specs.Far.{Far, WaitingCommand, waits_after, isdu_after, mode_asked, known_mode, command_in, worked, Heard, hear, heard_as, replied, reply_to, moved, accepted_now, accepted_by}
-use Rattle.iol_far.specs.Local.{LocalStep, Carry, Raise, Input, NoInput, Power, local, locals, carried_by, has_room, is_input, woken}
-use Rattle.iol_far.specs.Level.{Progress, Quiet, Written, Busy, Had, Stands, Move, Begin, More, Ask, Next, Leave, Other, asked, after, IsMove, Link, link_of, taken, taken_by, turned, HasIsduFor, MayBegin, IsSent, IsBefore, Happening, Own, Hears, happened, hearings, IsLevel, IsGrown, base_after, grown_by}
+use Rattle.iol_far.specs.Local.{LocalStep, Carry, Raise, Input, NoInput, Power, local, locals, carried_by, is_input, woken}
+use Rattle.iol_far.specs.Level.{Progress, Quiet, Written, Busy, Had, Stands, Move, Begin, More, Ask, Next, Leave, Other, asked, after, IsMove, Link, link_of, taken, taken_by, turned, HasIsduFor, MayBegin, IsSent, IsBefore, Happening, Own, Hears, happened, hearings, IsLevel, IsGrown, base_after}
 use Rattle.iol_far.specs.SegmentLaws.{SegmentLaws}
 use Rattle.iol_far.proofs.Standing.{heard_first, others, left, asked_busy, asked_first, stands_carried}
 use Rattle.iol_far.proofs.Once.{isdu_again, waits_again, mine_after, reads_again, bytes_of, not_handed, carried_awake}
@@ -27,15 +28,10 @@ use Rattle.iol_far.proofs.Once.{isdu_again, waits_again, mine_after, reads_again
 -- hearing, where the octets are accepted there as that message
 pub hear_there : (g : Far) (o : List ℕ) (there : Far) (m : MasterMsg) → g.awake ≡ true → accepted_by g.waits g o ≡ Some (there, m) →
     hear g o ≡ replied (worked there o m) m
-hear_there g o there m awake e =
-    ap (λ (b : Bool). heard_as g o (if b then accepted_by g.waits g o else None)) awake ∙ ap (heard_as g o) e
+hear_there g o there m given given2 = grind (arith, common_steps)
 
 quiet_base : (size : ℕ) (base : List Carried) (s : IsduState) (carried : List Carried) → Stands size base Quiet s carried → carried ≡ base
-quiet_base size base Empty carried h = h
-quiet_base size base (Answered r a l) carried h = h
-quiet_base size base (Receiving t l) carried h = absurd h
-quiet_base size base (Whole r l) carried h = absurd h
-quiet_base size base (Handed r) carried h = absurd h
+quiet_base size base s carried given = grind (arith, common_steps)
 
 stands_grown : (size : ℕ) (base : List Carried) (p : Progress) (s : IsduState) (carried : List Carried) → Stands size base p s carried → IsGrown base p carried
 stands_grown size base Quiet s carried h = quiet_base size base s carried h
@@ -102,11 +98,7 @@ asked_again size laws base (Busy r) Isdu true Start od x s carried move h = aske
 asked_again size laws base p c read f od x s carried move h = absurd move
 
 unhanded : (far : Far) (a : Answer) (s : IsduState) → ((q : Request) → s ≡ Handed q → ⊥) → carried_by s far a ≡ far
-unhanded far a Empty n = refl
-unhanded far a (Receiving t l) n = refl
-unhanded far a (Whole q l) n = refl
-unhanded far a (Answered q b l) n = refl
-unhanded far a (Handed q) n = absurd (n q refl)
+unhanded far a s given = grind (arith, common_steps)
 
 -- while a request is written or its answer read, nothing is handed
 writing_unhanded : (size : ℕ) (base : List Carried) (r : Request) (i : ℕ) (s : IsduState) (carried : List Carried) → Stands size base (Written r i) s carried →
@@ -119,13 +111,11 @@ reading_unhanded size base r i t s carried h q e = let k : Stands size base (Had
 
 more_unhanded : (size : ℕ) (base : List Carried) (p : Progress) (c : Channel) (read : Bool) (f : Flow) (od x : List ℕ) (s : IsduState) (carried : List Carried) →
     IsMove size More p c read f od → Stands size base (after p More x) s carried → (q : Request) → s ≡ Handed q → ⊥
-more_unhanded size base (Written r i) c read f od x s carried move h = writing_unhanded size base r (suc i) s carried h
-more_unhanded size base p c read f od x s carried move h = absurd move
+more_unhanded size base p c read f od x s carried given given2 q given3 = grind (arith, common_steps)
 
 next_unhanded : (size : ℕ) (base : List Carried) (p : Progress) (c : Channel) (read : Bool) (f : Flow) (od x : List ℕ) (s : IsduState) (carried : List Carried) →
     IsMove size Next p c read f od → Stands size base (after p Next x) s carried → (q : Request) → s ≡ Handed q → ⊥
-next_unhanded size base (Had r i t) c read f od x s carried move h = reading_unhanded size base r (suc i) (t ++ x) s carried h
-next_unhanded size base p c read f od x s carried move h = absurd move
+next_unhanded size base p c read f od x s carried given given2 q given3 = grind (arith, common_steps)
 
 -- the record while the message is out
 begun_grown : (size : ℕ) (base : List Carried) (p : Progress) (r : Request) (c : Channel) (read : Bool) (f : Flow) (od : List ℕ) (s : IsduState) (carried : List Carried) →
@@ -262,12 +252,10 @@ mine_taken (Some w) link o e = split (bytes_eq o w.octets) refl
     split false same = tt
 
 pub carried_page : (g : Far) (a : Answer) (s : IsduState) → (carried_by s g a).page ≡ g.page
-carried_page g a (Handed r) = elim (has_room g && fits r a) as (λ b. (if b then record g { isdu = Answered r a None; carried = grown_by g.carried r a } else g).page ≡ g.page) [ true ↦ refl | false ↦ refl ]
-carried_page g a s = refl
+carried_page g a s = grind (arith, common_steps)
 
 pub carried_link : (g : Far) (a : Answer) (s : IsduState) → link_of (carried_by s g a) ≡ link_of g
-carried_link g a (Handed r) = elim (has_room g && fits r a) as (λ b. link_of (if b then record g { isdu = Answered r a None; carried = grown_by g.carried r a } else g) ≡ link_of g) [ true ↦ refl | false ↦ refl ]
-carried_link g a s = refl
+carried_link g a s = grind (arith, common_steps)
 
 module _ (page : List ℕ) (size : ℕ) (laws : SegmentLaws size) (base : List Carried) (link : Link) (p : Progress)
     (o : List ℕ) (m : MasterMsg) (what : Move) (sent : IsSent page size link p o m what) where

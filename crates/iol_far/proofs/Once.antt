@@ -5,20 +5,16 @@ use Rattle.std.proofs.lemmas.Bool.Decides.{nat_tests}
 use Rattle.std.proofs.lemmas.Grind.{common_steps}
 use Rattle.std.proofs.lemmas.Slice.Eq.{bytes_eq-Decides}
 use Rattle.iol_octets.specs.declared.control.Channel.{Channel}
-use Rattle.iol_octets.specs.declared.control.Channel.TheVariants.{Page, Isdu}
 use Rattle.iol_far.specs.declared.mode.Mode.{Mode}
-use Rattle.iol_far.specs.declared.mode.Mode.TheVariants.{Startup, Preoperate, Operate}
 use Rattle.iol_octets.specs.declared.flow_control.Flow.{Flow}
-use Rattle.iol_octets.specs.declared.flow_control.Flow.TheVariants.{Start, Count, Idle1, Idle2, Abort}
+use Rattle.iol_octets.specs.declared.flow_control.Flow.TheVariants.{Start, Count}
 use Rattle.iol_page.specs.declared.master_command.MasterCommand.{MasterCommand}
-use Rattle.iol_page.specs.declared.master_command.MasterCommand.TheVariants.{Fallback, MasterIdent, DeviceIdent, DeviceStartup, ProcessDataOutputOperate, DeviceOperate, DevicePreoperate}
 use Rattle.iol_page.specs.Page.{knows_isdu}
 use Rattle.iol_mseq.specs.declared.master.MasterMsg.{MasterMsg}
 use Rattle.iol_event.specs.declared.event.Event.{Event}
 use Rattle.iol_isdu.specs.declared.values.Request.{Request}
 use Rattle.iol_isdu.specs.declared.values.Answer.{Answer}
-use Rattle.iol_isdu.specs.Parse.{request_of}
-use Rattle.iol_segment.specs.Join.{Stage, Open, Complete, Wrong, stage, is_last, next_count}
+use Rattle.iol_segment.specs.Join.{Stage, stage, is_last, next_count}
 use Rattle.iol_far.specs.Codec.{layout_in, message_in, flow_of}
 use Rattle.iol_far.specs.Isdu.{IsduState, Empty, Receiving, Whole, Handed, Answered, completed, received_at, received, isdu_written, isdu_read, fits}
 use Rattle.iol_event.specs.Memory.{Events, is_empty, raised}
@@ -48,10 +44,7 @@ pub events_settled : (c : Bool) (m : Events) → EventsSettled c (events_after m
 events_settled c m = settled_parts c m.frozen m.waiting m.held
 
 again_parts : (c : Bool) (f w : List Event) (h : Bool) → EventsSettled c (memory f w h) → events_after (memory f w h) c ≡ memory f w h
-again_parts true f w true s = refl
-again_parts true f w false s = absurd (let e : false ≡ true = s.held in cc)
-again_parts false [] w h s = let e : w ≡ [] = s.frozen refl refl in let k : h ≡ false = s.held in rw (e, k) refl
-again_parts false (f ∷ fs) w h s = let k : h ≡ false = s.held in rw k refl
+again_parts c f w h given = grind (arith, common_steps)
 
 pub events_again : (c : Bool) (m : Events) → EventsSettled c m → events_after m c ≡ m
 events_again c m s = again_parts c m.frozen m.waiting m.held s
@@ -72,67 +65,36 @@ events_raised c m e s = raised_parts c m.frozen m.waiting m.held e s
 -- Modes
 
 is_mode-refl : (m : Mode) → is_mode m m ≡ true
-is_mode-refl Startup = refl
-is_mode-refl Preoperate = refl
-is_mode-refl Operate = refl
+is_mode-refl m = grind (arith, common_steps)
 
 pub waits_again : (mode : Mode) (w : Option WaitingCommand) (o : List ℕ) (asked : Option Mode) →
     waits_after mode (waits_after mode w o asked) o asked ≡ waits_after mode w o asked
-waits_again mode w o None = refl
-waits_again mode w o (Some into) =
-    elim (is_mode mode into) as (λ b. (if b then (if b then w else Some (record { into = into; octets = o })) else Some (record { into = into; octets = o }))
-    ≡ (if b then w else Some (record { into = into; octets = o }))) [ true ↦ refl | false ↦ refl ]
+waits_again mode w o asked = grind (arith, common_steps)
 
 valid_again : (mode : Mode) (v : Bool) (c : Option MasterCommand) → valid_after mode (valid_after mode v c) c ≡ valid_after mode v c
-valid_again Startup v c = refl
-valid_again Preoperate v c = refl
-valid_again Operate v None = refl
-valid_again Operate v (Some Fallback) = refl
-valid_again Operate v (Some MasterIdent) = refl
-valid_again Operate v (Some DeviceIdent) = refl
-valid_again Operate v (Some DeviceStartup) = refl
-valid_again Operate v (Some ProcessDataOutputOperate) = refl
-valid_again Operate v (Some DeviceOperate) = refl
-valid_again Operate v (Some DevicePreoperate) = refl
+valid_again mode v c = grind (arith, common_steps)
 
 out_again : (mode : Mode) (old new : List ℕ) → out_after mode (out_after mode old new) new ≡ out_after mode old new
-out_again Startup old new = refl
-out_again Preoperate old new = refl
-out_again Operate old new = refl
+out_again mode old new = grind (arith, common_steps)
 
 -- The ISDU state
 
 read_again : (m : ℕ) (s : IsduState) (f : Flow) → isdu_read m (isdu_read m s f) f ≡ isdu_read m s f
-read_again m s Idle1 = refl
-read_again m s Idle2 = refl
-read_again m s Abort = refl
-read_again m Empty f = refl
-read_again m (Receiving t l) f = refl
-read_again m (Whole r l) f = refl
-read_again m (Handed r) f = refl
-read_again m (Answered r a l) Start = refl
-read_again m (Answered r a None) f = refl
-read_again m (Answered r a (Some i)) (Count c) = grind (arith, nat_tests, common_steps)
-read_again m (Answered r a (Some i)) f = refl
+read_again m s f = grind (arith, common_steps)
 
 completed_again : (q : Option Request) (c : ℕ) (octets : List ℕ) → isdu_written (completed q (Some c)) (Count c) octets ≡ completed q (Some c)
-completed_again None c octets = refl
-completed_again (Some r) c octets = grind (arith, nat_tests, common_steps)
+completed_again q c octets = grind (arith, common_steps)
 
 receiving_again : (t : List ℕ) (c : ℕ) (octets : List ℕ) → isdu_written (Receiving t (Some c)) (Count c) octets ≡ Receiving t (Some c)
 receiving_again t c octets = grind (arith, nat_tests, common_steps)
 
 received_again : (z : Stage) (t : List ℕ) (c : ℕ) (octets : List ℕ) → isdu_written (received_at z t (Some c)) (Count c) octets ≡ received_at z t (Some c)
-received_again Open t c octets = receiving_again t c octets
-received_again (Complete whole) t c octets = completed_again (request_of whole) c octets
-received_again Wrong t c octets = refl
+received_again z t c octets = grind (arith, common_steps)
 
 counted_again : (last next : Bool) (t : List ℕ) (l : Option ℕ) (c : ℕ) (octets : List ℕ) → is_last l c ≡ last →
     isdu_written (if last then Receiving t l else if next then received (t ++ octets) (Some c) else Empty) (Count c) octets
     ≡ (if last then Receiving t l else if next then received (t ++ octets) (Some c) else Empty)
-counted_again true next t l c octets e = rw e refl
-counted_again false true t l c octets e = received_again (stage (t ++ octets)) (t ++ octets) c octets
-counted_again false false t l c octets e = refl
+counted_again last next t l c octets given = grind (arith, common_steps)
 
 pub written_again : (s : IsduState) (f : Flow) (octets : List ℕ) → isdu_written (isdu_written s f octets) f octets ≡ isdu_written s f octets
 written_again s Start octets = refl
@@ -148,15 +110,11 @@ written_again (Receiving t l) f octets = refl
 
 pub isdu_again : (known : Bool) (size : ℕ) (s : IsduState) (c : Channel) (r : Bool) (f : Flow) (octets : List ℕ) →
     isdu_after known size (isdu_after known size s c r f octets) c r f octets ≡ isdu_after known size s c r f octets
-isdu_again true size s Isdu true f octets = read_again size s f
-isdu_again true size s Isdu false f octets = written_again s f octets
-isdu_again false size s Isdu r f octets = refl
-isdu_again known size s c r f octets = refl
+isdu_again known size s c r f octets = grind (arith, common_steps)
 
 cycle_again : (cycle : ℕ) (c : Channel) (r : Bool) (address octet : ℕ) →
     cycle_time_after (cycle_time_after cycle c r address octet) c r address octet ≡ cycle_time_after cycle c r address octet
-cycle_again cycle Page false address octet = elim (address == 1) as (λ b. (if b then octet else if b then octet else cycle) ≡ (if b then octet else cycle)) [ true ↦ refl | false ↦ refl ]
-cycle_again cycle c r address octet = refl
+cycle_again cycle c r address octet = grind (arith, common_steps)
 
 -- hearing the message once more changes nothing
 pub record Settled (o : List ℕ) (m : MasterMsg) (g : Far) : Type 0 where
@@ -171,9 +129,7 @@ pub record Settled (o : List ℕ) (m : MasterMsg) (g : Far) : Type 0 where
 
 pub mine_after : (mode : Mode) (w : Option WaitingCommand) (o : List ℕ) (asked : Option Mode) →
     IfSome w (λ v. v.octets ≡ o) → IfSome (waits_after mode w o asked) (λ v. v.octets ≡ o)
-mine_after mode w o None h = h
-mine_after mode w o (Some into) h =
-    elim (is_mode mode into) as (λ b. IfSome (if b then w else Some (record { into = into; octets = o })) (λ v. v.octets ≡ o)) [ true ↦ h | false ↦ refl ]
+mine_after mode w o asked given = grind (arith, common_steps)
 
 pub settled_worked : (far : Far) (o : List ℕ) (m : MasterMsg) →
     message_in (layout_in far.page far.mode) o ≡ Some m → IfSome far.waits (λ w. w.octets ≡ o) → Settled o m (worked far o m)
@@ -194,13 +150,10 @@ worked_again o m g s = rw (s.waits, s.isdu, events_again (is_confirm m.mc.channe
 -- Local steps keep it, but for carrying out between two START reads
 
 not_completed : (q : Option Request) (l : Option ℕ) (r : Request) → completed q l ≡ Handed r → ⊥
-not_completed None l r h = cc
-not_completed (Some q) l r h = cc
+not_completed q l r given = grind (arith, common_steps)
 
 not_handed_at : (z : Stage) (t : List ℕ) (l : Option ℕ) (r : Request) → received_at z t l ≡ Handed r → ⊥
-not_handed_at Open t l r h = cc
-not_handed_at (Complete whole) t l r h = not_completed (request_of whole) l r h
-not_handed_at Wrong t l r h = cc
+not_handed_at z t l r given = grind (arith, common_steps)
 
 -- receiving hands nothing over
 pub not_handed : (t : List ℕ) (l : Option ℕ) (r : Request) → received t l ≡ Handed r → ⊥
@@ -208,12 +161,7 @@ not_handed t l r h = not_handed_at (stage t) t l r h
 
 pub carry_again : (known : Bool) (size : ℕ) (r : Request) (a : Answer) (c : Channel) (read : Bool) (f : Flow) (octets : List ℕ) → is_start_read c read f ≡ false →
     isdu_after known size (Handed r) c read f octets ≡ Handed r → isdu_after known size (Answered r a None) c read f octets ≡ Answered r a None
-carry_again true size r a Isdu true Start octets n h = absurd (let e : true ≡ false = n in cc)
-carry_again true size r a Isdu true f octets n h = absurd (let e : Empty ≡ Handed r = h in cc)
-carry_again true size r a Isdu false Start octets n h = absurd (not_handed octets None r h)
-carry_again true size r a Isdu false f octets n h = absurd (let e : Empty ≡ Handed r = h in cc)
-carry_again false size r a Isdu read f octets n h = absurd (let e : Empty ≡ Handed r = h in cc)
-carry_again known size r a c read f octets n h = refl
+carry_again known size r a c read f octets given given2 = grind (arith, common_steps)
 
 -- whether a step is no carrying out
 abbrev pub keeps_isdu : LocalStep → Bool
@@ -312,16 +260,10 @@ hearing far o = split far.awake refl
 -- Local steps between two hearings
 
 pub carried_awake : (g : Far) (a : Answer) (s : IsduState) → (carried_by s g a).awake ≡ g.awake
-carried_awake g a (Handed r) = elim (has_room g && fits r a) as (λ b. (if b then record g { isdu = Answered r a None; carried = grown_by g.carried r a } else g).awake ≡ g.awake) [ true ↦ refl | false ↦ refl ]
-carried_awake g a s = refl
+carried_awake g a s = grind (arith, common_steps)
 
 pub was_awake : (g : Far) (step : LocalStep) → (local g step).awake ≡ true → g.awake ≡ true
-was_awake g (Carry a) e = sym (carried_awake g a g.isdu) ∙ e
-was_awake g (Raise v) e = e
-was_awake g (Input image) e =
-    sym (elim (is_input g image) as (λ b. (if b then record g { input = Some image } else g).awake ≡ g.awake) [ true ↦ refl | false ↦ refl ]) ∙ e
-was_awake g NoInput e = e
-was_awake g Power e = absurd (let k : false ≡ true = e in cc)
+was_awake g step given = grind (arith, common_steps)
 
 module _ (o : List ℕ) (m : MasterMsg) (other : is_start_read m.mc.channel m.mc.read (flow_of m.mc.address) ≡ false) where
   settled_locals : (steps : List LocalStep) (g : Far) → (g.awake ≡ true → Settled o m g) → (locals g steps).awake ≡ true → Settled o m (locals g steps)

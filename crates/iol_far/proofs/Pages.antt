@@ -1,8 +1,6 @@
 -- The layouts of a page.
-use Rattle.std.proofs.Common.{◌≡◌, ℕ, zero, suc, ◌≤◌, false, true, List, refl, ap, subst, arith}
+use Rattle.std.proofs.Common.{◌≡◌, ℕ, ◌≤◌, List, refl, arith}
 use Rattle.std.specs.Prelude.{IsTrue, IfOk, IfSome, Option, Some, None, unwrap_or, Result, Ok, Err}
-use Rattle.std.proofs.Common.{length}
-use Rattle.std.proofs.lemmas.Bool.Decides.{nat_tests}
 use Rattle.std.proofs.lemmas.Grind.{common_steps}
 use Rattle.iol_mseq.specs.Shape.{Shape, IsLayout, is_size, startup_shape}
 use Rattle.iol_page.specs.Page.{layouts_of, IsPlain, IsAskedBy, PagesAskForLayouts}
@@ -14,8 +12,7 @@ use Rattle.iol_far.specs.Codec.{layout_by, layout_in}
 use Rattle.iol_far.specs.Laws.{ModesHaveLayouts}
 
 some_size : (od : ℕ) → IsTrue (is_size od) → 1 ≤ od
-some_size zero h = absurd (let z : false ≡ true = h in cc)
-some_size (suc n) h = omega arith
+some_size od given = grind (arith, common_steps)
 
 startup_is : IsLayout startup_shape
 startup_is = record { kind = refl; od = refl; pd_in = omega arith; pd_out = omega arith }
@@ -33,8 +30,7 @@ by_mode page Operate (Ok layouts) h = h.layouts_are.run
 by_mode page Operate (Err fault) h = startup_is
 
 pre_by : (page : List ℕ) (asked : Result Layouts PageFault) → IfOk asked (IsAskedBy page) → (layout_by Preoperate asked).pd_in ≡ 0
-pre_by page (Ok layouts) h = (pre_plain layouts.pre h.layouts_are.pre).pd_in
-pre_by page (Err fault) h = refl
+pre_by page asked given = grind (arith, common_steps)
 
 -- STARTUP and PREOPERATE have no process data in
 pub startup_input : (page : List ℕ) → (layout_in page Startup).pd_in ≡ 0

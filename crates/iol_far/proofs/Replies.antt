@@ -1,10 +1,9 @@
 -- What a far end answers fits its layout, so that it is read back.
-use Rattle.std.proofs.Common.{◌≡◌, ◌⊎◌, inl, inr, ℕ, ◌-◌, ◌≤◌, Bool, true, false, List, [], length, replicate, refl, sym, arith}
-use Rattle.std.specs.Prelude.{Option, Some, None, IfSome, unwrap_or, if◌then◌else◌, ◌==◌}
-use Rattle.std.proofs.lemmas.Bool.Decides.{nat_tests}
+use Rattle.std.proofs.Common.{◌≡◌, ◌⊎◌, inl, inr, ℕ, ◌-◌, ◌≤◌, Bool, List, [], length, replicate, refl, arith}
+use Rattle.std.proofs.lemmas.Grind.{common_steps}
+use Rattle.std.specs.Prelude.{Option, IfSome, unwrap_or, if◌then◌else◌, ◌==◌}
 use Rattle.std.proofs.lemmas.List.{length-replicate}
 use Rattle.iol_octets.specs.declared.control.Channel.{Channel}
-use Rattle.iol_octets.specs.declared.control.Channel.TheVariants.{Process, Page, Diagnosis, Isdu}
 use Rattle.iol_mseq.specs.Shape.{Shape}
 use Rattle.iol_mseq.specs.Replies.{HasReplyParts}
 use Rattle.iol_page.specs.Page.{PagesAskForLayouts}
@@ -14,10 +13,9 @@ use Rattle.iol_mseq.specs.declared.master.MasterMsg.{MasterMsg}
 use Rattle.iol_segment.specs.Cut.{SegmentsHaveSize}
 use Rattle.iol_far.specs.declared.mode.Mode.{Mode}
 use Rattle.iol_far.specs.declared.mode.Mode.TheVariants.{Startup, Preoperate, Operate}
-use Rattle.iol_far.specs.Isdu.{IsduState, Empty, Receiving, Whole, Handed, Answered, isdu_data, answer_text}
+use Rattle.iol_far.specs.Isdu.{IsduState, isdu_data}
 use Rattle.iol_far.specs.Codec.{layout_in, octets_of}
-use Rattle.iol_far.specs.Far.{Far, layout_of, data_of, page_octet, reply_to}
-use Rattle.iol_event.specs.Memory.{event_octet}
+use Rattle.iol_far.specs.Far.{Far, layout_of, data_of, reply_to}
 use Rattle.iol_far.specs.Laws.{IsSized, RepliesAreRead}
 use Rattle.iol_far.proofs.Pages.{startup_input, pre_has_no_input, modes_have_layouts}
 
@@ -25,31 +23,20 @@ zeros_size : (size octet : ℕ) → 1 ≤ size → length (first_of_zeros size o
 zeros_size size octet h = let k : length {A = ℕ} (replicate (size - 1) 0) ≡ size - 1 = length-replicate (size - 1) 0 in omega (arith, k)
 
 isdu_size : SegmentsHaveSize → (size : ℕ) (state : IsduState) → 1 ≤ size → length (isdu_data size state) ≡ size
-isdu_size segments size (Handed r) h = zeros_size size 1 h
-isdu_size segments size (Answered r a (Some i)) h = segments size (answer_text r a) i
-isdu_size segments size (Answered r a None) h = length-replicate size 0
-isdu_size segments size Empty h = length-replicate size 0
-isdu_size segments size (Receiving t l) h = length-replicate size 0
-isdu_size segments size (Whole r l) h = length-replicate size 0
+isdu_size given size state given2 = grind (arith, common_steps)
 
 data_size : SegmentsHaveSize → (far : Far) (size : ℕ) (c : Channel) (address : ℕ) → 1 ≤ size → length (data_of far size c address) ≡ size
-data_size segments far size Process address h = length-replicate size 0
-data_size segments far size Page address h = zeros_size size (page_octet far address) h
-data_size segments far size Diagnosis address h = zeros_size size (event_octet far.events.frozen address) h
-data_size segments far size Isdu address h = isdu_size segments size far.isdu h
+data_size given far size c address given2 = grind (arith, common_steps)
 
 image_size : (size : ℕ) (input : Option (List ℕ)) → IfSome input (λ image. length image ≡ size) → length (unwrap_or input (replicate size 0)) ≡ size
-image_size size None h = length-replicate size 0
-image_size size (Some image) h = h
+image_size size input given = grind (arith, common_steps)
 
 input_length : (size : ℕ) (input : Option (List ℕ)) → (size ≡ 0) ⊎ IfSome input (λ image. length image ≡ size) →
     length (if size == 0 then [] else unwrap_or input (replicate size 0)) ≡ size
 input_length size input h = split (size == 0) refl h
   where
     split : (b : Bool) → (size == 0) ≡ b → (size ≡ 0) ⊎ IfSome input (λ image. length image ≡ size) → length (if b then [] else unwrap_or input (replicate size 0)) ≡ size
-    split true e h = let k : size ≡ 0 = grind (arith, nat_tests) in sym k
-    split false e (inl z) = absurd (let k : (size == 0) ≡ true = grind (arith, nat_tests) in cc)
-    split false e (inr h) = image_size size input h
+    split b given given2 = grind (arith, common_steps)
 
 in_mode : PagesAskForLayouts → (far : Far) (mode : Mode) → IsSized far → ((layout_in far.page mode).pd_in ≡ 0) ⊎ IfSome far.input (λ image. length image ≡ (layout_in far.page mode).pd_in)
 in_mode asks far Startup sized = inl (startup_input far.page)
@@ -58,8 +45,7 @@ in_mode asks far Operate sized = inr sized
 
 data_length : SegmentsHaveSize → (far : Far) (layout : Shape) (read : Bool) (c : Channel) (address : ℕ) → 1 ≤ layout.od →
     length (if read then data_of far layout.od c address else []) ≡ (if read then layout.od else 0)
-data_length segments far layout true c address h = data_size segments far layout.od c address h
-data_length segments far layout false c address h = refl
+data_length given far layout read c address given2 = grind (arith, common_steps)
 
 module _ (asks : PagesAskForLayouts) (segments : SegmentsHaveSize) where
   parts : (far : Far) (m : MasterMsg) → IsSized far → HasReplyParts (layout_of far) m.mc.read (reply_to far (layout_of far) m)

@@ -21,9 +21,7 @@ kind_fits false Written e = refl
 kind_fits read (Refused error additional) e = tt
 
 both : (a b : Bool) → IsTrue (a && b) → (a ≡ true) × (b ≡ true)
-both true true h = (refl, refl)
-both true false h = absurd (let k : false ≡ true = grind (arith, nat_tests, common_steps) in cc)
-both false b h = absurd (let k : false ≡ true = grind (arith, nat_tests, common_steps) in cc)
+both a b given = grind (arith, common_steps)
 
 -- an answer that fits is one that the type holds
 answer_fits : (r : Request) (a : Answer) → IsTrue (fits r a) → FitsAnswer (is_read r) a

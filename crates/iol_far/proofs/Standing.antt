@@ -1,12 +1,12 @@
 -- What one good reply tells the master of the far end's ISDU state and record.
-use Rattle.std.proofs.Common.{◌≡◌, ℕ, zero, suc, ◌+◌, ◌*◌, ◌%◌, ◌<◌, Bool, true, false, ◌&&◌, List, ◌++◌, length, refl, sym, arith}
+use Rattle.std.proofs.Common.{◌≡◌, ℕ, suc, ◌+◌, ◌*◌, ◌%◌, ◌<◌, Bool, true, false, ◌&&◌, List, ◌++◌, length, refl, sym, arith}
 use Rattle.std.specs.Prelude.{Some, None, if◌then◌else◌, ◌==◌, IsTrue}
 use Rattle.std.proofs.lemmas.Bool.Decides.{nat_tests}
 use Rattle.std.proofs.lemmas.Grind.{common_steps}
 use Rattle.iol_octets.specs.declared.control.Channel.{Channel}
 use Rattle.iol_octets.specs.declared.control.Channel.TheVariants.{Process, Page, Diagnosis, Isdu}
 use Rattle.iol_octets.specs.declared.flow_control.Flow.{Flow}
-use Rattle.iol_octets.specs.declared.flow_control.Flow.TheVariants.{Start, Count, Idle1, Idle2, Abort}
+use Rattle.iol_octets.specs.declared.flow_control.Flow.TheVariants.{Start, Count}
 use Rattle.iol_isdu.specs.declared.values.Request.{Request}
 use Rattle.iol_isdu.specs.declared.values.Answer.{Answer}
 use Rattle.iol_isdu.specs.Texts.{IsRequest, request_text}
@@ -37,8 +37,7 @@ module _ (size : ℕ) (laws : SegmentLaws size) (base : List Carried) where
     where
       counts : (i : ℕ) → isdu_written (Receiving (joined size (request_text r) i) (count_at i)) (Count (suc i % 16)) (segment size (request_text r) (suc i))
           ≡ received (joined size (request_text r) (suc i)) (count_at (suc i))
-      counts zero = refl
-      counts (suc i) = rw (count_new i, count_next i) refl
+      counts i = grind (arith, common_steps)
 
   -- a START read at the whole request
   asked_whole : (r : Request) (i : ℕ) (s : IsduState) (carried : List Carried) → IsLast size (request_text r) i →
@@ -103,23 +102,11 @@ module _ (size : ℕ) (laws : SegmentLaws size) (base : List Carried) where
 
   -- a message of another channel leaves the state, whether there is ISDU or not
   pub others : (known : Bool) (p : Progress) (c : Channel) (read : Bool) (f : Flow) (od : List ℕ) (s : IsduState) → IsMove size Other p c read f od → isdu_after known size s c read f od ≡ s
-  others known p Process read f od s m = refl
-  others known p Page read f od s m = refl
-  others known p Diagnosis read f od s m = refl
-  others known p c read f od s m = absurd m
+  others known p c read f od s given = grind (arith, common_steps)
 
   -- IDLE and ABORT leave nothing of the request; the record stays as it is, whatever it was at the beginning of the request
   pub left : (known : Bool) (p : Progress) (c : Channel) (read : Bool) (f : Flow) (od : List ℕ) (s : IsduState) → IsMove size Leave p c read f od → isdu_after known size s c read f od ≡ Empty
-  left true p Isdu true Idle1 od s m = refl
-  left true p Isdu true Idle2 od s m = refl
-  left true p Isdu true Abort od s m = refl
-  left true p Isdu false Idle1 od s m = refl
-  left true p Isdu false Idle2 od s m = refl
-  left true p Isdu false Abort od s m = refl
-  left false p Isdu read Idle1 od s m = refl
-  left false p Isdu read Idle2 od s m = refl
-  left false p Isdu read Abort od s m = refl
-  left known p c read f od s m = absurd m
+  left known p c read f od s given = grind (arith, common_steps)
 
   -- Local steps leave a far end that is awake at the same progress
   pub stands_carried : (p : Progress) (far : Far) (a : Answer) (s : IsduState) → far.isdu ≡ s → Stands size base p s far.carried →
