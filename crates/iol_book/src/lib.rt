@@ -19,6 +19,3 @@ pub use book::Book;
 pub use entries::{Entry, Limits, Outcome, Ticket};
 pub use fault::BookFault;
 pub use laws::{records_fit, takings_of_calls};
-
-#[cfg(test)]
-mod tests;

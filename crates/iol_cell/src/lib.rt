@@ -16,6 +16,3 @@ pub use cell::{ImageSeat, ImageWriter, image_cell};
 pub use fault::CellFault;
 pub use handle::Handle;
 pub use laws::each_step_keeps_the_rule;
-
-#[cfg(test)]
-mod tests;

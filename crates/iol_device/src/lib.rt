@@ -20,6 +20,3 @@ pub use device::Device;
 pub use fault::DeviceFault;
 pub use iol_far::{Carried, Mode};
 pub use record::{Kept, Record, Unkept};
-
-#[cfg(test)]
-mod tests;

@@ -20,6 +20,3 @@ pub use laws::{
 pub use list::EventList;
 pub use memory::EventMemory;
 pub use reader::EventReader;
-
-#[cfg(test)]
-mod tests;

@@ -6,6 +6,3 @@ mod image;
 
 pub use fault::ImageFault;
 pub use image::Image;
-
-#[cfg(test)]
-mod tests;

@@ -21,6 +21,3 @@ pub use front::{Front, answer_front, request_front};
 pub use laws::{one_text_each, one_text_in_front};
 pub use requests::{encode_request, read_request};
 pub use values::{Answer, Cause, Octets, Place, Request, Text};
-
-#[cfg(test)]
-mod tests;

@@ -12,6 +12,3 @@ mod wire;
 pub use handler::{Attempt, Handler};
 pub use laws::{damaged_replies_are_unread, exchanges_keep_ends_level};
 pub use wire::{Rate, Wire};
-
-#[cfg(test)]
-mod tests;

@@ -14,6 +14,3 @@ mod why;
 pub use links::{AnyLink, Link, Next};
 pub use states::{Down, Mode, Operate, Preoperate, Startup, State, Step, Told, Up};
 pub use why::Why;
-
-#[cfg(test)]
-mod tests;

@@ -21,6 +21,3 @@ pub use parts::{
     Message, Part, append, append_first, append_zeros, first, first_of_zeros, part_of, zeros,
 };
 pub use reply::{Reply, ReplyView, close_reply, encode_reply, read_reply, view_reply};
-
-#[cfg(test)]
-mod tests;

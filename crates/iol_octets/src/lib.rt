@@ -18,6 +18,3 @@ pub use control::{Channel, Mc};
 pub use fault::OctetFault;
 pub use flow_control::Flow;
 pub use laws::{checksums_fit, control_octets_are_read_back, one_flip_is_seen};
-
-#[cfg(test)]
-mod tests;

@@ -15,6 +15,3 @@ pub use laws::pages_ask_for_layouts;
 pub use lengths::PdLength;
 pub use master_command::MasterCommand;
 pub use page::{Layouts, Page};
-
-#[cfg(test)]
-mod tests;

@@ -18,6 +18,3 @@ pub use joiner::Joiner;
 pub use laws::{cut_is_whole, segments_join, sources_are_texts, texts_join};
 pub use source::{Reaction, Source};
 pub use took::{JoinFault, Took};
-
-#[cfg(test)]
-mod tests;

@@ -16,6 +16,3 @@ pub use params::Params;
 pub use raw::Raw;
 pub use script::{Fate, Step};
 pub use sim::Sim;
-
-#[cfg(test)]
-mod tests;

@@ -20,6 +20,3 @@ pub use laws::{
 };
 pub use mode::Mode;
 pub use said::Said;
-
-#[cfg(test)]
-mod tests;

@@ -11,6 +11,3 @@
 mod tap;
 
 pub use tap::{Passed, Tap};
-
-#[cfg(test)]
-mod tests;

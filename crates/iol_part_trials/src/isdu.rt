@@ -1,5 +1,8 @@
 //! Tests of texts: vectors of each service, and each refusal.
-use super::*;
+use iol_isdu::{
+    Answer, IsduFault, Octets, Place, Request, encode_answer, encode_request, read_answer,
+    read_request, total_of,
+};
 use std::test::Fail;
 
 fn fault_number<T: Drop>(read: Result<T, IsduFault>) -> u8 {

@@ -5,7 +5,6 @@ ghost use Rattle.iol_mseq.specs.Shape.{startup_shape};
 
 mod named;
 
-use super::*;
 use iol_device::{App, Device, Kept};
 use iol_event::Event;
 use iol_image::Image;
@@ -13,6 +12,7 @@ use iol_isdu::{Answer, Octets, Place, Request};
 use iol_link::{Attempt, Handler, Rate, Wire};
 use iol_mseq::{Layout, MasterMsg, Message, MseqFault, Part, Reply, read_master};
 use iol_page::Page;
+use iol_sim::{Fate, Params, Raw, Sim, SimFault, Step};
 use named::{Asked, Replied};
 use scarce::{Refusal, Scarce};
 use std::alloc::{Allocator, Global};

@@ -3,9 +3,9 @@ mod generated;
 mod named;
 mod plain;
 
-use super::*;
-use iol_isdu::{Answer, Cause};
-use named::{Call, Ending, Said, ended, reply_to, taken};
+use iol_book::{Book, BookFault, Entry, Limits, Outcome, Ticket, records_fit, takings_of_calls};
+use iol_isdu::Cause;
+use named::{Call, Ending, Line, Said, are_lines, first_wrong};
 use plain::read;
 use scarce::{Refusal, Scarce};
 use std::alloc::{AllocError, Global};
@@ -17,14 +17,15 @@ const LIMITS: Limits = Limits {
     given: 0,
 };
 
-/// Makes the calls of the rows in turn, each of which has to say what stands beside it.
-macro_rules! says {
-    ($rt:expr; $book:expr; $rows:expr) => {
-        for (call, expected) in $rows {
-            assert_eq!($rt; reply_to(&mut $book, call), expected);
-        }
-    };
-}
+static FULL_BOOK: [(Call, Said); 7] = [
+    (Call::Submit(16), Said::Refused(BookFault::Full)),
+    (Call::Collect(1), Said::Refused(BookFault::NotYet)),
+    (Call::Take, Said::Taken(1, 16)),
+    (Call::Post(1, Ending::Refused), Said::Nothing),
+    (Call::Collect(1), Said::Ended(Ending::Refused)),
+    (Call::Collect(1), Said::Refused(BookFault::UnknownTicket)),
+    (Call::Submit(16), Said::Ticket(65)),
+];
 
 #[test]
 fn sixty_four_are_outstanding(rt: HostRuntime) -> Result<(), Fail> {
@@ -32,26 +33,36 @@ fn sixty_four_are_outstanding(rt: HostRuntime) -> Result<(), Fail> {
     for number in 1..65u64 {
         assert_eq!(rt; book.submit(read(16)), Ok(Ticket(number)));
     }
-    let rows = [
-        (Call::Submit(16), Said::Refused(BookFault::Full)),
-        (Call::Collect(1), Said::Refused(BookFault::NotYet)),
-        (Call::Take, taken(1, 16)),
-        (Call::Post(1, Ending::Refused), Said::Nothing),
-        (Call::Collect(1), ended(Ending::Refused)),
-        (Call::Collect(1), Said::Refused(BookFault::UnknownTicket)),
-        (Call::Submit(16), Said::Ticket(65)),
-    ];
-    says!(rt; book; rows);
+    assert_eq!(rt; first_wrong(&mut book, &FULL_BOOK), None);
     Ok(())
 }
 
 /// Whether an archive hands out just these entries, and leaves none.
-fn archives(book: &mut Book<Global>, expected: &[Entry]) -> bool {
+fn archives(book: &mut Book<Global>, expected: &[Line]) -> bool {
     match book.archive() {
-        Ok(entries) => entries.as_slice() == expected && book.journal().is_empty(),
+        Ok(entries) => are_lines(&entries, expected) && book.journal().is_empty(),
         Err(_) => false,
     }
 }
+
+static FULL_JOURNAL: [(Call, Said); 7] = [
+    (Call::Submit(16), Said::Ticket(1)),
+    (Call::Submit(16), Said::Refused(BookFault::JournalFull)),
+    (Call::Archive, Said::Refused(BookFault::Outstanding)),
+    (Call::Take, Said::Taken(1, 16)),
+    (Call::Post(1, Ending::Written), Said::Nothing),
+    (Call::Collect(1), Said::Ended(Ending::Written)),
+    (Call::Submit(16), Said::Refused(BookFault::JournalFull)),
+];
+
+static EMPTY_JOURNAL: [(Call, Said); 1] = [(Call::Submit(16), Said::Ticket(2))];
+
+static FILLED: [Line; 4] = [
+    Line::Submitted(1, 16),
+    Line::Taken(1),
+    Line::Answered(1, Ending::Written),
+    Line::Collected(1),
+];
 
 #[test]
 fn the_journal_fills(rt: HostRuntime) -> Result<(), Fail> {
@@ -61,124 +72,115 @@ fn the_journal_fills(rt: HostRuntime) -> Result<(), Fail> {
         given: 0,
     };
     let mut book = Book::open(rt.alloc(), &limits)?;
-    let rows = [
-        (Call::Submit(16), Said::Ticket(1)),
-        (Call::Submit(16), Said::Refused(BookFault::JournalFull)),
-        (Call::Archive, Said::Refused(BookFault::Outstanding)),
-        (Call::Take, taken(1, 16)),
-        (Call::Post(1, Ending::Written), Said::Nothing),
-        (Call::Collect(1), ended(Ending::Written)),
-        (Call::Submit(16), Said::Refused(BookFault::JournalFull)),
-    ];
-    says!(rt; book; rows);
-    let entries = [
-        Entry::Submitted(Ticket(1), read(16)),
-        Entry::Taken(Ticket(1)),
-        Entry::Answered(Ticket(1), Outcome::Done(Answer::Written)),
-        Entry::Collected(Ticket(1)),
-    ];
-    assert!(rt; archives(&mut book, entries.as_slice()));
-    says!(rt; book; [(Call::Submit(16), Said::Ticket(2))]);
+    assert_eq!(rt; first_wrong(&mut book, &FULL_JOURNAL), None);
+    assert!(rt; archives(&mut book, &FILLED));
+    assert_eq!(rt; first_wrong(&mut book, &EMPTY_JOURNAL), None);
     Ok(())
 }
+
+static WITHDRAWN: [(Call, Said); 8] = [
+    (Call::Submit(16), Said::Ticket(1)),
+    (Call::Submit(16), Said::Ticket(2)),
+    (Call::Withdraw(2), Said::Nothing),
+    (Call::Withdraw(2), Said::Refused(BookFault::TakenAlready)),
+    (Call::Collect(2), Said::Ended(Ending::Withdrawn)),
+    (Call::Collect(2), Said::Refused(BookFault::UnknownTicket)),
+    (Call::Take, Said::Taken(1, 16)),
+    (Call::Withdraw(1), Said::Refused(BookFault::TakenAlready)),
+];
 
 #[test]
 fn a_waiting_request_is_withdrawn(rt: HostRuntime) -> Result<(), Fail> {
     let mut book = Book::open(rt.alloc(), &LIMITS)?;
-    let rows = [
-        (Call::Submit(16), Said::Ticket(1)),
-        (Call::Submit(16), Said::Ticket(2)),
-        (Call::Withdraw(2), Said::Nothing),
-        (Call::Withdraw(2), Said::Refused(BookFault::TakenAlready)),
-        (Call::Collect(2), Said::Ended(Outcome::Withdrawn)),
-        (Call::Collect(2), Said::Refused(BookFault::UnknownTicket)),
-        (Call::Take, taken(1, 16)),
-        (Call::Withdraw(1), Said::Refused(BookFault::TakenAlready)),
-    ];
-    says!(rt; book; rows);
+    assert_eq!(rt; first_wrong(&mut book, &WITHDRAWN), None);
     Ok(())
 }
+
+static DENIED: [(Call, Said); 9] = [
+    (Call::Deny, Said::Nothing),
+    (Call::Submit(16), Said::Ticket(1)),
+    (Call::Submit(17), Said::Ticket(2)),
+    (Call::Deny, Said::Ticket(1)),
+    (Call::Withdraw(1), Said::Refused(BookFault::TakenAlready)),
+    (Call::Take, Said::Taken(2, 17)),
+    (Call::Deny, Said::Nothing),
+    (Call::Collect(1), Said::Ended(Ending::NoIsdu)),
+    (Call::Collect(1), Said::Refused(BookFault::UnknownTicket)),
+];
+
+static AFTER_A_DENIAL: [Line; 5] = [
+    Line::Submitted(1, 16),
+    Line::Submitted(2, 17),
+    Line::Answered(1, Ending::NoIsdu),
+    Line::Taken(2),
+    Line::Collected(1),
+];
 
 #[test]
 fn a_waiting_request_is_denied(rt: HostRuntime) -> Result<(), Fail> {
     let mut book = Book::open(rt.alloc(), &LIMITS)?;
-    let rows = [
-        (Call::Deny, Said::Nothing),
-        (Call::Submit(16), Said::Ticket(1)),
-        (Call::Submit(17), Said::Ticket(2)),
-        (Call::Deny, Said::Ticket(1)),
-        (Call::Withdraw(1), Said::Refused(BookFault::TakenAlready)),
-        (Call::Take, taken(2, 17)),
-        (Call::Deny, Said::Nothing),
-        (Call::Collect(1), Said::Ended(Outcome::NoIsdu)),
-        (Call::Collect(1), Said::Refused(BookFault::UnknownTicket)),
-    ];
-    says!(rt; book; rows);
-    let entries = [
-        Entry::Submitted(Ticket(1), read(16)),
-        Entry::Submitted(Ticket(2), read(17)),
-        Entry::Answered(Ticket(1), Outcome::NoIsdu),
-        Entry::Taken(Ticket(2)),
-        Entry::Collected(Ticket(1)),
-    ];
-    assert_eq!(rt; book.journal(), entries.as_slice());
+    assert_eq!(rt; first_wrong(&mut book, &DENIED), None);
+    assert!(rt; are_lines(book.journal(), &AFTER_A_DENIAL));
     Ok(())
 }
+
+static URGENT_FIRST: [(Call, Said); 17] = [
+    (Call::Submit(16), Said::Ticket(1)),
+    (Call::Submit(17), Said::Ticket(2)),
+    (Call::Urgent(18), Said::Ticket(3)),
+    (Call::Urgent(19), Said::Ticket(4)),
+    (Call::InFlight(3), Said::Refused(BookFault::NotInFlight)),
+    (Call::Withdraw(4), Said::Nothing),
+    (Call::Take, Said::Taken(3, 18)),
+    (Call::InFlight(3), Said::Nothing),
+    (Call::Withdraw(3), Said::Refused(BookFault::TakenAlready)),
+    (Call::Urgent(20), Said::Ticket(5)),
+    (Call::Take, Said::Nothing),
+    (Call::Post(3, Ending::Cancelled), Said::Nothing),
+    (Call::InFlight(3), Said::Refused(BookFault::NotInFlight)),
+    (Call::InFlight(6), Said::Refused(BookFault::UnknownTicket)),
+    (Call::Take, Said::Taken(5, 20)),
+    (Call::Post(5, Ending::Written), Said::Nothing),
+    (Call::Take, Said::Taken(1, 16)),
+];
 
 #[test]
 fn urgent_requests_are_taken_first(rt: HostRuntime) -> Result<(), Fail> {
     let mut book = Book::open(rt.alloc(), &LIMITS)?;
-    let rows = [
-        (Call::Submit(16), Said::Ticket(1)),
-        (Call::Submit(17), Said::Ticket(2)),
-        (Call::Urgent(18), Said::Ticket(3)),
-        (Call::Urgent(19), Said::Ticket(4)),
-        (Call::InFlight(3), Said::Refused(BookFault::NotInFlight)),
-        (Call::Withdraw(4), Said::Nothing),
-        (Call::Take, taken(3, 18)),
-        (Call::InFlight(3), Said::Nothing),
-        (Call::Withdraw(3), Said::Refused(BookFault::TakenAlready)),
-        (Call::Urgent(20), Said::Ticket(5)),
-        (Call::Take, Said::Nothing),
-        (Call::Post(3, Ending::Cancelled), Said::Nothing),
-        (Call::InFlight(3), Said::Refused(BookFault::NotInFlight)),
-        (Call::InFlight(6), Said::Refused(BookFault::UnknownTicket)),
-        (Call::Take, taken(5, 20)),
-        (Call::Post(5, Ending::Written), Said::Nothing),
-        (Call::Take, taken(1, 16)),
-    ];
-    says!(rt; book; rows);
+    assert_eq!(rt; first_wrong(&mut book, &URGENT_FIRST), None);
     assert_eq!(rt; BookFault::NotInFlight.code(), 36);
     Ok(())
 }
 
+static URGENT_DENIED: [(Call, Said); 10] = [
+    (Call::Submit(16), Said::Ticket(1)),
+    (Call::Urgent(17), Said::Ticket(2)),
+    (Call::Urgent(18), Said::Ticket(3)),
+    (Call::Deny, Said::Ticket(2)),
+    (Call::InFlight(2), Said::Refused(BookFault::NotInFlight)),
+    (Call::Take, Said::Taken(3, 18)),
+    (Call::Deny, Said::Nothing),
+    (Call::Post(3, Ending::Written), Said::Nothing),
+    (Call::Deny, Said::Ticket(1)),
+    (Call::Collect(2), Said::Ended(Ending::NoIsdu)),
+];
+
+static AFTER_URGENT_DENIALS: [Line; 8] = [
+    Line::Submitted(1, 16),
+    Line::Urgent(2, 17),
+    Line::Urgent(3, 18),
+    Line::Answered(2, Ending::NoIsdu),
+    Line::Taken(3),
+    Line::Answered(3, Ending::Written),
+    Line::Answered(1, Ending::NoIsdu),
+    Line::Collected(2),
+];
+
 #[test]
 fn an_urgent_request_is_denied_first(rt: HostRuntime) -> Result<(), Fail> {
     let mut book = Book::open(rt.alloc(), &LIMITS)?;
-    let rows = [
-        (Call::Submit(16), Said::Ticket(1)),
-        (Call::Urgent(17), Said::Ticket(2)),
-        (Call::Urgent(18), Said::Ticket(3)),
-        (Call::Deny, Said::Ticket(2)),
-        (Call::InFlight(2), Said::Refused(BookFault::NotInFlight)),
-        (Call::Take, taken(3, 18)),
-        (Call::Deny, Said::Nothing),
-        (Call::Post(3, Ending::Written), Said::Nothing),
-        (Call::Deny, Said::Ticket(1)),
-        (Call::Collect(2), Said::Ended(Outcome::NoIsdu)),
-    ];
-    says!(rt; book; rows);
-    let entries = [
-        Entry::Submitted(Ticket(1), read(16)),
-        Entry::Urgent(Ticket(2), read(17)),
-        Entry::Urgent(Ticket(3), read(18)),
-        Entry::Answered(Ticket(2), Outcome::NoIsdu),
-        Entry::Taken(Ticket(3)),
-        Entry::Answered(Ticket(3), Outcome::Done(Answer::Written)),
-        Entry::Answered(Ticket(1), Outcome::NoIsdu),
-        Entry::Collected(Ticket(2)),
-    ];
-    assert_eq!(rt; book.journal(), entries.as_slice());
+    assert_eq!(rt; first_wrong(&mut book, &URGENT_DENIED), None);
+    assert!(rt; are_lines(book.journal(), &AFTER_URGENT_DENIALS));
     Ok(())
 }
 

@@ -2,12 +2,15 @@
 ghost use Rattle.std.specs.Prelude.{◌≡◌, ◌≤◌, IfOk};
 ghost use Rattle.iol_isdu.specs.Answers.{AnswersKind, is_read};
 
-use super::*;
 use iol_isdu::{
     Answer, IsduFault, Octets, Place, Request, encode_answer, encode_request, read_answer,
     read_request,
 };
 use iol_octets::Flow;
+use iol_segment::{
+    Cutter, JoinFault, Joiner, Reaction, Segment, Source, Took, cut_is_whole, segments_join,
+    sources_are_texts, texts_join,
+};
 use std::test::Fail;
 
 const SIZES: [usize; 4] = [1, 2, 8, 32];

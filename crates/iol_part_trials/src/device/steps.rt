@@ -1,5 +1,5 @@
 //! Steps of a device by their names, and whether what comes of one is right.
-use crate::{App, Device, DeviceFault, Record};
+use iol_device::{App, Device, DeviceFault, Record};
 use iol_event::Event;
 use iol_far::hearing_again_changes_nothing;
 use iol_image::Image;

@@ -1,5 +1,9 @@
 //! Tests of messages: vectors of each layout, and each refusal.
-use super::*;
+use iol_mseq::{
+    Layout, Message, MseqFault, append, append_first, append_zeros, close_reply, encode_master,
+    encode_reply, first, first_of_zeros, part_of, read_master, read_reply, view_master, view_reply,
+    zeros,
+};
 use iol_octets::Channel;
 use std::test::Fail;
 

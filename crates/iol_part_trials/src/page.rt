@@ -1,6 +1,6 @@
 //! Tests of pages: commands, lengths, layouts, and the first of each page's faults.
-use super::*;
 use iol_mseq::Layout;
+use iol_page::{Capability, MasterCommand, Page, PageFault, PdLength};
 use std::test::Fail;
 
 /// No process data, eight octets of on-request data.

@@ -1,5 +1,5 @@
 //! Tests of the cell: what seats read, readers beside a writer in threads, and memory refused in turn.
-use crate::{CellFault, ImageSeat, ImageWriter, image_cell};
+use iol_cell::{CellFault, ImageSeat, ImageWriter, image_cell};
 use iol_image::Image;
 use scarce::{Refusal, Scarce};
 use std::sync::Wait;

@@ -1,5 +1,5 @@
 use Rattle.std.proofs.Common.{◌≡◌}
-use Rattle.iol_segment.proofs.tests.join.Given as goal
+use Rattle.iol_part_trials.proofs.segment.join.Given as goal
 
 -- a joiner of requests stays one
 abbrev pub invariant-loop-step : goal.invariant-loop-step

@@ -1,7 +1,7 @@
 //! Requests to parameters and their answers, as rows.
 use super::octets;
-use crate::SimFault;
 use iol_isdu::{Answer, Place, Request};
+use iol_sim::SimFault;
 use std::test::Fail;
 
 /// A request: the index and the subindex, and what is written there.

@@ -3,9 +3,9 @@ ghost use Rattle.std.proofs.Common.{rules};
 ghost use Rattle.std.specs.Prelude.{[], false, ⊤, None};
 ghost use Rattle.iol_far.specs.Far.{opened};
 
-use super::*;
 use iol_link::{Rate, Wire};
 use iol_mseq::Message;
+use iol_tap::{Passed, Tap};
 use std::test::Fail;
 
 /// A wire that answers each message by its octets but the first, and no message of one octet. It isn't honest.

@@ -2,7 +2,7 @@
 ghost use Rattle.std.specs.Prelude.{◌≡◌, ◌<◌, IfSome};
 ghost use Rattle.std.specs.Vec.{vec_len};
 
-use crate::{BookFault, Outcome, Ticket};
+use iol_book::{BookFault, Outcome, Ticket};
 use iol_isdu::{Cause, Place, Request};
 use std::alloc::{AllocError, Global};
 

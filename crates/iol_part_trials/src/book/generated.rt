@@ -1,6 +1,6 @@
 //! Lists of pseudo-random calls, made of a book and of a plain one.
 use super::plain::{PlainBook, read};
-use crate::{Book, Limits, Outcome, Ticket};
+use iol_book::{Book, Limits, Outcome, Ticket};
 use iol_isdu::{Answer, Cause};
 use std::alloc::AllocError;
 use std::test::Fail;
@@ -72,10 +72,10 @@ fn same_post(book: &mut Book, plain: &mut PlainBook, outcome: Outcome) -> bool {
     let Some(ticket) = plain.taken() else {
         return true;
     };
-    if !book.is_taken(ticket) {
+    if book.in_flight(ticket).is_err() {
         return false;
     }
-    book.post(outcome.copied());
+    book.post(outcome.clone().unwrap());
     plain.post(outcome);
     true
 }

@@ -1,5 +1,5 @@
 //! Tests of octets and checksums.
-use super::*;
+use iol_octets::{Channel, Cks, Ckt, Flow, Mc, checksum6, has_checksum6};
 use std::test::Fail;
 
 /// Octets whose six checksum bits are 0, and the checksum.

@@ -1,5 +1,5 @@
 //! Tests of both ends of events: a frozen list that is read, holds, refusals.
-use super::*;
+use iol_event::{Event, EventForm, EventList, EventMemory, EventReader};
 use std::test::Fail;
 
 const ALARM: Event = Event {

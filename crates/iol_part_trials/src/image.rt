@@ -1,5 +1,5 @@
 //! A test of an image's lengths.
-use crate::{Image, ImageFault};
+use iol_image::{Image, ImageFault};
 use std::test::Fail;
 
 #[test]
