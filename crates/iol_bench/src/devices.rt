@@ -7,6 +7,7 @@ use crate::check_word::CheckWord;
 use crate::fault::BenchFault;
 use iol_book::Limits;
 use iol_device::Device;
+use iol_isdu::Place;
 use iol_link::Wire;
 use iol_page::Page;
 use iol_port::Port;
@@ -19,6 +20,9 @@ pub(crate) const PLAIN: [u8; 10] = [0x17, 0x2D, 0x11, 0x00, 0x00, 0x12, 0x34, 0x
 
 /// The page of a device with 32 octets of process data each way, and of on-request data.
 pub(crate) const WIDE: [u8; 10] = [0x17, 0x2F, 0x11, 0x9F, 0x9F, 0x12, 0x34, 0x00, 0x01, 0x07];
+
+/// Where the parameter of a device lies.
+pub(crate) const PLACE: Place = Place { index: 16, sub: 0 };
 
 /// How many requests a device carries out, so that its record holds them.
 pub(crate) const ROOM: u32 = 10_000;
@@ -33,23 +37,41 @@ const LIMITS: Limits = Limits {
 /// How many turns a start-up takes.
 pub(crate) const STARTUP: u32 = 15;
 
-/// A port over a simulated wire. The link is down.
+/// A port over a simulated wire. The link is down. Its device has one parameter, where a value is given for it.
 pub(crate) fn opened(
     alloc: Global,
     page: Page,
-    params: Params,
+    value: Option<&[u8]>,
     steps: Vec<Step>,
 ) -> Result<Port<Sim<Params>>, BenchFault>
     requires { IsOk (layouts_of page) }
     ensures { IfOk result (λ p. HasGiven p 0) }
 {
+    let wire = wire_to(alloc, page, value, steps)?;
+    Port::open(alloc, wire, &LIMITS).map_err(|_| BenchFault::OutOfMemory)
+}
+
+/// A simulated wire to such a device. A function of its own, whose stack is free again before the port is opened.
+#[inline(never)]
+fn wire_to(
+    alloc: Global,
+    page: Page,
+    value: Option<&[u8]>,
+    steps: Vec<Step>,
+) -> Result<Sim<Params>, BenchFault>
+    requires { IsOk (layouts_of page) }
+{
+    let mut params = Params::new();
+    if let Some(value) = value {
+        params.add(PLACE, true, value)?;
+    }
     let Ok(device) = Device::open(alloc, params, page, ROOM) else {
         return Err(BenchFault::OutOfMemory);
     };
     let Ok(wire) = Sim::new(alloc, device, steps) else {
         return Err(BenchFault::OutOfMemory);
     };
-    Port::open(alloc, wire, &LIMITS).map_err(|_| BenchFault::OutOfMemory)
+    Ok(wire)
 }
 
 /// Makes so many turns.

@@ -17,9 +17,11 @@ use iol_sim::Params;
 use std::alloc::Global;
 
 /// A device hears an idle message in OPERATE, and answers.
+#[inline(never)]
 pub(crate) fn hear(alloc: Global, count: u64) -> Result<CheckWord, BenchFault> {
     let page = Page::from_octets(&PLAIN);
-    let Ok(mut device) = Device::open(alloc, Params::new(), page, 1) else {
+    let mut opened = Device::open(alloc, Params::new(), page, 1);
+    let Ok(device) = &mut opened else {
         return Err(BenchFault::OutOfMemory);
     };
     device.wake();
@@ -75,6 +77,7 @@ fn idle_read() -> Result<Message, BenchFault> {
 }
 
 /// The longest message of a master is written and read, and so is the longest reply.
+#[inline(never)]
 pub(crate) fn message(count: u64) -> Result<CheckWord, BenchFault> {
     let layout = Layout::operate(7, 32, 32)?;
     let mut message = MasterMsg {
@@ -129,6 +132,7 @@ fn read_reply_back(
 }
 
 /// The checksum of 66 octets, of which one is the checksum before.
+#[inline(never)]
 pub(crate) fn checksum(count: u64) -> CheckWord {
     let mut octets = [0x5A; 66];
     let mut word = CheckWord::new();

@@ -1,27 +1,25 @@
 //! Requests of one client at one port.
 use crate::check_word::CheckWord;
-use crate::devices::{PLAIN, ROOM, add_port, opened, start};
+use crate::devices::{PLACE, PLAIN, ROOM, add_port, opened, start};
 use crate::fault::BenchFault;
 use iol_book::{BookFault, Outcome};
-use iol_isdu::{Answer, Place, Request};
+use iol_isdu::{Answer, Request};
 use iol_link::Wire;
 use iol_page::Page;
 use iol_port::{Port, PortFault};
-use iol_sim::Params;
 use std::alloc::Global;
-
-/// The device's one parameter.
-const PLACE: Place = Place { index: 16, sub: 0 };
 
 /// More turns than any of these requests takes.
 const TURNS: u32 = 1_000;
 
 /// Reads of 14 octets.
+#[inline(never)]
 pub(crate) fn read(alloc: Global, count: u64) -> Result<CheckWord, BenchFault> {
     repeat(alloc, &Request::read(PLACE), &[0x41; 14], count)
 }
 
 /// Writes of 232 octets.
+#[inline(never)]
 pub(crate) fn write(alloc: Global, count: u64) -> Result<CheckWord, BenchFault> {
     repeat(
         alloc,
@@ -56,10 +54,8 @@ fn repeat_once_opened(
     value: &[u8],
     count: u64,
 ) -> Result<(), BenchFault> {
-    let mut params = Params::new();
-    params.add(PLACE, true, value)?;
     let page = Page::from_octets(&PLAIN);
-    let mut port = opened(alloc, page, params, Vec::new(alloc))?;
+    let mut port = opened(alloc, page, Some(value), Vec::new(alloc))?;
     start(&mut port)?;
     for _ in 0..count {
         carry(word, &mut port, request)?;
@@ -69,6 +65,7 @@ fn repeat_once_opened(
 }
 
 /// A client submits a request, and asks for its outcome after each turn until it is there.
+#[inline(never)]
 fn carry<W: Wire>(
     word: &mut CheckWord,
     port: &mut Port<W>,

@@ -29,6 +29,7 @@ event
 ";
 
 /// A script is read.
+#[inline(never)]
 pub(crate) fn script(alloc: Global, count: u64) -> Result<CheckWord, BenchFault> {
     let mut word = CheckWord::new();
     word.add_octets(LINES);

@@ -7,6 +7,7 @@ use std::alloc::Global;
 use std::sync::Wait;
 
 /// A published image of 32 octets is read at a seat.
+#[inline(never)]
 pub(crate) fn seat<R: Wait>(rt: &R, alloc: Global, count: u64) -> Result<CheckWord, BenchFault> {
     let (mut writer, mut seats) = image_cell(rt, alloc, 1)?;
     let Some(mut seat) = seats.pop() else {

@@ -26,6 +26,7 @@ impl Gate for Open {
 }
 
 /// So many turns of each port, made by workers, once all links are in OPERATE.
+#[inline(never)]
 pub(crate) fn ports<R: Threads + Wait + Sync>(
     rt: &R,
     alloc: Global,
@@ -81,7 +82,7 @@ fn opened_ports(alloc: Global, count: u32) -> Result<Vec<Port<Sim<Params>>>, Ben
     let mut ports = Vec::new(alloc);
     for _ in 0..count {
         let page = Page::from_octets(&PLAIN);
-        let port = opened(alloc, page, Params::new(), Vec::new(alloc))?;
+        let port = opened(alloc, page, None, Vec::new(alloc))?;
         ports.push(port)?;
     }
     Ok(ports)

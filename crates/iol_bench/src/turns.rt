@@ -4,16 +4,17 @@ use crate::devices::{PLAIN, STARTUP, WIDE, add_port, opened, start, turn};
 use crate::fault::BenchFault;
 use iol_image::Image;
 use iol_page::Page;
-use iol_sim::{Fate, Params, Step};
+use iol_sim::{Fate, Step};
 use std::alloc::Global;
 
 /// The octets of the process data, each way.
 const DATA: [u8; 32] = [0x5A; 32];
 
 /// Turns in OPERATE without process data, in which there is nothing to do.
+#[inline(never)]
 pub(crate) fn idle(alloc: Global, count: u64) -> Result<CheckWord, BenchFault> {
     let page = Page::from_octets(&PLAIN);
-    let mut port = opened(alloc, page, Params::new(), Vec::new(alloc))?;
+    let mut port = opened(alloc, page, None, Vec::new(alloc))?;
     start(&mut port)?;
     turn(&mut port, count);
     let mut word = CheckWord::new();
@@ -22,12 +23,13 @@ pub(crate) fn idle(alloc: Global, count: u64) -> Result<CheckWord, BenchFault> {
 }
 
 /// The same with 32 octets of process data each way.
+#[inline(never)]
 pub(crate) fn idle_data(alloc: Global, count: u64) -> Result<CheckWord, BenchFault> {
     let image = Image::new(&DATA)?;
     let mut steps = Vec::with_capacity(alloc, 1)?;
     steps.push_reserved(Step::Input(image));
     let page = Page::from_octets(&WIDE);
-    let mut port = opened(alloc, page, Params::new(), steps)?;
+    let mut port = opened(alloc, page, None, steps)?;
     start(&mut port)?;
     port.set_output(&Image::new(&DATA)?)?;
     // The device is told that there is an output.
@@ -39,11 +41,12 @@ pub(crate) fn idle_data(alloc: Global, count: u64) -> Result<CheckWord, BenchFau
 }
 
 /// Turns in which a wake-up request goes out, and nothing comes back.
+#[inline(never)]
 pub(crate) fn down(alloc: Global, count: u64) -> Result<CheckWord, BenchFault> {
     let mut steps = Vec::with_capacity(alloc, 1)?;
     steps.push_reserved(Step::Fate(Fate::Silent));
     let page = Page::from_octets(&PLAIN);
-    let mut port = opened(alloc, page, Params::new(), steps)?;
+    let mut port = opened(alloc, page, None, steps)?;
     turn(&mut port, count);
     let mut word = CheckWord::new();
     add_port(&mut word, &port);
@@ -51,9 +54,10 @@ pub(crate) fn down(alloc: Global, count: u64) -> Result<CheckWord, BenchFault> {
 }
 
 /// Restarts, each with all turns of the start-up that follows it.
+#[inline(never)]
 pub(crate) fn startup(alloc: Global, count: u64) -> Result<CheckWord, BenchFault> {
     let page = Page::from_octets(&PLAIN);
-    let mut port = opened(alloc, page, Params::new(), Vec::new(alloc))?;
+    let mut port = opened(alloc, page, None, Vec::new(alloc))?;
     for _ in 0..count {
         port.restart();
         turn(&mut port, u64::from(STARTUP));
