@@ -297,7 +297,7 @@ module _ {W : Type 0} (honest : W → Bool) (far : W → Far) (clean : W → Boo
 
   so_far_snoc : (p mid next : Parts W) (calls : List Call) (c : Call) → SoFar p calls mid → (c ≡ call.Turn → CleanTurn honest far clean mid next) → SoFar p (calls ++ c ∷ []) next
   so_far_snoc p mid next calls c so_far turn n e layouts first rest may =
-      let found = snoc_turns calls c n e in
+      let found : (n ≡ suc (length calls)) × (calls ≡ replicate (length calls) call.Turn) × (c ≡ call.Turn) = snoc_turns calls c n e in
       let mid_is = so_far (length calls) found.1 layouts first rest may in
       let t : CleanTurn honest far clean mid next = turn found.2 in
       let room : Option ℕ = (far (wire_of p.station.link)).room in (
