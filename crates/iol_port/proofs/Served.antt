@@ -302,8 +302,8 @@ module _ {W : Type 0} (honest : W → Bool) (far : W → Far) (clean : W → Boo
       let t : CleanTurn honest far clean mid next = turn found.2 in
       let room : Option ℕ = (far (wire_of p.station.link)).room in (
         steady_more room mid next mid_is.0 t,
-        subst (λ (k : ℕ). Going layouts k (first ∷ rest) (record_of far p) p.book.state next) (sym found.1)
-            (going_more layouts room found.0 (first ∷ rest) (record_of far p) p.book.state mid next (queue_first layouts first rest p may) may.room mid_is.0 t mid_is.1),
+        subst (λ (k : ℕ). Going layouts k (first ∷ rest) (record_of far p) p.book.state next) (sym found.0)
+            (going_more layouts room (length calls) (first ∷ rest) (record_of far p) p.book.state mid next (queue_first layouts first rest p may) may.room mid_is.0 t mid_is.1),
       )
 
   pub so_far_more : (p mid next : Parts W) (calls : List Call) (i : ℕ) (d : Call) → i < length calls → SoFar p (take i calls) mid → (get_or calls i d ≡ call.Turn → CleanTurn honest far clean mid next)
