@@ -1,5 +1,5 @@
-//! A gateway: a master of two ports, a client for each in a thread of its own, and a reader of process data who takes
-//! no port's lock. The lines are simulated.
+//! A gateway: a master of two ports, a client for each in a thread of its own, and
+//! a reader of process data who takes no port's lock. The lines are simulated.
 #![tactic(auto)]
 
 mod ports;

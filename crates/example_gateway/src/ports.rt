@@ -27,7 +27,8 @@ const LIMITS: Limits = Limits {
     given: 0,
 };
 
-/// A port over a line, at whose far end is a device with this number as its parameter and its process data.
+/// A port over a line, at whose far end is a device with this number as its
+/// parameter and its process data.
 pub fn open_port(alloc: Global, number: u16) -> Result<Port<Sim<Params>>>
     ensures { IfOk result (λ p. HasGiven p 0) }
 {

@@ -70,8 +70,8 @@ fn submit_both<W: Wire + Send, L: Ledger + Sync, K: Ledger + Sync, R: Threads + 
     )
 }
 
-/// Serves two clients, and prints what they read, and the process data of the first port. The blanks name the ledgers
-/// of the master: of its desks, and of its ports.
+/// Serves two clients, and prints what they read, and the process data of the first
+/// port. The blanks name the ledgers of the master: of its desks, and of its ports.
 pub fn serve<L: Ledger + Sync, K: Ledger + Sync, R: Print + Threads + Wait + Sync>(
     rt: &R,
     alloc: Global,

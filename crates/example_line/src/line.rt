@@ -25,7 +25,8 @@ pub fn wake(rt: &(impl Input + Print + AllocGlobal)) -> Result<Option<Rate>> {
     Ok(rate)
 }
 
-/// Sends these octets: those that came back, none of an empty line. Of more than 66 the first 66 are given.
+/// Sends these octets: those that came back, none of an empty line. Of more than 66
+/// the first 66 are given.
 pub fn exchange(rt: &(impl Input + Print + AllocGlobal), sent: &[u8]) -> Result<Option<Message>> {
     print!(rt; "send")?;
     for octet in sent {

@@ -1,9 +1,10 @@
-//! A master's port over a line of one's own: a thermometer is read and set, and what it tells is printed.
+//! A master's port over a line of one's own: a thermometer is read and set, and
+//! what it tells is printed.
 //!
-//! In place of a UART the line is this program's input and output, so that whoever stands at the far end, a device in
-//! another process or a list of its replies, is told each message and answers it with a line: a wake-up request with
-//! the rate of the device, a message with the octets of the reply. An empty line is an answer that is lost. What comes
-//! of it is printed on standard error.
+//! In place of a UART the line is this program's input and output, so that whoever stands at the
+//! far end, a device in another process or a list of its replies, is told each message and answers
+//! it with a line: a wake-up request with the rate of the device, a message with the octets of the
+//! reply. An empty line is an answer that is lost. What comes of it is printed on standard error.
 #![tactic(auto)]
 
 mod line;

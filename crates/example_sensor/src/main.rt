@@ -1,8 +1,9 @@
 //! A device of one's own, a thermometer, whose line is this program's input and output.
 //!
-//! It hears a line of its input and answers with a line of its output: `wake` with its rate, `send A2 00` with the
-//! octets of its reply, or with an empty line where it has none. It measures before each answer. The temperature is
-//! its process data; an event comes when it rises above a limit, and another when it no longer is above it.
+//! It hears a line of its input and answers with a line of its output: `wake` with its
+//! rate, `send A2 00` with the octets of its reply, or with an empty line where it has
+//! none. It measures before each answer. The temperature is its process data; an event
+//! comes when it rises above a limit, and another when it no longer is above it.
 #![tactic(auto)]
 
 mod sensor;

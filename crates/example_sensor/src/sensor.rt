@@ -11,7 +11,8 @@ use std::cell::Cell;
 /// V1.1, with ISDU, 8 octets of on-request data, 16 bits of process data in, none out.
 const PAGE: [u8; 10] = [0x17, 0x2D, 0x11, 0x10, 0x00, 0x12, 0x34, 0x00, 0x01, 0x07];
 
-/// The process variable is out of its range: a warning of the application, with the two modes that it has.
+/// The process variable is out of its range: a warning of the application, with the
+/// two modes that it has.
 const OUT_OF_RANGE: u16 = 0x8C10;
 
 const APPEARS: u8 = 0xE4;
@@ -36,7 +37,8 @@ impl<'a> Sensor<'a> {
         }
     }
 
-    /// It is a tenth of a degree warmer than before: the process data follows, and the events where they are due.
+    /// It is a tenth of a degree warmer than before: the process data follows, and
+    /// the events where they are due.
     pub fn measure(&mut self) -> Result<()> {
         let tenths = self.temperature.get().saturating_add(1);
         self.temperature.set(tenths);
@@ -57,7 +59,8 @@ impl<'a> Sensor<'a> {
         self.device.wake();
     }
 
-    /// The reply to these octets, where it has one. A request that came whole with them is carried out at once.
+    /// The reply to these octets, where it has one. A request that came whole with
+    /// them is carried out at once.
     pub fn hear(&mut self, octets: &[u8]) -> Option<Message> {
         let reply = self.device.hear(octets);
         self.device.work();

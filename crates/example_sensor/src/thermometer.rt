@@ -9,7 +9,8 @@ use std::cell::Cell;
 /// The temperature as it was last measured, two octets, in tenths of a degree.
 const TEMPERATURE: Place = Place { index: 40, sub: 0 };
 
-/// The temperature above which there is an event, two octets, in tenths of a degree. It may be written.
+/// The temperature above which there is an event, two octets, in tenths of a
+/// degree. It may be written.
 const LIMIT: Place = Place { index: 41, sub: 0 };
 
 /// ISDU_ERROR codes of the standard: the device's application refuses, for the reason that follows.

@@ -11,5 +11,7 @@ module _ {W : Type 0} where
   AskedWakes wakes asked old answer new = (asked ≡ Wake) × wakes old answer new
 
   -- an exchange of the very octets that are asked for
-  abbrev pub AskedGives : (W → List ℕ → Option (ArrayVec ℕ) → W → Type 0) → Asked → W → List ℕ → Option (ArrayVec ℕ) → W → Type 0
-  AskedGives gives asked old octets answer new = (asked ≡ Exchange (record { items = octets })) × gives old octets answer new
+  abbrev pub AskedGives : (W → List ℕ → Option (ArrayVec ℕ) → W → Type 0) → Asked → W → List ℕ
+      → Option (ArrayVec ℕ) → W → Type 0
+  AskedGives gives asked old octets answer new = (asked ≡ Exchange (record { items = octets }))
+      × gives old octets answer new

@@ -23,12 +23,15 @@ use Rattle.iol_app.specs.StationState.{StationState, is_operating}
 -- the octets of a message of these parts
 abbrev pub text_by : Shape → Head → List ℕ → List ℕ → List ℕ
 text_by layout head out od =
-    with_checksum 1 (((if head.read then 128 else 0) + 32 * channel_code head.channel + head.address) ∷ (64 * layout.kind) ∷ out ++ od)
+    with_checksum 1
+    (((if head.read then 128 else 0) + 32 * channel_code head.channel + head.address)
+    ∷ (64 * layout.kind) ∷ out ++ od)
 
 -- those of a new message for this
 abbrev pub text_for : Shape → purpose.Exchange → SessionState → List ℕ
 text_for layout exchange s =
-    text_by layout (head_for exchange s.events.reading s.current) (carried_by s.output) (data_for exchange (od_size s.layout) s.current)
+    text_by layout (head_for exchange s.events.reading s.current) (carried_by s.output)
+    (data_for exchange (od_size s.layout) s.current)
 
 -- and of one for what is due
 abbrev pub text_due : Shape → SessionState → Bool → List ℕ
@@ -39,7 +42,8 @@ abbrev pub text_of : Shape → Option MasterMsg → SessionState → Bool → Li
 text_of layout None s room = text_due layout s room
 text_of layout (Some message) s room = master_text layout message
 
--- where no message is out and nothing is due, the next request is begun, unless the device has no ISDU
+-- where no message is out and nothing is due, the next request is begun, unless the
+-- device has no ISDU
 abbrev pub begin_where : Bool → Option Request → SessionState → SessionState
 begin_where ready None s = s
 begin_where ready (Some request) s = if ready then begun_in request s else s
@@ -53,20 +57,31 @@ beginning next s room = begin_where (is_ready s room && takes_requests s) next s
 
 abbrev pub asked_in : State → SessionState → Bool → Asked
 asked_in (AtDown state) s room = Wake
-asked_in (AtStartup state) s room = Exchange (record { items = master_text startup_shape state.sent.message })
-asked_in (AtPreoperate state) s room = Exchange (record { items = master_text state.pre state.sent.message })
-asked_in (AtOperate state) s room = Exchange (record { items = text_of state.layouts.run (message_out state.out) s room })
+asked_in (AtStartup state) s room =
+    Exchange (record { items = master_text startup_shape state.sent.message })
+asked_in (AtPreoperate state) s room =
+    Exchange (record { items = master_text state.pre state.sent.message })
+asked_in (AtOperate state) s room =
+    Exchange (record { items = text_of state.layouts.run (message_out state.out) s room })
 
 module _ {W : Type 0} where
   abbrev pub prepared : Option Request → StationState W → Bool → StationState W
-  prepared next s room = record s { session = begin_where (is_operating s.link && is_ready s.session room && takes_requests s.session) next s.session }
+  prepared next s room =
+      record s {
+        session =
+            begin_where
+            (is_operating s.link && is_ready s.session room && takes_requests s.session) next
+            s.session;
+      }
 
   -- the call that the next turn makes, where there is room for events or not
   abbrev pub asked_of : StationState W → Bool → Asked
   asked_of s room = asked_in s.link.state s.session room
 
   -- one call of the wire is the one that was asked
-  module _ (wakes : W → Option Rate → W → Type 0) (gives : W → List ℕ → Option (ArrayVec ℕ) → W → Type 0) where
+  module _ (wakes : W → Option Rate → W → Type 0)
+      (gives : W → List ℕ → Option (ArrayVec ℕ) → W → Type 0) where
     abbrev pub IsCall : Asked → W → W → Type 0
     IsCall Wake old new = (answer : Option Rate) × wakes old answer new
-    IsCall (Exchange octets) old new = (answer : Option (ArrayVec ℕ)) × gives old octets.items answer new
+    IsCall (Exchange octets) old new = (answer : Option (ArrayVec ℕ))
+        × gives old octets.items answer new

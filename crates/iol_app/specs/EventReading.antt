@@ -1,4 +1,5 @@
--- The reading of events: StatusCode, the octets of the marked places, the confirm (IEC 61131-9, 7.3.8).
+-- The reading of events: StatusCode, the octets of the marked places, the confirm
+-- (IEC 61131-9, 7.3.8).
 use Rattle.std.specs.Prelude.{ℕ, Bool, true, false, List, [], Option, Some, None, Result, Ok, Err, slice_index}
 use Rattle.iol_mseq.specs.declared.reply.Reply.{Reply}
 use Rattle.iol_event.specs.declared.event.Event.{Event}
@@ -36,7 +37,8 @@ list_by (Err form) = None
 
 -- the reading after one more octet, and the list that is whole with it
 abbrev pub reading_after : Reading → ℕ → Reading
-reading_after reading octet = reading_by (taken (reader_of reading) octet).answer (taken (reader_of reading) octet).reader
+reading_after reading octet =
+    reading_by (taken (reader_of reading) octet).answer (taken (reader_of reading) octet).reader
 
 abbrev pub list_after : Reading → ℕ → Option (List Event)
 list_after reading octet = list_by (taken (reader_of reading) octet).answer
@@ -54,4 +56,5 @@ list_read any od _ = None
 
 -- the event work after that reply
 abbrev pub events_after : Exchange → Reply → Events → Events
-events_after exchange reply events = record { flag = reply.event; reading = read_on exchange reply.od.items events.reading }
+events_after exchange reply events =
+    record { flag = reply.event; reading = read_on exchange reply.od.items events.reading }

@@ -1,4 +1,5 @@
--- How far a session has come, as the level of both ends of the link sees it: laws of the definitions.
+-- How far a session has come, as the level of both ends of the link sees it: laws
+-- of the definitions.
 use Rattle.std.specs.Prelude.{◌≡◌, ℕ, zero, suc, ◌*◌, ◌<◌, Bool, true, false, List, ◌++◌, length, Option, Some, None, IsTrue}
 use Rattle.iol_mseq.specs.Shape.{Shape}
 use Rattle.iol_mseq.specs.Master.{SpellsMaster}
@@ -74,13 +75,16 @@ move_for any current = Other
 
 -- the message of this head and data is that move
 abbrev pub IsMoveOf : ℕ → Exchange → Option Current → Head → List ℕ → Type 0
-IsMoveOf size exchange current head od = IsMove size (move_for exchange current) (progress_of current) head.channel head.read (flow_of head.address) od
+IsMoveOf size exchange current head od =
+    IsMove size (move_for exchange current) (progress_of current) head.channel head.read
+    (flow_of head.address) od
 
 -- each new message is the move that the request's progress asks for
 abbrev pub MessagesAreMoves : Type 0
 MessagesAreMoves =
     (s : SessionState) (layout : Shape) (exchange : Exchange) → IsSession s → s.layout ≡ Some layout
-    → IsMoveOf layout.od exchange s.current (head_for exchange s.events.reading s.current) (data_for exchange layout.od s.current)
+    → IsMoveOf layout.od exchange s.current (head_for exchange s.events.reading s.current)
+    (data_for exchange layout.od s.current)
 
 -- whether a message for this confirms events
 abbrev pub confirms_events : Exchange → Bool
@@ -90,8 +94,10 @@ confirms_events any = false
 -- the device takes the octets of that message for a confirm, and those of no other
 abbrev pub ConfirmsConfirm : Type 0
 ConfirmsConfirm =
-    (exchange : Exchange) (reading : Reading) (current : Option Current) (layout : Shape) (message : MasterMsg) (octets : List ℕ)
-    → head_of message.mc ≡ head_for exchange reading current → SpellsMaster layout message octets → confirms octets ≡ confirms_events exchange
+    (exchange : Exchange) (reading : Reading) (current : Option Current) (layout : Shape)
+    (message : MasterMsg) (octets : List ℕ)
+    → head_of message.mc ≡ head_for exchange reading current → SpellsMaster layout message octets
+    → confirms octets ≡ confirms_events exchange
 
 -- the number of the answer's segment that comes next; those before it were had
 abbrev pub next_segment : Cursor → ℕ
@@ -111,13 +117,22 @@ IsReading any = ⊥
 
 -- the request goes on with these octets of its answer, up to that segment, or has this answer
 abbrev pub IsTakenUp : Current → Answer → ℕ → List ℕ → Outcome → Type 0
-IsTakenUp current answer i octets (GoesOn next) = (joining : Joining) × (next ≡ record current { progress = Receiving joining i }) × (joining.text ≡ octets)
-IsTakenUp current answer i octets (HasText text) = BeginsWithAnswer (is_read current.cutter.source) text answer × BeginsWithAnswer (is_read current.cutter.source) octets answer
+IsTakenUp current answer i octets (GoesOn next) = (joining : Joining)
+    × (next ≡ record current { progress = Receiving joining i }) × (joining.text ≡ octets)
+IsTakenUp current answer i octets (HasText text) =
+    BeginsWithAnswer (is_read current.cutter.source) text answer
+    × BeginsWithAnswer (is_read current.cutter.source) octets answer
 
--- no segment of an answer that fits the request is refused: it is taken up, and the answer at its last one is that answer
+-- no segment of an answer that fits the request is refused: it is taken up, and the
+-- answer at its last one is that answer
 abbrev pub AnswersAreTakenUp : Type 0
 AnswersAreTakenUp =
-    (current : Current) (limit : ℕ) (od : List ℕ) (answer : Answer) → IsCurrent current → IsReading current.progress → IsTrue (fits current.cutter.source answer)
-    → octets_had current.progress od ≡ joined current.cutter.size (answer_text current.cutter.source answer) (next_segment current.progress)
-    → next_segment current.progress * current.cutter.size < length (answer_text current.cutter.source answer)
-    → IsTakenUp current answer (next_segment current.progress) (octets_had current.progress od) (replied limit od current)
+    (current : Current) (limit : ℕ) (od : List ℕ) (answer : Answer) → IsCurrent current
+    → IsReading current.progress → IsTrue (fits current.cutter.source answer)
+    → octets_had current.progress od
+    ≡ joined current.cutter.size (answer_text current.cutter.source answer)
+    (next_segment current.progress)
+    → next_segment current.progress * current.cutter.size
+    < length (answer_text current.cutter.source answer)
+    → IsTakenUp current answer (next_segment current.progress) (octets_had current.progress od)
+    (replied limit od current)

@@ -18,7 +18,8 @@ carrying output = record output { carried = record { items = carried_by output }
 -- a start-up told this length: another one than before makes the wanted output none
 abbrev pub told_length : ℕ → Output → Output
 told_length size output =
-    if length output.carried.items == size then output else record output { wanted = None; carried = record { items = replicate size 0 } }
+    if length output.carried.items == size then output
+    else record output { wanted = None; carried = record { items = replicate size 0 } }
 
 -- after the good reply to a message that was sent for this
 abbrev pub output_after : Exchange → Output → Output

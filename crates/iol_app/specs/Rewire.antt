@@ -14,4 +14,5 @@ module _ {W : Type 0} where
   -- What is seen of a station stays
   module _ (honest : W → Bool) (far : W → Far) (silence : W → ℕ) where
     unfoldable pub RewireSteps : StationState W → StationState W → Type 0
-    RewireSteps old new = (s : Station) → IsSeen honest far silence old s → IsSeen honest far silence new s
+    RewireSteps old new = (s : Station) → IsSeen honest far silence old s
+        → IsSeen honest far silence new s

@@ -12,8 +12,9 @@ use iol_steps::{
     start_up_gives_steps, text_names_its_answer, wake_gives_steps,
 };
 
-/// Each new message of a session is the move that the request's progress asks for: its next segment, START until the
-/// answer begins, the COUNT of the answer's next segment, or none of these.
+/// Each new message of a session is the move that the request's progress asks for:
+/// its next segment, START until the answer begins, the COUNT of the answer's next
+/// segment, or none of these.
 pub(crate) fn messages_are_moves()
     ensures { MessagesAreMoves }
 {
@@ -21,14 +22,16 @@ pub(crate) fn messages_are_moves()
     texts_join();
 }
 
-/// The device takes the octets of the message that confirms events for a confirm, and those of no other message.
+/// The device takes the octets of the message that confirms events for a confirm,
+/// and those of no other message.
 pub(crate) fn confirms_confirm()
     ensures { ConfirmsConfirm }
 {
     messages_are_heard();
 }
 
-/// No segment of an answer that fits the request is refused, and the answer that is whole with its last one is that one.
+/// No segment of an answer that fits the request is refused, and the answer that is
+/// whole with its last one is that one.
 pub(crate) fn answers_are_taken_up()
     ensures { AnswersAreTakenUp }
 {

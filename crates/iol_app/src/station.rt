@@ -41,9 +41,10 @@ pub struct Status {
 
 /// The master's end of one port: a link, and the session over it.
 ///
-/// A clause sees the link in its mode, and the session. Over an honest wire it also sees the station as a record of the
-/// alphabet of steps that a port and its device share: `IsSeen` ties the two, and `Stands` ties that record to the device
-/// and to what nothing stores. A new station stands with its device, and each call keeps it so.
+/// A clause sees the link in its mode, and the session. Over an honest wire it also sees
+/// the station as a record of the alphabet of steps that a port and its device share:
+/// `IsSeen` ties the two, and `Stands` ties that record to the device and to what
+/// nothing stores. A new station stands with its device, and each call keeps it so.
 #[derive(Drop)]
 pub struct Station<W: Wire> {
     link: AnyLink<W>,
@@ -90,7 +91,8 @@ impl<W: Wire> Station<W> {
         self.link.close()
     }
 
-    /// The mode, why the link is down, and whether a StatusCode was refused since the last start-up.
+    /// The mode, why the link is down, and whether a StatusCode was refused since
+    /// the last start-up.
     pub fn status(&self) -> Status
         ensures mode { result.mode ≡ mode_of self.now.link }
         ensures why { result.why ≡ why_of self.now.link }
@@ -116,7 +118,8 @@ impl<W: Wire> Station<W> {
         self.session.image()
     }
 
-    /// Whether the next turn sends IDLE 1, where there is room for events or not: then a request may be begun.
+    /// Whether the next turn sends IDLE 1, where there is room for events or not:
+    /// then a request may be begun.
     pub fn ready(&self, room: bool) -> bool
         ensures value { result ≡ (is_operating self.now.link && is_ready self.now.session room) }
         ensures free { IsTrue result → (mode_of self.now.link ≡ Mode.Operate)
@@ -125,7 +128,8 @@ impl<W: Wire> Station<W> {
         matches!(self.link.state(), State::Operate(_)) && self.session.ready(room)
     }
 
-    /// What the one call of the wire in the next turn will be, if this request is begun before it where it may be.
+    /// What the one call of the wire in the next turn will be, if this request is
+    /// begun before it where it may be.
     pub fn asks(&self, room: bool, next: Option<&Request>) -> Asked
         ensures { result ≡ asked_of (prepared (option_copied next.entry) self.now room) room }
     {
@@ -147,7 +151,8 @@ impl<W: Wire> Station<W> {
         self.session.isdu()
     }
 
-    /// A law, without code: what may happen in a turn in which a request is denied, because the device has no ISDU.
+    /// A law, without code: what may happen in a turn in which a request is denied,
+    /// because the device has no ISDU.
     pub fn may_deny(&self)
         requires operate { mode_of self.now.link ≡ Mode.Operate }
         requires free { self.now.session.current ≡ None }
@@ -170,14 +175,16 @@ impl<W: Wire> Station<W> {
         self.session.begin(request);
     }
 
-    /// Lets an abort of the request under way wait. A second one changes nothing: the first cause stays.
+    /// Lets an abort of the request under way wait. A second one changes nothing:
+    /// the first cause stays.
     ///
-    /// A message that is out is repeated first, and may yet bring the answer. Then an ABORT goes out, behind an output
-    /// command that is due; its good reply cuts off the request.
+    /// A message that is out is repeated first, and may yet bring the answer. Then an ABORT
+    /// goes out, behind an output command that is due; its good reply cuts off the request.
     ///
-    /// Over an honest wire the station is seen as before where the cause is `BusyTooLong`, and the device was busy as often
-    /// as it may be; where it is `Cancelled` the request has the mark that the program asked to cut it off. No clause says
-    /// what becomes of an abort for another cause there.
+    /// Over an honest wire the station is seen as before where the cause is
+    /// `BusyTooLong`, and the device was busy as often as it may be; where it is
+    /// `Cancelled` the request has the mark that the program asked to cut it off.
+    /// No clause says what becomes of an abort for another cause there.
     pub fn abort(&mut self, cause: Cause)
         requires { IsSome self.old.session.current }
         ensures station { self.new
@@ -229,10 +236,11 @@ impl<W: Wire> Station<W> {
 
     /// One turn: at most one wake or one exchange.
     ///
-    /// It says `Reported`, `Answered` or `Cut` where that happened in it, else `Busy` where a request is under way after it,
-    /// else `Idle`. On every wire an answer and a cut end the request under way, and a report ends a reading of events that
-    /// an earlier turn began; `room` says whether this turn may begin one. Over an honest wire the turn is one call of the
-    /// wire and one list of steps, each allowed where it is taken.
+    /// It says `Reported`, `Answered` or `Cut` where that happened in it, else `Busy` where
+    /// a request is under way after it, else `Idle`. On every wire an answer and a cut end
+    /// the request under way, and a report ends a reading of events that an earlier turn
+    /// began; `room` says whether this turn may begin one. Over an honest wire the turn is
+    /// one call of the wire and one list of steps, each allowed where it is taken.
     pub fn turn(&mut self, room: bool) -> Said
         ensures request { request_in self.new.session.current
             ≡ request_after (request_in self.old.session.current) result }
@@ -244,7 +252,8 @@ impl<W: Wire> Station<W> {
         ensures steps { TurnSteps W.honest W.far W.silence self.old result self.new }
         ensures asked { IsCall W.wake_gives W.exchange_gives (asked_of self.old room)
             (wire_of self.old.link) (wire_of self.new.link) }
-        ensures exact { IsTurn W.honest W.far W.silence (AskedWakes W.wake_gives (asked_of self.old room))
+        ensures exact { IsTurn W.honest W.far W.silence
+            (AskedWakes W.wake_gives (asked_of self.old room))
             (AskedGives W.exchange_gives (asked_of self.old room)) room self.old result self.new }
     {
         let mut said = Said::Idle;
@@ -252,7 +261,8 @@ impl<W: Wire> Station<W> {
         said
     }
 
-    /// The same turn, which says what it does in a place that holds `Idle`. A turn that says `Idle` writes nothing there.
+    /// The same turn, which says what it does in a place that holds `Idle`. A turn
+    /// that says `Idle` writes nothing there.
     pub fn turn_into(&mut self, room: bool, said: &mut Said)
         requires idle { said.old ≡ Said.Idle }
         ensures request { request_in self.new.session.current
@@ -265,7 +275,8 @@ impl<W: Wire> Station<W> {
         ensures steps { TurnSteps W.honest W.far W.silence self.old said.new self.new }
         ensures asked { IsCall W.wake_gives W.exchange_gives (asked_of self.old room)
             (wire_of self.old.link) (wire_of self.new.link) }
-        ensures exact { IsTurn W.honest W.far W.silence (AskedWakes W.wake_gives (asked_of self.old room))
+        ensures exact { IsTurn W.honest W.far W.silence
+            (AskedWakes W.wake_gives (asked_of self.old room))
             (AskedGives W.exchange_gives (asked_of self.old room)) room self.old said.new self.new }
     {
         station_laws();
@@ -293,7 +304,8 @@ impl<W: Wire> Station<W> {
         }
     }
 
-    /// Goes on over this wire, which stands to the same device as the one before; that one is handed back.
+    /// Goes on over this wire, which stands to the same device as the one before;
+    /// that one is handed back.
     pub fn rewire(&mut self, wire: W) -> W
         requires honest { W.honest wire ≡ W.honest (wire_of self.old.link) }
         requires far { W.far wire ≡ W.far (wire_of self.old.link) }

@@ -8,7 +8,8 @@ const FACTOR: u64 = 0x0000_0100_0000_01B3;
 
 /// Numbers that came out of a case, folded in their order.
 ///
-/// Two programs that print one word did the same; and no compiler leaves work out whose result is folded.
+/// Two programs that print one word did the same; and no compiler leaves work out
+/// whose result is folded.
 #[derive(Clone, Copy, Debug, PartialEq, Eq)]
 pub(crate) struct CheckWord(u64);
 

@@ -37,7 +37,8 @@ const LIMITS: Limits = Limits {
 /// How many turns a start-up takes.
 pub(crate) const STARTUP: u32 = 15;
 
-/// A port over a simulated wire. The link is down. Its device has one parameter, where a value is given for it.
+/// A port over a simulated wire. The link is down. Its device has one parameter,
+/// where a value is given for it.
 pub(crate) fn opened(
     alloc: Global,
     page: Page,
@@ -51,7 +52,8 @@ pub(crate) fn opened(
     Port::open(alloc, wire, &LIMITS).map_err(|_| BenchFault::OutOfMemory)
 }
 
-/// A simulated wire to such a device. A function of its own, whose stack is free again before the port is opened.
+/// A simulated wire to such a device. A function of its own, whose stack is free
+/// again before the port is opened.
 #[inline(never)]
 fn wire_to(
     alloc: Global,

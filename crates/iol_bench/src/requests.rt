@@ -29,8 +29,8 @@ pub(crate) fn write(alloc: Global, count: u64) -> Result<CheckWord, BenchFault> 
     )
 }
 
-/// A request so many times, of a device whose parameter has this value at first. The port and its device are new
-/// whenever the device's record is full.
+/// A request so many times, of a device whose parameter has this value at first.
+/// The port and its device are new whenever the device's record is full.
 fn repeat(
     alloc: Global,
     request: &Request,

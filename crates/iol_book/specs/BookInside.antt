@@ -15,7 +15,13 @@ unanswered standing = waiting_count standing + taken_count standing
 module _ {A : Type 0} where
   -- what the queues, the request that is taken and the map hold
   abbrev pub standing_of : Inside A → Standing
-  standing_of fields = record { urgent = fields.urgent.items; waiting = fields.waiting.items; taken = fields.taken; outcomes = fields.outcomes.entries }
+  standing_of fields =
+      record {
+        urgent = fields.urgent.items;
+        waiting = fields.waiting.items;
+        taken = fields.taken;
+        outcomes = fields.outcomes.entries;
+      }
 
   -- the book without its memory
   abbrev pub state_of : Inside A → BookState
@@ -30,7 +36,8 @@ module _ {A : Type 0} where
   -- for how many submits the places for outcomes and for entries are there already
   abbrev pub room_of : Inside A → ℕ
   room_of fields = min (spare fields.outcomes - unanswered (standing_of fields))
-      ((vec_capacity fields.journal - (length fields.journal.items + owed (standing_of fields))) / 4)
+      ((vec_capacity fields.journal - (length fields.journal.items + owed (standing_of fields))) /
+      4)
 
   -- a book as callers see it
   abbrev pub book_view : Inside A → BookValue
@@ -48,7 +55,8 @@ module _ {A : Type 0} where
     -- each request with no outcome has a place for it
     pub outcome_room : unanswered (standing_of fields) ≤ spare fields.outcomes
     -- each outstanding ticket has places for the entries that it will still get
-    pub entry_room : length fields.journal.items + owed (standing_of fields) ≤ vec_capacity fields.journal
+    pub entry_room : length fields.journal.items + owed (standing_of fields)
+        ≤ vec_capacity fields.journal
     -- and the journal has them within its limit
     pub within : length fields.journal.items + owed (standing_of fields) ≤ fields.limit
     -- a million entries at most

@@ -42,11 +42,19 @@ AreLimits limits = (4 ≤ limits.journal) × (limits.journal ≤ 1000000) × (2 
 
 -- an empty book
 abbrev pub opened : Limits → BookState
-opened limits = record { journal = []; last = limits.given; standing = nothing; unsure = false; limit = limits.journal }
+opened limits =
+    record {
+      journal = [];
+      last = limits.given;
+      standing = nothing;
+      unsure = false;
+      limit = limits.journal;
+    }
 
 -- the book after one more entry
 abbrev pub entered : BookState → Entry → BookState
-entered book entry = record book { journal = book.journal ++ entry ∷ []; standing = step book.standing entry }
+entered book entry =
+    record book { journal = book.journal ++ entry ∷ []; standing = step book.standing entry }
 
 abbrev pub entered_if : BookState → Option Entry → BookState
 entered_if book None = book
@@ -64,7 +72,8 @@ waiting_count standing = length standing.urgent + length standing.waiting
 abbrev pub outstanding : Standing → ℕ
 outstanding standing = waiting_count standing + taken_count standing + length standing.outcomes
 
--- the entries that the outstanding tickets will still get: taken, answered and collected, or withdrawn and collected
+-- the entries that the outstanding tickets will still get: taken, answered and
+-- collected, or withdrawn and collected
 abbrev pub owed : Standing → ℕ
 owed standing = 3 * waiting_count standing + 2 * taken_count standing + length standing.outcomes
 
@@ -82,23 +91,28 @@ next_ticket book = record { 0 = book.last + 1 }
 
 -- the book after it, where the request waits behind the others that are not urgent
 abbrev pub submitted : BookState → Request → BookState
-submitted book request = record (entered book (Submitted (next_ticket book) request)) { last = book.last + 1 }
+submitted book request =
+    record (entered book (Submitted (next_ticket book) request)) { last = book.last + 1 }
 
 -- the book after the submit of an urgent one, which waits behind the other urgent ones
 abbrev pub submitted_urgent : BookState → Request → BookState
-submitted_urgent book request = record (entered book (Urgent (next_ticket book) request)) { last = book.last + 1 }
+submitted_urgent book request =
+    record (entered book (Urgent (next_ticket book) request)) { last = book.last + 1 }
 
 -- a submit that is refused says the first of its reasons that holds, or that a growth was refused
 abbrev pub RefusesFor : Option BookFault → BookFault → ℕ → Type 0
 RefusesFor (Some why) fault room = fault ≡ why
 RefusesFor None fault room = (fault ≡ OutOfMemory) × (room ≡ 0)
 
--- the request that is taken next: the first urgent one, and where no urgent one waits the first of the others
+-- the request that is taken next: the first urgent one, and where no urgent one
+-- waits the first of the others
 abbrev pub next_taken : Standing → Option (Ticket × Request)
-next_taken standing = if is_some standing.taken then None else slice_get (standing.urgent ++ standing.waiting) 0
+next_taken standing =
+    if is_some standing.taken then None else slice_get (standing.urgent ++ standing.waiting) 0
 
 -- the others, once that request has left the list that it heads
-abbrev pub others_behind : List (Ticket × Request) → List (Ticket × Request) → List (Ticket × Request)
+abbrev pub others_behind : List (Ticket × Request) → List (Ticket × Request)
+    → List (Ticket × Request)
 others_behind [] waiting = drop 1 waiting
 others_behind (first ∷ urgent) waiting = waiting
 
@@ -141,7 +155,11 @@ abbrev pub ended_with : BookState → Option (Ticket × Request) → Outcome →
 ended_with book None outcome = book
 ended_with book (Some taken) outcome = record book {
   journal = book.journal ++ Answered taken.0 outcome ∷ [];
-  standing = record book.standing { taken = None; outcomes = insert_entry same_ticket book.standing.outcomes taken.0 outcome };
+  standing =
+      record book.standing {
+        taken = None;
+        outcomes = insert_entry same_ticket book.standing.outcomes taken.0 outcome;
+      };
 }
 
 abbrev pub posted : BookState → Outcome → BookState
@@ -170,24 +188,28 @@ collect_answer standing ticket = outcome_or (lookup (same_ticket ticket) standin
 
 -- the book after a collect
 abbrev pub collected : BookState → Ticket → BookState
-collected book ticket = if is_ok (collect_answer book.standing ticket) then entered book (Collected ticket) else book
+collected book ticket =
+    if is_ok (collect_answer book.standing ticket) then entered book (Collected ticket) else book
 
 -- why a ticket can't be withdrawn, where it can't
 abbrev pub withdraw_refusal : Standing → Ticket → Option BookFault
 withdraw_refusal standing ticket =
     if waits standing ticket then None
-    else if is_taken standing ticket || is_some (lookup (same_ticket ticket) standing.outcomes) then Some TakenAlready
+    else if is_taken standing ticket || is_some (lookup (same_ticket ticket) standing.outcomes)
+    then Some TakenAlready
     else Some UnknownTicket
 
 -- the book after a withdraw
 abbrev pub withdrawn : BookState → Ticket → BookState
-withdrawn book ticket = if is_some (withdraw_refusal book.standing ticket) then book else entered book (WithdrawnEntry ticket)
+withdrawn book ticket = if is_some (withdraw_refusal book.standing ticket) then book
+    else entered book (WithdrawnEntry ticket)
 
 -- why the request of a ticket can't be cut off, where it can't: it is not the one that is taken
 abbrev pub flight_refusal : Standing → Ticket → Option BookFault
 flight_refusal standing ticket =
     if is_taken standing ticket then None
-    else if waits standing ticket || is_some (lookup (same_ticket ticket) standing.outcomes) then Some NotInFlight
+    else if waits standing ticket || is_some (lookup (same_ticket ticket) standing.outcomes)
+    then Some NotInFlight
     else Some UnknownTicket
 
 -- the book after a wake of the device

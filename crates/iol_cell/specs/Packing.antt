@@ -1,4 +1,5 @@
--- An image, or none, as five words: its length, 0 for none, and its octets in four words, the first octet lowest.
+-- An image, or none, as five words: its length, 0 for none, and its octets in four
+-- words, the first octet lowest.
 use Rattle.std.specs.Prelude.{ℕ, zero, suc, Option, Some, None, List, ◌++◌, length, take, drop, replicate, slice_index}
 use Rattle.std.specs.Int.{to_le_bytes, w64}
 

@@ -1,4 +1,5 @@
--- The four kinds of step of a cell. Each changes what one user knows, but a join, which changes it for two.
+-- The four kinds of step of a cell. Each changes what one user knows, but a join,
+-- which changes it for two.
 use Rattle.std.specs.Prelude.{◌≡◌, ℕ, true, false, nat_lt, if◌then◌else◌, List, [], ◌∷◌, ◌++◌, Option, length}
 use Rattle.crossbeam_utils.specs.Register.{Turns, Forks, Merges}
 use Rattle.iol_cell.specs.Packing.{image_of}
@@ -39,10 +40,12 @@ abbrev pub ReadsKeepTheRule : Type 0
 ReadsKeepTheRule = (user : ℕ) (sight : Sight) → Turns CellRule user sight (λ words. words) Reads
 
 abbrev pub PublishesKeepTheRule : Type 0
-PublishesKeepTheRule = (user : ℕ) (sight : Sight) (words : List ℕ) → sight.writes ≡ true → Turns CellRule user sight (λ _. words) Publishes
+PublishesKeepTheRule = (user : ℕ) (sight : Sight) (words : List ℕ) → sight.writes ≡ true
+    → Turns CellRule user sight (λ _. words) Publishes
 
 abbrev pub SplitsKeepTheRule : Type 0
 SplitsKeepTheRule = (user : ℕ) (sight : Sight) → Forks CellRule user sight sight (seat_beside sight)
 
 abbrev pub JoinsKeepTheRule : Type 0
-JoinsKeepTheRule = (user other : ℕ) (into from : Sight) → into.writes ≡ false → Merges CellRule user into other from (joined_seat into from) spent_seat
+JoinsKeepTheRule = (user other : ℕ) (into from : Sight) → into.writes ≡ false
+    → Merges CellRule user into other from (joined_seat into from) spent_seat

@@ -70,8 +70,8 @@ impl<A: Handle> Drop for ImageSeat<A> {
 impl<A: Handle> ImageWriter<A> {
     /// Puts an image, or none, in place of the one that the cell has.
     ///
-    /// A seat that reads later finds it whole. The call may wait for another one on this cell, and takes no
-    /// lock of a port.
+    /// A seat that reads later finds it whole. The call may wait for another one on
+    /// this cell, and takes no lock of a port.
     pub fn publish<R: Wait>(&mut self, rt: &R, image: Option<&Image>)
         ensures cell { self.new.cell ≡ self.old.cell }
         ensures appended { self.new.images
@@ -89,8 +89,8 @@ impl<A: Handle> ImageSeat<A> {
 
     /// The last published image, whole, or none.
     ///
-    /// A seat never goes back: what it reads later was published no earlier. The call may wait while the
-    /// writer is publishing, and takes no lock of a port.
+    /// A seat never goes back: what it reads later was published no earlier. The
+    /// call may wait while the writer is publishing, and takes no lock of a port.
     pub fn read<R: Wait>(&mut self, rt: &R) -> Option<Image>
         ensures cell { self.new.cell ≡ self.old.cell }
         ensures last { result ≡ last_image self.new.images }
@@ -152,7 +152,8 @@ fn open_cell<A: Handle>(
 
 /// A new cell, which opens with no image: its writer, and as many seats as `readers` says, 1 to 16.
 ///
-/// 24 OutOfMemory: there is no memory for the cell, or for a seat. Nothing of a refused cell is left.
+/// 24 OutOfMemory: there is no memory for the cell, or for a seat. Nothing of a
+/// refused cell is left.
 pub fn image_cell<R: Wait, A: Handle>(
     _rt: &R,
     alloc: A,

@@ -3,8 +3,8 @@ ghost use Rattle.iol_cell.specs.Steps.{ReadsKeepTheRule, PublishesKeepTheRule, S
 
 /// A law of a cell's rule, without code: each of its four kinds of step keeps it.
 ///
-/// A publish changes what the writer knows, a read what the seat knows that reads, a split makes a seat
-/// beside another; a join, which no call makes, leaves one of two seats with the longer list.
+/// A publish changes what the writer knows, a read what the seat knows that reads, a split makes a
+/// seat beside another; a join, which no call makes, leaves one of two seats with the longer list.
 pub fn each_step_keeps_the_rule()
     ensures reads { ReadsKeepTheRule }
     ensures publishes { PublishesKeepTheRule }

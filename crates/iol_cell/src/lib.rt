@@ -1,8 +1,9 @@
 //! Process data for readers without the lock, whole or none.
 //!
-//! A cell (profile) hands the last published [`Image`](iol_image::Image), or none, from one `ImageWriter` to up to 16
-//! readers, each with an `ImageSeat` of its own. The image is kept in five words, its length and its octets, which are
-//! read and written as one: no reader sees a mix of two images, and none takes the lock of the port that publishes.
+//! A cell (profile) hands the last published [`Image`](iol_image::Image), or none, from
+//! one `ImageWriter` to up to 16 readers, each with an `ImageSeat` of its own. The image
+//! is kept in five words, its length and its octets, which are read and written as one: no
+//! reader sees a mix of two images, and none takes the lock of the port that publishes.
 #![tactic(auto)]
 
 mod cell;

@@ -6,8 +6,8 @@ use iol_image::Image;
 use std::alloc::Global;
 use std::collections::LinkedList;
 
-/// What one user of a cell knows: whether it is the writer, and the published images that it has seen.
-/// No value of it is made: contracts alone speak of it.
+/// What one user of a cell knows: whether it is the writer, and the published
+/// images that it has seen. No value of it is made: contracts alone speak of it.
 pub struct Sight {
     pub writes: bool,
     pub seen: LinkedList<Option<Image>>,

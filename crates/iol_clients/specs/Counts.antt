@@ -10,8 +10,8 @@ use Rattle.iol_clients.specs.declared.counts.Counted.{Counted}
 abbrev pub AddsUp : Counted → Type 0
 AddsUp c = c.tickets ≡ c.done + c.unknown + c.waiting
 
--- one ticket more, with what its collect answered; nobody withdraws and each device has ISDU, so a withdrawn or a
--- denied one would be a mistake, and waits for ever
+-- one ticket more, with what its collect answered; nobody withdraws and each device
+-- has ISDU, so a withdrawn or a denied one would be a mistake, and waits for ever
 abbrev pub noted : Counted → Result Outcome PortFault → Counted
 noted c (Ok (Done answer)) = record c { tickets = c.tickets + 1; done = c.done + 1 }
 noted c (Ok (Unknown cause)) = record c { tickets = c.tickets + 1; unknown = c.unknown + 1 }

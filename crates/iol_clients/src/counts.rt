@@ -12,9 +12,11 @@ pub struct Counted {
     pub tickets: u64,
     /// The tickets whose request the device answered.
     pub done: u64,
-    /// The tickets whose request was cut off, so that nobody knows whether the device carried it out.
+    /// The tickets whose request was cut off, so that nobody knows whether the
+    /// device carried it out.
     pub unknown: u64,
-    /// The other tickets: their requests wait, or are under way. None is withdrawn here, and each device has ISDU.
+    /// The other tickets: their requests wait, or are under way. None is withdrawn
+    /// here, and each device has ISDU.
     pub waiting: u64,
 }
 

@@ -1,7 +1,7 @@
 //! Many ports, clients and workers over the simulated wire.
 //!
-//! [`serve_clients`] opens a master whose ports stand over clean wires, lets clients in threads of their own submit
-//! while its workers make turns, and counts what became of the tickets.
+//! [`serve_clients`] opens a master whose ports stand over clean wires, lets clients in threads
+//! of their own submit while its workers make turns, and counts what became of the tickets.
 #![tactic(auto)]
 
 mod client;

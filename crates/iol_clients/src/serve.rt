@@ -18,13 +18,14 @@ use std::thread::Threads;
 
 /// Serves the clients of a plan, and counts what became of their requests.
 ///
-/// Each port stands over a clean wire, at whose far end is a device with the page `17 2D 11 00 00 12 34 00 01 07` and
-/// one parameter, 16/0, which is read and has the octets `41 42`. The clients submit their reads of it, each in a
-/// thread of its own, while a worker for each port makes the plan's turns; when all have submitted, the workers make
-/// as many again. Then each client's tickets are collected and its desk is settled.
+/// Each port stands over a clean wire, at whose far end is a device with the page `17 2D
+/// 11 00 00 12 34 00 01 07` and one parameter, 16/0, which is read and has the octets
+/// `41 42`. The clients submit their reads of it, each in a thread of its own, while a
+/// worker for each port makes the plan's turns; when all have submitted, the workers
+/// make as many again. Then each client's tickets are collected and its desk is settled.
 ///
-/// Refused by 24 where a request for memory is refused, and by 32 where a thread can't be started. Threads that were
-/// started have then ended.
+/// Refused by 24 where a request for memory is refused, and by 32 where a thread
+/// can't be started. Threads that were started have then ended.
 pub fn serve_clients<R: Threads + Wait + Sync>(
     rt: &R,
     alloc: Global,

@@ -26,17 +26,23 @@ layout_after present _ = present
 -- the text of the message that the octets spell in the layout, or of the refusal
 abbrev pub PrintsMessage : Shape → List ℕ → List ℕ → Type 0
 PrintsMessage present octets text =
-    MatchOption (master_fault present octets) ((message : MasterMsg) × SpellsMaster present message octets × (text ≡ message_text message)) (λ fault. text ≡ refusal_text fault)
+    MatchOption (master_fault present octets)
+    ((message : MasterMsg) × SpellsMaster present message octets
+    × (text ≡ message_text message)) (λ fault. text ≡ refusal_text fault)
 
 -- the same of a reply, to a read or to a write
 abbrev pub PrintsReply : Shape → Bool → List ℕ → List ℕ → Type 0
 PrintsReply present read octets text =
-    MatchOption (reply_fault present read octets) ((reply : Reply) × SpellsReply present read reply octets × (text ≡ reply_text read reply)) (λ fault. text ≡ refusal_text fault)
+    MatchOption (reply_fault present read octets)
+    ((reply : Reply) × SpellsReply present read reply octets × (text ≡ reply_text read reply))
+    (λ fault. text ≡ refusal_text fault)
 
 -- what is printed for a line in the present layout
 abbrev pub Prints : Shape → Form → List ℕ → Type 0
 Prints present skip text = text ≡ []
-Prints present (layout line) text = MatchResult (asked_layout line) (λ taken. text ≡ layout_text taken) (λ fault. text ≡ refusal_text fault)
+Prints present (layout line) text =
+    MatchResult (asked_layout line) (λ taken. text ≡ layout_text taken)
+    (λ fault. text ≡ refusal_text fault)
 Prints present (master octets) text = PrintsMessage present octets text
 Prints present (read_reply octets) text = PrintsReply present true octets text
 Prints present (write_reply octets) text = PrintsReply present false octets text
@@ -45,4 +51,6 @@ Prints present (write_reply octets) text = PrintsReply present false octets text
 abbrev pub PrintsAll : Shape → List (ℕ × List ℕ) → List ℕ → Type 0
 PrintsAll present [] text = text ≡ []
 PrintsAll present ((number, line) ∷ lines) text =
-    MatchOption (line_form line) ⊥ (λ form. (first : List ℕ) × (later : List ℕ) × (text ≡ first ++ later) × Prints present form first × PrintsAll (layout_after present form) lines later)
+    MatchOption (line_form line) ⊥
+    (λ form. (first : List ℕ) × (later : List ℕ) × (text ≡ first ++ later)
+    × Prints present form first × PrintsAll (layout_after present form) lines later)

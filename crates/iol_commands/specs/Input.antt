@@ -10,12 +10,16 @@ IsTooLong remaining = IfSome remaining (λ input. LIMIT < length input)
 
 -- it is within the limit, and this holds of its lines
 abbrev pub OfLines : Option (List ℕ) → (List (ℕ × List ℕ) → Type 0) → Type 0
-OfLines remaining holds = IfSome remaining (λ input. (length input ≤ LIMIT) × holds (numbered_lines input))
+OfLines remaining holds =
+    IfSome remaining (λ input. (length input ≤ LIMIT) × holds (numbered_lines input))
 
 -- at most one byte past the limit is taken
 abbrev pub TakesInput : Option (List ℕ) → Option (List ℕ) → Type 0
-TakesInput before after = (bytes : List ℕ) × Consumes before after bytes × (length bytes ≤ LIMIT + 1)
+TakesInput before after = (bytes : List ℕ) × Consumes before after bytes
+    × (length bytes ≤ LIMIT + 1)
 
 -- a text is written behind what was written, and this holds of the lines of the input and of it
-abbrev pub Writes : Option (List ℕ) → Option (List ℕ) → Option (List ℕ) → (List (ℕ × List ℕ) → List ℕ → Type 0) → Type 0
-Writes remaining before after prints = (text : List ℕ) × Appends before after text × IfSome remaining (λ input. prints (numbered_lines input) text)
+abbrev pub Writes : Option (List ℕ) → Option (List ℕ) → Option (List ℕ)
+    → (List (ℕ × List ℕ) → List ℕ → Type 0) → Type 0
+Writes remaining before after prints = (text : List ℕ) × Appends before after text
+    × IfSome remaining (λ input. prints (numbered_lines input) text)

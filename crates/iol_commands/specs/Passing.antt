@@ -23,7 +23,8 @@ wake_text number rate = decimal number ++ codes " wake " ++ rate_name rate ++ co
 
 -- the number of a call, the way that octets went, and they themselves
 abbrev pub line_front : ℕ → List ℕ → List ℕ → List ℕ
-line_front number way octets = decimal number ++ codes " " ++ way ++ octets_text octets ++ codes ": "
+line_front number way octets =
+    decimal number ++ codes " " ++ way ++ octets_text octets ++ codes ": "
 
 -- whether a message asks to read, by its first octet
 abbrev pub asks_read : List ℕ → Bool
@@ -31,16 +32,20 @@ asks_read octets = nat_le 128 (slice_index octets 0)
 
 -- the line of the octets that the master sent: behind them stands what `check` prints of them
 abbrev pub PrintsSent : ℕ → Shape → List ℕ → List ℕ → Type 0
-PrintsSent number layout octets text = (said : List ℕ) × PrintsMessage layout octets said × (text ≡ line_front number (codes ">") octets ++ said)
+PrintsSent number layout octets text = (said : List ℕ) × PrintsMessage layout octets said
+    × (text ≡ line_front number (codes ">") octets ++ said)
 
--- the line of what came back: behind the octets stands what `check` prints of them as the reply to a read or to a write
+-- the line of what came back: behind the octets stands what `check` prints of them
+-- as the reply to a read or to a write
 abbrev pub PrintsCame : ℕ → Shape → Bool → Option (List ℕ) → List ℕ → Type 0
 PrintsCame number layout read None text = text ≡ decimal number ++ codes " < none\n"
-PrintsCame number layout read (Some octets) text = (said : List ℕ) × PrintsReply layout read octets said × (text ≡ line_front number (codes "<") octets ++ said)
+PrintsCame number layout read (Some octets) text = (said : List ℕ)
+    × PrintsReply layout read octets said × (text ≡ line_front number (codes "<") octets ++ said)
 
 -- the lines of a call, its octets being messages of this layout
 abbrev pub PrintsPassed : ℕ → Shape → Passed → List ℕ → Type 0
 PrintsPassed number layout (Wake rate) text = text ≡ wake_text number rate
 PrintsPassed number layout (Exchange sent answer) text =
-    (first : List ℕ) × (later : List ℕ) × (text ≡ first ++ later) × PrintsSent number layout sent.items first
+    (first : List ℕ) × (later : List ℕ) × (text ≡ first ++ later)
+    × PrintsSent number layout sent.items first
     × PrintsCame number layout (asks_read sent.items) (octets_in answer) later

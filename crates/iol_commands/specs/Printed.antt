@@ -30,11 +30,13 @@ number_text name number = name ++ decimal number
 
 -- the M-sequence type, and how many octets on-request data has
 abbrev pub type_text : Shape → List ℕ
-type_text layout = number_text (codes "layout type ") layout.kind ++ number_text (codes " od ") layout.od
+type_text layout =
+    number_text (codes "layout type ") layout.kind ++ number_text (codes " od ") layout.od
 
 -- how many octets of process data go in and out
 abbrev pub process_text : Shape → List ℕ
-process_text layout = number_text (codes " in ") layout.pd_in ++ number_text (codes " out ") layout.pd_out
+process_text layout =
+    number_text (codes " in ") layout.pd_in ++ number_text (codes " out ") layout.pd_out
 
 -- the line of a layout that is taken
 abbrev pub layout_text : Shape → List ℕ
@@ -50,7 +52,8 @@ fault_name BadChecksum = codes "BadChecksum"
 
 -- the line of a refusal: its number and its name
 abbrev pub refusal_text : MseqFault → List ℕ
-refusal_text fault = codes "refused " ++ decimal (fault_number fault) ++ codes " " ++ fault_name fault ++ codes "\n"
+refusal_text fault =
+    codes "refused " ++ decimal (fault_number fault) ++ codes " " ++ fault_name fault ++ codes "\n"
 
 -- the name of a channel
 abbrev pub channel_text : Channel → List ℕ
@@ -61,7 +64,8 @@ channel_text Isdu = codes "isdu"
 
 -- the direction, the channel and the address
 abbrev pub control_text : Mc → List ℕ
-control_text mc = (if mc.read then codes "read " else codes "write ") ++ channel_text mc.channel ++ codes " " ++ hexadecimal mc.address
+control_text mc = (if mc.read then codes "read " else codes "write ") ++ channel_text mc.channel
+    ++ codes " " ++ hexadecimal mc.address
 
 -- the on-request data of a write
 abbrev pub written_text : MasterMsg → List ℕ
@@ -69,7 +73,8 @@ written_text message = if message.mc.read then [] else codes " od" ++ octets_tex
 
 -- the line of a master message
 abbrev pub message_text : MasterMsg → List ℕ
-message_text message = control_text message.mc ++ part_text (codes " out") message.out.items ++ written_text message ++ codes "\n"
+message_text message = control_text message.mc ++ part_text (codes " out") message.out.items
+    ++ written_text message ++ codes "\n"
 
 -- the on-request data of the reply to a read; the reply to a write has none
 abbrev pub answered_text : Bool → Reply → List ℕ
@@ -77,8 +82,10 @@ answered_text read reply = if read then codes "od" ++ octets_text reply.od.items
 
 -- the Event flag and the process data status
 abbrev pub status_text : Reply → List ℕ
-status_text reply = (if reply.event then codes " event 1" else codes " event 0") ++ (if reply.invalid then codes " pd invalid" else codes " pd valid")
+status_text reply = (if reply.event then codes " event 1" else codes " event 0")
+    ++ (if reply.invalid then codes " pd invalid" else codes " pd valid")
 
 -- the line of the reply to a read or to a write
 abbrev pub reply_text : Bool → Reply → List ℕ
-reply_text read reply = answered_text read reply ++ part_text (codes " in") reply.input.items ++ status_text reply ++ codes "\n"
+reply_text read reply = answered_text read reply ++ part_text (codes " in") reply.input.items
+    ++ status_text reply ++ codes "\n"

@@ -21,7 +21,8 @@ use Rattle.iol_port.specs.EveryWire.{RunGives}
 use Rattle.iol_script.specs.Script.{ScriptValue, script_in, calls_in}
 use Rattle.iol_commands.specs.RunPrinted.{answers_text, record_text}
 
--- a port of these limits that is opened over a new device of this page, whose record has room for 1,000 requests
+-- a port of these limits that is opened over a new device of this page, whose
+-- record has room for 1,000 requests
 abbrev pub first_port : Limits → List ℕ → PortState
 first_port limits page = opened limits (device.opened page (Some 1000)) 0
 
@@ -30,19 +31,29 @@ abbrev pub lacks_memory : Answered → Bool
 lacks_memory (answered.Refused (fault.Book OutOfMemory)) = true
 lacks_memory other = false
 
--- the wire of a script at first: a new device of its page and its parameters, and its steps, none of which was used
+-- the wire of a script at first: a new device of its page and its parameters, and
+-- its steps, none of which was used
 abbrev pub first_wire : ScriptValue → Simulated (List Entry)
 first_wire script = record {
-  device = record { far = device.opened script.page (Some 1000); app = script.params; first = script.params };
+  device =
+      record {
+        far = device.opened script.page (Some 1000);
+        app = script.params;
+        first = script.params;
+      };
   steps = script.steps;
   auto = true;
   silent = false;
   silence = 0;
 }
 
--- Calls are made on a port, one after the other: none of the answers lacks memory, and the text is what they are.
-module _ {W : Type 0} (honest : W → Bool) (far : W → Far) (silence : W → ℕ) (wakes : W → Option Rate → W → Type 0) (gives : W → List ℕ → Option (ArrayVec ℕ) → W → Type 0) where
-  pub record PortPlays (p : Parts W) (calls : List Call) (next : Parts W) (text : List ℕ) : Type 0 where
+-- Calls are made on a port, one after the other: none of the answers lacks memory,
+-- and the text is what they are.
+module _ {W : Type 0} (honest : W → Bool) (far : W → Far) (silence : W → ℕ)
+    (wakes : W → Option Rate → W → Type 0)
+    (gives : W → List ℕ → Option (ArrayVec ℕ) → W → Type 0) where
+  pub record PortPlays (p : Parts W) (calls : List Call) (next : Parts W)
+      (text : List ℕ) : Type 0 where
     pub answers : List Answered
     -- each call does to the port's own parts, and to its wire, just what a call does there
     pub made : RunGives honest far silence wakes gives p calls answers next
@@ -52,15 +63,21 @@ module _ {W : Type 0} (honest : W → Bool) (far : W → Far) (silence : W → �
     pub text_is : text ≡ answers_text calls answers
 
 -- a port over the wire of a script makes calls, with these answers
-abbrev pub MadeOverWire : Parts (Simulated (List Entry)) → List Call → List Answered → Parts (Simulated (List Entry)) → Type 0
-MadeOverWire p calls answers next = RunGives (λ sim. true) (λ sim. sim.device.far) (λ sim. sim.silence) (IsWake Stores) (IsExchange Stores) p calls answers next
+abbrev pub MadeOverWire : Parts (Simulated (List Entry)) → List Call → List Answered
+    → Parts (Simulated (List Entry)) → Type 0
+MadeOverWire p calls answers next =
+    RunGives (λ sim. true) (λ sim. sim.device.far) (λ sim. sim.silence) (IsWake Stores)
+    (IsExchange Stores) p calls answers next
 
 -- with what the port of a script is opened
 abbrev pub first_opening : ScriptValue → Opening (Simulated (List Entry))
-first_opening script = opening_of (λ sim. true) (λ sim. sim.device.far) (λ sim. sim.silence) script.limits (first_wire script)
+first_opening script =
+    opening_of (λ sim. true) (λ sim. sim.device.far) (λ sim. sim.silence) script.limits
+    (first_wire script)
 
--- What is printed for calls: what they answer, and then the device's record. They are made on a new port over the script's wire; and the abstract
--- port over the new device makes them with the same answers.
+-- What is printed for calls: what they answer, and then the device's record. They
+-- are made on a new port over the script's wire; and the abstract port over the new
+-- device makes them with the same answers.
 pub record PlaysOut (script : ScriptValue) (calls : List Call) (text : List ℕ) : Type 0 where
   pub answers : List Answered
   pub first : Parts (Simulated (List Entry))

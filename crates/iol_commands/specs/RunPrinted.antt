@@ -45,13 +45,15 @@ place_text place = decimal place.index ++ codes " " ++ decimal place.sub
 -- a request, with the octets of a write
 abbrev pub request_text : Request → List ℕ
 request_text (request.Read place) = codes "read " ++ place_text place
-request_text (request.Write place octets) = codes "write " ++ place_text place ++ listed_text octets.items
+request_text (request.Write place octets) =
+    codes "write " ++ place_text place ++ listed_text octets.items
 
 -- what the device answered to it
 abbrev pub device_text : Answer → List ℕ
 device_text (answer.Read octets) = codes "read" ++ listed_text octets.items
 device_text answer.Written = codes "written"
-device_text (answer.Refused error additional) = codes "refused" ++ octets_text (error ∷ additional ∷ [])
+device_text (answer.Refused error additional) =
+    codes "refused" ++ octets_text (error ∷ additional ∷ [])
 
 -- Tickets and outcomes
 
@@ -75,7 +77,8 @@ ticket_text ticket = number_text (codes "ticket ") ticket.0
 
 -- the line of an outcome, with the ticket that was collected; no other call hands one out
 abbrev pub collected_text : Call → Outcome → List ℕ
-collected_text (call.Collect ticket) outcome = ticket_text ticket ++ outcome_text outcome ++ codes "\n"
+collected_text (call.Collect ticket) outcome =
+    ticket_text ticket ++ outcome_text outcome ++ codes "\n"
 collected_text other outcome = []
 
 -- Process data and events
@@ -91,7 +94,8 @@ code_text code = hexadecimal (code / 256) ++ hexadecimal (code % 256)
 
 -- an event: its qualifier and its code
 abbrev pub event_text : Event → List ℕ
-event_text event = codes "event " ++ hexadecimal event.qualifier ++ codes " " ++ code_text event.code
+event_text event =
+    codes "event " ++ hexadecimal event.qualifier ++ codes " " ++ code_text event.code
 
 -- The link
 
@@ -119,7 +123,8 @@ link_text mode why = codes "status " ++ mode_name mode ++ why_text why
 
 -- the line of a status
 abbrev pub state_text : Status → List ℕ
-state_text status = link_text status.mode status.why ++ (if status.event_form then codes " eventform" else []) ++ codes "\n"
+state_text status = link_text status.mode status.why
+    ++ (if status.event_form then codes " eventform" else []) ++ codes "\n"
 
 -- Refusals
 
@@ -146,7 +151,8 @@ port_fault_name NoEvent = codes "NoEvent"
 
 -- the line of a refusal: its number and its name
 abbrev pub refused_text : PortFault → List ℕ
-refused_text fault = codes "refused " ++ decimal (fault_number fault) ++ codes " " ++ port_fault_name fault ++ codes "\n"
+refused_text fault = codes "refused " ++ decimal (fault_number fault) ++ codes " "
+    ++ port_fault_name fault ++ codes "\n"
 
 -- Answers
 
@@ -168,14 +174,16 @@ answer_text call answered.Nothing = nothing_text call
 
 -- what is printed for calls, each with its answer
 abbrev pub answers_text : List Call → List Answered → List ℕ
-answers_text (call ∷ calls) (answer ∷ answers) = answer_text call answer ++ answers_text calls answers
+answers_text (call ∷ calls) (answer ∷ answers) =
+    answer_text call answer ++ answers_text calls answers
 answers_text calls answers = []
 
 -- The record
 
 -- the line of a request that the device carried out, and its answer
 abbrev pub carried_text : Carried → List ℕ
-carried_text entry = codes "carried " ++ request_text entry.request ++ codes ": " ++ device_text entry.answer ++ codes "\n"
+carried_text entry = codes "carried " ++ request_text entry.request ++ codes ": "
+    ++ device_text entry.answer ++ codes "\n"
 
 -- the lines of a record
 abbrev pub entries_text : List Carried → List ℕ
@@ -183,4 +191,5 @@ entries_text entries = flat_map carried_text entries
 
 -- how many there are, and each
 abbrev pub record_text : List Carried → List ℕ
-record_text entries = number_text (codes "record ") (length entries) ++ codes "\n" ++ entries_text entries
+record_text entries = number_text (codes "record ") (length entries) ++ codes "\n"
+    ++ entries_text entries

@@ -17,11 +17,13 @@ use iol_script::{CheckLine, LayoutLine, Lines};
 use std::alloc::{AllocError, Allocator};
 use std::io::{Read, Write};
 
-/// Reads lines that name layouts or spell master messages and replies, and prints one line for each of them.
+/// Reads lines that name layouts or spell master messages and replies, and prints
+/// one line for each of them.
 ///
-/// The input is read whole, up to 1,048,576 bytes. Its lines are then worked from first to last, in the layout of
-/// STARTUP at first, and the output is written at the end. The first fault that is met ends the call: nothing
-/// is written then, but where it is a write that fails part of the output may be.
+/// The input is read whole, up to 1,048,576 bytes. Its lines are then worked from
+/// first to last, in the layout of STARTUP at first, and the output is written at
+/// the end. The first fault that is met ends the call: nothing is written then, but
+/// where it is a write that fails part of the output may be.
 pub fn check<A: Allocator + Copy, R: Read, W: Write>(
     alloc: A,
     reader: &mut R,

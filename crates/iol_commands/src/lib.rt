@@ -1,7 +1,9 @@
-//! The commands of the program `iolink`, each from a reader to a writer: [`check`], [`run`], [`trace`] and [`many`].
+//! The commands of the program `iolink`, each from a reader to a writer: [`check`],
+//! [`run`], [`trace`] and [`many`].
 //!
-//! Each reads its input whole, up to 1,048,576 bytes, judges its lines from first to last (crate iol_script), and prints
-//! what it makes of them; the clauses of each say which input is refused, by which fault, and what text is printed.
+//! Each reads its input whole, up to 1,048,576 bytes, judges its lines from first
+//! to last (crate iol_script), and prints what it makes of them; the clauses of
+//! each say which input is refused, by which fault, and what text is printed.
 #![tactic(auto)]
 
 mod check_command;

@@ -18,12 +18,13 @@ use std::io::{Read, Write};
 use std::sync::Wait;
 use std::thread::Threads;
 
-/// Reads a plan, lets its clients submit while its ports make turns, and prints what became of the tickets.
+/// Reads a plan, lets its clients submit while its ports make turns, and prints
+/// what became of the tickets.
 ///
-/// The input is read whole, up to 1,048,576 bytes. Its lines are then read from first to last, and the plan that they
-/// say is carried out. A line is printed for each port, from port 1, and one for the total; the output is written
-/// at the end. The first fault that is met ends the call: nothing is written then, but where it is a write that fails
-/// part of the output may be.
+/// The input is read whole, up to 1,048,576 bytes. Its lines are then read from first to last,
+/// and the plan that they say is carried out. A line is printed for each port, from port 1, and
+/// one for the total; the output is written at the end. The first fault that is met ends the
+/// call: nothing is written then, but where it is a write that fails part of the output may be.
 pub fn many<T: Threads + Wait + Sync, R: Read, W: Write>(
     rt: &T,
     alloc: Global,

@@ -21,7 +21,8 @@ pub(crate) fn print_passed<A: Allocator>(
     layout: &Layout,
     passed: &Passed,
 ) -> Result<(), AllocError>
-    ensures { OnOk result ((text : List ℕ) × (string_bytes output.new ≡ string_bytes output.old ++ text)
+    ensures { OnOk result
+        ((text : List ℕ) × (string_bytes output.new ≡ string_bytes output.old ++ text)
         × PrintsPassed number layout.now passed.now text) }
 {
     match passed {
@@ -88,7 +89,8 @@ fn print_sent<A: Allocator>(
     layout: &Layout,
     octets: &[u8],
 ) -> Result<(), AllocError>
-    ensures { OnOk result ((text : List ℕ) × (string_bytes output.new ≡ string_bytes output.old ++ text)
+    ensures { OnOk result
+        ((text : List ℕ) × (string_bytes output.new ≡ string_bytes output.old ++ text)
         × PrintsSent number layout.now octets.now text) }
 {
     print_front(output, number, ">", octets)?;
@@ -103,7 +105,8 @@ fn print_came<A: Allocator>(
     read: bool,
     answer: &Option<Message>,
 ) -> Result<(), AllocError>
-    ensures { OnOk result ((text : List ℕ) × (string_bytes output.new ≡ string_bytes output.old ++ text)
+    ensures { OnOk result
+        ((text : List ℕ) × (string_bytes output.new ≡ string_bytes output.old ++ text)
         × PrintsCame number layout.now read (octets_in answer.now) text) }
 {
     let Some(octets) = answer else {

@@ -25,12 +25,13 @@ use std::io::{Read, Write};
 /// How many requests the device's record has room for.
 const ROOM: u32 = 1000;
 
-/// Reads a script, and makes its calls on a port over a simulated wire, which the script describes too.
+/// Reads a script, and makes its calls on a port over a simulated wire, which the
+/// script describes too.
 ///
-/// The input is read whole, up to 1,048,576 bytes. Its lines are then read from first to last. The calls are made from
-/// first to last, and a line is printed for each but a turn; then the record of the device is printed. The output
-/// is written at the end. The first fault that is met ends the call: nothing is written then, but where it is a
-/// write that fails part of the output may be.
+/// The input is read whole, up to 1,048,576 bytes. Its lines are then read from first to last. The
+/// calls are made from first to last, and a line is printed for each but a turn; then the record of
+/// the device is printed. The output is written at the end. The first fault that is met ends the
+/// call: nothing is written then, but where it is a write that fails part of the output may be.
 pub fn run<A: Handle, R: Read, W: Write>(
     alloc: A,
     reader: &mut R,

@@ -13,7 +13,8 @@ pub const LIMIT: usize = 1_048_576;
 /// How many bytes are asked for at once.
 const PIECE: usize = 4096;
 
-/// All that the reader has. At most one byte past the limit is read, and no read follows one that failed.
+/// All that the reader has. At most one byte past the limit is read, and no read
+/// follows one that failed.
 pub(crate) fn read_input<A: Allocator, R: Read>(
     alloc: A,
     reader: &mut R,

@@ -21,12 +21,13 @@ use iol_tap::Tap;
 use std::alloc::Allocator;
 use std::io::{Read, Write};
 
-/// Reads a script as `run` does, makes its calls, and prints what `run` prints; and for each call of the wire what went
-/// over it, before the line of the call that made it.
+/// Reads a script as `run` does, makes its calls, and prints what `run` prints; and for
+/// each call of the wire what went over it, before the line of the call that made it.
 ///
-/// The input is read whole, up to 1,048,576 bytes, and its lines are read from first to last, before the first call is
-/// made. What is printed is written as it comes, in pieces, so that a trace of any length takes little memory: where
-/// memory is short or a write fails, part of the output may be written. Where any other fault is met, nothing is.
+/// The input is read whole, up to 1,048,576 bytes, and its lines are read from first to
+/// last, before the first call is made. What is printed is written as it comes, in pieces,
+/// so that a trace of any length takes little memory: where memory is short or a write
+/// fails, part of the output may be written. Where any other fault is met, nothing is.
 pub fn trace<A: Handle, R: Read, W: Write>(
     alloc: A,
     reader: &mut R,
@@ -63,7 +64,8 @@ fn traced<A: Handle, W: Write>(
     requires limits { AreLimits script.limits }
     requires given { script.limits.given ≡ 0 }
     requires calls { length (calls_in (numbered_lines input.now)) ≤ 1000000 }
-    ensures printed { OnOk result ((text : List ℕ) × Appends (W.contents writer.old) (W.contents writer.new) text
+    ensures printed { OnOk result
+        ((text : List ℕ) × Appends (W.contents writer.old) (W.contents writer.new) text
         × IsOkAnd (layouts_of script.page) (λ layouts. TracesOut (record {
           page = script.page;
           params = script.params;

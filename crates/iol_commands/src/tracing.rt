@@ -1,5 +1,5 @@
-//! The calls of a script, made on a port over a wire with a tap, with what each of them answers and what passes
-//! meanwhile.
+//! The calls of a script, made on a port over a wire with a tap, with what each of
+//! them answers and what passes meanwhile.
 ghost use Rattle.std.specs.Prelude.{◌≡◌, ◌++◌, ◌+◌, ◌-◌, ◌<◌, ◌≤◌, ◌^◌, ◌⊎◌, ℕ, List, [], ◌∷◌, OnOk, IfErr, length, replicate};
 ghost use Rattle.std.specs.String.{string_bytes};
 ghost use Rattle.iol_port.specs.declared.call.Call.TheVariants.{Turn};
@@ -60,10 +60,13 @@ impl<A: Handle> Tracer<A> {
         input: &[u8],
     ) -> Result<(), ProgramFault>
         requires { self.old.number + length (calls_in (numbered_lines input.now)) < 2 ^ 64 }
-        ensures traced { OnOk result (TracesFrom W.honest W.far W.silence W.wake_gives W.exchange_gives self.old.layouts
-            (place self.old.number (string_bytes self.old.output) (O.contents writer.old) port.old.parts)
+        ensures traced { OnOk result
+            (TracesFrom W.honest W.far W.silence W.wake_gives W.exchange_gives self.old.layouts
+            (place self.old.number (string_bytes self.old.output)
+            (O.contents writer.old) port.old.parts)
             (calls_in (numbered_lines input.now))
-            (place self.new.number (string_bytes self.new.output) (O.contents writer.new) port.new.parts)) }
+            (place self.new.number (string_bytes self.new.output)
+            (O.contents writer.new) port.new.parts)) }
         ensures faults { IfErr result (λ e. (e ≡ OutOfMemory) ⊎ (e ≡ WriteFailed)) }
     {
         for (_, line) in Lines::of(input) {
@@ -83,10 +86,13 @@ impl<A: Handle> Tracer<A> {
         line: &CallLine,
     ) -> Result<(), ProgramFault>
         requires { self.old.number + length (line_calls line.now) < 2 ^ 64 }
-        ensures traced { OnOk result (TracesFrom W.honest W.far W.silence W.wake_gives W.exchange_gives self.old.layouts
-            (place self.old.number (string_bytes self.old.output) (O.contents writer.old) port.old.parts)
+        ensures traced { OnOk result
+            (TracesFrom W.honest W.far W.silence W.wake_gives W.exchange_gives self.old.layouts
+            (place self.old.number (string_bytes self.old.output)
+            (O.contents writer.old) port.old.parts)
             (line_calls line.now)
-            (place self.new.number (string_bytes self.new.output) (O.contents writer.new) port.new.parts)) }
+            (place self.new.number (string_bytes self.new.output)
+            (O.contents writer.new) port.new.parts)) }
         ensures number { OnOk result (self.new.number ≤ self.old.number + length
             (line_calls line.now)) }
         ensures layouts { self.new.layouts ≡ self.old.layouts }
@@ -106,10 +112,13 @@ impl<A: Handle> Tracer<A> {
         count: usize,
     ) -> Result<(), ProgramFault>
         requires { self.old.number + count < 2 ^ 64 }
-        ensures traced { OnOk result (TracesFrom W.honest W.far W.silence W.wake_gives W.exchange_gives self.old.layouts
-            (place self.old.number (string_bytes self.old.output) (O.contents writer.old) port.old.parts)
+        ensures traced { OnOk result
+            (TracesFrom W.honest W.far W.silence W.wake_gives W.exchange_gives self.old.layouts
+            (place self.old.number (string_bytes self.old.output)
+            (O.contents writer.old) port.old.parts)
             (replicate count Turn)
-            (place self.new.number (string_bytes self.new.output) (O.contents writer.new) port.new.parts)) }
+            (place self.new.number (string_bytes self.new.output)
+            (O.contents writer.new) port.new.parts)) }
         ensures number { OnOk result (self.new.number ≤ self.old.number + count) }
         ensures layouts { self.new.layouts ≡ self.old.layouts }
         ensures faults { IfErr result (λ e. (e ≡ OutOfMemory) ⊎ (e ≡ WriteFailed)) }
@@ -128,10 +137,13 @@ impl<A: Handle> Tracer<A> {
         call: &Call,
     ) -> Result<(), ProgramFault>
         requires { self.old.number + 1 < 2 ^ 64 }
-        ensures traced { OnOk result (TracesFrom W.honest W.far W.silence W.wake_gives W.exchange_gives self.old.layouts
-            (place self.old.number (string_bytes self.old.output) (O.contents writer.old) port.old.parts)
+        ensures traced { OnOk result
+            (TracesFrom W.honest W.far W.silence W.wake_gives W.exchange_gives self.old.layouts
+            (place self.old.number (string_bytes self.old.output)
+            (O.contents writer.old) port.old.parts)
             (call.now ∷ [])
-            (place self.new.number (string_bytes self.new.output) (O.contents writer.new) port.new.parts)) }
+            (place self.new.number (string_bytes self.new.output)
+            (O.contents writer.new) port.new.parts)) }
         ensures number { OnOk result (self.new.number ≤ self.old.number + 1) }
         ensures layouts { self.new.layouts ≡ self.old.layouts }
         ensures faults { IfErr result (λ e. (e ≡ OutOfMemory) ⊎ (e ≡ WriteFailed)) }
@@ -159,8 +171,8 @@ impl<A: Handle> Tracer<A> {
         print_answer(&mut self.output, call, &answer)
     }
 
-    /// Prints the call of the wire that a call made, if it made one: a turn alone does, and then it was the last to
-    /// pass.
+    /// Prints the call of the wire that a call made, if it made one: a turn alone
+    /// does, and then it was the last to pass.
     fn note<W: Wire>(
         &mut self,
         call: &Call,

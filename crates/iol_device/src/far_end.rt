@@ -137,7 +137,8 @@ impl<R: Record> FarEnd<R> {
     /// The message that the octets are, once it is in the layout in which it accepts them.
     fn accept<'a>(&mut self, octets: &'a [u8]) -> Option<MasterView<'a>>
         ensures length { OnSome result (length octets.now ≤ 66) }
-        ensures accepts { far.accepted self.old octets.now ≡ option_map (λ m. (self.new, m)) result }
+        ensures accepts { far.accepted self.old octets.now
+            ≡ option_map (λ m. (self.new, m)) result }
         ensures none { IfNone result (self.new ≡ self.old) }
     {
         if !self.awake {
@@ -153,11 +154,13 @@ impl<R: Record> FarEnd<R> {
         }
     }
 
-    /// What the far end does on hearing these octets. Answers whether it replies; the reply is put into the buffer.
+    /// What the far end does on hearing these octets. Answers whether it replies;
+    /// the reply is put into the buffer.
     pub fn hear(&mut self, octets: &[u8], reply: &mut Message) -> bool
         requires { reply.old.items ≡ [] }
         ensures far { self.new ≡ (far.hear self.old octets.now).far }
-        ensures reply { (if result then Some reply.new.items else None) ≡ (far.hear self.old octets.now).reply }
+        ensures reply { (if result then Some reply.new.items else None)
+            ≡ (far.hear self.old octets.now).reply }
         ensures answers { result ≡ is_some (far.accepted self.old octets.now) }
         ensures silent { result ≡ false → self.new ≡ self.old }
     {
@@ -218,7 +221,8 @@ impl<R: Record> FarEnd<R> {
     fn work_isdu(&mut self, message: &MasterView<'_>)
         ensures { self.new ≡ record self.old {
           isdu = far.isdu_after (knows_isdu self.old.page) (layout_of self.old).od self.old.isdu
-              message.now.mc.channel message.now.mc.read (flow_of message.now.mc.address) message.now.od.items;
+              message.now.mc.channel message.now.mc.read
+              (flow_of message.now.mc.address) message.now.od.items;
         } }
     {
         let mc = message.mc();
@@ -236,7 +240,11 @@ impl<R: Record> FarEnd<R> {
     }
 
     fn work_events(&mut self, mc: Mc)
-        ensures { self.new ≡ record self.old { events = far.events_after self.old.events (far.is_confirm mc.channel mc.read mc.address) } }
+        ensures { self.new
+            ≡ record self.old {
+              events =
+                  far.events_after self.old.events (far.is_confirm mc.channel mc.read mc.address);
+            } }
     {
         if is_confirm(mc) {
             self.events.confirm();
@@ -247,7 +255,8 @@ impl<R: Record> FarEnd<R> {
 
     fn work_output(&mut self, out: &[u8])
         requires { length out.now ≤ 32 }
-        ensures { self.new ≡ record self.old { out = far.out_after self.old.mode self.old.out out.now } }
+        ensures { self.new
+            ≡ record self.old { out = far.out_after self.old.mode self.old.out out.now } }
     {
         if self.mode == Mode::Operate {
             self.out = image_of(out);
@@ -257,7 +266,8 @@ impl<R: Record> FarEnd<R> {
     fn work_cycle_time(&mut self, message: &MasterView<'_>)
         ensures { self.new ≡ record self.old {
           cycle_time = far.cycle_time_after self.old.cycle_time
-              message.now.mc.channel message.now.mc.read message.now.mc.address (slice_index message.now.od.items 0);
+              message.now.mc.channel message.now.mc.read message.now.mc.address
+              (slice_index message.now.od.items 0);
         } }
     {
         let mc = message.mc();
@@ -288,7 +298,8 @@ impl<R: Record> FarEnd<R> {
         requires some { 1 ≤ size }
         requires most { size ≤ 32 }
         requires empty { octets.old.items ≡ [] }
-        ensures value { octets.new.items ≡ octets.old.items ++ far.data_of self.now size channel address }
+        ensures value { octets.new.items
+            ≡ octets.old.items ++ far.data_of self.now size channel address }
         ensures length { length octets.new.items ≡ size }
     {
         match channel {
@@ -333,7 +344,8 @@ impl<R: Record> FarEnd<R> {
 
     /// A handed request is carried out, where the record has room.
     pub fn work<P: App>(&mut self, app: &mut P)
-        ensures { IsCarriedOut P.carry_out_gives (handed self.old.isdu) self.old app.old self.new app.new }
+        ensures { IsCarriedOut P.carry_out_gives
+            (handed self.old.isdu) self.old app.old self.new app.new }
     {
         // Most calls find none.
         if self.isdu.handed().is_some() {
@@ -344,7 +356,8 @@ impl<R: Record> FarEnd<R> {
     /// The same, in a function of its own, whose locals are large.
     #[inline(never)]
     fn carry_out<P: App>(&mut self, app: &mut P)
-        ensures { IsCarriedOut P.carry_out_gives (handed self.old.isdu) self.old app.old self.new app.new }
+        ensures { IsCarriedOut P.carry_out_gives
+            (handed self.old.isdu) self.old app.old self.new app.new }
     {
         let Some(request) = self.isdu.handed() else {
             return;
@@ -357,7 +370,8 @@ impl<R: Record> FarEnd<R> {
         self.isdu.answer(given);
     }
 
-    /// A handed request has this answer, where it fits and the record has room. Answers whether it had.
+    /// A handed request has this answer, where it fits and the record has room.
+    /// Answers whether it had.
     pub fn answer(&mut self, answer: Answer) -> bool
         ensures far { self.new ≡ local self.old (LocalStep.Carry answer) }
         ensures took { result ≡ takes_answer self.old answer }

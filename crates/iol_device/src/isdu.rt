@@ -72,14 +72,16 @@ impl IsduSide {
 
     /// A write under this flow.
     pub fn write(&mut self, flow: Flow, octets: &[u8])
-        ensures { self.new ≡ record self.old { state = isdu_written self.old.state flow octets.now } }
+        ensures { self.new
+            ≡ record self.old { state = isdu_written self.old.state flow octets.now } }
     {
         write_to(&mut self.stage, self.size, flow, octets);
     }
 
     /// A read under this flow.
     pub fn read(&mut self, flow: Flow)
-        ensures { self.new ≡ record self.old { state = isdu_read self.old.size self.old.state flow } }
+        ensures { self.new
+            ≡ record self.old { state = isdu_read self.old.size self.old.state flow } }
     {
         read_from(&mut self.stage, self.size, flow);
     }
@@ -87,7 +89,8 @@ impl IsduSide {
     /// Puts the on-request data of the reply to a read at the end.
     pub fn append_data(&self, octets: &mut Message)
         requires { length octets.old.items ≤ 32 }
-        ensures value { octets.new.items ≡ octets.old.items ++ isdu_data self.now.size self.now.state }
+        ensures value { octets.new.items
+            ≡ octets.old.items ++ isdu_data self.now.size self.now.state }
         ensures size { length (isdu_data self.now.size self.now.state) ≡ self.now.size }
     {
         cut_is_whole();
@@ -153,7 +156,8 @@ pub(crate) fn answer_of<P: App>(app: &mut P, request: &Request) -> Answer
     answer
 }
 
-/// No request is under way from now on. Where none is, nothing is written: most messages find it so.
+/// No request is under way from now on. Where none is, nothing is written: most
+/// messages find it so.
 fn empty(stage: &mut Stage)
     ensures { stage.new ≡ Stage.Empty }
 {
@@ -181,7 +185,8 @@ fn write_to(stage: &mut Stage, size: u8, flow: Flow, octets: &[u8])
 /// A write under COUNT.
 fn write_count(stage: &mut Stage, size: u8, count: u8, octets: &[u8])
     requires { IsKept size stage.old }
-    ensures state { state_of stage.new ≡ isdu_written (state_of stage.old) (Flow.Count count) octets.now }
+    ensures state { state_of stage.new
+        ≡ isdu_written (state_of stage.old) (Flow.Count count) octets.now }
     ensures kept { IsKept size stage.new }
 {
     match stage {
@@ -199,7 +204,9 @@ fn write_count(stage: &mut Stage, size: u8, count: u8, octets: &[u8])
 fn take_into(stage: &mut Stage, size: u8, flow: Flow, octets: &[u8])
     requires receiving { IsReceiving stage.old }
     requires goes_on { GoesOn flow (joining_in stage.old) }
-    ensures state { state_of stage.new ≡ isdu_written (Receiving (joining_in stage.old).text (joining_in stage.old).count) flow octets.now }
+    ensures state { state_of stage.new
+        ≡ isdu_written
+        (Receiving (joining_in stage.old).text (joining_in stage.old).count) flow octets.now }
     ensures kept { IsKept size stage.new }
 {
     let Stage::Receiving(joiner) = stage else {
@@ -216,7 +223,8 @@ fn take_into(stage: &mut Stage, size: u8, flow: Flow, octets: &[u8])
 fn complete(stage: &mut Stage, size: u8, flow: Flow)
     requires receiving { IsReceiving stage.old }
     requires whole { is_whole (joining_in stage.old).text ≡ true }
-    ensures state { state_of stage.new ≡ completed (request_of (joining_in stage.old).text) (count_in flow) }
+    ensures state { state_of stage.new
+        ≡ completed (request_of (joining_in stage.old).text) (count_in flow) }
     ensures kept { IsKept size stage.new }
 {
     let Stage::Receiving(joiner) = &*stage else {
@@ -275,7 +283,8 @@ fn hand_over(stage: &mut Stage)
 /// The flow of the last segment given.
 #[tactic(auto, using(crate::proofs::Sending::sent_flow_valid))]
 fn sent_flow(cutter: &Cutter<Reaction>) -> Option<Flow>
-    requires { IsSent cutter.now.size (answer_text cutter.now.source.request cutter.now.source.answer) cutter.now.given }
+    requires { IsSent cutter.now.size
+        (answer_text cutter.now.source.request cutter.now.source.answer) cutter.now.given }
     ensures value { result ≡ sent_flow cutter.now.given }
     ensures valid { IfSome result IsFlow }
 {

@@ -1,9 +1,9 @@
 //! The device's end of the line: it hears master messages, and answers them.
 //!
-//! A [`Device`] holds direct parameter page 1, the state of one ISDU, the event memory, the process data of both
-//! directions and the record of the requests that its [`App`] carried out. What it does with octets is the
-//! definition `hear`, for all octets whatever (IEC 61131-9, 7.3 and Annexes A and B; the behaviour that the standard
-//! leaves open is a profile of this project).
+//! A [`Device`] holds direct parameter page 1, the state of one ISDU, the event memory, the
+//! process data of both directions and the record of the requests that its [`App`] carried out.
+//! What it does with octets is the definition `hear`, for all octets whatever (IEC 61131-9, 7.3
+//! and Annexes A and B; the behaviour that the standard leaves open is a profile of this project).
 #![tactic(auto)]
 
 mod app;

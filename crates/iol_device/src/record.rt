@@ -12,7 +12,8 @@ use iol_isdu::{Answer, Octets, Request};
 use std::alloc::{AllocError, Allocator, Global};
 use std::marker::{Model, PhantomData, Send, Sync};
 
-/// The record of a device: each request that was carried out, with the answer to it, the oldest first.
+/// The record of a device: each request that was carried out, with the answer to
+/// it, the oldest first.
 pub trait Record: Drop {
     /// The pairs of the record.
     ghost carried: { Self → List Carried };

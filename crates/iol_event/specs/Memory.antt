@@ -1,4 +1,5 @@
--- The event memory of a device, and its octets on the diagnosis channel (IEC 61131-9, A.6 and 7.3.8).
+-- The event memory of a device, and its octets on the diagnosis channel (IEC
+-- 61131-9, A.6 and 7.3.8).
 use Rattle.std.specs.Prelude.{◌≡◌, ℕ, ◌+◌, ◌-◌, ◌/◌, ◌%◌, ◌^◌, ◌≤◌, Bool, true, false, not, ◌&&◌, nat_le, ◌==◌, if◌then◌else◌, List, [], ◌∷◌, ◌++◌, length, take, drop, Option, Some, None, slice_get, slice_index, IsTrue}
 use Rattle.iol_event.specs.declared.event.Event.{Event}
 
@@ -35,12 +36,15 @@ raised memory event =
 
 -- the memory after a confirm: a confirm directly after a confirm does nothing
 abbrev pub confirmed : Events → Events
-confirmed memory = if memory.held then memory else record { frozen = []; waiting = memory.waiting; held = true }
+confirmed memory =
+    if memory.held then memory else record { frozen = []; waiting = memory.waiting; held = true }
 
--- the memory after any other message, or a wake: the hold ends, and where nothing is frozen up to six waiting events are
+-- the memory after any other message, or a wake: the hold ends, and where nothing
+-- is frozen up to six waiting events are
 abbrev pub released : Events → Events
 released memory =
-    if is_empty memory.frozen then record { frozen = take 6 memory.waiting; waiting = drop 6 memory.waiting; held = false }
+    if is_empty memory.frozen
+    then record { frozen = take 6 memory.waiting; waiting = drop 6 memory.waiting; held = false }
     else record memory { held = false }
 
 -- a memory that some calls lead to

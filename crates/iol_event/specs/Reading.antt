@@ -1,4 +1,5 @@
--- Reading the events of a device, octet by octet. A reader is the list of the octets that it has: StatusCode, then those of the places.
+-- Reading the events of a device, octet by octet. A reader is the list of the
+-- octets that it has: StatusCode, then those of the places.
 use Rattle.std.specs.Prelude.{ℕ, ◌+◌, ◌-◌, ◌*◌, ◌/◌, ◌%◌, ◌≤◌, zero, suc, Bool, true, not, ◌&&◌, nat_lt, ◌==◌, if◌then◌else◌, List, [], ◌∷◌, ◌++◌, length, filter, slice_index, Option, Some, None, Result, Ok, Err}
 use Rattle.std.specs.Int.{bit_at}
 use Rattle.iol_event.specs.declared.event.Event.{Event}
@@ -22,9 +23,11 @@ is_readable status = bit_at status 7 == 1 && nat_lt 0 (length (marked_places sta
 abbrev pub places_size : ℕ → ℕ
 places_size status = 3 * length (marked_places status)
 
--- the events whose octets these are, three for each: the qualifier, the code's high octet, its low octet
+-- the events whose octets these are, three for each: the qualifier, the code's high
+-- octet, its low octet
 abbrev pub events_of : List ℕ → List Event
-events_of (qualifier ∷ high ∷ low ∷ rest) = record { qualifier = qualifier; code = 256 * high + low } ∷ events_of rest
+events_of (qualifier ∷ high ∷ low ∷ rest) =
+    record { qualifier = qualifier; code = 256 * high + low } ∷ events_of rest
 events_of octets = []
 
 -- the octets of a reading that is not at its end
@@ -32,7 +35,8 @@ abbrev pub is_reading : List ℕ → Bool
 is_reading [] = true
 is_reading (status ∷ octets) = is_readable status && nat_lt (length octets) (places_size status)
 
--- where the octets of the marked places stand, by their index: 3n - 2, 3n - 1 and 3n for each marked place n
+-- where the octets of the marked places stand, by their index: 3n - 2, 3n - 1 and
+-- 3n for each marked place n
 abbrev pub place_address : ℕ → ℕ → ℕ
 place_address status index = 3 * slice_index (marked_places status) (index / 3) - 2 + index % 3
 
@@ -46,12 +50,14 @@ pub record Taken : Type 0 where
   pub answer : Result (Option (List Event)) EventForm
   pub reader : List ℕ
 
--- by all octets of the reading: a StatusCode that is refused, more to come, or the list; then the reader is new
+-- by all octets of the reading: a StatusCode that is refused, more to come, or the
+-- list; then the reader is new
 abbrev pub taken_all : List ℕ → Taken
 taken_all [] = record { answer = Ok None; reader = [] }
 taken_all (status ∷ octets) =
     if not (is_readable status) then record { answer = Err event_form; reader = [] } else
-    if nat_lt (length octets) (places_size status) then record { answer = Ok None; reader = status ∷ octets } else
+    if nat_lt (length octets) (places_size status)
+    then record { answer = Ok None; reader = status ∷ octets } else
     record { answer = Ok (Some (events_of octets)); reader = [] }
 
 -- what a reader does with the next octet

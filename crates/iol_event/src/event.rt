@@ -3,7 +3,8 @@ ghost use Rattle.std.specs.Prelude.{◌≡◌};
 
 /// An event, as the diagnosis channel carries it (IEC 61131-9, A.6).
 ///
-/// Every value of both fields is carried as it is (profile). `Default`, all bits 0, fills the unused places of a list.
+/// Every value of both fields is carried as it is (profile). `Default`, all bits 0,
+/// fills the unused places of a list.
 #[derive(Clone, Copy, Debug, Default, PartialEq, Eq)]
 pub struct Event {
     /// The EventQualifier: bits 2 to 0 INSTANCE, bit 3 SOURCE, bits 5 to 4 TYPE, bits 7 to 6 MODE.

@@ -1,7 +1,9 @@
-//! Events: the event memory of a device, the octets that it shows on the diagnosis channel, and the master's reader of them.
+//! Events: the event memory of a device, the octets that it shows on the diagnosis
+//! channel, and the master's reader of them.
 //!
-//! A device freezes up to six events where the master can read them, and keeps up to 32 more waiting until the master
-//! confirms. The master reads the StatusCode, then the octets of each place that it marks (IEC 61131-9, A.6 and 7.3.8).
+//! A device freezes up to six events where the master can read them, and keeps up
+//! to 32 more waiting until the master confirms. The master reads the StatusCode,
+//! then the octets of each place that it marks (IEC 61131-9, A.6 and 7.3.8).
 #![tactic(auto)]
 
 mod event;

@@ -8,8 +8,9 @@ use crate::status::{STATUS_CODE, is_readable, marked_places};
 use arrayvec::ArrayVec;
 use std::marker::Model;
 
-/// Reads the events of a device, octet by octet (IEC 61131-9, 7.3.8): the StatusCode, then for each place that it marks,
-/// in rising order, the qualifier and the code's two octets. A device may mark any places, also with gaps.
+/// Reads the events of a device, octet by octet (IEC 61131-9, 7.3.8): the
+/// StatusCode, then for each place that it marks, in rising order, the qualifier
+/// and the code's two octets. A device may mark any places, also with gaps.
 ///
 /// A clause sees the list of the octets that the reading has: none in a new reader.
 #[derive(Clone, Debug, PartialEq, Eq, Drop)]
@@ -55,11 +56,11 @@ impl EventReader {
         }
     }
 
-    /// Takes the octet that was read at `address`. `None` says that more are to be read; with the last octet it answers
-    /// the events of the marked places, and is new.
+    /// Takes the octet that was read at `address`. `None` says that more are to be read;
+    /// with the last octet it answers the events of the marked places, and is new.
     ///
-    /// Refused with 17 EventForm is a StatusCode whose bit 7 is 0, or whose bits 5 to 0 mark no place (bit 6 is
-    /// ignored). The reader is then new.
+    /// Refused with 17 EventForm is a StatusCode whose bit 7 is 0, or whose bits 5
+    /// to 0 mark no place (bit 6 is ignored). The reader is then new.
     pub fn take(&mut self, octet: u8) -> Result<Option<EventList>, EventForm>
         ensures answer { result ≡ (taken self.old octet).answer }
         ensures reader { self.new ≡ (taken self.old octet).reader }

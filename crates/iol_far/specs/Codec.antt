@@ -13,8 +13,8 @@ use Rattle.iol_page.specs.declared.fault.PageFault.{PageFault}
 use Rattle.iol_far.specs.declared.mode.Mode.{Mode}
 use Rattle.iol_far.specs.declared.mode.Mode.TheVariants.{Startup, Preoperate, Operate}
 
--- the layout of a mode, by the layouts that a page asks for; a page that asks for none has that of STARTUP alone, and
--- so has PREOPERATE where a device of V1.0 has none
+-- the layout of a mode, by the layouts that a page asks for; a page that asks for none
+-- has that of STARTUP alone, and so has PREOPERATE where a device of V1.0 has none
 abbrev pub layout_by : Mode → Result Layouts PageFault → Shape
 layout_by Startup asked = startup_shape
 layout_by Preoperate (Ok layouts) = unwrap_or layouts.pre startup_shape

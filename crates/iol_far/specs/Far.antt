@@ -34,7 +34,8 @@ pub record Far : Type 0 where
   pub input : Option (List ℕ)
   pub out : List ℕ
   pub valid : Bool
-  -- direct parameter page 1: the octets of 0x02 to 0x0B, which nothing changes, and the octet of 0x01
+  -- direct parameter page 1: the octets of 0x02 to 0x0B, which nothing changes, and
+  -- the octet of 0x01
   pub page : List ℕ
   pub cycle_time : ℕ
   -- what was carried out, and the most that this may be, where there is a most
@@ -76,9 +77,11 @@ accepted_now far octets = option_map (λ message. (far, message)) (message_in (l
 abbrev pub accepted_by : Option WaitingCommand → Far → List ℕ → Option (Far × MasterMsg)
 accepted_by None far octets = accepted_now far octets
 accepted_by (Some command) far octets =
-    if bytes_eq octets command.octets then accepted_now far octets else accepted_now (moved far command.into) octets
+    if bytes_eq octets command.octets then accepted_now far octets
+    else accepted_now (moved far command.into) octets
 
--- the far end in the layout in which it accepts the octets, and the message that they are there; none where they are not accepted
+-- the far end in the layout in which it accepts the octets, and the message that
+-- they are there; none where they are not accepted
 abbrev pub accepted : Far → List ℕ → Option (Far × MasterMsg)
 accepted far octets = if far.awake then accepted_by far.waits far octets else None
 
@@ -90,7 +93,9 @@ command_at false Page address octet = if address == 0 then command_of octet else
 command_at read channel address octet = None
 
 abbrev pub command_in : MasterMsg → Option MasterCommand
-command_in message = command_at message.mc.read message.mc.channel message.mc.address (slice_index message.od.items 0)
+command_in message =
+    command_at message.mc.read message.mc.channel message.mc.address
+    (slice_index message.od.items 0)
 
 -- the mode that a command asks for
 abbrev pub mode_asked : Option MasterCommand → Option Mode
@@ -113,7 +118,8 @@ known_mode page asked = asked
 -- a command for another mode waits
 abbrev pub waits_after : Mode → Option WaitingCommand → List ℕ → Option Mode → Option WaitingCommand
 waits_after mode waits octets None = waits
-waits_after mode waits octets (Some into) = if is_mode mode into then waits else Some (record { into = into; octets = octets })
+waits_after mode waits octets (Some into) =
+    if is_mode mode into then waits else Some (record { into = into; octets = octets })
 
 -- in OPERATE two commands say whether the output is valid
 abbrev pub valid_after : Mode → Bool → Option MasterCommand → Bool
@@ -132,7 +138,8 @@ isdu_moved size state false flow octets = isdu_written state flow octets
 
 -- where the device has no ISDU, the state stays empty
 abbrev pub isdu_after : Bool → ℕ → IsduState → Channel → Bool → Flow → List ℕ → IsduState
-isdu_after known size state Isdu read flow octets = if known then isdu_moved size state read flow octets else Empty
+isdu_after known size state Isdu read flow octets =
+    if known then isdu_moved size state read flow octets else Empty
 isdu_after known size state channel read flow octets = state
 
 -- a write to diagnosis address 0x00
@@ -152,12 +159,18 @@ cycle_time_after old channel read address octet = old
 -- the far end once it has worked a message that it accepts in its present layout
 abbrev pub worked : Far → List ℕ → MasterMsg → Far
 worked far octets message = record far {
-  waits = waits_after far.mode far.waits octets (known_mode far.page (mode_asked (command_in message)));
-  isdu = isdu_after (sheet.knows_isdu far.page) (layout_of far).od far.isdu message.mc.channel message.mc.read (flow_of message.mc.address) message.od.items;
-  events = events_after far.events (is_confirm message.mc.channel message.mc.read message.mc.address);
+  waits = waits_after far.mode far.waits octets
+      (known_mode far.page (mode_asked (command_in message)));
+  isdu = isdu_after (sheet.knows_isdu far.page)
+      (layout_of far).od far.isdu message.mc.channel message.mc.read
+      (flow_of message.mc.address) message.od.items;
+  events =
+      events_after far.events (is_confirm message.mc.channel message.mc.read message.mc.address);
   out = out_after far.mode far.out message.out.items;
   valid = valid_after far.mode far.valid (command_in message);
-  cycle_time = cycle_time_after far.cycle_time message.mc.channel message.mc.read message.mc.address (slice_index message.od.items 0);
+  cycle_time =
+      cycle_time_after far.cycle_time message.mc.channel message.mc.read message.mc.address
+      (slice_index message.od.items 0);
 }
 
 -- The reply, read off the far end once it has worked the message
@@ -179,7 +192,10 @@ input_of far size = if size == 0 then [] else unwrap_or far.input (replicate siz
 
 abbrev pub reply_to : Far → Shape → MasterMsg → Reply
 reply_to far layout message = record {
-  od = record { items = if message.mc.read then data_of far layout.od message.mc.channel message.mc.address else [] };
+  od = record {
+    items = if message.mc.read
+        then data_of far layout.od message.mc.channel message.mc.address else [];
+  };
   input = record { items = input_of far layout.pd_in };
   event = not (is_empty far.events.frozen);
   invalid = not (layout.pd_in == 0) && not (is_some far.input);
@@ -190,7 +206,8 @@ pub record Heard : Type 0 where
   pub reply : Option (List ℕ)
 
 abbrev pub replied : Far → MasterMsg → Heard
-replied far message = record { far = far; reply = Some (octets_of (reply_to far (layout_of far) message)) }
+replied far message =
+    record { far = far; reply = Some (octets_of (reply_to far (layout_of far) message)) }
 
 abbrev pub heard_as : Far → List ℕ → Option (Far × MasterMsg) → Heard
 heard_as far octets None = record { far = far; reply = None }

@@ -26,28 +26,32 @@ abbrev pub is_start_read : Channel → Bool → Flow → Bool
 is_start_read Isdu true Start = true
 is_start_read channel read flow = false
 
--- after a message was heard, and any local steps, hearing its octets again changes nothing: for every message but a START
--- read, which hands a request over first and sends its answer later
+-- after a message was heard, and any local steps, hearing its octets again changes nothing: for
+-- every message but a START read, which hands a request over first and sends its answer later
 abbrev pub OnceIsEnough : Type 0
 OnceIsEnough =
-    (far there : Far) (octets : List ℕ) (message : MasterMsg) (steps : List LocalStep) → accepted far octets ≡ Some (there, message)
+    (far there : Far) (octets : List ℕ) (message : MasterMsg) (steps : List LocalStep)
+    → accepted far octets ≡ Some (there, message)
     → is_start_read message.mc.channel message.mc.read (flow_of message.mc.address) ≡ false
     → (hear (locals (hear far octets).far steps) octets).far ≡ locals (hear far octets).far steps
 
 -- octets that spell a message in a layout are heard there as that message
 abbrev pub MessagesAreHeard : Type 0
-MessagesAreHeard = (layout : Shape) (message : MasterMsg) (octets : List ℕ) → SpellsMaster layout message octets → message_in layout octets ≡ Some message
+MessagesAreHeard = (layout : Shape) (message : MasterMsg) (octets : List ℕ)
+    → SpellsMaster layout message octets → message_in layout octets ≡ Some message
 
 -- each mode's layout, whatever the page, is a layout, and has on-request data
 abbrev pub ModesHaveLayouts : Type 0
-ModesHaveLayouts = (page : List ℕ) (mode : Mode) → IsLayout (layout_in page mode) × (1 ≤ (layout_in page mode).od)
+ModesHaveLayouts = (page : List ℕ) (mode : Mode)
+    → IsLayout (layout_in page mode) × (1 ≤ (layout_in page mode).od)
 
--- what a far end answers, in the layout that it speaks, is read back as that reply, where its input has the page's length
+-- what a far end answers, in the layout that it speaks, is read back as that reply,
+-- where its input has the page's length
 abbrev pub IsSized : Far → Type 0
 IsSized far = IfSome far.input (λ image. length image ≡ input_size far)
 
--- the parts of a far end as they can be: its page has the ten octets of 0x02 to 0x0B, its input the page's length, which is 1 to 32, and its
--- event memory is one that events and messages lead to
+-- the parts of a far end as they can be: its page has the ten octets of 0x02 to 0x0B, its input the
+-- page's length, which is 1 to 32, and its event memory is one that events and messages lead to
 pub record IsRegular (far : Far) : Type 0 where
   pub page : length far.page ≡ 10
   pub sized : IsSized far
@@ -57,7 +61,8 @@ pub record IsRegular (far : Far) : Type 0 where
 abbrev pub RepliesAreRead : Type 0
 RepliesAreRead =
     (far : Far) (message : MasterMsg) → IsSized far
-    → reply_in (layout_of far) message.mc.read (octets_of (reply_to far (layout_of far) message)) ≡ Some (reply_to far (layout_of far) message)
+    → reply_in (layout_of far) message.mc.read (octets_of (reply_to far (layout_of far) message))
+    ≡ Some (reply_to far (layout_of far) message)
 
 -- the input keeps the page's length
 pub record InputStaysSized : Type 0 where
@@ -70,8 +75,10 @@ abbrev pub IsValidInOperate : Far → Type 0
 IsValidInOperate far = far.valid ≡ true → far.mode ≡ Operate
 
 pub record OutputStaysInOperate : Type 0 where
-  pub hears : (far : Far) (octets : List ℕ) → IsValidInOperate far → IsValidInOperate (hear far octets).far
-  pub steps : (far : Far) (step : LocalStep) → IsValidInOperate far → IsValidInOperate (local far step)
+  pub hears : (far : Far) (octets : List ℕ) → IsValidInOperate far
+      → IsValidInOperate (hear far octets).far
+  pub steps : (far : Far) (step : LocalStep) → IsValidInOperate far
+      → IsValidInOperate (local far step)
   pub wakes : (far : Far) → IsValidInOperate (woken far)
 
 -- Hearing carries nothing out, and nothing changes the page or the record's room
@@ -83,35 +90,58 @@ pub record MuchStays : Type 0 where
   pub record_heard : (far : Far) (octets : List ℕ) → (hear far octets).far.carried ≡ far.carried
 
 -- What keeps the ends level while a message is out
-pub record LevelStays (page : List ℕ) (size : ℕ) (base : List Carried) (link : Link) (progress : Progress) (octets : List ℕ) : Type 0 where
+pub record LevelStays (page : List ℕ) (size : ℕ) (base : List Carried) (link : Link)
+    (progress : Progress) (octets : List ℕ) : Type 0 where
   -- a new message goes out
-  pub begins : (far : Far) → IsBefore page size base link progress far → IsLevel page size base link progress octets 0 far
+  pub begins : (far : Far) → IsBefore page size base link progress far
+      → IsLevel page size base link progress octets 0 far
   -- the far end does something by itself
-  pub steps : (most : ℕ) (far : Far) (step : LocalStep) → IsLevel page size base link progress octets most far → IsLevel page size base link progress octets most (local far step)
+  pub steps : (most : ℕ) (far : Far) (step : LocalStep)
+      → IsLevel page size base link progress octets most far
+      → IsLevel page size base link progress octets most (local far step)
   -- the message is heard, and no good reply comes
-  pub hears : (most : ℕ) (far : Far) → IsLevel page size base link progress octets most far → IsLevel page size base link progress octets (suc most) (hear far octets).far
+  pub hears : (most : ℕ) (far : Far) → IsLevel page size base link progress octets most far
+      → IsLevel page size base link progress octets (suc most) (hear far octets).far
   -- it is lost
-  pub loses : (most : ℕ) (far : Far) → IsLevel page size base link progress octets most far → IsLevel page size base link progress octets (suc most) far
+  pub loses : (most : ℕ) (far : Far) → IsLevel page size base link progress octets most far
+      → IsLevel page size base link progress octets (suc most) far
 
--- What one good reply says of the far end: the state before the next message, what the record may have gained, and the reply, in
--- the layout of the master's own link
-pub record ReplySays (page : List ℕ) (size : ℕ) (base : List Carried) (link : Link) (progress : Progress) (octets : List ℕ) (message : MasterMsg) (what : Move) (heard : Heard) : Type 0 where
-  pub before : IsBefore page size (base_after what base heard.far.carried) (turned page link octets message) (after progress what (isdu_data size heard.far.isdu)) heard.far
+-- What one good reply says of the far end: the state before the next message, what
+-- the record may have gained, and the reply, in the layout of the master's own link
+pub record ReplySays (page : List ℕ) (size : ℕ) (base : List Carried) (link : Link)
+    (progress : Progress) (octets : List ℕ) (message : MasterMsg) (what : Move)
+    (heard : Heard) : Type 0 where
+  pub before : IsBefore page size (base_after what base heard.far.carried)
+      (turned page link octets message)
+      (after progress what (isdu_data size heard.far.isdu)) heard.far
   pub grown : IsGrown base progress heard.far.carried
-  pub reply_is : heard.reply ≡ Some (octets_of (reply_to heard.far (layout_in page (turned page link octets message).mode) message))
+  pub reply_is : heard.reply
+      ≡ Some (octets_of
+      (reply_to heard.far (layout_in page (turned page link octets message).mode) message))
 
 pub record LevelLaws (size : ℕ) : Type 0 where
-  pub stays : (page : List ℕ) (base : List Carried) (link : Link) (progress : Progress) (octets : List ℕ) → LevelStays page size base link progress octets
-  pub replies : (page : List ℕ) (base : List Carried) (link : Link) (progress : Progress) (octets : List ℕ) (message : MasterMsg) (what : Move) → IsSent page size link progress octets message what
-      → (most : ℕ) (far : Far) → IsLevel page size base link progress octets most far → (reply : List ℕ) → (hear far octets).reply ≡ Some reply
+  pub stays : (page : List ℕ) (base : List Carried) (link : Link) (progress : Progress)
+      (octets : List ℕ) → LevelStays page size base link progress octets
+  pub replies : (page : List ℕ) (base : List Carried) (link : Link) (progress : Progress)
+      (octets : List ℕ) (message : MasterMsg) (what : Move)
+      → IsSent page size link progress octets message what
+      → (most : ℕ) (far : Far) → IsLevel page size base link progress octets most far
+      → (reply : List ℕ) → (hear far octets).reply ≡ Some reply
       → ReplySays page size base link progress octets message what (hear far octets)
   -- what the record may have gained at any moment
-  pub grown : (page : List ℕ) (base : List Carried) (link : Link) (progress : Progress) (octets : List ℕ) (message : MasterMsg) (what : Move) → IsSent page size link progress octets message what
-      → (most : ℕ) (far : Far) → IsLevel page size base link progress octets most far → IsGrown base progress far.carried
+  pub grown : (page : List ℕ) (base : List Carried) (link : Link) (progress : Progress)
+      (octets : List ℕ) (message : MasterMsg) (what : Move)
+      → IsSent page size link progress octets message what
+      → (most : ℕ) (far : Far) → IsLevel page size base link progress octets most far
+      → IsGrown base progress far.carried
   -- after a wake
-  pub wakes : (far : Far) → IsBefore far.page size far.carried (record { mode = Startup; waits = None }) Quiet (woken far)
-  -- while no request is under way the size of segments doesn't matter, as where another layout is taken
-  pub quiet : (other : ℕ) (page : List ℕ) (base : List Carried) (link : Link) (far : Far) → IsBefore page size base link Quiet far → IsBefore page other base link Quiet far
+  pub wakes : (far : Far)
+      → IsBefore far.page size far.carried (record { mode = Startup; waits = None }) Quiet
+      (woken far)
+  -- while no request is under way the size of segments doesn't matter, as where
+  -- another layout is taken
+  pub quiet : (other : ℕ) (page : List ℕ) (base : List Carried) (link : Link) (far : Far)
+      → IsBefore page size base link Quiet far → IsBefore page other base link Quiet far
 
 -- Events
 
@@ -119,13 +149,17 @@ pub record LevelLaws (size : ℕ) : Type 0 where
 abbrev pub IsFrozen : Event → List Event → Events → Type 0
 IsFrozen first rest memory = (memory.frozen ≡ first ∷ rest) × (memory.held ≡ false)
 
--- while the confirm is out: the list is frozen still, or the confirm was heard and what was raised since waits
+-- while the confirm is out: the list is frozen still, or the confirm was heard and
+-- what was raised since waits
 abbrev pub IsConfirming : Event → List Event → Events → Type 0
-IsConfirming first rest memory = IsFrozen first rest memory ⊎ ((memory.frozen ≡ []) × (memory.held ≡ true))
+IsConfirming first rest memory = IsFrozen first rest memory
+    ⊎ ((memory.frozen ≡ []) × (memory.held ≡ true))
 
 -- whether octets are those of a confirm, by the first of them
 abbrev pub confirms : List ℕ → Bool
-confirms octets = is_confirm (control_of (slice_index octets 0)).channel (control_of (slice_index octets 0)).read (control_of (slice_index octets 0)).address
+confirms octets =
+    is_confirm (control_of (slice_index octets 0)).channel (control_of (slice_index octets 0)).read
+    (control_of (slice_index octets 0)).address
 
 -- a fact of the event memory while the far end is awake
 abbrev pub Awake : (Events → Type 0) → Far → Type 0
@@ -133,11 +167,16 @@ Awake fact far = far.awake ≡ true → fact far.events
 
 pub record EventLaws (first : Event) (rest : List Event) : Type 0 where
   -- the list stays frozen over local steps, and over hearing whatever isn't a confirm
-  pub frozen_steps : (far : Far) (step : LocalStep) → Awake (IsFrozen first rest) far → Awake (IsFrozen first rest) (local far step)
-  pub frozen_hears : (far : Far) (octets : List ℕ) → confirms octets ≡ false → Awake (IsFrozen first rest) far → Awake (IsFrozen first rest) (hear far octets).far
+  pub frozen_steps : (far : Far) (step : LocalStep) → Awake (IsFrozen first rest) far
+      → Awake (IsFrozen first rest) (local far step)
+  pub frozen_hears : (far : Far) (octets : List ℕ) → confirms octets ≡ false
+      → Awake (IsFrozen first rest) far → Awake (IsFrozen first rest) (hear far octets).far
   -- while the confirm is out nothing else is cleared, however often it is heard
-  pub confirming_steps : (far : Far) (step : LocalStep) → Awake (IsConfirming first rest) far → Awake (IsConfirming first rest) (local far step)
-  pub confirming_hears : (far : Far) (octets : List ℕ) → confirms octets ≡ true → Awake (IsConfirming first rest) far → Awake (IsConfirming first rest) (hear far octets).far
+  pub confirming_steps : (far : Far) (step : LocalStep) → Awake (IsConfirming first rest) far
+      → Awake (IsConfirming first rest) (local far step)
+  pub confirming_hears : (far : Far) (octets : List ℕ) → confirms octets ≡ true
+      → Awake (IsConfirming first rest) far → Awake (IsConfirming first rest) (hear far octets).far
   -- once it has a reply the list is cleared
-  pub clears : (far : Far) (octets reply : List ℕ) → confirms octets ≡ true → Awake (IsConfirming first rest) far → (hear far octets).reply ≡ Some reply
+  pub clears : (far : Far) (octets reply : List ℕ) → confirms octets ≡ true
+      → Awake (IsConfirming first rest) far → (hear far octets).reply ≡ Some reply
       → ((hear far octets).far.events.frozen ≡ []) × ((hear far octets).far.events.held ≡ true)

@@ -36,24 +36,30 @@ pub data Progress : Type 0 where
 abbrev pub grown_by : List Carried → Request → Answer → List Carried
 grown_by base request answer = base ++ record { request = request; answer = answer } ∷ []
 
--- the far end's ISDU state and record are as that progress says, but for what it does by itself; the record was `base` when
--- the request was begun
+-- the far end's ISDU state and record are as that progress says, but for what it
+-- does by itself; the record was `base` when the request was begun
 abbrev pub Stands : ℕ → List Carried → Progress → IsduState → List Carried → Type 0
 Stands size base Quiet Empty carried = carried ≡ base
 Stands size base Quiet (Answered request answer last) carried = carried ≡ base
-Stands size base (Written request i) state carried = IsRequest request × (state ≡ received (joined size (request_text request) i) (count_at i)) × (carried ≡ base)
+Stands size base (Written request i) state carried = IsRequest request
+    × (state ≡ received (joined size (request_text request) i) (count_at i)) × (carried ≡ base)
 Stands size base (Busy request) (Handed held) carried = (held ≡ request) × (carried ≡ base)
-Stands size base (Busy request) (Answered held answer None) carried = (held ≡ request) × IsTrue (fits held answer) × (carried ≡ grown_by base request answer)
+Stands size base (Busy request) (Answered held answer None) carried = (held ≡ request)
+    × IsTrue (fits held answer) × (carried ≡ grown_by base request answer)
 Stands size base (Had request i text) (Answered held answer (Some sent)) carried =
-    (held ≡ request) × IsTrue (fits held answer) × (sent ≡ i) × (text ≡ joined size (answer_text request answer) i) × (carried ≡ grown_by base request answer)
+    (held ≡ request) × IsTrue (fits held answer) × (sent ≡ i)
+    × (text ≡ joined size (answer_text request answer) i) × (carried ≡ grown_by base request answer)
 Stands size base progress state carried = ⊥
 
 -- since then the record has grown by nothing, or by the request under way with some answer
 abbrev pub IsGrown : List Carried → Progress → List Carried → Type 0
 IsGrown base Quiet carried = carried ≡ base
-IsGrown base (Written request i) carried = (carried ≡ base) ⊎ ((answer : Answer) × (carried ≡ grown_by base request answer))
-IsGrown base (Busy request) carried = (carried ≡ base) ⊎ ((answer : Answer) × (carried ≡ grown_by base request answer))
-IsGrown base (Had request i text) carried = (answer : Answer) × (carried ≡ grown_by base request answer)
+IsGrown base (Written request i) carried = (carried ≡ base)
+    ⊎ ((answer : Answer) × (carried ≡ grown_by base request answer))
+IsGrown base (Busy request) carried = (carried ≡ base)
+    ⊎ ((answer : Answer) × (carried ≡ grown_by base request answer))
+IsGrown base (Had request i text) carried = (answer : Answer)
+    × (carried ≡ grown_by base request answer)
 
 -- what a new message of the master does
 pub data Move : Type 0 where
@@ -84,14 +90,19 @@ after progress any data_in = progress
 
 -- the message of this channel, direction, flow and octets is that move, at this progress
 abbrev pub IsMove : ℕ → Move → Progress → Channel → Bool → Flow → List ℕ → Type 0
-IsMove size (Begin request) Quiet Isdu false Start octets = IsRequest request × (octets ≡ segment size (request_text request) 0)
+IsMove size (Begin request) Quiet Isdu false Start octets = IsRequest request
+    × (octets ≡ segment size (request_text request) 0)
 IsMove size More (Written request i) Isdu false (Count count) octets =
-    (suc i * size < length (request_text request)) × (count ≡ suc i % 16) × (octets ≡ segment size (request_text request) (suc i))
+    (suc i * size < length (request_text request)) × (count ≡ suc i % 16)
+    × (octets ≡ segment size (request_text request) (suc i))
 IsMove size Ask (Written request i) Isdu true Start octets = IsLast size (request_text request) i
 IsMove size Ask (Busy request) Isdu true Start octets = Unit {0}
 -- the text had so far is no whole answer
 IsMove size Next (Had request i text) Isdu true (Count count) octets =
-    (count ≡ suc i % 16) × ((answer : Answer) → IsTrue (fits request answer) → text ≡ joined size (answer_text request answer) i → suc i * size < length (answer_text request answer))
+    (count ≡ suc i % 16)
+    × ((answer : Answer) → IsTrue (fits request answer)
+    → text ≡ joined size (answer_text request answer) i
+    → suc i * size < length (answer_text request answer))
 IsMove size Leave progress Isdu read Idle1 octets = Unit {0}
 IsMove size Leave progress Isdu read Idle2 octets = Unit {0}
 IsMove size Leave progress Isdu read Abort octets = Unit {0}
@@ -117,7 +128,8 @@ link_of far = record { mode = far.mode; waits = far.waits }
 
 abbrev pub taken_by : Option WaitingCommand → Link → List ℕ → Link
 taken_by None link octets = link
-taken_by (Some command) link octets = if bytes_eq octets command.octets then link else record { mode = command.into; waits = None }
+taken_by (Some command) link octets =
+    if bytes_eq octets command.octets then link else record { mode = command.into; waits = None }
 
 -- the link in the layout in which it accepts the octets
 abbrev pub taken : Link → List ℕ → Link
@@ -126,19 +138,26 @@ taken link octets = taken_by link.waits link octets
 -- and once a device of this page has worked the message
 abbrev pub turned : List ℕ → Link → List ℕ → MasterMsg → Link
 turned page link octets message =
-    record { mode = (taken link octets).mode; waits = waits_after (taken link octets).mode (taken link octets).waits octets (known_mode page (mode_asked (command_in message))) }
+    record {
+      mode = (taken link octets).mode;
+      waits = waits_after (taken link octets).mode (taken link octets).waits octets
+          (known_mode page (mode_asked (command_in message)));
+    }
 
 -- a request is begun only where the page has ISDU
 abbrev pub MayBegin : List ℕ → Move → Type 0
 MayBegin page (Begin request) = IsTrue (knows_isdu page)
 MayBegin page what = Unit {0}
 
--- What a master sends: octets that spell the message in the layout in which the far end accepts them, the message being
--- that move. Before the first good reply in a layout no request is under way
-pub record IsSent (page : List ℕ) (size : ℕ) (link : Link) (progress : Progress) (octets : List ℕ) (message : MasterMsg) (what : Move) : Type 0 where
+-- What a master sends: octets that spell the message in the layout in which the far
+-- end accepts them, the message being that move. Before the first good reply in a
+-- layout no request is under way
+pub record IsSent (page : List ℕ) (size : ℕ) (link : Link) (progress : Progress) (octets : List ℕ)
+    (message : MasterMsg) (what : Move) : Type 0 where
   pub spells : message_in (layout_in page (taken link octets).mode) octets ≡ Some message
   pub size_of : (layout_in page (taken link octets).mode).od ≡ size
-  pub move : IsMove size what progress message.mc.channel message.mc.read (flow_of message.mc.address) message.od.items
+  pub move : IsMove size what progress message.mc.channel message.mc.read
+      (flow_of message.mc.address) message.od.items
   pub begins : MayBegin page what
   pub quiet : IfSome link.waits (λ command. progress ≡ Quiet)
 
@@ -148,7 +167,8 @@ HasIsduFor page Quiet = Unit {0}
 HasIsduFor page progress = IsTrue (knows_isdu page)
 
 -- The far end is as the master's fields say, with no message out
-pub record IsBefore (page : List ℕ) (size : ℕ) (base : List Carried) (link : Link) (progress : Progress) (far : Far) : Type 0 where
+pub record IsBefore (page : List ℕ) (size : ℕ) (base : List Carried) (link : Link)
+    (progress : Progress) (far : Far) : Type 0 where
   pub awake : far.awake ≡ true
   pub page_is : far.page ≡ page
   pub link_is : link_of far ≡ link
@@ -170,8 +190,10 @@ hearings [] = 0
 hearings (Own step ∷ rest) = hearings rest
 hearings (Hears ∷ rest) = suc (hearings rest)
 
--- The far end sleeps, or it comes from the state before the message that is out by local steps and at most that many hearings of it
+-- The far end sleeps, or it comes from the state before the message that is out by
+-- local steps and at most that many hearings of it
 abbrev pub IsLevel : List ℕ → ℕ → List Carried → Link → Progress → List ℕ → ℕ → Far → Type 0
 IsLevel page size base link progress octets most far =
     ((far.awake ≡ false) × (far.isdu ≡ Empty) × IsGrown base progress far.carried)
-    ⊎ ((before : Far) × (rest : List Happening) × IsBefore page size base link progress before × (hearings rest ≤ most) × (far ≡ happened before octets rest))
+    ⊎ ((before : Far) × (rest : List Happening) × IsBefore page size base link progress before
+    × (hearings rest ≤ most) × (far ≡ happened before octets rest))

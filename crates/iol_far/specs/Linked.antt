@@ -1,4 +1,5 @@
--- The link alone: which mode both ends are in while a message is out, whatever is under way on the ISDU channel.
+-- The link alone: which mode both ends are in while a message is out, whatever is
+-- under way on the ISDU channel.
 use Rattle.std.specs.Prelude.{◌≡◌, ◌⊎◌, ℕ, suc, ◌≤◌, true, false, List, Some}
 use Rattle.iol_mseq.specs.Shape.{Shape}
 use Rattle.iol_mseq.specs.Master.{HasMasterParts}
@@ -15,37 +16,50 @@ pub record IsAt (page : List ℕ) (link : Link) (far : Far) : Type 0 where
   pub page_is : far.page ≡ page
   pub link_is : link_of far ≡ link
 
--- The far end sleeps, or it comes from there by local steps and at most that many hearings of the message that is out
+-- The far end sleeps, or it comes from there by local steps and at most that many
+-- hearings of the message that is out
 abbrev pub IsLinked : List ℕ → Link → List ℕ → ℕ → Far → Type 0
 IsLinked page link octets most far =
     ((far.awake ≡ false) × (far.page ≡ page))
-    ⊎ ((before : Far) × (rest : List Happening) × IsAt page link before × (hearings rest ≤ most) × (far ≡ happened before octets rest))
+    ⊎ ((before : Far) × (rest : List Happening) × IsAt page link before × (hearings rest ≤ most)
+    × (far ≡ happened before octets rest))
 
 -- What keeps both ends so while a message is out
 pub record LinkStays (page : List ℕ) (link : Link) (octets : List ℕ) : Type 0 where
   -- a new message goes out
   pub begins : (far : Far) → IsAt page link far → IsLinked page link octets 0 far
   -- the far end does something by itself
-  pub steps : (most : ℕ) (far : Far) (step : LocalStep) → IsLinked page link octets most far → IsLinked page link octets most (local far step)
+  pub steps : (most : ℕ) (far : Far) (step : LocalStep) → IsLinked page link octets most far
+      → IsLinked page link octets most (local far step)
   -- the message is heard, and no good reply comes
-  pub hears : (most : ℕ) (far : Far) → IsLinked page link octets most far → IsLinked page link octets (suc most) (hear far octets).far
+  pub hears : (most : ℕ) (far : Far) → IsLinked page link octets most far
+      → IsLinked page link octets (suc most) (hear far octets).far
   -- it is lost
-  pub loses : (most : ℕ) (far : Far) → IsLinked page link octets most far → IsLinked page link octets (suc most) far
+  pub loses : (most : ℕ) (far : Far) → IsLinked page link octets most far
+      → IsLinked page link octets (suc most) far
 
--- What one good reply says of the far end: its link, and the reply, in the layout of the master's own link
-pub record LinkSays (page : List ℕ) (link : Link) (octets : List ℕ) (message : MasterMsg) (heard : Heard) : Type 0 where
+-- What one good reply says of the far end: its link, and the reply, in the layout
+-- of the master's own link
+pub record LinkSays (page : List ℕ) (link : Link) (octets : List ℕ) (message : MasterMsg)
+    (heard : Heard) : Type 0 where
   pub at : IsAt page (turned page link octets message) heard.far
-  pub reply_is : heard.reply ≡ Some (octets_of (reply_to heard.far (layout_in page (turned page link octets message).mode) message))
+  pub reply_is : heard.reply
+      ≡ Some (octets_of
+      (reply_to heard.far (layout_in page (turned page link octets message).mode) message))
 
 pub record LinkLaws : Type 0 where
   pub stays : (page : List ℕ) (link : Link) (octets : List ℕ) → LinkStays page link octets
   -- octets that spell the message in the layout in which the far end accepts them
-  pub replies : (page : List ℕ) (link : Link) (octets : List ℕ) (message : MasterMsg) → message_in (layout_in page (taken link octets).mode) octets ≡ Some message
-      → (most : ℕ) (far : Far) → IsLinked page link octets most far → (reply : List ℕ) → (hear far octets).reply ≡ Some reply
+  pub replies : (page : List ℕ) (link : Link) (octets : List ℕ) (message : MasterMsg)
+      → message_in (layout_in page (taken link octets).mode) octets ≡ Some message
+      → (most : ℕ) (far : Far) → IsLinked page link octets most far → (reply : List ℕ)
+      → (hear far octets).reply ≡ Some reply
       → LinkSays page link octets message (hear far octets)
   -- where nothing was heard, it doesn't matter what was out
-  pub unheard : (far : Far) (octets other : List ℕ) (rest : List Happening) → hearings rest ≤ 0 → happened far octets rest ≡ happened far other rest
+  pub unheard : (far : Far) (octets other : List ℕ) (rest : List Happening) → hearings rest ≤ 0
+      → happened far octets rest ≡ happened far other rest
 
 -- the octets of a message are read back as that message, in the layout whose sizes its parts have
 abbrev pub TextsAreHeard : Type 0
-TextsAreHeard = (layout : Shape) (message : MasterMsg) → HasMasterParts layout message → message_in layout (master_text layout message) ≡ Some message
+TextsAreHeard = (layout : Shape) (message : MasterMsg) → HasMasterParts layout message
+    → message_in layout (master_text layout message) ≡ Some message

@@ -28,7 +28,11 @@ has_room far = takes_more far.room far.carried
 abbrev pub carried_by : IsduState → Far → Answer → Far
 carried_by (Handed request) far answer =
     if has_room far && fits request answer
-    then record far { isdu = Answered request answer None; carried = far.carried ++ record { request = request; answer = answer } ∷ [] }
+    then record far {
+      isdu = Answered request answer None;
+      carried = far.carried
+          ++ record { request = request; answer = answer } ∷ [];
+    }
     else far
 carried_by state far answer = far
 
@@ -55,7 +59,8 @@ local far (Carry answer) = carried_by far.isdu far answer
 local far (Raise event) = record far { events = raised far.events event }
 local far (Input image) = if is_input far image then record far { input = Some image } else far
 local far NoInput = record far { input = None }
-local far Power = record far { awake = false; isdu = Empty; events = no_events; input = None; valid = false }
+local far Power =
+    record far { awake = false; isdu = Empty; events = no_events; input = None; valid = false }
 
 abbrev pub locals : Far → List LocalStep → Far
 locals far [] = far
@@ -63,11 +68,21 @@ locals far (step ∷ steps) = locals (local far step) steps
 
 -- the far end after a wake
 abbrev pub woken : Far → Far
-woken far = record far { awake = true; mode = Startup; waits = None; isdu = Empty; events = released far.events; valid = false }
+woken far =
+    record far {
+      awake = true;
+      mode = Startup;
+      waits = None;
+      isdu = Empty;
+      events = released far.events;
+      valid = false;
+    }
 
--- Working a handed request off at the far end alone, whatever application stands behind it: where the record has room, with
--- some answer that fits; else nothing changes
+-- Working a handed request off at the far end alone, whatever application stands behind
+-- it: where the record has room, with some answer that fits; else nothing changes
 abbrev pub IsWorkedOff : Option Request → Far → Far → Type 0
 IsWorkedOff None old new = new ≡ old
 IsWorkedOff (Some request) old new =
-    MatchBool (has_room old) ((answer : Answer) × IsTrue (fits request answer) × (new ≡ local old (Carry answer))) (new ≡ old)
+    MatchBool (has_room old)
+    ((answer : Answer) × IsTrue (fits request answer) × (new ≡ local old (Carry answer)))
+    (new ≡ old)

@@ -11,8 +11,8 @@ use iol_mseq::what_is_written_is_read;
 use iol_page::pages_ask_for_layouts;
 use iol_segment::{cut_is_whole, texts_join};
 
-/// Hearing the same message again, after whatever the device does by itself, changes nothing: for every message but a
-/// START read.
+/// Hearing the same message again, after whatever the device does by itself,
+/// changes nothing: for every message but a START read.
 #[tactic(auto, using(crate::proofs::LawProofs::once_is_enough))]
 pub fn hearing_again_changes_nothing()
     ensures { OnceIsEnough }
@@ -45,37 +45,39 @@ pub fn replies_are_read()
     what_is_written_is_read();
 }
 
-/// Hearing carries nothing out, and nothing changes the page or the record's room; the output is valid in OPERATE alone.
+/// Hearing carries nothing out, and nothing changes the page or the record's room;
+/// the output is valid in OPERATE alone.
 #[tactic(auto, using(crate::proofs::LawProofs::much_stays, crate::proofs::LawProofs::output_stays_in_operate))]
 pub fn page_and_room_stay()
     ensures much { MuchStays }
     ensures output { OutputStaysInOperate }
 {}
 
-/// The segments of a request are received one by one, and the last makes it whole; an answer that fits its request has
-/// a text of its kind, which doesn't begin as busy does.
+/// The segments of a request are received one by one, and the last makes it whole; an
+/// answer that fits its request has a text of its kind, which doesn't begin as busy does.
 pub fn requests_are_received()
     ensures { (size : ℕ) → 1 ≤ size → SegmentLaws size }
 {
     texts_join();
 }
 
-/// What a master may conclude of the device while a message is out, and from one good reply: where a request stands, which mode
-/// both ends are in, and what the record may have gained.
+/// What a master may conclude of the device while a message is out, and from one good reply:
+/// where a request stands, which mode both ends are in, and what the record may have gained.
 pub fn ends_stay_level()
     ensures { (size : ℕ) → 1 ≤ size → LevelLaws size }
 {
     requests_are_received();
 }
 
-/// A list of frozen events stays while it is read, and its confirm, however often it is heard, clears nothing else.
+/// A list of frozen events stays while it is read, and its confirm, however often
+/// it is heard, clears nothing else.
 #[tactic(auto, using(crate::proofs::LawProofs::event_laws))]
 pub fn events_stay_until_confirmed()
     ensures { (first : Event) (rest : List Event) → EventLaws first rest }
 {}
 
-/// What a master may conclude of the device's mode while a message is out, and from one good reply, whatever is under way on the
-/// ISDU channel.
+/// What a master may conclude of the device's mode while a message is out, and from
+/// one good reply, whatever is under way on the ISDU channel.
 #[tactic(auto, using(crate::proofs::Linking::link_laws))]
 pub fn links_stay_level()
     ensures { LinkLaws }
@@ -89,8 +91,9 @@ pub fn texts_are_heard()
     what_is_written_is_read();
 }
 
-/// The parts of a device stay as they can be, whatever it hears or does by itself, and at a wake-up request: the page has
-/// ten octets, the input the page's length, and the event memory is one that events and messages lead to.
+/// The parts of a device stay as they can be, whatever it hears or does by itself,
+/// and at a wake-up request: the page has ten octets, the input the page's length,
+/// and the event memory is one that events and messages lead to.
 #[tactic(auto, using(crate::proofs::Regularly::regular_stays))]
 pub fn parts_stay_regular()
     ensures { RegularStays }

@@ -1,7 +1,9 @@
-//! The far end of the line as a value: what a device does with octets and by itself, and how level both ends are.
+//! The far end of the line as a value: what a device does with octets and by
+//! itself, and how level both ends are.
 //!
-//! No code runs here: the definitions are in `specs/`, and each law of them is carried by a function that does nothing.
-//! The master's crates and the device's stand on them alike (IEC 61131-9, 7.3 and Annexes A and B; the behaviour that
+//! No code runs here: the definitions are in `specs/`, and each law of them is
+//! carried by a function that does nothing. The master's crates and the device's
+//! stand on them alike (IEC 61131-9, 7.3 and Annexes A and B; the behaviour that
 //! the standard leaves open is a profile of this project).
 #![tactic(auto)]
 

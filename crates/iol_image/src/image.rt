@@ -7,10 +7,11 @@ use crate::fault::ImageFault;
 use arrayvec::ArrayVec;
 use std::marker::Model;
 
-/// Process data of one direction, whole: 1 to 32 octets, as the lengths on direct parameter page 1 allow (B.1).
+/// Process data of one direction, whole: 1 to 32 octets, as the lengths on direct
+/// parameter page 1 allow (B.1).
 ///
-/// A clause sees the list of the octets in the order of the wire. No valid process data is no image:
-/// where that is possible there is an `Option<Image>`.
+/// A clause sees the list of the octets in the order of the wire. No valid process
+/// data is no image: where that is possible there is an `Option<Image>`.
 #[derive(Clone, Debug, Drop, PartialEq, Eq)]
 pub struct Image {
     octets: ArrayVec<u8, 32>,

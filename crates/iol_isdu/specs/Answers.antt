@@ -56,7 +56,8 @@ pub record BeginsWithAnswer (read : Bool) (octets : List ℕ) (a : Answer) : Typ
 -- the table of the answers' services and their total lengths; 16 is never one
 abbrev pub answer_accepts : ℕ → ℕ → Bool
 answer_accepts service total =
-    (service == 4 && total == 4) || (service == 5 && total == 2) || (service == 12 && total == 4) || (service == 13 && within 2 235 total)
+    (service == 4 && total == 4) || (service == 5 && total == 2) || (service == 12 && total == 4)
+    || (service == 13 && within 2 235 total)
 
 -- whether a service answers a read
 abbrev pub answers_read : ℕ → Bool
@@ -72,4 +73,5 @@ kind_fault false true = Some WrongAnswerKind
 -- the first refusal of an answer to a read (or to a write): as a text, then by its kind
 abbrev pub answer_fault : Bool → List ℕ → Option IsduFault
 answer_fault read octets =
-    first_of (isdu_fault answer_accepts octets) (kind_fault read (answers_read (slice_index octets 0 / 16)))
+    first_of (isdu_fault answer_accepts octets)
+    (kind_fault read (answers_read (slice_index octets 0 / 16)))

@@ -1,4 +1,5 @@
--- How every ISDU text is made: first octet, ExtLength in long ones, a body, CHKPDU (IEC 61131-9, A.5.1, A.5.3, A.5.6).
+-- How every ISDU text is made: first octet, ExtLength in long ones, a body, CHKPDU
+-- (IEC 61131-9, A.5.1, A.5.3, A.5.6).
 use Rattle.std.specs.Prelude.{◌≡◌, ℕ, ◌+◌, ◌*◌, ◌/◌, ◌%◌, Bool, ◌==◌, nat_lt, nat_le, not, ◌&&◌, if◌then◌else◌, List, [], ◌∷◌, ◌++◌, length, fold, bit_xor, take, Option, Some, None, Result, Ok, Err, slice_index}
 use Rattle.iol_isdu.specs.declared.fault.IsduFault.{IsduFault}
 use Rattle.iol_isdu.specs.declared.fault.IsduFault.TheVariants.{Truncated, BadIsduLength, BadService, BadChkpdu}
@@ -7,9 +8,11 @@ use Rattle.iol_isdu.specs.declared.fault.IsduFault.TheVariants.{Truncated, BadIs
 abbrev pub xor_of : List ℕ → ℕ
 xor_of octets = fold bit_xor 0 octets
 
--- what stands before a body of this length: the service and the total length, which from 17 on is in an ExtLength
+-- what stands before a body of this length: the service and the total length, which
+-- from 17 on is in an ExtLength
 abbrev pub head : ℕ → ℕ → List ℕ
-head service size = if (nat_lt size 14) then (16 * service + (size + 2)) ∷ [] else (16 * service + 1) ∷ (size + 3) ∷ []
+head service size = if (nat_lt size 14) then (16 * service + (size + 2)) ∷ []
+    else (16 * service + 1) ∷ (size + 3) ∷ []
 
 -- the total length of the text of a body of this length
 abbrev pub total_of : ℕ → ℕ
@@ -21,7 +24,8 @@ pub record IsFrame (service : ℕ) (body text : List ℕ) : Type 0 where
   pub parts : text ≡ head service (length body) ++ body ++ chkpdu ∷ []
   pub even : xor_of text ≡ 0
 
--- the total length that the octets begin with: 2 to 15 in the first octet, 17 to 238 in the ExtLength
+-- the total length that the octets begin with: 2 to 15 in the first octet, 17 to
+-- 238 in the ExtLength
 abbrev pub total_at : List ℕ → Result ℕ IsduFault
 total_at [] = Err Truncated
 total_at (first ∷ rest) =
@@ -30,7 +34,8 @@ total_at (first ∷ rest) =
   where
     extended : List ℕ → Result ℕ IsduFault
     extended [] = Err Truncated
-    extended (total ∷ _) = if (nat_le 17 total && nat_le total 238) then Ok total else Err BadIsduLength
+    extended (total ∷ _) =
+        if (nat_le 17 total && nat_le total 238) then Ok total else Err BadIsduLength
 
 -- why the octets don't begin with as many as their total length
 abbrev pub frame_fault : List ℕ → Option IsduFault
@@ -62,7 +67,8 @@ abbrev pub first_of : Option IsduFault → Option IsduFault → Option IsduFault
 first_of None other = other
 first_of (Some fault) other = Some fault
 
--- the first refusal: no whole text, no service of this direction with this total length, a wrong XOR
+-- the first refusal: no whole text, no service of this direction with this total
+-- length, a wrong XOR
 abbrev pub isdu_fault : (ℕ → ℕ → Bool) → List ℕ → Option IsduFault
 isdu_fault accepts octets =
     first_of (frame_fault octets) (

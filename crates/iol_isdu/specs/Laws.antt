@@ -17,28 +17,35 @@ OneRequestInFront =
 -- octets begin with at most one text of an answer to a read (or to a write)
 abbrev pub OneAnswerInFront : Type 0
 OneAnswerInFront =
-    (read : Bool) (a b : Answer) (text other rest more : List ℕ) → IsAnswerText read a text → IsAnswerText read b other
+    (read : Bool) (a b : Answer) (text other rest more : List ℕ) → IsAnswerText read a text
+    → IsAnswerText read b other
     → text ++ rest ≡ other ++ more → (text ≡ other) × (a ≡ b)
 
 -- a request has one short text
 abbrev pub OneShortText : Type 0
-OneShortText = (r : Request) → IsRequest r → (text : List ℕ) → IsShortText r text ↔ (text ≡ request_text r)
+OneShortText = (r : Request) → IsRequest r → (text : List ℕ)
+    → IsShortText r text ↔ (text ≡ request_text r)
 
 -- an answer to a read (or to a write) has one text
 abbrev pub OneAnswerText : Type 0
-OneAnswerText = (read : Bool) (a : Answer) → FitsAnswer read a → (text : List ℕ) → IsAnswerText read a text ↔ (text ≡ answer_text read a)
+OneAnswerText = (read : Bool) (a : Answer) → FitsAnswer read a → (text : List ℕ)
+    → IsAnswerText read a text ↔ (text ≡ answer_text read a)
 
 -- the total length that a text begins with is its length
 abbrev pub RequestHoldsLength : Type 0
-RequestHoldsLength = (r : Request) → IsRequest r → total_at (request_text r) ≡ Ok (length (request_text r))
+RequestHoldsLength = (r : Request) → IsRequest r
+    → total_at (request_text r) ≡ Ok (length (request_text r))
 
 abbrev pub AnswerHoldsLength : Type 0
-AnswerHoldsLength = (read : Bool) (a : Answer) → FitsAnswer read a → total_at (answer_text read a) ≡ Ok (length (answer_text read a))
+AnswerHoldsLength = (read : Bool) (a : Answer) → FitsAnswer read a
+    → total_at (answer_text read a) ≡ Ok (length (answer_text read a))
 
 -- a text, whatever octets follow it, is found to be its request's
 abbrev pub EachTextIsFound : Type 0
-EachTextIsFound = (r : Request) (text rest : List ℕ) → IsRequestText r text → request_of (text ++ rest) ≡ Some r
+EachTextIsFound = (r : Request) (text rest : List ℕ) → IsRequestText r text
+    → request_of (text ++ rest) ≡ Some r
 
 -- the text of an answer, read as one to a request of its kind, is refused by nothing
 abbrev pub NoAnswerIsRefused : Type 0
-NoAnswerIsRefused = (read : Bool) (a : Answer) → FitsAnswer read a → answer_fault read (answer_text read a) ≡ None
+NoAnswerIsRefused = (read : Bool) (a : Answer) → FitsAnswer read a
+    → answer_fault read (answer_text read a) ≡ None

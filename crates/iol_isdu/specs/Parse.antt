@@ -9,7 +9,8 @@ use Rattle.iol_isdu.specs.Requests.{request_accepts}
 
 -- what stands between the total length and the CHKPDU of a text
 abbrev pub body_of : List ℕ → List ℕ
-body_of text = if (nat_lt (length text) 16) then take (length text - 2) (drop 1 text) else take (length text - 3) (drop 2 text)
+body_of text = if (nat_lt (length text) 16) then take (length text - 2) (drop 1 text)
+    else take (length text - 3) (drop 2 text)
 
 -- the place of an index part of 1, 2 or 3 octets
 abbrev pub place_in : ℕ → List ℕ → Place
@@ -20,7 +21,9 @@ place_in size body =
 
 -- the request of a service and a body: 1 to 3 are the writes, 9 to 11 the reads
 abbrev pub request_in : ℕ → List ℕ → Request
-request_in service body = if nat_lt service 8 then Write (place_in (service % 8) body) (record { items = drop (service % 8) body }) else Read (place_in (service % 8) body)
+request_in service body = if nat_lt service 8
+    then Write (place_in (service % 8) body) (record { items = drop (service % 8) body })
+    else Read (place_in (service % 8) body)
 
 -- the request, where nothing refuses it
 abbrev pub unless : Option IsduFault → Request → Option Request
@@ -29,4 +32,6 @@ unless (Some fault) r = None
 
 -- the request that octets begin with, where they begin with one
 unfoldable pub request_of : List ℕ → Option Request
-request_of octets = unless (isdu_fault request_accepts octets) (request_in (slice_index octets 0 / 16) (body_of (text_at octets)))
+request_of octets =
+    unless (isdu_fault request_accepts octets)
+    (request_in (slice_index octets 0 / 16) (body_of (text_at octets)))

@@ -45,7 +45,8 @@ written (Read p) = []
 written (Write p octets) = octets.items
 
 -- the service and the body of a request, its place in this form
-pub record IsRequestBodyIn (form : Form) (request : Request) (service : ℕ) (body : List ℕ) : Type 0 where
+pub record IsRequestBodyIn (form : Form) (request : Request) (service : ℕ)
+    (body : List ℕ) : Type 0 where
   pub holds : Holds form (place_of request)
   pub fits : length (written request) ≤ 232
   pub code : service ≡ request_service request form
@@ -75,7 +76,8 @@ pub record BeginsWithRequest (octets : List ℕ) (request : Request) : Type 0 wh
 
 -- the shortest form that says a place
 abbrev pub shortest : Place → Form
-shortest p = if (nat_lt p.index 256) then (if (p.sub == 0) then Index else IndexSub) else WideIndexSub
+shortest p =
+    if (nat_lt p.index 256) then (if (p.sub == 0) then Index else IndexSub) else WideIndexSub
 
 -- a text of the request in the shortest form, which is the one that is sent
 abbrev pub IsShortText : Request → List ℕ → Type 0
@@ -88,5 +90,7 @@ within low high n = nat_le low n && nat_le n high
 -- the table of the requests' services and their total lengths; 16 is never one
 abbrev pub request_accepts : ℕ → ℕ → Bool
 request_accepts service total =
-    (service == 1 && within 3 236 total) || (service == 2 && within 4 237 total) || (service == 3 && within 5 238 total)
-    || (service == 9 && total == 3) || (service == 10 && total == 4) || (service == 11 && total == 5)
+    (service == 1 && within 3 236 total) || (service == 2 && within 4 237 total)
+    || (service == 3 && within 5 238 total)
+    || (service == 9 && total == 3) || (service == 10 && total == 4)
+    || (service == 11 && total == 5)

@@ -16,7 +16,9 @@ front_of service body = head service (length body) ++ body
 
 -- the text that is sent for a request, but its CHKPDU
 unfoldable pub request_front : Request → List ℕ
-request_front r = front_of (request_service r (shortest (place_of r))) (index_part (shortest (place_of r)) (place_of r) ++ written r)
+request_front r =
+    front_of (request_service r (shortest (place_of r)))
+    (index_part (shortest (place_of r)) (place_of r) ++ written r)
 
 -- the text that is sent for a request
 abbrev pub request_text : Request → List ℕ

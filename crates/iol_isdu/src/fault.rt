@@ -9,7 +9,8 @@ pub enum IsduFault {
     /// 9: more than 232 octets are to be written.
     #[error("DataTooLong")]
     DataTooLong,
-    /// 10: there are fewer octets than the total length that they begin with, or too few to hold one.
+    /// 10: there are fewer octets than the total length that they begin with, or
+    /// too few to hold one.
     #[error("Truncated")]
     Truncated,
     /// 11: the total length is one that no text has.

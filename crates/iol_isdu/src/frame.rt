@@ -1,4 +1,5 @@
-//! The frame of each text: its first octet, ExtLength and CHKPDU (IEC 61131-9, A.5.2, A.5.3 and A.5.6).
+//! The frame of each text: its first octet, ExtLength and CHKPDU (IEC 61131-9,
+//! A.5.2, A.5.3 and A.5.6).
 ghost use Rattle.std.specs.Prelude.{◌≡◌, IfOk, fold, bit_xor};
 ghost use Rattle.std.specs.Result.{result_err};
 ghost use Rattle.iol_isdu.specs.Frame.{total_at, frame_fault, Frames, xor_of};

@@ -1,4 +1,5 @@
-//! A text but its CHKPDU, in two pieces: what whole texts are written from, and segments are cut from.
+//! A text but its CHKPDU, in two pieces: what whole texts are written from, and
+//! segments are cut from.
 ghost use Rattle.std.specs.Prelude.{◌≡◌, ◌≤◌, ◌<◌, ◌+◌, ◌++◌, length, slice_index};
 ghost use Rattle.iol_isdu.specs.Services.{service_number};
 ghost use Rattle.iol_isdu.specs.Frame.{head, xor_of};
@@ -14,7 +15,8 @@ use arrayvec::ArrayVec;
 /// (IEC 61131-9, A.5.1).
 #[derive(Clone, Debug, Drop)]
 pub struct Front<'a> {
-    /// The first octet, the ExtLength of a long text, then a request's index part or the codes of a refusal.
+    /// The first octet, the ExtLength of a long text, then a request's index part
+    /// or the codes of a refusal.
     pub head: ArrayVec<u8, 5>,
     /// The octets of the parameter.
     pub octets: &'a [u8],

@@ -11,9 +11,8 @@ pub fn one_text_in_front()
 
 /// The text that is sent for a request, and the text of an answer, as functions.
 ///
-/// Each is the one text there is, holds its own length, and is found again in front of any octets; an answer's is
-/// refused by nothing.
-/// A law of the definitions; it does nothing when it runs.
+/// Each is the one text there is, holds its own length, and is found again in front of any octets;
+/// an answer's is refused by nothing. A law of the definitions; it does nothing when it runs.
 pub fn one_text_each()
     ensures request { OneShortText }
     ensures answer { OneAnswerText }

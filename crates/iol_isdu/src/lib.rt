@@ -1,4 +1,5 @@
-//! Requests and answers of the ISDU channel of IO-Link, and their texts (IEC 61131-9, A.5.1 to A.5.6 and 7.3.6).
+//! Requests and answers of the ISDU channel of IO-Link, and their texts (IEC
+//! 61131-9, A.5.1 to A.5.6 and 7.3.6).
 //!
 //! An ISDU is the text that carries one request of the master to a parameter of the device, or
 //! the device's answer to it. Both are read and written here as whole texts; how a text is cut

@@ -17,8 +17,10 @@ module _ {W : Type 0} where
   Woken rate after old came new = (came ≡ rate) × (new ≡ after)
 
   -- a wire over which those octets are sent once, which brings that, and is this one then
-  abbrev pub Answered : ArrayVec ℕ → Option (ArrayVec ℕ) → W → W → List ℕ → Option (ArrayVec ℕ) → W → Type 0
-  Answered sent answer after old octets came new = (octets ≡ sent.items) × (came ≡ answer) × (new ≡ after)
+  abbrev pub Answered : ArrayVec ℕ → Option (ArrayVec ℕ) → W → W → List ℕ → Option (ArrayVec ℕ) → W
+      → Type 0
+  Answered sent answer after old octets came new = (octets ≡ sent.items) × (came ≡ answer)
+      × (new ≡ after)
 
   abbrev pub NoWake : W → Option Rate → W → Type 0
   NoWake old came new = ⊥
@@ -26,10 +28,13 @@ module _ {W : Type 0} where
   abbrev pub NoExchange : W → List ℕ → Option (ArrayVec ℕ) → W → Type 0
   NoExchange old octets came new = ⊥
 
-  -- The exact turn of a port in which its line is woken and brings that; in which those octets are sent and bring that
+  -- The exact turn of a port in which its line is woken and brings that; in which
+  -- those octets are sent and bring that
   module _ (honest : W → Bool) (far : W → Far) (silence : W → ℕ) where
     abbrev pub TurnWoken : Option Rate → W → Parts W → Parts W → Type 0
-    TurnWoken rate after old new = TurnGives honest far silence (Woken rate after) NoExchange old new
+    TurnWoken rate after old new =
+        TurnGives honest far silence (Woken rate after) NoExchange old new
 
     abbrev pub TurnAnswered : ArrayVec ℕ → Option (ArrayVec ℕ) → W → Parts W → Parts W → Type 0
-    TurnAnswered sent answer after old new = TurnGives honest far silence NoWake (Answered sent answer after) old new
+    TurnAnswered sent answer after old new =
+        TurnGives honest far silence NoWake (Answered sent answer after) old new

@@ -28,28 +28,33 @@ given_in told = option_map (λ t. t.0) told
 -- The premise: a line that stands there may bring this, and stands there then
 
 abbrev pub WakePremise : Standing → Option Rate → Standing → Type 0
-WakePremise at rate after = HonestWake at.far (is_some rate) after.far × (after.silence ≡ at.silence)
+WakePremise at rate after = HonestWake at.far (is_some rate) after.far
+    × (after.silence ≡ at.silence)
 
 abbrev pub ExchangePremise : Standing → List ℕ → Option (List ℕ) → Standing → Type 0
-ExchangePremise at sent answer after = HonestExchange at.far at.silence sent answer after.far after.silence
+ExchangePremise at sent answer after =
+    HonestExchange at.far at.silence sent answer after.far after.silence
 
 abbrev pub Premise : Standing → Option (Given × Standing) → Type 0
 Premise at None = Unit {0}
 Premise at (Some (Wake rate, after)) = WakePremise at rate after
-Premise at (Some (Exchange sent answer, after)) = ExchangePremise at sent.items (octets_in answer) after
+Premise at (Some (Exchange sent answer, after)) =
+    ExchangePremise at sent.items (octets_in answer) after
 
 -- what always holds of such a line
 pub record IsHonestLine (l : HonestState) : Type 0 where
   pub regular : IsRegular l.at.far
   pub premise : Premise l.at l.told
 
--- where it stands after a wake-up request, and after an exchange of these octets: those that it was not told of are lost
+-- where it stands after a wake-up request, and after an exchange of these octets:
+-- those that it was not told of are lost
 abbrev pub at_woken : Standing → Option (Given × Standing) → Standing
 at_woken at (Some (Wake rate, after)) = after
 at_woken at told = at
 
 abbrev pub at_heard : Standing → Option (Given × Standing) → List ℕ → Standing
-at_heard at (Some (Exchange sent answer, after)) octets = if bytes_eq octets sent.items then after else unheard at
+at_heard at (Some (Exchange sent answer, after)) octets =
+    if bytes_eq octets sent.items then after else unheard at
 at_heard at told octets = unheard at
 
 abbrev pub standing : Standing → HonestState
@@ -70,7 +75,8 @@ abbrev pub Wakes : HonestState → Option Rate → HonestState → Type 0
 Wakes l rate next = (rate ≡ rate_told (given_in l.told)) × (next ≡ standing (at_woken l.at l.told))
 
 abbrev pub Gives : HonestState → List ℕ → Option (ArrayVec ℕ) → HonestState → Type 0
-Gives l octets answer next = (answer ≡ answer_told (given_in l.told) octets) × (next ≡ standing (at_heard l.at l.told octets))
+Gives l octets answer next = (answer ≡ answer_told (given_in l.told) octets)
+    × (next ≡ standing (at_heard l.at l.told octets))
 
 -- it may be told anything that keeps the premise, and stands where it stood
 abbrev pub Tells : HonestState → HonestState → Type 0

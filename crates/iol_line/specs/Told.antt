@@ -21,10 +21,12 @@ is_of (Some (Exchange sent answer)) octets = bytes_eq octets sent.items
 is_of told octets = false
 
 abbrev pub answer_told : Option Given → List ℕ → Option (ArrayVec ℕ)
-answer_told (Some (Exchange sent answer)) octets = if bytes_eq octets sent.items then answer else None
+answer_told (Some (Exchange sent answer)) octets =
+    if bytes_eq octets sent.items then answer else None
 answer_told told octets = None
 
--- The line as a wire that claims nothing: the next call gives what it was told, and is told of no more
+-- The line as a wire that claims nothing: the next call gives what it was told, and
+-- is told of no more
 
 abbrev pub is_honest : Option Given → Bool
 is_honest told = false

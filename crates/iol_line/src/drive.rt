@@ -14,10 +14,11 @@ use iol_link::Rate;
 use iol_mseq::Message;
 use iol_port::Port;
 
-/// One turn, where the port asks for a wake-up request: the line was woken, and this came of it, the rate of the device
-/// that answered, or none where none did.
+/// One turn, where the port asks for a wake-up request: the line was woken, and
+/// this came of it, the rate of the device that answered, or none where none did.
 ///
-/// It is one call of the abstract port, and the exact turn of the port over a line whose one wake brings this.
+/// It is one call of the abstract port, and the exact turn of the port over a line
+/// whose one wake brings this.
 pub fn turn_woken<A: Handle>(port: &mut Port<Line, A>, rate: Option<Rate>)
     requires { asks_of port.old.parts ≡ Asked.Wake }
     ensures does { Does is_honest far_of silence_of
@@ -30,11 +31,12 @@ pub fn turn_woken<A: Handle>(port: &mut Port<Line, A>, rate: Option<Rate>)
     port.turn();
 }
 
-/// One turn, where the port asks for the exchange of these octets: they were sent, and this came back in the time of a
-/// reply, or nothing did.
+/// One turn, where the port asks for the exchange of these octets: they were sent,
+/// and this came back in the time of a reply, or nothing did.
 ///
-/// It is one call of the abstract port, and the exact turn of the port over a line whose one exchange is of those very
-/// octets and brings this. Of a reply of more than 66 octets give the first 66: it is of a wrong length as it is.
+/// It is one call of the abstract port, and the exact turn of the port over a line
+/// whose one exchange is of those very octets and brings this. Of a reply of more
+/// than 66 octets give the first 66: it is of a wrong length as it is.
 pub fn turn_answered<A: Handle>(port: &mut Port<Line, A>, sent: Message, answer: Option<Message>)
     requires { asks_of port.old.parts ≡ Asked.Exchange sent }
     ensures does { Does is_honest far_of silence_of

@@ -7,6 +7,7 @@ use iol_mseq::Message;
 pub enum Given {
     /// A wake-up request: the rate of the device that answered it, none where none did.
     Wake(Option<Rate>),
-    /// The exchange of these octets: the octets that came back in the time of a reply, none where none did.
+    /// The exchange of these octets: the octets that came back in the time of a
+    /// reply, none where none did.
     Exchange(Message, Option<Message>),
 }

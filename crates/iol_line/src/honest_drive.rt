@@ -18,11 +18,13 @@ use iol_link::Rate;
 use iol_mseq::Message;
 use iol_port::Port;
 
-/// One turn, where the port asks for a wake-up request: the line was woken, and this came of it. `after` is the device
-/// at the far end then, a value that no code holds; what names it may speak of `near`.
+/// One turn, where the port asks for a wake-up request: the line was woken, and
+/// this came of it. `after` is the device at the far end then, a value that no code
+/// holds; what names it may speak of `near`.
 ///
-/// The premise: the device did what a device does by itself, and then the wake's effect or nothing; and a rate came
-/// only where the wake had its effect. It is one call of the abstract port over an honest wire.
+/// The premise: the device did what a device does by itself, and then the wake's
+/// effect or nothing; and a rate came only where the wake had its effect. It is one
+/// call of the abstract port over an honest wire.
 pub fn honest_turn_woken<T, A: Handle>(port: &mut Port<HonestLine, A>, rate: Option<Rate>, near: &T)
     ghost after: { Far }
     requires asked { asks_of port.old.parts ≡ Asked.Wake }
@@ -40,12 +42,12 @@ pub fn honest_turn_woken<T, A: Handle>(port: &mut Port<HonestLine, A>, rate: Opt
     port.turn();
 }
 
-/// One turn, where the port asks for the exchange of these octets: they were sent, and this came back in the time of a
-/// reply, or nothing did. `after` is where the line stands then, a value that no code holds; what names it may speak of
-/// `near`.
+/// One turn, where the port asks for the exchange of these octets: they were sent,
+/// and this came back in the time of a reply, or nothing did. `after` is where the
+/// line stands then, a value that no code holds; what names it may speak of `near`.
 ///
-/// The premise: this is what an honest exchange of those octets could bring, and leave the device as it is then. It is
-/// one call of the abstract port over an honest wire.
+/// The premise: this is what an honest exchange of those octets could bring, and leave
+/// the device as it is then. It is one call of the abstract port over an honest wire.
 pub fn honest_turn_answered<T, A: Handle>(
     port: &mut Port<HonestLine, A>,
     sent: Message,

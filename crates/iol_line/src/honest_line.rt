@@ -16,21 +16,26 @@ use iol_link::{Rate, Wire};
 use iol_mseq::Message;
 use std::marker::Model;
 
-/// A line that is told from outside what its next call brings, and that claims to lose and never to lie.
+/// A line that is told from outside what its next call brings, and that claims to
+/// lose and never to lie.
 ///
-/// It holds at most one answer, as a [`Line`] does. Telling it an answer has a condition, the premise: the answer is
-/// what an honest exchange could bring, with the device at the far end as it was, and as it is then. So
-/// - the octets that were sent reached the device unaltered, or the device took nothing for them: they were lost, or
-///   what it heard in their place it didn't accept;
-/// - what came back is the device's reply unaltered, or nothing, or octets that are damaged so that it shows: they are
-///   well-formed in no layout in which the sent octets are a message;
-/// - between two exchanges the device did what a device does by itself, and no one else had the line.
+/// It holds at most one answer, as a [`Line`] does. Telling it an answer has a
+/// condition, the premise: the answer is what an honest exchange could bring, with
+/// the device at the far end as it was, and as it is then. So
+/// - the octets that were sent reached the device unaltered, or the device took nothing
+///   for them: they were lost, or what it heard in their place it didn't accept;
+/// - what came back is the device's reply unaltered, or nothing, or octets that are damaged so
+///   that it shows: they are well-formed in no layout in which the sent octets are a message;
+/// - between two exchanges the device did what a device does by itself, and no one
+///   else had the line.
 ///
-/// The checksum of a message has six bits. It shows each single altered bit, but of octets at random one in 64 passes
-/// it. Such a damage that looks like another good message is what the premise rules out, and no code can tell.
+/// The checksum of a message has six bits. It shows each single altered bit, but of
+/// octets at random one in 64 passes it. Such a damage that looks like another good
+/// message is what the premise rules out, and no code can tell.
 ///
-/// Where the line stands, at which device and how long without a reply, is a value that no code holds: whoever tells an
-/// answer names it in his proof. A clause sees where the line stands, and what it was told.
+/// Where the line stands, at which device and how long without a reply, is a value
+/// that no code holds: whoever tells an answer names it in his proof. A clause sees
+/// where the line stands, and what it was told.
 #[derive(Drop)]
 pub struct HonestLine {
     line: Line,

@@ -9,8 +9,9 @@ use std::marker::Model;
 
 /// A line that is told from outside what its next call brings, and that claims nothing.
 ///
-/// It holds at most one answer, told for one wake-up request or for the octets of one message, and gives it to the
-/// next call if that is the one that it was told of. Every other call brings nothing, as on a line that loses octets.
+/// It holds at most one answer, told for one wake-up request or for the octets of
+/// one message, and gives it to the next call if that is the one that it was told
+/// of. Every other call brings nothing, as on a line that loses octets.
 ///
 /// A port over it is promised what holds on every wire. A clause sees what it was told.
 #[derive(Drop)]
@@ -38,7 +39,8 @@ impl Line {
         Line { told: None }
     }
 
-    /// A line that was told what its next wake-up request brings: the rate of the device that answered it, or none.
+    /// A line that was told what its next wake-up request brings: the rate of the
+    /// device that answered it, or none.
     pub fn woken(rate: Option<Rate>) -> Line
         ensures { result ≡ Some (Wake rate) }
     {
@@ -47,7 +49,8 @@ impl Line {
         }
     }
 
-    /// A line that was told what the exchange of these octets brings: the octets that came back, or none.
+    /// A line that was told what the exchange of these octets brings: the octets
+    /// that came back, or none.
     pub fn answered(sent: Message, answer: Option<Message>) -> Line
         ensures { result ≡ Some (Exchange sent answer) }
     {

@@ -63,7 +63,8 @@ fn turn(port: &mut Port<Line>, device: &mut Device<Store>, fate: Fate) {
     }
 }
 
-/// How the exchange of this turn goes on a line of this kind. No more than two in a row bring nothing good.
+/// How the exchange of this turn goes on a line of this kind. No more than two in a
+/// row bring nothing good.
 fn fate_at(kind: u32, turn: u32) -> Fate {
     match (kind, turn % 3) {
         (1, 0) | (4, 0) => Fate::OutLost,
@@ -132,8 +133,8 @@ fn a_request_on_a_line_that_falls_silent_is_cut_off(rt: HostRuntime) -> Result<(
     Ok(())
 }
 
-/// An answer of zeros has no right checksum, whatever its length: the message goes out again, twice, and then the link is
-/// lost.
+/// An answer of zeros has no right checksum, whatever its length: the message goes
+/// out again, twice, and then the link is lost.
 #[test]
 fn replies_of_a_wrong_length_count_as_none(rt: HostRuntime) -> Result<(), Fail> {
     for length in [0usize, 1, 65, 66] {

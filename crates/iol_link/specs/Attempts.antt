@@ -27,7 +27,8 @@ tries_after tries (Some reply) = 0
 tries_after tries None = if tries == 2 then 0 else tries + 1
 
 -- one attempt, by the answer of the wire
-pub record IsAttempt (layout : Shape) (old : Sending) (answer : Option (List ℕ)) (attempt : Attempt) (new : Sending) : Type 0 where
+pub record IsAttempt (layout : Shape) (old : Sending) (answer : Option (List ℕ)) (attempt : Attempt)
+    (new : Sending) : Type 0 where
   pub attempt_is : attempt ≡ attempt_of old.tries (good_reply layout old.message answer)
   pub message_is : new.message ≡ old.message
   pub tries_are : new.tries ≡ tries_after old.tries (good_reply layout old.message answer)

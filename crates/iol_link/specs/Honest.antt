@@ -13,11 +13,13 @@ use Rattle.iol_far.specs.Laws.{IsRegular}
 abbrev pub IsUnread : List ℕ → Option (List ℕ) → Type 0
 IsUnread sent None = Unit {0}
 IsUnread sent (Some answer) =
-    (layout : Shape) (message : MasterMsg) → IsLayout layout → master_in layout sent ≡ Some message → reply_in layout message.mc.read answer ≡ None
+    (layout : Shape) (message : MasterMsg) → IsLayout layout → master_in layout sent ≡ Some message
+    → reply_in layout message.mc.read answer ≡ None
 
 -- how far an exchange comes
 pub data Passage : Type 0 where
-  -- the sent octets are lost, or the far end hears others, which it doesn't accept: nothing changes there
+  -- the sent octets are lost, or the far end hears others, which it doesn't accept:
+  -- nothing changes there
   OutLost : Passage
   -- they are heard, and what comes back is nothing or damaged
   BackLost : Passage
@@ -45,9 +47,10 @@ abbrev pub silence_after : ℕ → Option (List ℕ) → ℕ
 silence_after silence None = min 3 (silence + 1)
 silence_after silence (Some reply) = 0
 
--- one exchange: some steps of the far end by itself, then the octets come as far as they do; the far end is one
--- that can be
-pub record HonestExchange (far : Far) (silence : ℕ) (sent : List ℕ) (answer : Option (List ℕ)) (far_new : Far) (silence_new : ℕ) : Type 0 where
+-- one exchange: some steps of the far end by itself, then the octets come as far as
+-- they do; the far end is one that can be
+pub record HonestExchange (far : Far) (silence : ℕ) (sent : List ℕ) (answer : Option (List ℕ))
+    (far_new : Far) (silence_new : ℕ) : Type 0 where
   pub regular : IsRegular far
   pub steps : List LocalStep
   pub passage : Passage
@@ -55,16 +58,19 @@ pub record HonestExchange (far : Far) (silence : ℕ) (sent : List ℕ) (answer 
   pub answer_is : IsAnswer passage (locals far steps) sent answer
   pub silence_is : silence_new ≡ silence_after silence (brought passage (locals far steps) sent)
 
--- one wake: some steps of the far end by itself, then the wake's effect or nothing; a rate is answered only where it took effect
+-- one wake: some steps of the far end by itself, then the wake's effect or nothing;
+-- a rate is answered only where it took effect
 pub record HonestWake (far : Far) (answered : Bool) (far_new : Far) : Type 0 where
   pub steps : List LocalStep
   pub wakes : Bool
   pub far_is : far_new ≡ (if wakes then woken (locals far steps) else locals far steps)
   pub answered_is : answered ≡ true → wakes ≡ true
 
--- one exchange on a clean wire: a handed request is carried out where the record has room, and the far end does nothing else by itself; the
--- octets are heard, and what it answers comes back unaltered
-pub record CleanExchange (far : Far) (sent : List ℕ) (answer : Option (List ℕ)) (far_new : Far) : Type 0 where
+-- one exchange on a clean wire: a handed request is carried out where the record
+-- has room, and the far end does nothing else by itself; the octets are heard, and
+-- what it answers comes back unaltered
+pub record CleanExchange (far : Far) (sent : List ℕ) (answer : Option (List ℕ))
+    (far_new : Far) : Type 0 where
   pub ready : Far
   pub work : IsWorkedOff (handed far.isdu) far ready
   pub far_is : far_new ≡ (hear ready sent).far

@@ -13,16 +13,18 @@ use Rattle.iol_link.specs.Honest.{HonestExchange}
 use Rattle.iol_link.specs.Attempts.{good_reply}
 
 -- the octets of the message that is out, in the layout in which the far end accepts them
-pub record IsOut (page : List ℕ) (link : Link) (octets : List ℕ) (message : MasterMsg) (layout : Shape) : Type 0 where
+pub record IsOut (page : List ℕ) (link : Link) (octets : List ℕ) (message : MasterMsg)
+    (layout : Shape) : Type 0 where
   pub valid : IsLayout layout
   pub spells : message_in layout octets ≡ Some message
   pub accepted : layout_in page (taken link octets).mode ≡ layout
 
 -- The link alone
 
--- after a good reply: both ends have one link, by what a device of this page does with the message, and the reply is
--- what the far end says there
-pub record LinkMet (page : List ℕ) (link : Link) (octets : List ℕ) (message : MasterMsg) (layout : Shape) (silence : ℕ) (far : Far) (reply : Reply) : Type 0 where
+-- after a good reply: both ends have one link, by what a device of this page does
+-- with the message, and the reply is what the far end says there
+pub record LinkMet (page : List ℕ) (link : Link) (octets : List ℕ) (message : MasterMsg)
+    (layout : Shape) (silence : ℕ) (far : Far) (reply : Reply) : Type 0 where
   pub silent : silence ≡ 0
   pub at : IsAt far.page (turned page link octets message) far
   pub reply_is : reply ≡ reply_to far layout message
@@ -33,38 +35,62 @@ pub record LinkMissed (link : Link) (octets : List ℕ) (tries silence : ℕ) (f
   pub linked : IsLinked far.page link octets (tries + 1) far
 
 pub record LinkExchanges : Type 0 where
-  pub met : (far : Far) (silence : ℕ) (octets : List ℕ) (answer : Option (List ℕ)) (far_new : Far) (silence_new : ℕ) → HonestExchange far silence octets answer far_new silence_new
-      → (link : Link) (message : MasterMsg) (layout : Shape) (tries : ℕ) → IsOut far.page link octets message layout → IsLinked far.page link octets tries far
-      → (reply : Reply) → good_reply layout message answer ≡ Some reply → LinkMet far.page link octets message layout silence_new far_new reply
-  pub missed : (far : Far) (silence : ℕ) (octets : List ℕ) (answer : Option (List ℕ)) (far_new : Far) (silence_new : ℕ) → HonestExchange far silence octets answer far_new silence_new
-      → (link : Link) (message : MasterMsg) (layout : Shape) (tries : ℕ) → IsOut far.page link octets message layout → IsLinked far.page link octets tries far
-      → tries < 3 → tries ≤ silence → good_reply layout message answer ≡ None → LinkMissed link octets tries silence_new far_new
+  pub met : (far : Far) (silence : ℕ) (octets : List ℕ) (answer : Option (List ℕ)) (far_new : Far)
+      (silence_new : ℕ) → HonestExchange far silence octets answer far_new silence_new
+      → (link : Link) (message : MasterMsg) (layout : Shape) (tries : ℕ)
+      → IsOut far.page link octets message layout → IsLinked far.page link octets tries far
+      → (reply : Reply) → good_reply layout message answer ≡ Some reply
+      → LinkMet far.page link octets message layout silence_new far_new reply
+  pub missed : (far : Far) (silence : ℕ) (octets : List ℕ) (answer : Option (List ℕ))
+      (far_new : Far) (silence_new : ℕ)
+      → HonestExchange far silence octets answer far_new silence_new
+      → (link : Link) (message : MasterMsg) (layout : Shape) (tries : ℕ)
+      → IsOut far.page link octets message layout → IsLinked far.page link octets tries far
+      → tries < 3 → tries ≤ silence → good_reply layout message answer ≡ None
+      → LinkMissed link octets tries silence_new far_new
 
 -- The request and the record too
 
-pub record LevelMet (page : List ℕ) (size : ℕ) (base : List Carried) (link : Link) (progress : Progress) (octets : List ℕ) (message : MasterMsg) (what : Move) (layout : Shape) (silence : ℕ) (far : Far) (reply : Reply) : Type 0 where
+pub record LevelMet (page : List ℕ) (size : ℕ) (base : List Carried) (link : Link)
+    (progress : Progress) (octets : List ℕ) (message : MasterMsg) (what : Move) (layout : Shape)
+    (silence : ℕ) (far : Far) (reply : Reply) : Type 0 where
   pub silent : silence ≡ 0
-  pub before : IsBefore far.page size (base_after what base far.carried) (turned page link octets message) (after progress what (isdu_data size far.isdu)) far
+  pub before : IsBefore far.page size (base_after what base far.carried)
+      (turned page link octets message) (after progress what (isdu_data size far.isdu)) far
   pub grown : IsGrown base progress far.carried
   pub reply_is : reply ≡ reply_to far layout message
 
-pub record LevelMissed (size : ℕ) (base : List Carried) (link : Link) (progress : Progress) (octets : List ℕ) (tries silence : ℕ) (far : Far) : Type 0 where
+pub record LevelMissed (size : ℕ) (base : List Carried) (link : Link) (progress : Progress)
+    (octets : List ℕ) (tries silence : ℕ) (far : Far) : Type 0 where
   pub few : tries + 1 ≤ silence
   pub level : IsLevel far.page size base link progress octets (tries + 1) far
   pub grown : IsGrown base progress far.carried
 
 pub record LevelExchanges (size : ℕ) : Type 0 where
-  pub met : (far : Far) (silence : ℕ) (octets : List ℕ) (answer : Option (List ℕ)) (far_new : Far) (silence_new : ℕ) → HonestExchange far silence octets answer far_new silence_new
-      → (link : Link) (message : MasterMsg) (layout : Shape) (tries : ℕ) → IsOut far.page link octets message layout
-      → (base : List Carried) (progress : Progress) (what : Move) → IsSent far.page size link progress octets message what → IsLevel far.page size base link progress octets tries far
-      → (reply : Reply) → good_reply layout message answer ≡ Some reply → LevelMet far.page size base link progress octets message what layout silence_new far_new reply
-  pub missed : (far : Far) (silence : ℕ) (octets : List ℕ) (answer : Option (List ℕ)) (far_new : Far) (silence_new : ℕ) → HonestExchange far silence octets answer far_new silence_new
-      → (link : Link) (message : MasterMsg) (layout : Shape) (tries : ℕ) → IsOut far.page link octets message layout
-      → (base : List Carried) (progress : Progress) (what : Move) → IsSent far.page size link progress octets message what → IsLevel far.page size base link progress octets tries far
-      → tries < 3 → tries ≤ silence → good_reply layout message answer ≡ None → LevelMissed size base link progress octets tries silence_new far_new
+  pub met : (far : Far) (silence : ℕ) (octets : List ℕ) (answer : Option (List ℕ)) (far_new : Far)
+      (silence_new : ℕ) → HonestExchange far silence octets answer far_new silence_new
+      → (link : Link) (message : MasterMsg) (layout : Shape) (tries : ℕ)
+      → IsOut far.page link octets message layout
+      → (base : List Carried) (progress : Progress) (what : Move)
+      → IsSent far.page size link progress octets message what
+      → IsLevel far.page size base link progress octets tries far
+      → (reply : Reply) → good_reply layout message answer ≡ Some reply
+      → LevelMet far.page size base link progress octets message what layout silence_new far_new
+      reply
+  pub missed : (far : Far) (silence : ℕ) (octets : List ℕ) (answer : Option (List ℕ))
+      (far_new : Far) (silence_new : ℕ)
+      → HonestExchange far silence octets answer far_new silence_new
+      → (link : Link) (message : MasterMsg) (layout : Shape) (tries : ℕ)
+      → IsOut far.page link octets message layout
+      → (base : List Carried) (progress : Progress) (what : Move)
+      → IsSent far.page size link progress octets message what
+      → IsLevel far.page size base link progress octets tries far
+      → tries < 3 → tries ≤ silence → good_reply layout message answer ≡ None
+      → LevelMissed size base link progress octets tries silence_new far_new
 
 -- what an exchange leaves as it was
 abbrev pub PageStays : Type 0
 PageStays =
-    (far : Far) (silence : ℕ) (octets : List ℕ) (answer : Option (List ℕ)) (far_new : Far) (silence_new : ℕ) → HonestExchange far silence octets answer far_new silence_new
+    (far : Far) (silence : ℕ) (octets : List ℕ) (answer : Option (List ℕ)) (far_new : Far)
+    (silence_new : ℕ) → HonestExchange far silence octets answer far_new silence_new
     → far_new.page ≡ far.page

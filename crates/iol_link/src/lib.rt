@@ -1,8 +1,9 @@
 //! The wire as a master sees it, and one message that is sent over it until a good reply comes.
 //!
-//! A [`Wire`] makes one exchange at a time: octets go out, and the octets of a reply come back or nothing does.
-//! Its contract speaks of the device at its far end, as far as the wire is honest. A [`Handler`] holds the
-//! message that is out, and sends it up to three times in a row (IEC 61131-9, 7.3.3).
+//! A [`Wire`] makes one exchange at a time: octets go out, and the octets of a
+//! reply come back or nothing does. Its contract speaks of the device at its far
+//! end, as far as the wire is honest. A [`Handler`] holds the message that is out,
+//! and sends it up to three times in a row (IEC 61131-9, 7.3.3).
 #![tactic(auto)]
 
 mod handler;

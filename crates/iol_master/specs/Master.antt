@@ -23,9 +23,11 @@ Desks ports port (Err (Port why)) = ⊥
 Desks ports port (Err OutOfMemory) = ⊥
 Desks ports port (Err NoThread) = ⊥
 
--- why a port refuses a submit: 64 tickets are outstanding, the journal has no room, the tickets are spent, memory is lacking
+-- why a port refuses a submit: 64 tickets are outstanding, the journal has no room,
+-- the tickets are spent, memory is lacking
 abbrev pub IsSubmitRefusal : PortFault → Type 0
-IsSubmitRefusal why = (why ≡ Book Full) ⊎ (why ≡ Book JournalFull) ⊎ (why ≡ Book TicketsSpent) ⊎ (why ≡ Book NoMemory)
+IsSubmitRefusal why = (why ≡ Book Full) ⊎ (why ≡ Book JournalFull) ⊎ (why ≡ Book TicketsSpent)
+    ⊎ (why ≡ Book NoMemory)
 
 -- A desk counts one more exactly where a ticket is answered. Tickets are numbered from 1.
 abbrev pub Submitted : ℕ → DeskState → Result Ticket MasterFault → DeskState → Type 0

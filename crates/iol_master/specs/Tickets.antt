@@ -40,7 +40,8 @@ module _ {W : Type 0} (honest : W → Bool) (far : W → Far) (silence : W → �
       × IfErr answer (λ why. why ≡ Book NoMemory → p.parts.book.room ≡ 0)
       × SubmitGives p.parts (book_with kind p.parts.book.state request) answer p'.parts
 
-  -- because the tally is as large as it can be, and then the port isn't asked; or as the port refuses it
+  -- because the tally is as large as it can be, and then the port isn't asked; or
+  -- as the port refuses it
   abbrev pub IsRefused : Port W → AccountState → Urgency → Request → PortFault → Port W → Type 0
   IsRefused p a kind request why p' =
       ((a.total + 1 ≡ 2 ^ 64) × (why ≡ Book TicketsSpent) × (p' ≡ p))
@@ -48,13 +49,15 @@ module _ {W : Type 0} (honest : W → Bool) (far : W → Far) (silence : W → �
 
   -- A submit at a desk: the port, the tally and the desk, before and after.
   -- Where a ticket is answered, each counts one more; else none does.
-  abbrev pub Enters : Port W → AccountState → DeskState → Urgency → Request → Result Ticket MasterFault
+  abbrev pub Enters : Port W → AccountState → DeskState → Urgency → Request
+      → Result Ticket MasterFault
       → Port W → AccountState → DeskState → Type 0
   Enters p a d kind request (Ok ticket) p' a' d' =
       (a.total + 1 < 2 ^ 64) × Submits p kind request (Ok ticket) p'
       × (a' ≡ record a { total = a.total + 1 })
       × (d' ≡ record d { accepted = d.accepted + 1 })
-  Enters p a d kind request (Err (OfPort why)) p' a' d' = (a' ≡ a) × (d' ≡ d) × IsRefused p a kind request why p'
+  Enters p a d kind request (Err (OfPort why)) p' a' d' = (a' ≡ a) × (d' ≡ d)
+      × IsRefused p a kind request why p'
   Enters p a d kind request (Err OutOfMemory) p' a' d' = ⊥
   Enters p a d kind request (Err NoSuchPort) p' a' d' = ⊥
   Enters p a d kind request (Err NoThread) p' a' d' = ⊥

@@ -109,7 +109,8 @@ impl<W: Wire, K: Ledger, A: Handle> Held<W, K, A> {
         urgency: Urgency,
         request: Request,
     ) -> Result<Ticket, MasterFault>
-        ensures { Enters W.honest W.far W.silence self.old accounts.old desk.old urgency request result
+        ensures { Enters W.honest W.far W.silence self.old accounts.old desk.old urgency request
+            result
             self.new accounts.new desk.new }
     {
         if accounts.is_spent() {
@@ -158,11 +159,11 @@ impl<W: Wire, K: Ledger, A: Handle> Held<W, K, A> {
 
     /// Asks to cut off the request of a ticket, which is under way.
     ///
-    /// An ABORT waits then, unless one waits already; a message that is out comes before it. The
-    /// outcome follows in a later turn: that it was cancelled, with the good reply to the ABORT; its
-    /// answer, where that is whole before the ABORT is sent; or that it was cut off for another
-    /// cause. Refused, with nothing changed, by 25 where no such ticket is outstanding, and by 36
-    /// where it waits, or has an outcome.
+    /// An ABORT waits then, unless one waits already; a message that is out comes before
+    /// it. The outcome follows in a later turn: that it was cancelled, with the good
+    /// reply to the ABORT; its answer, where that is whole before the ABORT is sent; or
+    /// that it was cut off for another cause. Refused, with nothing changed, by 25 where
+    /// no such ticket is outstanding, and by 36 where it waits, or has an outcome.
     pub fn cancel(&mut self, ticket: Ticket) -> Result<(), PortFault>
         ensures does { Does W.honest W.far W.silence self.old.parts
             (call.Cancel ticket) (nothing_reply result) self.new.parts }
@@ -250,7 +251,9 @@ impl<W: Wire, K: Ledger, A: Handle> Held<W, K, A> {
     /// carry that request out.
     pub fn archive(&mut self) -> Result<Vec<Entry, A>, PortFault>
         ensures does { Does W.honest W.far W.silence self.old.parts
-            call.Archive (reply_of (λ entries. answered.Archived (length entries.items)) result) self.new.parts }
+            call.Archive
+            (reply_of (λ entries. answered.Archived (length entries.items)) result)
+            self.new.parts }
         ensures within { IfOk result (λ entries. length entries.items ≤ 1000000) }
         ensures gives { ArchiveGives self.old.parts
             (result_map_both (λ entries. entries.items) (λ why. why) result) self.new.parts }
@@ -262,10 +265,10 @@ impl<W: Wire, K: Ledger, A: Handle> Held<W, K, A> {
     /// One turn: one wake-up request where the link is down, else one exchange with the device.
     /// Then the image is published, once, where the port was given a writer.
     ///
-    /// In OPERATE, where nothing else is to be sent, the next request is taken: the urgent one that
-    /// waits longest, or where none waits the other one that does. Its first segment goes out in this
-    /// turn; where the device has no ISDU it is denied, never taken, and IDLE 1 goes out. At most 64 events are kept, and a list of events is
-    /// read only where there is room for it.
+    /// In OPERATE, where nothing else is to be sent, the next request is taken: the urgent one
+    /// that waits longest, or where none waits the other one that does. Its first segment goes out
+    /// in this turn; where the device has no ISDU it is denied, never taken, and IDLE 1 goes out.
+    /// At most 64 events are kept, and a list of events is read only where there is room for it.
     pub fn turn<R: Wait>(&mut self, rt: &R)
         ensures does { Does W.honest W.far W.silence self.old.parts call.Turn answered.Nothing
             self.new.parts }
@@ -281,11 +284,12 @@ impl<W: Wire, K: Ledger, A: Handle> Held<W, K, A> {
         self.port.turn_shown(rt);
     }
 
-    /// A law of each port under its lock, without code: whenever the lock is got, the journal says where each ticket
-    /// stands; the port is what a run of the one that was opened has made of it, and its wire what the one at the
-    /// opening became by the calls of turns, and by what it was told from outside; and, if the wire was honest and the
-    /// device had been handed no request when the port was opened, the device's record fits the journal, and both ends
-    /// are level between requests.
+    /// A law of each port under its lock, without code: whenever the lock is got, the
+    /// journal says where each ticket stands; the port is what a run of the one that
+    /// was opened has made of it, and its wire what the one at the opening became by
+    /// the calls of turns, and by what it was told from outside; and, if the wire was
+    /// honest and the device had been handed no request when the port was opened, the
+    /// device's record fits the journal, and both ends are level between requests.
     pub fn keeps_record(&self)
         ensures replayed { IsReplayed self.now.parts.book.state }
         ensures run { IsRun W.honest W.far W.silence self.now.opening self.now.parts }

@@ -1,4 +1,5 @@
--- What one turn of a link is: one call of the wire, whose answer alone says what becomes of the mode.
+-- What one turn of a link is: one call of the wire, whose answer alone says what
+-- becomes of the mode.
 use Rattle.std.specs.Prelude.{◌≡◌, ℕ, ◌<◌, Bool, List, Option, IsTrue}
 use Rattle.arrayvec.specs.ArrayVec.{ArrayVec}
 use Rattle.iol_mseq.specs.Shape.{Shape, startup_shape}
@@ -25,7 +26,8 @@ pub record IsMet (outcome : Outcome) (silence : ℕ) (far : Far) : Type 0 where
   pub met : MetFits outcome far
   pub lost : LostFits outcome silence
 
--- in a start-up also: the record stands still, a page fault is one of the far end's page, and the turn that enters OPERATE tells how
+-- in a start-up also: the record stands still, a page fault is one of the far end's
+-- page, and the turn that enters OPERATE tells how
 pub record IsRisen (outcome : Outcome) (silence : ℕ) (old far : Far) : Type 0 where
   pub both : IsMet outcome silence far
   pub still : far.carried ≡ old.carried
@@ -34,36 +36,47 @@ pub record IsRisen (outcome : Outcome) (silence : ℕ) (old far : Far) : Type 0 
 
 -- the attempt alone says what becomes of OPERATE
 abbrev pub IsEnd : Attempt → Outcome → Type 0
-IsEnd attempt outcome = (sending : Sending) × (layouts : Layouts) × (outcome ≡ operate_by sending layouts attempt)
+IsEnd attempt outcome = (sending : Sending) × (layouts : Layouts)
+    × (outcome ≡ operate_by sending layouts attempt)
 
-module _ {W : Type 0} (honest : W → Bool) (far : W → Far) (silence : W → ℕ) (gives : W → List ℕ → Option (ArrayVec ℕ) → W → Type 0) where
+module _ {W : Type 0} (honest : W → Bool) (far : W → Far) (silence : W → ℕ)
+    (gives : W → List ℕ → Option (ArrayVec ℕ) → W → Type 0) where
   -- one exchange of this message, in this layout
-  pub record IsExchange (wire : W) (layout : Shape) (message : MasterMsg) (turned : Option Reply → Outcome) (outcome : Outcome) (new : W) : Type 0 where
+  pub record IsExchange (wire : W) (layout : Shape) (message : MasterMsg)
+      (turned : Option Reply → Outcome) (outcome : Outcome) (new : W) : Type 0 where
     pub answer : Option (ArrayVec ℕ)
     pub called : gives wire (master_text layout message) answer new
-    pub passes : IsTrue (honest wire) → HonestExchange (far wire) (silence wire) (master_text layout message) (octets_in answer) (far new) (silence new)
+    pub passes : IsTrue (honest wire)
+        → HonestExchange (far wire) (silence wire) (master_text layout message) (octets_in answer)
+        (far new) (silence new)
     pub honesty : honest new ≡ honest wire
     pub outcome_is : outcome ≡ turned (good_reply layout message (octets_in answer))
     pub fits : OutcomeFits outcome
 
   -- in a start-up
-  pub record IsRise (wire : W) (layout : Shape) (message : MasterMsg) (turned : Option Reply → Outcome) (outcome : Outcome) (new : W) : Type 0 where
+  pub record IsRise (wire : W) (layout : Shape) (message : MasterMsg)
+      (turned : Option Reply → Outcome) (outcome : Outcome) (new : W) : Type 0 where
     pub exchange : IsExchange wire layout message turned outcome new
     pub risen : IsTrue (honest wire) → IsRisen outcome (silence new) (far wire) (far new)
 
   abbrev pub IsStartTurn : W → State → Outcome → W → Type 0
-  IsStartTurn wire (AtStartup s) outcome new = IsRise wire startup_shape s.sent.message (startup_turned s) outcome new
-  IsStartTurn wire (AtPreoperate s) outcome new = IsRise wire s.pre s.sent.message (preoperate_turned s) outcome new
+  IsStartTurn wire (AtStartup s) outcome new =
+      IsRise wire startup_shape s.sent.message (startup_turned s) outcome new
+  IsStartTurn wire (AtPreoperate s) outcome new =
+      IsRise wire s.pre s.sent.message (preoperate_turned s) outcome new
   IsStartTurn wire s outcome new = ⊥
 
   -- in OPERATE: also how the link stood before
-  pub record IsCycle (wire : W) (s : Operate) (message : MasterMsg) (outcome : Outcome) (new : W) : Type 0 where
-    pub exchange : IsExchange wire s.layouts.run (sending_of s.out message).message (operate_turned s message) outcome new
+  pub record IsCycle (wire : W) (s : Operate) (message : MasterMsg) (outcome : Outcome)
+      (new : W) : Type 0 where
+    pub exchange : IsExchange wire s.layouts.run (sending_of s.out message).message
+        (operate_turned s message) outcome new
     pub both : IsTrue (honest wire) → IsMet outcome (silence new) (far new)
     pub fits : OperateFits s
     pub stood : IsTrue (honest wire) → OperateStands s (silence wire) (far wire)
     pub few : (sending_of s.out message).tries < 3
-    pub accepted : IsTrue (honest wire) → (link : FarLink) → IsOperating s.layouts link → IsAccepted s.layouts (far wire).page link (sending_of s.out message).message
+    pub accepted : IsTrue (honest wire) → (link : FarLink) → IsOperating s.layouts link
+        → IsAccepted s.layouts (far wire).page link (sending_of s.out message).message
 
   abbrev pub IsOperateTurn : W → State → MasterMsg → Outcome → W → Type 0
   IsOperateTurn wire (AtOperate s) message outcome new = IsCycle wire s message outcome new

@@ -32,8 +32,9 @@ use std::mem::replace;
 
 /// A link in the mode `S`, which owns the wire.
 ///
-/// A clause sees the wire, and what is kept in the mode. On an honest wire both ends are level, outside `Down`: the device
-/// sleeps, or it comes from the state before the message that is out by steps of its own and hearings of that message.
+/// A clause sees the wire, and what is kept in the mode. On an honest wire both
+/// ends are level, outside `Down`: the device sleeps, or it comes from the state
+/// before the message that is out by steps of its own and hearings of that message.
 #[derive(Drop)]
 pub struct Link<W: Wire, S: Mode> {
     wire: W,
@@ -51,7 +52,8 @@ impl<W: Wire, S: Mode> Model for Link<W, S> {
     ghost view = { λ link. record { wire = link.wire; state = link.state } };
 
     ghost invariant = { λ link. S.fits link.state
-        × (IsTrue (W.honest link.wire) → S.stands link.state (W.silence link.wire) (W.far link.wire)) };
+        × (IsTrue (W.honest link.wire)
+        → S.stands link.state (W.silence link.wire) (W.far link.wire)) };
 }
 
 /// The link after a turn, in its new mode.
@@ -75,8 +77,8 @@ fn laws()
     exchanges_keep_ends_level();
 }
 
-/// Sends once the message that is out, where there is one, else this one; it is out afterwards only where it is to be
-/// sent again.
+/// Sends once the message that is out, where there is one, else this one; it is out
+/// afterwards only where it is to be sent again.
 fn send<W: Wire>(
     out: &mut Option<Handler>,
     message: &MasterMsg,
@@ -85,11 +87,19 @@ fn send<W: Wire>(
 ) -> Attempt
     requires { HasMasterParts layout.now (sending_of out.old message.now).message }
     ensures called { (answer : Option (ArrayVec ℕ))
-        × W.exchange_gives wire.old (master_text layout.now (sending_of out.old message.now).message) answer wire.new
+        × W.exchange_gives wire.old
+        (master_text layout.now (sending_of out.old message.now).message) answer wire.new
         × (IsTrue (W.honest wire.old) → HonestExchange (W.far wire.old) (W.silence wire.old)
-        (master_text layout.now (sending_of out.old message.now).message) (octets_in answer) (W.far wire.new) (W.silence wire.new))
-        × (result ≡ attempt_of (sending_of out.old message.now).tries (good_reply layout.now (sending_of out.old message.now).message (octets_in answer)))
-        × (out.new ≡ left_by result (counted (sending_of out.old message.now) (good_reply layout.now (sending_of out.old message.now).message (octets_in answer)))) }
+        (master_text layout.now (sending_of out.old message.now).message) (octets_in answer)
+        (W.far wire.new) (W.silence wire.new))
+        × (result
+        ≡ attempt_of (sending_of out.old message.now).tries
+        (good_reply layout.now (sending_of out.old message.now).message (octets_in answer)))
+        × (out.new
+        ≡ left_by result
+        (counted (sending_of out.old message.now)
+        (good_reply layout.now (sending_of out.old message.now).message
+        (octets_in answer)))) }
     ensures few { (sending_of out.old message.now).tries < 3 }
     ensures honesty { W.honest wire.new ≡ W.honest wire.old }
 {
@@ -220,8 +230,8 @@ impl<W: Wire> Link<W, State> {
         self.state = State::Down(Down { why: None });
     }
 
-    /// Makes a wake-up request, in Down: STARTUP, where the device answers it, else Down with `NoWake`. Answers the rate
-    /// of that device.
+    /// Makes a wake-up request, in Down: STARTUP, where the device answers it, else
+    /// Down with `NoWake`. Answers the rate of that device.
     pub fn wake(&mut self) -> Option<Rate>
         requires { IsDown self.old.state }
         ensures honest { W.honest self.new.wire ≡ W.honest self.old.wire }
@@ -245,13 +255,15 @@ impl<W: Wire> Link<W, State> {
 
     /// Sends the message of a start-up's step once, in STARTUP and in PREOPERATE.
     ///
-    /// With its good reply the next step begins: the page is read from 0x02 to 0x0B and then checked, MasterIdent and
-    /// DevicePreoperate are written; then, in PREOPERATE, MasterCycleTime and DeviceOperate. To a device of V1.0
-    /// MasterCycleTime and DeviceOperate are written in STARTUP (profile). With the good reply to DeviceOperate the mode
-    /// is OPERATE. Down with a fault of the page, or with `Lost` at the third attempt in a row that had no good reply.
+    /// With its good reply the next step begins: the page is read from 0x02 to 0x0B and then
+    /// checked, MasterIdent and DevicePreoperate are written; then, in PREOPERATE, MasterCycleTime
+    /// and DeviceOperate. To a device of V1.0 MasterCycleTime and DeviceOperate are written in
+    /// STARTUP (profile). With the good reply to DeviceOperate the mode is OPERATE. Down with a
+    /// fault of the page, or with `Lost` at the third attempt in a row that had no good reply.
     pub fn rise(&mut self) -> Attempt
         requires { is_starting self.old.state ≡ true }
-        ensures turn { IsStartTurn W.honest W.far W.silence W.exchange_gives self.old.wire self.old.state
+        ensures turn { IsStartTurn W.honest W.far W.silence W.exchange_gives self.old.wire
+            self.old.state
             (outcome_with result self.new.state) self.new.wire }
     {
         start_turn(&mut self.state, &mut self.wire)
@@ -259,12 +271,13 @@ impl<W: Wire> Link<W, State> {
 
     /// Sends once the message that is out, where there is one, else this one, in OPERATE.
     ///
-    /// The message has the sizes of the layout, and is no command that leaves OPERATE. Down with `Lost` at the third
-    /// attempt in a row that had no good reply.
+    /// The message has the sizes of the layout, and is no command that leaves OPERATE.
+    /// Down with `Lost` at the third attempt in a row that had no good reply.
     pub fn exchange(&mut self, message: &MasterMsg) -> Attempt
         requires takes { Takes self.old.state message.now }
         requires stays { IsTrue (stays message.now) }
-        ensures turn { IsOperateTurn W.honest W.far W.silence W.exchange_gives self.old.wire self.old.state message.now
+        ensures turn { IsOperateTurn W.honest W.far W.silence W.exchange_gives self.old.wire
+            self.old.state message.now
             (outcome_with result self.new.state) self.new.wire }
         ensures ends { IsEnd result (outcome_with result self.new.state) }
     {
@@ -300,7 +313,8 @@ impl<W: Wire, S: Mode> Link<W, S> {
         &self.wire
     }
 
-    /// Goes on over this wire, which stands to the same device as the one before; that one is handed back.
+    /// Goes on over this wire, which stands to the same device as the one before;
+    /// that one is handed back.
     pub fn rewire(&mut self, wire: W) -> W
         requires honest { W.honest wire ≡ W.honest self.old.wire }
         requires far { W.far wire ≡ W.far self.old.wire }
@@ -355,12 +369,14 @@ impl<W: Wire> Link<W, Down> {
 
         // the wire is woken once; its answer alone says what becomes of the mode
         ensures wakes { (answer : Option Rate) × W.wake_gives self.wire answer (wire_of result)
-            × (IsTrue (W.honest self.wire) → HonestWake (W.far self.wire) (is_some answer) (W.far (wire_of result)))
+            × (IsTrue (W.honest self.wire)
+            → HonestWake (W.far self.wire) (is_some answer) (W.far (wire_of result)))
             × (outcome_of result ≡ waked (is_some answer)) }
 
         // on an honest wire
         ensures stands { IsTrue (W.honest self.wire)
-            → OutcomeStands (outcome_of result) (W.silence (wire_of result)) (W.far (wire_of result)) }
+            → OutcomeStands (outcome_of result) (W.silence (wire_of result))
+            (W.far (wire_of result)) }
     {
         let mut link = Link {
             wire: self.wire,
@@ -374,13 +390,15 @@ impl<W: Wire> Link<W, Down> {
 impl<W: Wire> Link<W, Startup> {
     /// Sends the message of the step once.
     ///
-    /// With its good reply the next step begins: the page is read from 0x02 to 0x0B and then checked, MasterIdent and
-    /// DevicePreoperate are written. To a device of V1.0 MasterCycleTime and DeviceOperate are written in their place,
-    /// and with the good reply to DeviceOperate the mode is OPERATE (profile). Down with a fault of the page, or with
-    /// `Lost` at the third attempt in a row that had no good reply.
+    /// With its good reply the next step begins: the page is read from 0x02 to 0x0B
+    /// and then checked, MasterIdent and DevicePreoperate are written. To a device of
+    /// V1.0 MasterCycleTime and DeviceOperate are written in their place, and with the
+    /// good reply to DeviceOperate the mode is OPERATE (profile). Down with a fault of
+    /// the page, or with `Lost` at the third attempt in a row that had no good reply.
     pub fn turn(self) -> Next<W>
         ensures { IsRise W.honest W.far W.silence W.exchange_gives self.wire startup_shape
-            self.state.sent.message (startup_turned self.state) (outcome_of result) (wire_of result) }
+            self.state.sent.message (startup_turned self.state) (outcome_of result)
+            (wire_of result) }
     {
         let mut link = Link {
             wire: self.wire,
@@ -410,11 +428,12 @@ impl<W: Wire> Link<W, Startup> {
 impl<W: Wire> Link<W, Preoperate> {
     /// Sends MasterCycleTime, or after its good reply DeviceOperate, once.
     ///
-    /// With the good reply to DeviceOperate the mode is OPERATE. Down with `Lost` at the third attempt in a row that
-    /// had no good reply.
+    /// With the good reply to DeviceOperate the mode is OPERATE. Down with `Lost`
+    /// at the third attempt in a row that had no good reply.
     pub fn turn(self) -> Next<W>
         ensures { IsRise W.honest W.far W.silence W.exchange_gives self.wire self.state.pre
-            self.state.sent.message (preoperate_turned self.state) (outcome_of result) (wire_of result) }
+            self.state.sent.message (preoperate_turned self.state) (outcome_of result)
+            (wire_of result) }
     {
         let mut link = Link {
             wire: self.wire,
@@ -444,8 +463,8 @@ impl<W: Wire> Link<W, Preoperate> {
 impl<W: Wire> Link<W, Operate> {
     /// Sends once the message that is out, where there is one, else this one.
     ///
-    /// The message has the sizes of the layout, and is no command that leaves OPERATE. Down with `Lost` at the third
-    /// attempt in a row that had no good reply.
+    /// The message has the sizes of the layout, and is no command that leaves OPERATE.
+    /// Down with `Lost` at the third attempt in a row that had no good reply.
     pub fn turn(self, message: &MasterMsg) -> Next<W>
         requires fits { HasMasterParts self.state.layouts.run message.now }
         requires stays { IsTrue (stays message.now) }

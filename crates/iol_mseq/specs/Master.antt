@@ -13,7 +13,8 @@ sent_od layout control = if (nat_lt control 128) then layout.od else 0
 
 -- at least two octets, and as many as the layout has
 abbrev pub has_master_length : Shape → List ℕ → Bool
-has_master_length layout octets = nat_le 2 (length octets) && (length octets == 2 + layout.pd_out + sent_od layout (slice_index octets 0))
+has_master_length layout octets = nat_le 2 (length octets)
+    && (length octets == 2 + layout.pd_out + sent_od layout (slice_index octets 0))
 
 -- bits 7 and 6 of the second octet are the layout's M-sequence type
 abbrev pub has_kind : Shape → List ℕ → Bool
@@ -37,10 +38,12 @@ pub record HasMasterParts (layout : Shape) (message : MasterMsg) : Type 0 where
   pub out : length message.out.items ≡ layout.pd_out
   pub od : length message.od.items ≡ (if message.mc.read then 0 else layout.od)
 
--- the octets are control octet, check octet, process data out and on-request data, in this order, and are well-formed
+-- the octets are control octet, check octet, process data out and on-request data,
+-- in this order, and are well-formed
 pub record SpellsMaster (layout : Shape) (message : MasterMsg) (octets : List ℕ) : Type 0 where
   pub sizes : HasMasterParts layout message
-  pub parts : (check : ℕ) × (octets ≡ control_octet message.mc ∷ check ∷ message.out.items ++ message.od.items)
+  pub parts : (check : ℕ)
+      × (octets ≡ control_octet message.mc ∷ check ∷ message.out.items ++ message.od.items)
   pub good : IsGoodMaster layout octets
 
 -- the message that well-formed octets spell, as a function of them
@@ -53,4 +56,5 @@ message_of layout octets = record {
 
 -- the message that octets spell in a layout, where they are well-formed in it
 abbrev pub master_in : Shape → List ℕ → Option MasterMsg
-master_in layout octets = if is_some (master_fault layout octets) then None else Some (message_of layout octets)
+master_in layout octets =
+    if is_some (master_fault layout octets) then None else Some (message_of layout octets)

@@ -39,10 +39,15 @@ pub record HasReplyParts (layout : Shape) (read : Bool) (reply : Reply) : Type 0
 abbrev pub FitsReply : Shape → Reply → Type 0
 FitsReply layout reply = (read : Bool) × HasReplyParts layout read reply
 
--- the octets are on-request data, process data in and check octet, in this order, and are well-formed
-pub record SpellsReply (layout : Shape) (read : Bool) (reply : Reply) (octets : List ℕ) : Type 0 where
+-- the octets are on-request data, process data in and check octet, in this order,
+-- and are well-formed
+pub record SpellsReply (layout : Shape) (read : Bool) (reply : Reply)
+    (octets : List ℕ) : Type 0 where
   pub sizes : HasReplyParts layout read reply
-  pub parts : (sum : ℕ) × (sum < 64) × (octets ≡ reply.od.items ++ reply.input.items ++ (status_bits reply.event reply.invalid + sum) ∷ [])
+  pub parts : (sum : ℕ) × (sum < 64)
+      × (octets
+      ≡ reply.od.items ++ reply.input.items ++ (status_bits reply.event reply.invalid + sum)
+      ∷ [])
   pub good : IsGoodReply layout read octets
 
 -- the reply that well-formed octets spell, as a function of them
@@ -59,4 +64,5 @@ reply_of layout read octets =
 
 -- the reply that octets spell in a layout, where they are well-formed in it
 abbrev pub reply_in : Shape → Bool → List ℕ → Option Reply
-reply_in layout read octets = if is_some (reply_fault layout read octets) then None else Some (reply_of layout read octets)
+reply_in layout read octets =
+    if is_some (reply_fault layout read octets) then None else Some (reply_of layout read octets)

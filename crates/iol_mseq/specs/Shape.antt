@@ -1,4 +1,5 @@
--- The layouts, as quadruples of numbers (IEC 61131-9, A.2; the codes of OPERATE are a profile of this project).
+-- The layouts, as quadruples of numbers (IEC 61131-9, A.2; the codes of OPERATE are
+-- a profile of this project).
 use Rattle.std.specs.Prelude.{◌≡◌, ℕ, ◌+◌, ◌≤◌, Bool, ◌==◌, ◌||◌, ◌&&◌, nat_lt, nat_le, if◌then◌else◌, Result, Ok, Err, Option, Some, None, IsTrue}
 use Rattle.iol_mseq.specs.declared.fault.MseqFault.{MseqFault}
 use Rattle.iol_mseq.specs.declared.fault.MseqFault.TheVariants.{UnsupportedCode, BadLength}
@@ -16,7 +17,8 @@ kind_of od pd_in pd_out = if (pd_in + pd_out == 0) then (if (od == 1) then 0 els
 
 -- the layout with these lengths
 abbrev pub shape : ℕ → ℕ → ℕ → Shape
-shape od pd_in pd_out = record { kind = kind_of od pd_in pd_out; od = od; pd_in = pd_in; pd_out = pd_out }
+shape od pd_in pd_out =
+    record { kind = kind_of od pd_in pd_out; od = od; pd_in = pd_in; pd_out = pd_out }
 
 -- a number of octets that on-request data has
 abbrev pub is_size : ℕ → Bool
@@ -52,8 +54,10 @@ operate_od code process =
 
 -- OPERATE: the code is looked at first, then the lengths
 abbrev pub operate_shape : ℕ → ℕ → ℕ → Result Shape MseqFault
-operate_shape code pd_in pd_out = operate_with (operate_od code (nat_lt 0 (pd_in + pd_out))) pd_in pd_out
+operate_shape code pd_in pd_out =
+    operate_with (operate_od code (nat_lt 0 (pd_in + pd_out))) pd_in pd_out
   where
     operate_with : Option ℕ → ℕ → ℕ → Result Shape MseqFault
     operate_with None i o = Err UnsupportedCode
-    operate_with (Some od) i o = if (nat_le i 32 && nat_le o 32) then Ok (shape od i o) else Err BadLength
+    operate_with (Some od) i o =
+        if (nat_le i 32 && nat_le o 32) then Ok (shape od i o) else Err BadLength

@@ -10,7 +10,8 @@ use Rattle.iol_mseq.specs.declared.reply.Reply.{Reply}
 -- the octets of a master message
 abbrev pub master_text : Shape → MasterMsg → List ℕ
 master_text layout message =
-    with_checksum 1 (control_octet message.mc ∷ (64 * layout.kind) ∷ message.out.items ++ message.od.items)
+    with_checksum 1
+    (control_octet message.mc ∷ (64 * layout.kind) ∷ message.out.items ++ message.od.items)
 
 -- octets with an octet put behind them that holds these bits and the checksum of all
 abbrev pub closed_by : List ℕ → ℕ → List ℕ
@@ -18,4 +19,5 @@ closed_by octets bits = octets ++ (bits + checksum_of (octets ++ bits ∷ [])) �
 
 -- the octets of a reply
 abbrev pub reply_text : Reply → List ℕ
-reply_text reply = closed_by (reply.od.items ++ reply.input.items) (status_bits reply.event reply.invalid)
+reply_text reply =
+    closed_by (reply.od.items ++ reply.input.items) (status_bits reply.event reply.invalid)

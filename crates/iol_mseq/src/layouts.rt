@@ -5,10 +5,11 @@ ghost use Rattle.iol_mseq.specs.Shape.{IsLayout, is_size, shape, startup_shape, 
 use crate::fault::MseqFault;
 use std::marker::Model;
 
-/// Of which M-sequence type the messages of a mode are, and how many octets each part has (IEC 61131-9, A.2).
+/// Of which M-sequence type the messages of a mode are, and how many octets each
+/// part has (IEC 61131-9, A.2).
 ///
-/// On-request data has 1, 2, 8 or 32 octets, process data 0 to 32 each way. The type is 0 with one octet
-/// of on-request data alone, 1 with more of them alone, 2 with process data.
+/// On-request data has 1, 2, 8 or 32 octets, process data 0 to 32 each way. The type is 0
+/// with one octet of on-request data alone, 1 with more of them alone, 2 with process data.
 #[derive(Clone, Copy, Debug, PartialEq, Eq)]
 pub struct Layout {
     kind: u8,
@@ -38,8 +39,9 @@ impl Layout {
         Layout::of_sizes(1, 0, 0)
     }
 
-    /// The layout of PREOPERATE with this code of the M-sequence Capability (IEC 61131-9, B.1.4): codes 0
-    /// to 3 have 1, 2, 8 and 32 octets of on-request data. Refusal 2 UnsupportedCode: a code above 3.
+    /// The layout of PREOPERATE with this code of the M-sequence Capability (IEC
+    /// 61131-9, B.1.4): codes 0 to 3 have 1, 2, 8 and 32 octets of on-request data.
+    /// Refusal 2 UnsupportedCode: a code above 3.
     pub fn preoperate(code: u8) -> Result<Layout, MseqFault>
         ensures { result ≡ preoperate_shape code }
     {
@@ -53,12 +55,12 @@ impl Layout {
         Ok(Layout::of_sizes(od, 0, 0))
     }
 
-    /// The layout of OPERATE with this code of the M-sequence Capability (IEC 61131-9, B.1.4) and these
-    /// process data lengths, in octets (profile).
+    /// The layout of OPERATE with this code of the M-sequence Capability (IEC
+    /// 61131-9, B.1.4) and these process data lengths, in octets (profile).
     ///
-    /// Codes 0 and 4 have one octet of on-request data, 5 has two, 6 has 8, 7 has 32; 1 has two and goes
-    /// without process data alone. Refusals, the first that holds: 2 UnsupportedCode, any other code, or
-    /// 1 with process data; 3 BadLength, a length above 32.
+    /// Codes 0 and 4 have one octet of on-request data, 5 has two, 6 has 8, 7 has 32; 1 has two
+    /// and goes without process data alone. Refusals, the first that holds: 2 UnsupportedCode,
+    /// any other code, or 1 with process data; 3 BadLength, a length above 32.
     pub fn operate(code: u8, pd_in: u8, pd_out: u8) -> Result<Layout, MseqFault>
         ensures { result ≡ operate_shape code pd_in pd_out }
     {

@@ -1,9 +1,9 @@
 //! M-sequences: master messages and replies, in the layout of each mode (IEC 61131-9, A.1 and A.2).
 //!
-//! A [`Layout`] says of which M-sequence type the messages of a mode are, and how many octets each part
-//! of them has. A master message is the control octet, the checksum / M-sequence type octet, the process
-//! data out and, in a write, the on-request data. A reply is, to a read, the on-request data, then the
-//! process data in and the checksum / status octet.
+//! A [`Layout`] says of which M-sequence type the messages of a mode are, and how many octets
+//! each part of them has. A master message is the control octet, the checksum / M-sequence
+//! type octet, the process data out and, in a write, the on-request data. A reply is, to a
+//! read, the on-request data, then the process data in and the checksum / status octet.
 #![tactic(auto)]
 
 mod fault;

@@ -11,7 +11,8 @@ use crate::parts::{Message, Part, append, fill, seal};
 use iol_octets::{Mc, has_checksum6};
 use std::marker::Model;
 
-/// What a master says in one message: a read or a write, and the process data that goes out with it.
+/// What a master says in one message: a read or a write, and the process data that
+/// goes out with it.
 #[derive(Clone, Debug, PartialEq, Eq, Drop)]
 pub struct MasterMsg {
     pub mc: Mc,
@@ -37,7 +38,11 @@ impl<'a> Model for MasterView<'a> {
 
     ghost Value = { MasterMsg };
 
-    ghost view = { λ v. record { mc = v.mc; out = record { items = v.out.now }; od = record { items = v.od.now } } };
+    ghost view = { λ v. record {
+      mc = v.mc;
+      out = record { items = v.out.now };
+      od = record { items = v.od.now };
+    } };
 
     ghost invariant = { λ v. (length v.out.now ≤ 32) × (length v.od.now ≤ 32) };
 }
@@ -69,8 +74,8 @@ impl<'a> MasterView<'a> {
 
 /// Reads a master message in a layout (IEC 61131-9, A.2), and copies its parts.
 ///
-/// Octets that are well-formed in the layout spell one message, and that is the answer. Refusals, the
-/// first that holds: 4 WrongLength; 5 WrongType; 6 BadChecksum.
+/// Octets that are well-formed in the layout spell one message, and that is the
+/// answer. Refusals, the first that holds: 4 WrongLength; 5 WrongType; 6 BadChecksum.
 pub fn read_master(layout: &Layout, octets: &[u8]) -> Result<MasterMsg, MseqFault>
     ensures good { IsOk result ↔ IsGoodMaster layout.now octets.now }
     ensures refused { result_err result ≡ master_fault layout.now octets.now }
@@ -115,6 +120,7 @@ pub fn encode_master(layout: &Layout, message: &MasterMsg) -> Message
 }
 
 /// Writes a master message in a layout, as [`encode_master`] does, into a buffer that is empty.
+#[inline(always)]
 pub fn write_master(layout: &Layout, message: &MasterMsg, octets: &mut Message)
     requires parts { HasMasterParts layout.now message.now }
     requires empty { octets.old.items ≡ [] }

@@ -48,8 +48,8 @@ pub fn zeros(size: u8) -> Part
     part
 }
 
-/// The on-request data of the page and diagnosis channels, 1 to 32 octets: the first is meant, the others are 0
-/// (profile).
+/// The on-request data of the page and diagnosis channels, 1 to 32 octets: the
+/// first is meant, the others are 0 (profile).
 pub fn first_of_zeros(size: u8, octet: u8) -> Part
     requires most { size ≤ 32 }
     requires some { 1 ≤ size }
@@ -91,7 +91,8 @@ pub fn append_zeros(message: &mut Message, size: u8)
     }
 }
 
-/// Puts the on-request data of the page and diagnosis channels at the end: the first octet is meant, the others are 0.
+/// Puts the on-request data of the page and diagnosis channels at the end: the
+/// first octet is meant, the others are 0.
 pub fn append_first(message: &mut Message, size: u8, octet: u8)
     requires most { array_vec_len message.old + size ≤ 66 }
     requires some { 1 ≤ size }

@@ -88,8 +88,8 @@ impl<'a> ReplyView<'a> {
 
 /// Reads a reply in a layout, to a read or to a write (IEC 61131-9, A.2), and copies its parts.
 ///
-/// Octets that are well-formed there spell one reply, and that is the answer. Refusals, the first that
-/// holds: 4 WrongLength; 6 BadChecksum.
+/// Octets that are well-formed there spell one reply, and that is the answer.
+/// Refusals, the first that holds: 4 WrongLength; 6 BadChecksum.
 pub fn read_reply(layout: &Layout, read: bool, octets: &[u8]) -> Result<Reply, MseqFault>
     ensures good { IsOk result ↔ IsGoodReply layout.now read octets.now }
     ensures refused { result_err result ≡ reply_fault layout.now read octets.now }
@@ -127,8 +127,8 @@ pub fn view_reply<'a>(
     }
 }
 
-/// Writes a reply in a layout, whose parts have the layout's sizes: to a read if there is on-request data,
-/// to a write if there is none.
+/// Writes a reply in a layout, whose parts have the layout's sizes: to a read if
+/// there is on-request data, to a write if there is none.
 pub fn encode_reply(layout: &Layout, reply: &Reply) -> Message
     requires { FitsReply layout.now reply.now }
     ensures spelled { (read : Bool) → HasReplyParts layout.now read reply.now

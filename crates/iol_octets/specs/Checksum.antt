@@ -34,7 +34,8 @@ with_checksum place octets = slice_set octets place (slice_index octets place + 
 
 -- octets of which the six bits at a place are 0 have their checksum once it is put there
 abbrev pub ChecksumFits : List ℕ → Type 0
-ChecksumFits octets = (place : ℕ) → place < length octets → slice_index octets place % 64 ≡ 0 → IsTrue (has_checksum place (with_checksum place octets))
+ChecksumFits octets = (place : ℕ) → place < length octets → slice_index octets place % 64 ≡ 0
+    → IsTrue (has_checksum place (with_checksum place octets))
 
 -- a checksum has six bits, and octets have theirs once it is put where six zeros stand
 abbrev pub ChecksumsFit : Type 0
@@ -51,5 +52,7 @@ AreOctets octets = (i : ℕ) → slice_index octets i < 256
 -- octets that have their checksum and of which one bit is flipped, wherever it is, don't have it
 abbrev pub FlipIsSeen : Type 0
 FlipIsSeen =
-    (octets : List ℕ) (checked place bit : ℕ) → AreOctets octets → checked < length octets → place < length octets → bit < 8
-    → IsTrue (has_checksum checked octets) → IsTrue (has_checksum checked (with_flip octets place bit)) → ⊥
+    (octets : List ℕ) (checked place bit : ℕ) → AreOctets octets → checked < length octets
+    → place < length octets → bit < 8
+    → IsTrue (has_checksum checked octets)
+    → IsTrue (has_checksum checked (with_flip octets place bit)) → ⊥

@@ -7,7 +7,8 @@ const SEED: u8 = 0x52;
 
 /// The checksum, 0 to 63, of a message or a reply (IEC 61131-9, A.1.6).
 ///
-/// `octets` is the whole of it, with the six bits where the checksum goes as 0. One pass, nothing copied.
+/// `octets` is the whole of it, with the six bits where the checksum goes as 0. One
+/// pass, nothing copied.
 #[tactic(auto, unfolding(crate::specs::Checksum::checksum_of))]
 pub fn checksum6(octets: &[u8]) -> u8
     ensures value { result ≡ checksum_of octets.now }
@@ -17,7 +18,8 @@ pub fn checksum6(octets: &[u8]) -> u8
     compress(fold(octets))
 }
 
-/// Whether the low six bits of the octet at `place` are the checksum of the octets (IEC 61131-9, A.1.6).
+/// Whether the low six bits of the octet at `place` are the checksum of the octets
+/// (IEC 61131-9, A.1.6).
 ///
 /// `octets` is a whole message or reply as it came. One pass, nothing copied.
 pub fn has_checksum6(octets: &[u8], place: usize) -> bool

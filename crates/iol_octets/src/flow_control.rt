@@ -39,7 +39,8 @@ impl Flow {
         }
     }
 
-    /// Writes the address, 0 to 31. A COUNT has a number of at most 15, a reserved flow one of 0x13 to 0x1E.
+    /// Writes the address, 0 to 31. A COUNT has a number of at most 15, a reserved
+    /// flow one of 0x13 to 0x1E.
     pub fn address(self) -> u8
         requires { IsFlow self }
         ensures value { result ≡ flow_address self }

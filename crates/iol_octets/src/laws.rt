@@ -8,7 +8,8 @@ pub fn checksums_fit()
     ensures { ChecksumsFit }
 {}
 
-/// Octets that have their checksum and of which one bit is flipped don't have it. Two flipped bits may go unseen.
+/// Octets that have their checksum and of which one bit is flipped don't have it.
+/// Two flipped bits may go unseen.
 #[tactic(auto, using(crate::proofs::Flips::flip_is_seen))]
 pub fn one_flip_is_seen()
     ensures { FlipIsSeen }

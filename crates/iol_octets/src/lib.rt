@@ -1,8 +1,9 @@
 //! The single octets of IO-Link messages, and the six-bit checksum that guards them.
 //!
-//! A master message begins with the M-sequence control octet ([`Mc`]) and the checksum / M-sequence
-//! type octet ([`Ckt`]); a reply ends with the checksum / status octet ([`Cks`]). On the ISDU channel
-//! the address of the control octet is the flow control ([`Flow`]). IEC 61131-9, A.1 and 7.3.6.
+//! A master message begins with the M-sequence control octet ([`Mc`]) and the
+//! checksum / M-sequence type octet ([`Ckt`]); a reply ends with the checksum /
+//! status octet ([`Cks`]). On the ISDU channel the address of the control octet is
+//! the flow control ([`Flow`]). IEC 61131-9, A.1 and 7.3.6.
 #![tactic(auto)]
 
 mod check_octets;

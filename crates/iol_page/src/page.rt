@@ -32,7 +32,8 @@ pub struct Layouts {
     pub isdu: bool,
 }
 
-/// The octets of direct parameter page 1 that a device fills: addresses 0x02 to 0x0B (IEC 61131-9, B.1.1).
+/// The octets of direct parameter page 1 that a device fills: addresses 0x02 to
+/// 0x0B (IEC 61131-9, B.1.1).
 #[derive(Clone, Copy, Debug, PartialEq, Eq)]
 pub struct Page {
     octets: [u8; 10],
@@ -76,11 +77,11 @@ impl Page {
         }
     }
 
-    /// The layouts that the page asks for. RevisionID 0x10 (V1.0) has no PREOPERATE, and bits 5 and 4 of its capability
-    /// are not looked at (profile).
+    /// The layouts that the page asks for. RevisionID 0x10 (V1.0) has no
+    /// PREOPERATE, and bits 5 and 4 of its capability are not looked at (profile).
     ///
-    /// Refusals, the first that holds: 8 Revision, the RevisionID is neither 0x11 nor 0x10; 7 BadPdLength,
-    /// of ProcessDataIn, then of ProcessDataOut; 2 UnsupportedCode.
+    /// Refusals, the first that holds: 8 Revision, the RevisionID is neither 0x11 nor
+    /// 0x10; 7 BadPdLength, of ProcessDataIn, then of ProcessDataOut; 2 UnsupportedCode.
     pub fn layouts(&self) -> Result<Layouts, PageFault>
         ensures { result ≡ layouts_of self.now }
     {

@@ -184,7 +184,8 @@ fn an_urgent_request_is_denied_first(rt: HostRuntime) -> Result<(), Fail> {
     Ok(())
 }
 
-/// A book whose only request was cut off and collected, whether it may be archived then, and whether after a reset.
+/// A book whose only request was cut off and collected, whether it may be archived
+/// then, and whether after a reset.
 fn archives_after(alloc: Global, cause: Cause) -> Result<(bool, bool), BookFault> {
     let mut book = Book::open(alloc, &LIMITS)?;
     let ticket = book.submit(read(16))?;
@@ -265,8 +266,8 @@ fn has_submits(book: &Book<&Scarce<Global>>, kind: Kind, count: usize) -> bool {
     is_right
 }
 
-/// Submits eight requests of one kind. Whether one was refused, and whether each one refused left the book as it was and
-/// went through once memory was there.
+/// Submits eight requests of one kind. Whether one was refused, and whether each
+/// one refused left the book as it was and went through once memory was there.
 fn eight_go_through(
     scarce: &Scarce<Global>,
     book: &mut Book<&Scarce<Global>>,
@@ -290,8 +291,8 @@ fn eight_go_through(
     (is_refused, is_right)
 }
 
-/// Refuses each request for memory in turn. How many orders `open` met and how many a submit did, and whether all that
-/// was refused was as it was.
+/// Refuses each request for memory in turn. How many orders `open` met and how many
+/// a submit did, and whether all that was refused was as it was.
 fn refusals_met(scarce: &Scarce<Global>, kind: Kind) -> (u64, u64, bool) {
     let mut at_open = 0u64;
     let mut at_submit = 0u64;

@@ -1,4 +1,5 @@
-//! Tests of the cell: what seats read, readers beside a writer in threads, and memory refused in turn.
+//! Tests of the cell: what seats read, readers beside a writer in threads, and
+//! memory refused in turn.
 use iol_cell::{CellFault, ImageSeat, ImageWriter, image_cell};
 use iol_image::Image;
 use scarce::{Refusal, Scarce};

@@ -1,6 +1,8 @@
-//! Tests of single parts, from the octets of a message up to a book and the simulated wire, each by its public calls alone.
+//! Tests of single parts, from the octets of a message up to a book and the
+//! simulated wire, each by its public calls alone.
 //!
-//! They stand here, and not beside the code that they call, since a crate with tests of its own is proved twice.
+//! They stand here, and not beside the code that they call, since a crate with
+//! tests of its own is proved twice.
 #![tactic(auto)]
 
 #[cfg(test)]

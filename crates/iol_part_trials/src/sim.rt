@@ -219,8 +219,9 @@ fn silence_lasts_until_it_is_mended(rt: HostRuntime) -> Result<(), Fail> {
     Ok(())
 }
 
-/// What became of a wire for which memory was refused so: whether memory was refused, and the wire's answer to a wake, or
-/// why there is none and whether the device and the script came back as they were.
+/// What became of a wire for which memory was refused so: whether memory was
+/// refused, and the wire's answer to a wake, or why there is none and whether the
+/// device and the script came back as they were.
 #[derive(PartialEq, Debug, Drop)]
 enum Made {
     Wire(bool, Option<Rate>),

@@ -8,7 +8,8 @@ use iol_mseq::Message;
 use iol_tap::{Passed, Tap};
 use std::test::Fail;
 
-/// A wire that answers each message by its octets but the first, and no message of one octet. It isn't honest.
+/// A wire that answers each message by its octets but the first, and no message of
+/// one octet. It isn't honest.
 ///
 /// Its first wake fails.
 #[derive(Drop)]

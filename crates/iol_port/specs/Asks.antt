@@ -31,11 +31,14 @@ module _ {W : Type 0} where
   abbrev pub begun_next : Parts W → Option Request
   begun_next p = to_begin (lacks_isdu p.station.session.isdu) (next_taken p.book.state.standing)
 
-  -- the one call of the wire in the next turn: that request is begun first, where nothing else is due
+  -- the one call of the wire in the next turn: that request is begun first, where
+  -- nothing else is due
   abbrev pub asks_of : Parts W → Asked
   asks_of p = asked_of (prepared (begun_next p) p.station (has_room p.kept)) (has_room p.kept)
 
-  -- a turn makes the call of the wire that was asked, and no other call of the port touches the wire
-  abbrev pub IsWireCall : (W → Option Rate → W → Type 0) → (W → List ℕ → Option (ArrayVec ℕ) → W → Type 0) → Call → Asked → W → W → Type 0
+  -- a turn makes the call of the wire that was asked, and no other call of the port
+  -- touches the wire
+  abbrev pub IsWireCall : (W → Option Rate → W → Type 0)
+      → (W → List ℕ → Option (ArrayVec ℕ) → W → Type 0) → Call → Asked → W → W → Type 0
   IsWireCall wakes gives Turn asked old new = IsCall wakes gives asked old new
   IsWireCall wakes gives other asked old new = new ≡ old

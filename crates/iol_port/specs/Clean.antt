@@ -34,9 +34,11 @@ use Rattle.iol_port.specs.Turns.{Stage, Ended, turns_needed, turns_at, StageFits
 use Rattle.iol_port.specs.View.{Parts}
 
 -- each exchange of a clean wire is one, and leaves it clean
-abbrev pub ExchangesCleanly : {W : Type 0} → (W → Bool) → (W → Far) → (W → List ℕ → Option (ArrayVec ℕ) → W → Type 0) → Type 0
+abbrev pub ExchangesCleanly : {W : Type 0} → (W → Bool) → (W → Far)
+    → (W → List ℕ → Option (ArrayVec ℕ) → W → Type 0) → Type 0
 ExchangesCleanly {W} clean far gives =
-    (old : W) (sent : List ℕ) (answer : Option (ArrayVec ℕ)) (new : W) → IsTrue (clean old) → gives old sent answer new
+    (old : W) (sent : List ℕ) (answer : Option (ArrayVec ℕ)) (new : W) → IsTrue (clean old)
+    → gives old sent answer new
     → CleanExchange (far old) sent (octets_in answer) (far new) × IsTrue (clean new)
 
 -- what the number of turns rests on: laws of the definitions
@@ -69,7 +71,8 @@ pub record IsCalm (s : SessionState) : Type 0 where
   pub confirm : is_confirm_due s.events.reading ≡ false
   pub flag : (is_resting s.events.reading && s.events.flag) ≡ false
 
--- the book while the request of that ticket is at this stage, the book having been that before it was taken
+-- the book while the request of that ticket is at this stage, the book having been
+-- that before it was taken
 abbrev pub book_at : BookState → Ticket → Request → Stage → BookState
 book_at book ticket request (Ended answer) = posted (took book (ticket, request)) (Done answer)
 book_at book ticket request stage = took book (ticket, request)
@@ -81,14 +84,20 @@ record_of far p = (far (wire_of p.station.link)).carried
 -- between requests, with no message out in OPERATE, both ends are level and the device is awake
 abbrev pub IsLevelBetween : {W : Type 0} → (W → Far) → Parts W → Type 0
 IsLevelBetween {W} far p =
-    (wire : W) (layouts : Layouts) → p.station.link ≡ InOperate (record { wire = wire; state = record { out = None; layouts = layouts } }) → p.station.session.current ≡ None
-    → (link : Link) × IsOperating layouts link × IsBefore (far wire).page layouts.run.od (far wire).carried link Quiet (far wire)
+    (wire : W) (layouts : Layouts)
+    → p.station.link
+    ≡ InOperate (record { wire = wire; state = record { out = None; layouts = layouts } })
+    → p.station.session.current ≡ None
+    → (link : Link) × IsOperating layouts link
+    × IsBefore (far wire).page layouts.run.od (far wire).carried link Quiet (far wire)
 
 module _ {W : Type 0} (honest : W → Bool) (far : W → Far) (clean : W → Bool) where
   -- in OPERATE over a clean wire, with no message out; the device is awake, in that link, has
   -- ISDU, as the port was told, and has no events
-  pub record Stood (layouts : Layouts) (link : Link) (station : StationState W) (wire : W) : Type 0 where
-    pub link_is : station.link ≡ InOperate (record { wire = wire; state = record { out = None; layouts = layouts } })
+  pub record Stood (layouts : Layouts) (link : Link) (station : StationState W)
+      (wire : W) : Type 0 where
+    pub link_is : station.link
+        ≡ InOperate (record { wire = wire; state = record { out = None; layouts = layouts } })
     pub is_honest : IsTrue (honest wire)
     pub is_clean : IsTrue (clean wire)
     pub calm : IsCalm station.session
@@ -99,27 +108,34 @@ module _ {W : Type 0} (honest : W → Bool) (far : W → Far) (clean : W → Boo
     pub isdu : knows_isdu (far wire).page ≡ true
     pub quiet : IsQuiet (far wire).events
 
-  -- a station over its wire, at this stage of a request that the device's record, then `base`, had room for
-  pub record At (layouts : Layouts) (request : Request) (base : List Carried) (stage : Stage) (station : StationState W) (wire : W) : Type 0 where
+  -- a station over its wire, at this stage of a request that the device's record,
+  -- then `base`, had room for
+  pub record At (layouts : Layouts) (request : Request) (base : List Carried) (stage : Stage)
+      (station : StationState W) (wire : W) : Type 0 where
     pub stood : Stood layouts operate_link station wire
-    pub fits : StageFits layouts.run.od request base stage station.session.current (far wire).isdu (far wire).carried
+    pub fits : StageFits layouts.run.od request base stage station.session.current (far wire).isdu
+        (far wire).carried
     pub room : IsTrue (takes_more (far wire).room base)
     pub limit : 2 ≤ station.session.limit
 
   -- a port at this stage of the request of that ticket
-  pub record IsAt (layouts : Layouts) (ticket : Ticket) (request : Request) (base : List Carried) (book : BookState) (stage : Stage) (p : Parts W) : Type 0 where
+  pub record IsAt (layouts : Layouts) (ticket : Ticket) (request : Request) (base : List Carried)
+      (book : BookState) (stage : Stage) (p : Parts W) : Type 0 where
     pub wire : W
     pub at : At layouts request base stage p.station wire
     pub book_is : p.book.state ≡ book_at book ticket request stage
     pub valid : IsRequest request
     pub low : 1 ≤ layouts.run.od
 
-  -- From here a request takes an exact number of turns: the port is in OPERATE over a clean wire, and its next turn would send IDLE 1, with
-  -- room for events; both ends are level, the device awake; it has ISDU, as the port was told, and no events, and its record has room; the request
-  -- is the next to be taken: no urgent one waits, or it is the first of them
-  pub record MayStart (layouts : Layouts) (ticket : Ticket) (request : Request) (p : Parts W) : Type 0 where
+  -- From here a request takes an exact number of turns: the port is in OPERATE over a clean
+  -- wire, and its next turn would send IDLE 1, with room for events; both ends are level, the
+  -- device awake; it has ISDU, as the port was told, and no events, and its record has room;
+  -- the request is the next to be taken: no urgent one waits, or it is the first of them
+  pub record MayStart (layouts : Layouts) (ticket : Ticket) (request : Request)
+      (p : Parts W) : Type 0 where
     pub wire : W
-    pub link_is : p.station.link ≡ InOperate (record { wire = wire; state = record { out = None; layouts = layouts } })
+    pub link_is : p.station.link
+        ≡ InOperate (record { wire = wire; state = record { out = None; layouts = layouts } })
     pub is_honest : IsTrue (honest wire)
     pub is_clean : IsTrue (clean wire)
     pub ready : is_ready p.station.session true ≡ true
@@ -132,16 +148,23 @@ module _ {W : Type 0} (honest : W → Bool) (far : W → Far) (clean : W → Boo
     pub room : IsTrue (has_room (far wire))
     pub next : next_taken p.book.state.standing ≡ Some (ticket, request)
 
-  -- how the request stands after so many turns: it is taken, and nothing entered the record; its answer did, and it is not done; it is done
-  -- with that answer, after as many turns as are needed; more turns were made
+  -- how the request stands after so many turns: it is taken, and nothing entered
+  -- the record; its answer did, and it is not done; it is done with that answer,
+  -- after as many turns as are needed; more turns were made
   abbrev pub IsOnTime : Layouts → Ticket → Request → Parts W → ℕ → Parts W → Type 0
   IsOnTime layouts ticket request old n new =
-      ((n ≤ segments layouts.run.od (request_text request) + 1) × (record_of far new ≡ record_of far old) × (new.book.state ≡ took old.book.state (ticket, request)))
-      ⊎ ((answer : Answer) × (record_of far new ≡ grown_by (record_of far old) request answer) × (n < turns_needed layouts.run.od request answer)
+      ((n ≤ segments layouts.run.od (request_text request) + 1)
+      × (record_of far new ≡ record_of far old)
       × (new.book.state ≡ took old.book.state (ticket, request)))
-      ⊎ ((answer : Answer) × (record_of far new ≡ grown_by (record_of far old) request answer) × (n ≡ turns_needed layouts.run.od request answer)
+      ⊎ ((answer : Answer) × (record_of far new ≡ grown_by (record_of far old) request answer)
+      × (n < turns_needed layouts.run.od request answer)
+      × (new.book.state ≡ took old.book.state (ticket, request)))
+      ⊎ ((answer : Answer) × (record_of far new ≡ grown_by (record_of far old) request answer)
+      × (n ≡ turns_needed layouts.run.od request answer)
       × (new.book.state ≡ posted (took old.book.state (ticket, request)) (Done answer)))
-      ⊎ ((answer : Answer) × (more : List Carried) × (record_of far new ≡ grown_by (record_of far old) request answer ++ more) × (turns_needed layouts.run.od request answer < n))
+      ⊎ ((answer : Answer) × (more : List Carried)
+      × (record_of far new ≡ grown_by (record_of far old) request answer ++ more)
+      × (turns_needed layouts.run.od request answer < n))
 
   -- From here requests that wait take the sum of their turns: the first may start, they wait in
   -- this order before all others, and the device's record has room for the pairs of all of them
@@ -182,7 +205,8 @@ module _ {W : Type 0} (honest : W → Bool) (far : W → Far) (clean : W → Boo
       (grown_by base next.1 answer) (posted (took book next) (Done answer)) new)
 
   -- at some stage, so many turns on
-  pub record IsAfter (layouts : Layouts) (ticket : Ticket) (request : Request) (base : List Carried) (book : BookState) (turns : ℕ) (p : Parts W) : Type 0 where
+  pub record IsAfter (layouts : Layouts) (ticket : Ticket) (request : Request) (base : List Carried)
+      (book : BookState) (turns : ℕ) (p : Parts W) : Type 0 where
     pub stage : Stage
     pub is_at : IsAt layouts ticket request base book stage p
     pub turns_are : turns_at layouts.run.od request stage ≡ turns
@@ -190,20 +214,27 @@ module _ {W : Type 0} (honest : W → Bool) (far : W → Far) (clean : W → Boo
   -- one turn: the next request begins, or goes one stage on; on an honest wire the record only
   -- grows, and may grow as far as before
   pub record CleanTurn (p next : Parts W) : Type 0 where
-    pub starts : (layouts : Layouts) (ticket : Ticket) (request : Request) → MayStart layouts ticket request p
+    pub starts : (layouts : Layouts) (ticket : Ticket) (request : Request)
+        → MayStart layouts ticket request p
         → IsAfter layouts ticket request (record_of far p) p.book.state 1 next
-    pub goes_on : (layouts : Layouts) (ticket : Ticket) (request : Request) (base : List Carried) (book : BookState) (stage : Stage)
-        → IsAt layouts ticket request base book stage p → ((answer : Answer) → stage ≡ Ended answer → ⊥)
-        → IsAfter layouts ticket request base book (suc (turns_at layouts.run.od request stage)) next
+    pub goes_on : (layouts : Layouts) (ticket : Ticket) (request : Request) (base : List Carried)
+        (book : BookState) (stage : Stage)
+        → IsAt layouts ticket request base book stage p
+        → ((answer : Answer) → stage ≡ Ended answer → ⊥)
+        → IsAfter layouts ticket request base book
+        (suc (turns_at layouts.run.od request stage)) next
     pub honesty : honest (wire_of next.station.link) ≡ honest (wire_of p.station.link)
-    pub grows : IsTrue (honest (wire_of p.station.link)) → (more : List Carried) × (record_of far next ≡ record_of far p ++ more)
+    pub grows : IsTrue (honest (wire_of p.station.link))
+        → (more : List Carried) × (record_of far next ≡ record_of far p ++ more)
     pub room : IsTrue (honest (wire_of p.station.link))
         → (far (wire_of next.station.link)).room ≡ (far (wire_of p.station.link)).room
 
   -- so many turns and no other call: a request stands as it is to then
   abbrev pub CleanRuns : Parts W → List Call → Parts W → Type 0
   CleanRuns p calls next =
-      (n : ℕ) → calls ≡ replicate (suc n) call.Turn → (layouts : Layouts) (ticket : Ticket) (request : Request) → MayStart layouts ticket request p
+      (n : ℕ) → calls ≡ replicate (suc n) call.Turn
+      → (layouts : Layouts) (ticket : Ticket) (request : Request)
+      → MayStart layouts ticket request p
       → IsOnTime layouts ticket request p (suc n) next
 
   -- and requests that wait are served one behind the other

@@ -1,4 +1,5 @@
--- What a client may conclude of a request that was denied: the device has no ISDU, and carries out nothing.
+-- What a client may conclude of a request that was denied: the device has no ISDU,
+-- and carries out nothing.
 use Rattle.std.specs.Prelude.{◌≡◌, ℕ, false, List}
 use Rattle.iol_page.specs.Page.{knows_isdu}
 use Rattle.iol_far.specs.Far.{Far}
@@ -12,14 +13,18 @@ use Rattle.iol_port.specs.declared.call.Answered.TheVariants as answered
 use Rattle.iol_port.specs.Run.{PortState, Run, opened}
 use Rattle.iol_port.specs.Owned.{Happens}
 
--- in no run of a port that is opened, across losses, restarts and archives, does a device without ISDU carry anything out
+-- in no run of a port that is opened, across losses, restarts and archives, does a
+-- device without ISDU carry anything out
 abbrev pub CarriesNone : Type 0
 CarriesNone =
-    (limits : Limits) (far : Far) (silence : ℕ) (calls : List Call) (replies : List Answered) (b : PortState) → Run (opened limits far silence) calls replies b
+    (limits : Limits) (far : Far) (silence : ℕ) (calls : List Call) (replies : List Answered)
+    (b : PortState) → Run (opened limits far silence) calls replies b
     → knows_isdu far.page ≡ false → b.session.carried ≡ far.carried
 
 -- and each outcome NoIsdu that was collected is that of such a device
 abbrev pub IsDeniedWithoutIsdu : Type 0
 IsDeniedWithoutIsdu =
-    (limits : Limits) (far : Far) (silence : ℕ) (calls : List Call) (replies : List Answered) (b : PortState) → Run (opened limits far silence) calls replies b
-    → (ticket : Ticket) → Happens calls replies (call.Collect ticket) (answered.Outcome NoIsdu) → knows_isdu far.page ≡ false
+    (limits : Limits) (far : Far) (silence : ℕ) (calls : List Call) (replies : List Answered)
+    (b : PortState) → Run (opened limits far silence) calls replies b
+    → (ticket : Ticket) → Happens calls replies (call.Collect ticket) (answered.Outcome NoIsdu)
+    → knows_isdu far.page ≡ false

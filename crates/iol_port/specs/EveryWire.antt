@@ -1,4 +1,5 @@
--- What each call of a port answers and leaves on every wire, honest or not, from the port's own parts.
+-- What each call of a port answers and leaves on every wire, honest or not, from
+-- the port's own parts.
 use Rattle.std.specs.Prelude.{◌≡◌, ℕ, Bool, ◌&&◌, if◌then◌else◌, List, [], ◌∷◌, ◌++◌, drop, Option, Some, None, Result, is_ok, IfOk, IfErr, OnOk, OnErr, slice_get, ◌⊎◌, false, IsTrue}
 use Rattle.std.specs.Option.{ok_or, option_map}
 use Rattle.std.specs.Result.{result_err}
@@ -42,22 +43,26 @@ abbrev pub RefusesSubmit : BookValue → PortFault → Type 0
 RefusesSubmit b (fault.Book why) = RefusesFor (submit_refusal b.state) why b.room
 RefusesSubmit b other = ⊥
 
--- the book once the next request is taken, or denied where the device has no ISDU: where the station is ready for one, and one waits
+-- the book once the next request is taken, or denied where the device has no ISDU:
+-- where the station is ready for one, and one waits
 abbrev pub taken_where : Bool → Bool → Option (Ticket × Request) → BookState → BookState
 taken_where ready lacks None b = b
-taken_where ready lacks (Some next) b = if ready then (if lacks then denied b next.0 else took b next) else b
+taken_where ready lacks (Some next) b =
+    if ready then (if lacks then denied b next.0 else took b next) else b
 
 -- the outcome of a ticket is that the device has no ISDU
 abbrev pub HasNoIsdu : BookState → Ticket → Type 0
 HasNoIsdu b ticket = lookup (same_ticket ticket) b.standing.outcomes ≡ Some NoIsdu
 
 module _ {W : Type 0} where
-  -- Only the book changes: the station with its wire, and the events that are kept, are what they were
+  -- Only the book changes: the station with its wire, and the events that are kept,
+  -- are what they were
   abbrev pub IsBookCall : Parts W → Parts W → Type 0
   IsBookCall old new = new ≡ record old { book = new.book }
 
   -- a request is entered, which leaves this book
-  pub record SubmitGives (old : Parts W) (book : BookState) (result : Result Ticket PortFault) (new : Parts W) : Type 0 where
+  pub record SubmitGives (old : Parts W) (book : BookState) (result : Result Ticket PortFault)
+      (new : Parts W) : Type 0 where
     pub allowed : OnOk result (submit_refusal old.book.state ≡ None)
     pub ticket : IfOk result (λ t. t ≡ next_ticket old.book.state)
     pub entered : OnOk result (new.book.state ≡ book)
@@ -66,24 +71,35 @@ module _ {W : Type 0} where
     pub rest : IsBookCall old new
 
   -- the outcome that was posted for the ticket, or why there is none
-  pub record CollectGives (old : Parts W) (ticket : Ticket) (result : Result Outcome PortFault) (new : Parts W) : Type 0 where
+  pub record CollectGives (old : Parts W) (ticket : Ticket) (result : Result Outcome PortFault)
+      (new : Parts W) : Type 0 where
     pub answer : result ≡ by_book (collect_answer old.book.state.standing ticket)
     pub book : new.book.state ≡ collected old.book.state ticket
     pub rest : IsBookCall old new
 
-  pub record WithdrawGives (old : Parts W) (ticket : Ticket) (result : Result (Unit {0}) PortFault) (new : Parts W) : Type 0 where
-    pub answer : result_err result ≡ option_map (λ why. fault.Book why) (withdraw_refusal old.book.state.standing ticket)
+  pub record WithdrawGives (old : Parts W) (ticket : Ticket) (result : Result (Unit {0}) PortFault)
+      (new : Parts W) : Type 0 where
+    pub answer : result_err result
+        ≡ option_map (λ why. fault.Book why) (withdraw_refusal old.book.state.standing ticket)
     pub book : new.book.state ≡ withdrawn old.book.state ticket
     pub rest : IsBookCall old new
 
-  -- refused as long as it isn't the request under way; else an abort waits, for this cause unless one waits already
-  pub record CancelGives (old : Parts W) (ticket : Ticket) (result : Result (Unit {0}) PortFault) (new : Parts W) : Type 0 where
-    pub answer : result_err result ≡ option_map (λ why. fault.Book why) (flight_refusal old.book.state.standing ticket)
-    pub waits : OnOk result (new ≡ record old { station = record old.station { session = session.aborted_in Cancelled old.station.session } })
+  -- refused as long as it isn't the request under way; else an abort waits, for
+  -- this cause unless one waits already
+  pub record CancelGives (old : Parts W) (ticket : Ticket) (result : Result (Unit {0}) PortFault)
+      (new : Parts W) : Type 0 where
+    pub answer : result_err result
+        ≡ option_map (λ why. fault.Book why) (flight_refusal old.book.state.standing ticket)
+    pub waits : OnOk result
+        (new ≡ record old {
+          station =
+              record old.station { session = session.aborted_in Cancelled old.station.session };
+        })
     pub unchanged : OnErr result (new ≡ old)
 
   -- these entries are the journal as it was, and the new one is empty
-  pub record ArchiveGives (old : Parts W) (result : Result (List Entry) PortFault) (new : Parts W) : Type 0 where
+  pub record ArchiveGives (old : Parts W) (result : Result (List Entry) PortFault)
+      (new : Parts W) : Type 0 where
     pub allowed : is_ok result ≡ may_archive old.book.state
     pub journal : IfOk result (λ entries. entries ≡ old.book.state.journal)
     pub refused : IfErr result (λ why. why ≡ fault.Book Outstanding)
@@ -91,26 +107,40 @@ module _ {W : Type 0} where
     pub rest : IsBookCall old new
 
   -- the event kept longest
-  pub record TakeEventGives (old : Parts W) (result : Result Event PortFault) (new : Parts W) : Type 0 where
+  pub record TakeEventGives (old : Parts W) (result : Result Event PortFault)
+      (new : Parts W) : Type 0 where
     pub answer : result ≡ ok_or (slice_get old.kept 0) fault.NoEvent
     pub rest : new ≡ record old { kept = drop 1 old.kept }
 
   -- refused by the layout that was told last; else it is wanted
-  pub record SetOutputGives (old : Parts W) (image : Image) (result : Result (Unit {0}) PortFault) (new : Parts W) : Type 0 where
-    pub answer : result_err result ≡ option_map (λ why. fault.Output why) (session.output_refusal image old.station.session.layout)
-    pub wanted : OnOk result (new ≡ record old { station = record old.station { session = session.wanting (Some image) old.station.session } })
+  pub record SetOutputGives (old : Parts W) (image : Image) (result : Result (Unit {0}) PortFault)
+      (new : Parts W) : Type 0 where
+    pub answer : result_err result
+        ≡ option_map (λ why. fault.Output why)
+        (session.output_refusal image old.station.session.layout)
+    pub wanted : OnOk result
+        (new ≡ record old {
+          station =
+              record old.station { session = session.wanting (Some image) old.station.session };
+        })
     pub unchanged : OnErr result (new ≡ old)
 
   abbrev pub ClearOutputGives : Parts W → Parts W → Type 0
-  ClearOutputGives old new = new ≡ record old { station = record old.station { session = session.wanting None old.station.session } }
+  ClearOutputGives old new = new
+      ≡ record old {
+        station =
+            record old.station { session = session.wanting None old.station.session };
+      }
 
-  -- the wire stays, the link is down and has no fault; the request under way is cut off, and there is no image
+  -- the wire stays, the link is down and has no fault; the request under way is cut
+  -- off, and there is no image
   pub record RestartGives (old new : Parts W) : Type 0 where
     pub wire : wire_of new.station.link ≡ wire_of old.station.link
     pub mode : mode_of new.station.link ≡ Down
     pub why : why_of new.station.link ≡ None
     pub session_is : new.station.session ≡ session.left old.station.session
-    pub book : new.book.state ≡ book_through (restart_steps (request_taken old.book.state.standing.taken)) old.book.state
+    pub book : new.book.state
+        ≡ book_through (restart_steps (request_taken old.book.state.standing.taken)) old.book.state
     pub kept : new.kept ≡ old.kept
 
   -- whether the next turn would send IDLE 1, so that it takes or denies the next request
@@ -122,50 +152,70 @@ module _ {W : Type 0} where
   station_begun p = prepared (begun_next p) p.station (has_room p.kept)
 
   abbrev pub book_begun : Parts W → BookState
-  book_begun p = taken_where (takes_next p) (lacks_isdu p.station.session.isdu) (next_taken p.book.state.standing) p.book.state
+  book_begun p =
+      taken_where (takes_next p) (lacks_isdu p.station.session.isdu)
+      (next_taken p.book.state.standing) p.book.state
 
-  -- The ticket's request waited, none was taken, and a start-up told that the device has no ISDU; all that the turn does in the book is to give
-  -- it this outcome, without a taking
+  -- The ticket's request waited, none was taken, and a start-up told that the device has no
+  -- ISDU; all that the turn does in the book is to give it this outcome, without a taking
   pub record IsDenied (old new : Parts W) (ticket : Ticket) : Type 0 where
     pub told : old.station.session.isdu ≡ Some false
     pub waited : IsTrue (waits old.book.state.standing ticket)
     pub free : old.book.state.standing.taken ≡ None
     pub book : new.book.state ≡ denied old.book.state ticket
 
-  module _ (honest : W → Bool) (far : W → Far) (silence : W → ℕ) (wakes : W → Option Rate → W → Type 0) (gives : W → List ℕ → Option (ArrayVec ℕ) → W → Type 0) where
-    -- A turn: the next request is begun or denied; the station makes its own one, with room for events where at most 58 are kept, and what that says goes to the book and to the
+  module _ (honest : W → Bool) (far : W → Far) (silence : W → ℕ)
+      (wakes : W → Option Rate → W → Type 0)
+      (gives : W → List ℕ → Option (ArrayVec ℕ) → W → Type 0) where
+    -- A turn: the next request is begun or denied; the station makes its own one, with room
+    -- for events where at most 58 are kept, and what that says goes to the book and to the
     -- kept events; a wake that had success ends what a request that was cut off may still do
     pub record TurnGives (old new : Parts W) : Type 0 where
       pub said : Said
       -- its one call of the wire is the one that the port asks for
-      pub turn : IsTurn honest far silence (AskedWakes wakes (asks_of old)) (AskedGives gives (asks_of old)) (has_room old.kept) (station_begun old) said new.station
-      pub book : new.book.state ≡ book_through (woke_up (mode_of old.station.link) (mode_of new.station.link) ++ book_said said) (book_begun old)
+      pub turn : IsTurn honest far silence (AskedWakes wakes (asks_of old))
+          (AskedGives gives (asks_of old)) (has_room old.kept) (station_begun old) said new.station
+      pub book : new.book.state
+          ≡ book_through
+          (woke_up (mode_of old.station.link) (mode_of new.station.link) ++ book_said said)
+          (book_begun old)
       pub kept : new.kept ≡ kept_through (reports_said said) old.kept
       -- each new outcome NoIsdu is that of a request which this turn denied
-      pub denies : (ticket : Ticket) → HasNoIsdu new.book.state ticket → HasNoIsdu old.book.state ticket ⊎ IsDenied old new ticket
+      pub denies : (ticket : Ticket) → HasNoIsdu new.book.state ticket
+          → HasNoIsdu old.book.state ticket ⊎ IsDenied old new ticket
 
     -- One call, with the answer that a list of calls has for it
     abbrev pub CallGives : Parts W → Call → Answered → Parts W → Type 0
     CallGives old (call.Submit request) reply new =
-        (result : Result Ticket PortFault) × (reply ≡ ticket_reply result) × SubmitGives old (submitted old.book.state request) result new
+        (result : Result Ticket PortFault) × (reply ≡ ticket_reply result)
+        × SubmitGives old (submitted old.book.state request) result new
     CallGives old (call.SubmitUrgent request) reply new =
-        (result : Result Ticket PortFault) × (reply ≡ ticket_reply result) × SubmitGives old (submitted_urgent old.book.state request) result new
+        (result : Result Ticket PortFault) × (reply ≡ ticket_reply result)
+        × SubmitGives old (submitted_urgent old.book.state request) result new
     CallGives old (call.Collect ticket) reply new =
-        (result : Result Outcome PortFault) × (reply ≡ outcome_reply result) × CollectGives old ticket result new
+        (result : Result Outcome PortFault) × (reply ≡ outcome_reply result)
+        × CollectGives old ticket result new
     CallGives old (call.Withdraw ticket) reply new =
-        (result : Result (Unit {0}) PortFault) × (reply ≡ nothing_reply result) × WithdrawGives old ticket result new
+        (result : Result (Unit {0}) PortFault) × (reply ≡ nothing_reply result)
+        × WithdrawGives old ticket result new
     CallGives old (call.Cancel ticket) reply new =
-        (result : Result (Unit {0}) PortFault) × (reply ≡ nothing_reply result) × CancelGives old ticket result new
+        (result : Result (Unit {0}) PortFault) × (reply ≡ nothing_reply result)
+        × CancelGives old ticket result new
     CallGives old call.Restart reply new = (reply ≡ answered.Nothing) × RestartGives old new
     CallGives old (call.SetOutput image) reply new =
-        (result : Result (Unit {0}) PortFault) × (reply ≡ nothing_reply result) × SetOutputGives old image result new
+        (result : Result (Unit {0}) PortFault) × (reply ≡ nothing_reply result)
+        × SetOutputGives old image result new
     CallGives old call.ClearOutput reply new = (reply ≡ answered.Nothing) × ClearOutputGives old new
-    CallGives old call.Look reply new = (reply ≡ answered.Image old.station.session.image) × (new ≡ old)
+    CallGives old call.Look reply new = (reply ≡ answered.Image old.station.session.image)
+        × (new ≡ old)
     CallGives old call.TakeEvent reply new =
-        (result : Result Event PortFault) × (reply ≡ event_reply result) × TakeEventGives old result new
-    CallGives old call.Status reply new = (reply ≡ answered.Status (status_of old.station)) × (new ≡ old)
+        (result : Result Event PortFault) × (reply ≡ event_reply result)
+        × TakeEventGives old result new
+    CallGives old call.Status reply new = (reply ≡ answered.Status (status_of old.station))
+        × (new ≡ old)
     CallGives old call.Archive reply new =
-        (result : Result (List Entry) PortFault) × (reply ≡ archive_reply result) × ArchiveGives old result new
+        (result : Result (List Entry) PortFault) × (reply ≡ archive_reply result)
+        × ArchiveGives old result new
     CallGives old call.Turn reply new =
         (reply ≡ answered.Nothing) × TurnGives old new
         × IsCall wakes gives (asks_of old) (wire_of old.station.link) (wire_of new.station.link)
@@ -173,6 +223,7 @@ module _ {W : Type 0} where
     -- a run: each call in order, once, with its answer
     abbrev pub RunGives : Parts W → List Call → List Answered → Parts W → Type 0
     RunGives old [] [] new = new ≡ old
-    RunGives old (call ∷ calls) (reply ∷ replies) new = (mid : Parts W) × CallGives old call reply mid × RunGives mid calls replies new
+    RunGives old (call ∷ calls) (reply ∷ replies) new = (mid : Parts W)
+        × CallGives old call reply mid × RunGives mid calls replies new
     RunGives old [] (reply ∷ replies) new = ⊥
     RunGives old (call ∷ calls) [] new = ⊥

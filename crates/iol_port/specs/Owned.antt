@@ -1,4 +1,5 @@
--- What a client may conclude of a whole run: which requests the device carried out in it, each once.
+-- What a client may conclude of a whole run: which requests the device carried out
+-- in it, each once.
 use Rattle.std.specs.Prelude.{◌≡◌, ◌⊎◌, ◌<◌, ℕ, false, List, [], ◌∷◌, ◌++◌, map, Some}
 use Rattle.std.specs.Map.{lookup}
 use Rattle.iol_isdu.specs.declared.values.Request.{Request}
@@ -18,7 +19,8 @@ use Rattle.iol_port.specs.declared.call.Answered.{Answered}
 use Rattle.iol_port.specs.declared.call.Answered.TheVariants as answered
 use Rattle.iol_port.specs.Run.{PortState, TurnOf, Run, opened}
 
--- a request that the device carried out: the ticket under which it was submitted, itself, and the answer
+-- a request that the device carried out: the ticket under which it was submitted,
+-- itself, and the answer
 pub record Owned : Type 0 where
   pub ticket : Ticket
   pub request : Request
@@ -35,52 +37,67 @@ IsOneOf o (p ∷ ps) = (p ≡ o) ⊎ IsOneOf o ps
 -- each ticket is above `low`, and no two are the same
 abbrev pub AreApart : ℕ → List Owned → Type 0
 AreApart low [] = Unit {0}
-AreApart low (o ∷ owned) = (low < o.ticket.0) × ((p : Owned) → IsOneOf p owned → p.ticket ≡ o.ticket → ⊥) × AreApart low owned
+AreApart low (o ∷ owned) = (low < o.ticket.0)
+    × ((p : Owned) → IsOneOf p owned → p.ticket ≡ o.ticket → ⊥) × AreApart low owned
 
 -- the run has this call, with this reply
 abbrev pub Happens : List Call → List Answered → Call → Answered → Type 0
 Happens [] replies call reply = ⊥
 Happens (c ∷ calls) [] call reply = ⊥
-Happens (c ∷ calls) (r ∷ replies) call reply = ((c ≡ call) × (r ≡ reply)) ⊎ Happens calls replies call reply
+Happens (c ∷ calls) (r ∷ replies) call reply = ((c ≡ call) × (r ≡ reply))
+    ⊎ Happens calls replies call reply
 
 -- a request was submitted under this ticket, as an urgent one or as one of the others
 abbrev pub IsSubmitted : List Call → List Answered → Ticket → Request → Type 0
 IsSubmitted calls replies ticket request =
-    Happens calls replies (call.Submit request) (answered.Ticket ticket) ⊎ Happens calls replies (call.SubmitUrgent request) (answered.Ticket ticket)
+    Happens calls replies (call.Submit request) (answered.Ticket ticket)
+    ⊎ Happens calls replies (call.SubmitUrgent request) (answered.Ticket ticket)
 
--- The record grew by the pairs of these, in this order. Each was submitted in the run under its ticket, and no two have one ticket; each outcome
--- Done that was collected is that of one of them
-pub record CarriesOut (given : ℕ) (before : List Carried) (calls : List Call) (replies : List Answered) (carried : List Carried) (owned : List Owned) : Type 0 where
+-- The record grew by the pairs of these, in this order. Each was submitted in the run under its
+-- ticket, and no two have one ticket; each outcome Done that was collected is that of one of them
+pub record CarriesOut (given : ℕ) (before : List Carried) (calls : List Call)
+    (replies : List Answered) (carried : List Carried) (owned : List Owned) : Type 0 where
   pub record_is : carried ≡ before ++ pairs_of owned
   pub apart : AreApart given owned
   pub asked : (o : Owned) → IsOneOf o owned → IsSubmitted calls replies o.ticket o.request
-  pub done : (ticket : Ticket) (answer : Answer) → Happens calls replies (call.Collect ticket) (answered.Outcome (Done answer))
+  pub done : (ticket : Ticket) (answer : Answer)
+      → Happens calls replies (call.Collect ticket) (answered.Outcome (Done answer))
       → (o : Owned) × IsOneOf o owned × (o.ticket ≡ ticket) × (o.answer ≡ answer)
 
 -- so it is in every run of a port that is opened, across losses, restarts and archives
 abbrev pub EachDoneHasItsPair : Type 0
 EachDoneHasItsPair =
-    (limits : Limits) (far : Far) (silence : ℕ) (calls : List Call) (replies : List Answered) (b : PortState) → Run (opened limits far silence) calls replies b
-    → (owned : List Owned) × CarriesOut limits.given far.carried calls replies b.session.carried owned
+    (limits : Limits) (far : Far) (silence : ℕ) (calls : List Call) (replies : List Answered)
+    (b : PortState) → Run (opened limits far silence) calls replies b
+    → (owned : List Owned)
+    × CarriesOut limits.given far.carried calls replies b.session.carried owned
 
--- the request of a ticket was cut off: that is its outcome, which was collected in the run, or may still be
+-- the request of a ticket was cut off: that is its outcome, which was collected in
+-- the run, or may still be
 abbrev pub IsCutOff : List Call → List Answered → PortState → Ticket → Type 0
 IsCutOff calls replies a ticket =
-    (cause : Cause) × (Happens calls replies (call.Collect ticket) (answered.Outcome (Unknown cause)) ⊎ (lookup (same_ticket ticket) a.book.standing.outcomes ≡ Some (Unknown cause)))
+    (cause : Cause)
+    × (Happens calls replies (call.Collect ticket) (answered.Outcome (Unknown cause))
+    ⊎ (lookup (same_ticket ticket) a.book.standing.outcomes ≡ Some (Unknown cause)))
 
--- and it was so, with the device's word that it has the request no more: for any cause but the loss of the link and a restart
+-- and it was so, with the device's word that it has the request no more: for any
+-- cause but the loss of the link and a restart
 abbrev pub IsCutForGood : List Call → List Answered → PortState → Ticket → Type 0
 IsCutForGood calls replies a ticket =
     (cause : Cause) × (leaves_unsure (Unknown cause) ≡ false)
-    × (Happens calls replies (call.Collect ticket) (answered.Outcome (Unknown cause)) ⊎ (lookup (same_ticket ticket) a.book.standing.outcomes ≡ Some (Unknown cause)))
+    × (Happens calls replies (call.Collect ticket) (answered.Outcome (Unknown cause))
+    ⊎ (lookup (same_ticket ticket) a.book.standing.outcomes ≡ Some (Unknown cause)))
 
--- A run comes to `a`, and goes on to `c`: of what is carried out from `a` on, nothing was cut off for good before
+-- A run comes to `a`, and goes on to `c`: of what is carried out from `a` on,
+-- nothing was cut off for good before
 abbrev pub CutForGoodStaysOut : Type 0
 CutForGoodStaysOut =
-    (limits : Limits) (far : Far) (silence : ℕ) (calls more : List Call) (replies others : List Answered) (a c : PortState)
+    (limits : Limits) (far : Far) (silence : ℕ) (calls more : List Call)
+    (replies others : List Answered) (a c : PortState)
     → Run (opened limits far silence) calls replies a → Run a more others c
     → (owned later : List Owned) × (a.session.carried ≡ far.carried ++ pairs_of owned)
-    × CarriesOut limits.given far.carried (calls ++ more) (replies ++ others) c.session.carried (owned ++ later)
+    × CarriesOut limits.given far.carried (calls ++ more) (replies ++ others) c.session.carried
+    (owned ++ later)
     × ((o : Owned) → IsOneOf o later → IsCutForGood calls replies a o.ticket → ⊥)
 
 -- a turn whose wake had success: it leads out of down
@@ -89,11 +106,14 @@ pub record Wakes (a b : PortState) : Type 0 where
   pub down : a.session.mode ≡ Down
   pub up : b.session.mode ≡ Down → ⊥
 
--- A run comes to `a`, by such a turn to `b`, and goes on to `c`: of what is carried out from `b` on, nothing was cut off before
+-- A run comes to `a`, by such a turn to `b`, and goes on to `c`: of what is carried
+-- out from `b` on, nothing was cut off before
 abbrev pub LateEnds : Type 0
 LateEnds =
-    (limits : Limits) (far : Far) (silence : ℕ) (calls more : List Call) (replies others : List Answered) (a b c : PortState)
+    (limits : Limits) (far : Far) (silence : ℕ) (calls more : List Call)
+    (replies others : List Answered) (a b c : PortState)
     → Run (opened limits far silence) calls replies a → Wakes a b → Run b more others c
     → (owned later : List Owned) × (b.session.carried ≡ far.carried ++ pairs_of owned)
-    × CarriesOut limits.given far.carried (calls ++ call.Turn ∷ more) (replies ++ answered.Nothing ∷ others) c.session.carried (owned ++ later)
+    × CarriesOut limits.given far.carried (calls ++ call.Turn ∷ more)
+    (replies ++ answered.Nothing ∷ others) c.session.carried (owned ++ later)
     × ((o : Owned) → IsOneOf o later → IsCutOff calls replies a o.ticket → ⊥)

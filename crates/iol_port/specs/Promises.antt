@@ -21,7 +21,8 @@ OpensSound = (limits : Limits) (far : Far) (silence : ℕ) → IsSound (opened l
 
 -- and every run keeps it so
 abbrev pub RunsSound : Type 0
-RunsSound = (a b : PortState) (calls : List Call) (replies : List Answered) → Run a calls replies b → IsSound a → IsSound b
+RunsSound = (a b : PortState) (calls : List Call) (replies : List Answered) → Run a calls replies b
+    → IsSound a → IsSound b
 
 -- of a sound port the record fits the journal
 abbrev pub SoundFits : Type 0
@@ -29,7 +30,8 @@ SoundFits = (a : PortState) → IsSound a → RecordFits a
 
 -- a turn that begins in OPERATE and brings a good reply ends in OPERATE
 abbrev pub GoodLinkStays : Type 0
-GoodLinkStays = (a b : PortState) → TurnOf a b → a.session.mode ≡ Operate → b.silence ≡ 0 → b.session.mode ≡ Operate
+GoodLinkStays = (a b : PortState) → TurnOf a b → a.session.mode ≡ Operate → b.silence ≡ 0
+    → b.session.mode ≡ Operate
 
 -- where a reply is missing already, a turn changes that, so that nothing at all is no turn
 abbrev pub NothingIsNoTurn : Type 0
@@ -38,7 +40,8 @@ NothingIsNoTurn = (a : PortState) → a.session.mode ≡ Operate → a.silence �
 -- a run and one that goes on from where it led are one run
 abbrev pub RunsJoin : Type 0
 RunsJoin =
-    (a b c : PortState) (calls more : List Call) (replies others : List Answered) → Run a calls replies b → Run b more others c
+    (a b c : PortState) (calls more : List Call) (replies others : List Answered)
+    → Run a calls replies b → Run b more others c
     → Run a (calls ++ more) (replies ++ others) c
 
 -- whether the program asked to cut off the request under way
@@ -54,10 +57,14 @@ Cancels (step ∷ steps) = Cancels steps
 
 -- a request is cancelled only where the program had asked for it before the turn
 abbrev pub CancelledWasAsked : Type 0
-CancelledWasAsked = (moment : Moment) (steps : List Step) (s : Session) → MaySessionAll moment steps s → Cancels steps → is_asked s.job ≡ true
+CancelledWasAsked = (moment : Moment) (steps : List Step) (s : Session)
+    → MaySessionAll moment steps s → Cancels steps → is_asked s.job ≡ true
 
 -- and a request has that mark only by a cancel of its ticket, which was answered
 abbrev pub AskedByCancel : Type 0
 AskedByCancel =
-    (a b : PortState) (c : Call) (reply : Answered) → CallOf a c reply b → is_asked b.session.job ≡ true
-    → (is_asked a.session.job ≡ true) ⊎ ((ticket : Ticket) × (c ≡ call.Cancel ticket) × (reply ≡ answered.Nothing) × (is_taken a.book.standing ticket ≡ true))
+    (a b : PortState) (c : Call) (reply : Answered) → CallOf a c reply b
+    → is_asked b.session.job ≡ true
+    → (is_asked a.session.job ≡ true)
+    ⊎ ((ticket : Ticket) × (c ≡ call.Cancel ticket) × (reply ≡ answered.Nothing)
+    × (is_taken a.book.standing ticket ≡ true))

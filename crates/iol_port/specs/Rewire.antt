@@ -8,9 +8,11 @@ use Rattle.iol_port.specs.View.{Parts, StandsFor}
 module _ {W : Type 0} where
   -- the same port over this wire
   abbrev pub rewired_parts : W → Parts W → Parts W
-  rewired_parts wire p = record p { station = record p.station { link = rewired wire p.station.link } }
+  rewired_parts wire p =
+      record p { station = record p.station { link = rewired wire p.station.link } }
 
   -- each abstract port that it stood for, it stands for
   module _ (honest : W → Bool) (far : W → Far) (silence : W → ℕ) where
     unfoldable pub StandsStill : Parts W → Parts W → Type 0
-    StandsStill p next = (a : PortState) → StandsFor honest far silence p a → StandsFor honest far silence next a
+    StandsStill p next = (a : PortState) → StandsFor honest far silence p a
+        → StandsFor honest far silence next a

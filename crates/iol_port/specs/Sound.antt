@@ -1,4 +1,5 @@
--- What every call of the abstract port keeps: the journal says where each ticket stands, and the device's record fits it.
+-- What every call of the abstract port keeps: the journal says where each ticket
+-- stands, and the device's record fits it.
 use Rattle.std.specs.Prelude.{◌≡◌, ◌≤◌, ◌⊎◌, ℕ, false, List, [], ◌∷◌, ◌++◌, drop, length, map, Option, Some, None}
 use Rattle.iol_isdu.specs.declared.values.Request.{Request}
 use Rattle.iol_isdu.specs.declared.values.Answer.{Answer}
@@ -21,12 +22,15 @@ abbrev pub written : Request → Option Answer → List (Request × Answer)
 written request None = []
 written request (Some answer) = (request, answer) ∷ []
 
--- The record fits the requests that ended. The one under way is in it once it has an answer; a late one, which was cut off last, isn't in it yet.
+-- The record fits the requests that ended. The one under way is in it once it has
+-- an answer; a late one, which was cut off last, isn't in it yet.
 abbrev pub FitsOpen : Option Job → Option Request → List Entry → List (Request × Answer) → Type 0
 FitsOpen (Some job) late journal pairs =
-    (earlier : List (Request × Answer)) × (pairs ≡ earlier ++ written job.request job.answer) × FitsEnded journal earlier
+    (earlier : List (Request × Answer)) × (pairs ≡ earlier ++ written job.request job.answer)
+    × FitsEnded journal earlier
 FitsOpen None (Some request) journal pairs =
-    (earlier : List Taking) × (cause : Cause) × (ended journal ≡ earlier ++ (request, Some (outcome.Unknown cause)) ∷ [])
+    (earlier : List Taking) × (cause : Cause)
+    × (ended journal ≡ earlier ++ (request, Some (outcome.Unknown cause)) ∷ [])
     × FitsTakings earlier pairs
 FitsOpen None None journal pairs = FitsEnded journal pairs
 
@@ -47,7 +51,7 @@ pub record Sound (book : BookState) (s : Session) (base : ℕ) : Type 0 where
 abbrev pub IsSound : PortState → Type 0
 IsSound a = Sound a.book a.session a.base
 
--- the record from where the journal begins has, in the order taken, at most one pair for each request taken, and exactly
--- one, with its answer, for each that is done
+-- the record from where the journal begins has, in the order taken, at most one pair
+-- for each request taken, and exactly one, with its answer, for each that is done
 abbrev pub RecordFits : PortState → Type 0
 RecordFits a = FitsJournal a.book.journal (pairs_from a.base a.session.carried)

@@ -5,8 +5,10 @@ use Rattle.iol_link.specs.declared.wire.Rate.{Rate}
 use Rattle.iol_app.specs.declared.asked.Asked.{Asked}
 use Rattle.iol_app.specs.Asking.{IsCall}
 
-module _ {W : Type 0} (wakes : W → Option Rate → W → Type 0) (gives : W → List ℕ → Option (ArrayVec ℕ) → W → Type 0) (tells : W → W → Type 0) where
-  -- one call; or, between two calls, the wire is told from outside what comes, where it is one that may be told
+module _ {W : Type 0} (wakes : W → Option Rate → W → Type 0)
+    (gives : W → List ℕ → Option (ArrayVec ℕ) → W → Type 0) (tells : W → W → Type 0) where
+  -- one call; or, between two calls, the wire is told from outside what comes,
+  -- where it is one that may be told
   abbrev pub IsChange : Option Asked → W → W → Type 0
   IsChange None old new = tells old new
   IsChange (Some asked) old new = IsCall wakes gives asked old new
@@ -16,7 +18,7 @@ module _ {W : Type 0} (wakes : W → Option Rate → W → Type 0) (gives : W �
   AreChanges [] old new = new ≡ old
   AreChanges (change ∷ more) old new = (mid : W) × IsChange change old mid × AreChanges more mid new
 
-  -- The wire is what the first one became by wakes, exchanges and what it was told, and by nothing else: so what holds of a wire and itself, and
-  -- is kept by each of these, holds of these two
+  -- The wire is what the first one became by wakes, exchanges and what it was told, and by nothing
+  -- else: so what holds of a wire and itself, and is kept by each of these, holds of these two
   abbrev pub ComesFrom : W → W → Type 0
   ComesFrom first now = (changes : List (Option Asked)) × AreChanges changes first now

@@ -10,11 +10,13 @@ use iol_far::{modes_have_layouts, page_and_room_stay, replies_are_read, requests
 use iol_isdu::one_text_each;
 use iol_segment::{cut_is_whole, segments_join, texts_join};
 
-/// A law of the definitions, over whole runs of the abstract port: the device's record fits the journal.
+/// A law of the definitions, over whole runs of the abstract port: the device's
+/// record fits the journal.
 ///
-/// A port is sound when it is opened, and each run keeps it so, whatever calls and turns it has. Of a sound port the
-/// journal says where each ticket stands, and the record has, in the order in which requests were taken, at most one
-/// pair for each, and exactly one, with that answer, for each that is done.
+/// A port is sound when it is opened, and each run keeps it so, whatever calls and
+/// turns it has. Of a sound port the journal says where each ticket stands, and the
+/// record has, in the order in which requests were taken, at most one pair for
+/// each, and exactly one, with that answer, for each that is done.
 pub fn record_fits_journal()
     ensures opens { OpensSound }
     ensures runs { RunsSound }
@@ -26,9 +28,9 @@ pub fn record_fits_journal()
 
 /// A law of the definitions: what no turn of the abstract port is.
 ///
-/// With a good reply in OPERATE the link stays in OPERATE; and in OPERATE, where the last reply is missing, leaving all
-/// as it was is no turn. What a turn does on every wire is said by the clause `gives` of
-/// [`Port::turn`](crate::Port::turn).
+/// With a good reply in OPERATE the link stays in OPERATE; and in OPERATE, where
+/// the last reply is missing, leaving all as it was is no turn. What a turn does on
+/// every wire is said by the clause `gives` of [`Port::turn`](crate::Port::turn).
 pub fn turns_rule_out()
     ensures stays { GoodLinkStays }
     ensures nothing { NothingIsNoTurn }
@@ -40,31 +42,33 @@ pub fn runs_join()
     ensures { RunsJoin }
 {}
 
-/// A law of the definitions, over whole runs of a port that is opened: each pair by which the device's record grew is
-/// that of a request which was submitted under a ticket of its own, and each outcome Done that was collected has its
-/// pair there, with that answer.
+/// A law of the definitions, over whole runs of a port that is opened: each pair by which
+/// the device's record grew is that of a request which was submitted under a ticket of its
+/// own, and each outcome Done that was collected has its pair there, with that answer.
 ///
-/// The pairs stand behind what the record had at the opening, and no two have one ticket, across losses, restarts and
-/// archives: so each request is carried out once at most, one that was cut off as well.
+/// The pairs stand behind what the record had at the opening, and no two have one
+/// ticket, across losses, restarts and archives: so each request is carried out
+/// once at most, one that was cut off as well.
 #[tactic(auto, using(crate::proofs::OwnedRuns::each_done_has_its_pair))]
 pub fn each_done_has_its_pair()
     ensures { EachDoneHasItsPair }
 {}
 
-/// A law of the definitions, over whole runs of a port that is opened: a request that was cut off is carried out once
-/// at most, and not after a wake that had success.
+/// A law of the definitions, over whole runs of a port that is opened: a request that
+/// was cut off is carried out once at most, and not after a wake that had success.
 ///
-/// The run has a turn that leads out of down. Over the whole of it each request that the device carries out has a
-/// ticket of its own; and none that it carries out after that turn had been cut off before it. One that was cut off for
-/// another cause than a lost link or a restart, as a cancelled one, isn't carried out after that at all.
+/// The run has a turn that leads out of down. Over the whole of it each request that
+/// the device carries out has a ticket of its own; and none that it carries out after
+/// that turn had been cut off before it. One that was cut off for another cause than
+/// a lost link or a restart, as a cancelled one, isn't carried out after that at all.
 #[tactic(auto, using(crate::proofs::OwnedRuns::late_ends, crate::proofs::OwnedRuns::cut_for_good_stays_out))]
 pub fn late_requests_end()
     ensures wakes { LateEnds }
     ensures for_good { CutForGoodStaysOut }
 {}
 
-/// A law of the definitions, over whole runs of a port that is opened: a device without ISDU carries nothing out, and
-/// each outcome NoIsdu that was collected is that of such a device.
+/// A law of the definitions, over whole runs of a port that is opened: a device without ISDU
+/// carries nothing out, and each outcome NoIsdu that was collected is that of such a device.
 #[tactic(auto, using(crate::proofs::WithoutIsdu::carries_none, crate::proofs::WithoutIsdu::denied_without_isdu))]
 pub fn denied_requests_stay_out()
     ensures carries { CarriesNone }
@@ -73,7 +77,8 @@ pub fn denied_requests_stay_out()
 
 /// A law of the definitions: a request is said to be cancelled only where the program asked for it.
 ///
-/// The turn that says so began with the request marked, and only a cancel of its ticket sets the mark.
+/// The turn that says so began with the request marked, and only a cancel of its
+/// ticket sets the mark.
 #[tactic(auto, using(crate::proofs::AskedLemmas::cancelled_was_asked, crate::proofs::AskedLemmas::asked_by_cancel))]
 pub fn cancelled_requests_were_asked()
     ensures turns { CancelledWasAsked }

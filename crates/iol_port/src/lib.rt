@@ -1,14 +1,16 @@
 //! One port of an IO-Link master: its queue of requests, its events and its process data.
 //!
-//! A port has its device carry out the requests that were submitted, the urgent ones first, each kind in order, and
-//! each at most once, over whatever the wire loses. Each gets one outcome: the device's answer to that very request; or
-//! that it was cut off, also where a client cancels it, so that nobody knows whether it was carried out; or that it was
-//! withdrawn; or that the device has no ISDU.
+//! A port has its device carry out the requests that were submitted, the urgent
+//! ones first, each kind in order, and each at most once, over whatever the wire
+//! loses. Each gets one outcome: the device's answer to that very request; or that
+//! it was cut off, also where a client cancels it, so that nobody knows whether it
+//! was carried out; or that it was withdrawn; or that the device has no ISDU.
 //!
-//! What a port does is said by an abstract port, which knows no octets, segments or repeats (`specs/Run`). Over an
-//! honest wire each call of a [`Port`] is one call of the abstract port that it stands for, and a list of calls is a
-//! run of it. Of all such runs [`record_fits_journal`] says that the device's record fits the journal.
-//! IEC 61131-9 leaves it to the master how requests are queued: that part is this project's profile.
+//! What a port does is said by an abstract port, which knows no octets, segments or
+//! repeats (`specs/Run`). Over an honest wire each call of a [`Port`] is one call of the
+//! abstract port that it stands for, and a list of calls is a run of it. Of all such runs
+//! [`record_fits_journal`] says that the device's record fits the journal. IEC 61131-9
+//! leaves it to the master how requests are queued: that part is this project's profile.
 #![tactic(auto)]
 
 mod call;

@@ -59,7 +59,8 @@ impl<W: Wire, A: Allocator + Copy> Parts<W, A> {
         requires book { book.state ≡ opened_book limits.now }
         ensures parts { IsOpened (opening_of W.honest W.far W.silence limits.now wire) result }
         ensures stands { OpensWell (opening_of W.honest W.far W.silence limits.now wire)
-            → StandsFor W.honest W.far W.silence result (opened limits.now (W.far wire) (W.silence wire)) }
+            → StandsFor W.honest W.far W.silence result
+            (opened limits.now (W.far wire) (W.silence wire)) }
     {
         Parts {
             station: Station::new(wire, limits.busy),
@@ -192,8 +193,10 @@ impl<W: Wire, A: Allocator + Copy> Parts<W, A> {
         ensures within { IfOk result (λ entries. length entries.items ≤ 1000000) }
         ensures gives { ArchiveGives self.old
             (result_map_both (λ entries. entries.items) (λ why. why) result) self.new }
-        ensures called { CallGives W.honest W.far W.silence W.wake_gives W.exchange_gives self.old call.Archive
-            (archive_reply (result_map_both (λ entries. entries.items) (λ why. why) result)) self.new }
+        ensures called { CallGives W.honest W.far W.silence W.wake_gives W.exchange_gives self.old
+            call.Archive
+            (archive_reply (result_map_both (λ entries. entries.items) (λ why. why) result))
+            self.new }
     {
         by_book(self.book.archive())
     }
@@ -289,7 +292,8 @@ impl<W: Wire, A: Allocator + Copy> Parts<W, A> {
     ) -> Result<Vec<Answered, B>, PortFault>
         ensures run { IfOk result (λ replies. Runs W.honest W.far W.silence
             self.old calls.now replies.items self.new) }
-        ensures gives { IfOk result (λ replies. RunGives W.honest W.far W.silence W.wake_gives W.exchange_gives
+        ensures gives { IfOk result
+            (λ replies. RunGives W.honest W.far W.silence W.wake_gives W.exchange_gives
             self.old calls.now replies.items self.new) }
         ensures clean { IfOk result (λ _. CleanRuns W.honest W.far W.clean self.old calls.now
             self.new) }

@@ -36,13 +36,15 @@ use std::marker::Model;
 use std::snapshot::Snapshot;
 use std::sync::Wait;
 
-/// A port of an IO-Link master: two queues of requests, the urgent ones and the others, and the link to one device that
-/// carries them out.
+/// A port of an IO-Link master: two queues of requests, the urgent ones and the
+/// others, and the link to one device that carries them out.
 ///
-/// Contracts see what the port stands for: an abstract port, of which each call is one call. Over an honest wire they
-/// say which. On every wire no call is unsafe, the journal alone says where each ticket stands, each call answers and
-/// leaves what its clause `gives` says of the port's own parts, and the wire is what the one at the opening became by
-/// the calls of turns, and by what it was told from outside. Beside that they see with what the port was opened, and what it published.
+/// Contracts see what the port stands for: an abstract port, of which each call is
+/// one call. Over an honest wire they say which. On every wire no call is unsafe, the
+/// journal alone says where each ticket stands, each call answers and leaves what its
+/// clause `gives` says of the port's own parts, and the wire is what the one at the
+/// opening became by the calls of turns, and by what it was told from outside. Beside
+/// that they see with what the port was opened, and what it published.
 #[derive(Drop)]
 pub struct Port<W: Wire, A: Handle = Global> {
     parts: Parts<W, A>,
@@ -76,7 +78,8 @@ impl<W: Wire, A: Handle> Port<W, A> {
             ≡ opening_of W.honest W.far W.silence limits.now wire) }
         ensures parts { IfOk result (λ p. IsOpened p.opening p.parts) }
         ensures stands { IfOk result (λ p. OpensWell p.opening
-            → StandsFor W.honest W.far W.silence p.parts (opened limits.now (W.far wire) (W.silence wire))) }
+            → StandsFor W.honest W.far W.silence p.parts
+            (opened limits.now (W.far wire) (W.silence wire))) }
         ensures writer { IfOk result (λ p. p.writer ≡ None) }
         ensures refused { IfErr result (λ e. e.0 ≡ fault.Book OutOfMemory) }
         ensures back { IfErr result (λ e. e.1 ≡ wire) }
@@ -93,11 +96,12 @@ impl<W: Wire, A: Handle> Port<W, A> {
         }
     }
 
-    /// Enters a request and answers its ticket. The request then waits behind all that wait already; an urgent one that
-    /// is submitted later goes before it.
+    /// Enters a request and answers its ticket. The request then waits behind all
+    /// that wait already; an urgent one that is submitted later goes before it.
     ///
-    /// Refused, with nothing changed, by the first of 21 where 64 tickets are outstanding, 22 where the journal has no
-    /// room for the request's entries, 23 where the last ticket was 2^64 - 1, and 24 where a growth was refused.
+    /// Refused, with nothing changed, by the first of 21 where 64 tickets are
+    /// outstanding, 22 where the journal has no room for the request's entries, 23
+    /// where the last ticket was 2^64 - 1, and 24 where a growth was refused.
     pub fn submit(&mut self, request: Request) -> Result<Ticket, PortFault>
         ensures does { Does W.honest W.far W.silence
             self.old.parts (call.Submit request) (ticket_reply result) self.new.parts }
@@ -110,8 +114,8 @@ impl<W: Wire, A: Handle> Port<W, A> {
         self.parts.submit(request)
     }
 
-    /// Enters an urgent request, which then waits behind the other urgent ones and before all others, and answers its
-    /// ticket. A request that is under way isn't stopped by it.
+    /// Enters an urgent request, which then waits behind the other urgent ones and before
+    /// all others, and answers its ticket. A request that is under way isn't stopped by it.
     ///
     /// Refused, with nothing changed, as `submit` is: 21, 22 and 23 count both kinds.
     pub fn submit_urgent(&mut self, request: Request) -> Result<Ticket, PortFault>
@@ -120,7 +124,8 @@ impl<W: Wire, A: Handle> Port<W, A> {
         ensures lacks { IfErr result (λ e. e ≡ fault.Book OutOfMemory → self.old.parts.book.room
             ≡ 0) }
         ensures gives { SubmitGives
-            self.old.parts (submitted_urgent self.old.parts.book.state request) result self.new.parts }
+            self.old.parts
+            (submitted_urgent self.old.parts.book.state request) result self.new.parts }
         ensures rest { self.new ≡ record self.old { parts = self.new.parts } }
     {
         self.parts.submit_urgent(request)
@@ -128,7 +133,8 @@ impl<W: Wire, A: Handle> Port<W, A> {
 
     /// Hands out the outcome of a ticket, which is outstanding no more.
     ///
-    /// Refused, with nothing changed, by 25 where no such ticket is outstanding, and by 26 where it has no outcome yet.
+    /// Refused, with nothing changed, by 25 where no such ticket is outstanding,
+    /// and by 26 where it has no outcome yet.
     pub fn collect(&mut self, ticket: Ticket) -> Result<Outcome, PortFault>
         ensures does { Does W.honest W.far W.silence
             self.old.parts (call.Collect ticket) (outcome_reply result) self.new.parts }
@@ -140,7 +146,8 @@ impl<W: Wire, A: Handle> Port<W, A> {
 
     /// Takes back a request that waits, urgent or not. Its outcome is then that it was withdrawn.
     ///
-    /// Refused, with nothing changed, by 25 where no such ticket is outstanding, and by 27 where it waits no longer.
+    /// Refused, with nothing changed, by 25 where no such ticket is outstanding,
+    /// and by 27 where it waits no longer.
     pub fn withdraw(&mut self, ticket: Ticket) -> Result<(), PortFault>
         ensures does { Does W.honest W.far W.silence
             self.old.parts (call.Withdraw ticket) (nothing_reply result) self.new.parts }
@@ -152,12 +159,13 @@ impl<W: Wire, A: Handle> Port<W, A> {
 
     /// Asks to cut off the request of a ticket, which is under way.
     ///
-    /// An ABORT waits then, unless one waits already; a message that is out comes before it. The outcome follows in a
-    /// later turn: that it was cancelled, with the good reply to the ABORT; its answer, where that is whole before the
-    /// ABORT is sent; or that it was cut off for another cause. Takes no memory, and writes nothing into the journal.
+    /// An ABORT waits then, unless one waits already; a message that is out comes before
+    /// it. The outcome follows in a later turn: that it was cancelled, with the good reply
+    /// to the ABORT; its answer, where that is whole before the ABORT is sent; or that it
+    /// was cut off for another cause. Takes no memory, and writes nothing into the journal.
     ///
-    /// Refused, with nothing changed, by 25 where no such ticket is outstanding, and by 36 where it waits, or has an
-    /// outcome.
+    /// Refused, with nothing changed, by 25 where no such ticket is outstanding,
+    /// and by 36 where it waits, or has an outcome.
     pub fn cancel(&mut self, ticket: Ticket) -> Result<(), PortFault>
         ensures does { Does W.honest W.far W.silence
             self.old.parts (call.Cancel ticket) (nothing_reply result) self.new.parts }
@@ -169,8 +177,8 @@ impl<W: Wire, A: Handle> Port<W, A> {
 
     /// Cuts off the request under way, if any, and leaves the link in down, without an image.
     ///
-    /// What waits goes on waiting. The device may still carry the request that was cut off out, once, until a wake
-    /// succeeds.
+    /// What waits goes on waiting. The device may still carry the request that was
+    /// cut off out, once, until a wake succeeds.
     pub fn restart(&mut self)
         ensures does { Does W.honest W.far W.silence self.old.parts call.Restart answered.Nothing
             self.new.parts }
@@ -182,8 +190,8 @@ impl<W: Wire, A: Handle> Port<W, A> {
 
     /// Wants this output of the device, from the next message made in OPERATE on.
     ///
-    /// Refused, with nothing changed, by the first of 34 where no start-up has told the lengths of the process data
-    /// yet, and 29 where the image has not the length that was told last.
+    /// Refused, with nothing changed, by the first of 34 where no start-up has told the lengths
+    /// of the process data yet, and 29 where the image has not the length that was told last.
     pub fn set_output(&mut self, image: &Image) -> Result<(), PortFault>
         ensures does { Does W.honest W.far W.silence
             self.old.parts (call.SetOutput image.now) (nothing_reply result) self.new.parts }
@@ -203,8 +211,8 @@ impl<W: Wire, A: Handle> Port<W, A> {
         self.parts.clear_output();
     }
 
-    /// The device's input by the last good reply in OPERATE: one whole image, or none where it was not valid. None
-    /// in every other mode.
+    /// The device's input by the last good reply in OPERATE: one whole image, or
+    /// none where it was not valid. None in every other mode.
     pub fn image(&self) -> Option<&Image>
         ensures does { Does W.honest W.far W.silence
             self.now.parts call.Look (answered.Image (option_copied result)) self.now.parts }
@@ -234,8 +242,9 @@ impl<W: Wire, A: Handle> Port<W, A> {
 
     /// Hands the journal out and begins a new one, which is empty. Tickets go on.
     ///
-    /// Refused, with nothing changed, by 28 where a ticket is outstanding, or where a request was cut off by a lost
-    /// link or a restart and no wake succeeded since, as the device may still carry that request out.
+    /// Refused, with nothing changed, by 28 where a ticket is outstanding, or where
+    /// a request was cut off by a lost link or a restart and no wake succeeded
+    /// since, as the device may still carry that request out.
     pub fn archive(&mut self) -> Result<Vec<Entry, A>, PortFault>
         ensures does { Does W.honest W.far W.silence self.old.parts call.Archive
             (reply_of (λ entries. answered.Archived (length entries.items)) result) self.new.parts }
@@ -258,10 +267,10 @@ impl<W: Wire, A: Handle> Port<W, A> {
 
     /// One turn: one wake-up request where the link is down, else one exchange with the device.
     ///
-    /// In OPERATE, where nothing else is to be sent, the next request is taken: the urgent one that waits longest, or
-    /// where none is urgent the other one that does. Its first segment goes out in this turn; where the device has no
-    /// ISDU it is denied, never taken, and IDLE 1 goes out. At most 64 events are kept, and a list of events is read
-    /// only where there is room for it.
+    /// In OPERATE, where nothing else is to be sent, the next request is taken: the urgent one that
+    /// waits longest, or where none is urgent the other one that does. Its first segment goes out
+    /// in this turn; where the device has no ISDU it is denied, never taken, and IDLE 1 goes out.
+    /// At most 64 events are kept, and a list of events is read only where there is room for it.
     pub fn turn(&mut self)
         ensures does { Does W.honest W.far W.silence self.old.parts call.Turn answered.Nothing
             self.new.parts }
@@ -277,7 +286,8 @@ impl<W: Wire, A: Handle> Port<W, A> {
 
     /// One call by its name, with what it answered.
     ///
-    /// A turn makes the one call of the wire that the port `asks` for, and no other call touches the wire.
+    /// A turn makes the one call of the wire that the port `asks` for, and no other
+    /// call touches the wire.
     pub fn call(&mut self, asked: &Call) -> Answered
         ensures does { Does W.honest W.far W.silence self.old.parts asked.now result
             self.new.parts }
@@ -292,9 +302,11 @@ impl<W: Wire, A: Handle> Port<W, A> {
         self.parts.answer(asked)
     }
 
-    /// The calls in order, each made once, with what it answered. A call that is refused doesn't end the run.
+    /// The calls in order, each made once, with what it answered. A call that is
+    /// refused doesn't end the run.
     ///
-    /// Refused by 24 where there is no memory for the list of answers, before the first call and with nothing done.
+    /// Refused by 24 where there is no memory for the list of answers, before the
+    /// first call and with nothing done.
     pub fn run<B: Allocator>(
         &mut self,
         alloc: B,
@@ -302,11 +314,13 @@ impl<W: Wire, A: Handle> Port<W, A> {
     ) -> Result<Vec<Answered, B>, PortFault>
         ensures run { IfOk result (λ replies. Runs W.honest W.far W.silence
             self.old.parts calls.now replies.items self.new.parts) }
-        ensures gives { IfOk result (λ replies. RunGives W.honest W.far W.silence W.wake_gives W.exchange_gives
+        ensures gives { IfOk result
+            (λ replies. RunGives W.honest W.far W.silence W.wake_gives W.exchange_gives
             self.old.parts calls.now replies.items self.new.parts) }
         ensures clean { IfOk result (λ _. CleanRuns W.honest W.far W.clean self.old.parts calls.now
             self.new.parts) }
-        ensures served { IfOk result (λ _. CleanServes W.honest W.far W.clean self.old.parts calls.now
+        ensures served { IfOk result
+            (λ _. CleanServes W.honest W.far W.clean self.old.parts calls.now
             self.new.parts) }
         ensures rest { self.new ≡ record self.old { parts = self.new.parts } }
         ensures refused { IfErr result (λ e. e ≡ fault.Book OutOfMemory) }
@@ -315,7 +329,8 @@ impl<W: Wire, A: Handle> Port<W, A> {
         self.parts.run(alloc, calls)
     }
 
-    /// From now on the image is published there after each `turn_shown` and `restart_shown`, and nowhere else.
+    /// From now on the image is published there after each `turn_shown` and
+    /// `restart_shown`, and nowhere else.
     pub fn publish_to(&mut self, writer: ImageWriter<A>)
         ensures { self.new ≡ record self.old { writer = Some writer } }
     {
@@ -339,7 +354,8 @@ impl<W: Wire, A: Handle> Port<W, A> {
         self.show(rt);
     }
 
-    /// A restart, after which the image, which is none, is published, once, where a writer was given.
+    /// A restart, after which the image, which is none, is published, once, where a
+    /// writer was given.
     pub fn restart_shown<R: Wait>(&mut self, rt: &R)
         ensures does { Does W.honest W.far W.silence self.old.parts call.Restart answered.Nothing
             self.new.parts }
@@ -382,10 +398,11 @@ impl<W: Wire, A: Handle> Port<W, A> {
         parts.into_wire()
     }
 
-    /// A law of each port, without code: at every moment the journal says where each ticket stands, and the wire is
-    /// what the one at the opening became by wakes and exchanges, and, where it is one that is told its answers from
-    /// outside, by being told, and by nothing else; and the device's record fits the journal, if the wire was honest and
-    /// the device had been handed no request when the port was opened.
+    /// A law of each port, without code: at every moment the journal says where each
+    /// ticket stands, and the wire is what the one at the opening became by wakes and
+    /// exchanges, and, where it is one that is told its answers from outside, by being
+    /// told, and by nothing else; and the device's record fits the journal, if the wire
+    /// was honest and the device had been handed no request when the port was opened.
     pub fn keeps_record(&self)
         ensures replayed { IsReplayed self.now.parts.book.state }
         ensures run { IsRun W.honest W.far W.silence self.now.opening self.now.parts }
@@ -401,10 +418,11 @@ impl<W: Wire, A: Handle> Port<W, A> {
         let _ = self.parts.journal();
     }
 
-    /// Goes on over this wire, which is the one before, told from outside what its next call brings; that one is handed
-    /// back.
+    /// Goes on over this wire, which is the one before, told from outside what its
+    /// next call brings; that one is handed back.
     ///
-    /// It is no call of the abstract port: the port stands for the same ones as before, and asks for the same.
+    /// It is no call of the abstract port: the port stands for the same ones as
+    /// before, and asks for the same.
     pub fn rewire(&mut self, wire: W) -> W
         requires told { W.tells (wire_of self.old.parts.station.link) wire }
         requires honest { W.honest wire ≡ W.honest (wire_of self.old.parts.station.link) }

@@ -1,4 +1,5 @@
-//! The pieces of a turn: the next request is begun, and what the turn says goes to the book and to the kept events.
+//! The pieces of a turn: the next request is begun, and what the turn says goes to
+//! the book and to the kept events.
 ghost use Rattle.std.specs.Prelude.{◌≡◌, ◌≢◌, ◌+◌, ◌≤◌, ◌&&◌, [], ◌∷◌, ◌++◌, cond, not, length, None, Some, false, IsSome, IfSome};
 ghost use Rattle.iol_isdu.specs.Texts.{IsRequest};
 ghost use Rattle.iol_book.specs.BookModel.{next_taken, took};
@@ -75,8 +76,8 @@ pub(crate) fn lacks_isdu(told: Option<bool>) -> bool
     }
 }
 
-/// The next request is taken and begun, or denied where the device has no ISDU, where the turn would have nothing else
-/// to send.
+/// The next request is taken and begun, or denied where the device has no ISDU,
+/// where the turn would have nothing else to send.
 pub(crate) fn begin_next<W: Wire, A: Allocator + Copy>(
     station: &mut Station<W>,
     book: &mut Book<A>,
@@ -104,7 +105,8 @@ pub(crate) fn begin_next<W: Wire, A: Allocator + Copy>(
     }
 }
 
-/// The request that is next is taken and begun. Out of line, since most turns take none, and a request is large.
+/// The request that is next is taken and begun. Out of line, since most turns take
+/// none, and a request is large.
 #[inline(never)]
 fn take_next<W: Wire, A: Allocator + Copy>(station: &mut Station<W>, book: &mut Book<A>)
     requires operate { mode_of station.old.link ≡ Mode.Operate }

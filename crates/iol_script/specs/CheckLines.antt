@@ -8,7 +8,8 @@ use Rattle.iol_script.specs.declared.check_line.LayoutLine.TheVariants.{Startup,
 use Rattle.iol_script.specs.declared.check_line.CheckLine.{CheckLine}
 use Rattle.iol_script.specs.declared.check_line.CheckLine.TheVariants.{Skip, Layout, Master, ReadReply, WriteReply}
 
--- what a line says: nothing, which layout is asked for, or the octets of a master message, of the reply to a read or to a write
+-- what a line says: nothing, which layout is asked for, or the octets of a master
+-- message, of the reply to a read or to a write
 pub data Form : Type 0 where
   skip : Form
   layout : LayoutLine → Form
@@ -32,7 +33,8 @@ preoperate_form _ = None
 
 -- the words behind `operate`: a code, and how many octets go in and out
 abbrev pub operate_form : List (List ℕ) → Option LayoutLine
-operate_form (code ∷ input ∷ output ∷ []) = operated (number_in 0 255 code) (number_in 0 255 input) (number_in 0 255 output)
+operate_form (code ∷ input ∷ output ∷ []) =
+    operated (number_in 0 255 code) (number_in 0 255 input) (number_in 0 255 output)
   where
     operated : Option ℕ → Option ℕ → Option ℕ → Option LayoutLine
     operated (Some c) (Some i) (Some o) = Some (Operate c i o)
@@ -71,4 +73,5 @@ parsed_form (WriteReply octets) = write_reply octets.items
 -- the number of the first line that fits no form
 abbrev pub first_bad : List (ℕ × List ℕ) → Option ℕ
 first_bad [] = None
-first_bad ((number, line) ∷ lines) = if is_some (line_form line) then first_bad lines else Some number
+first_bad ((number, line) ∷ lines) =
+    if is_some (line_form line) then first_bad lines else Some number

@@ -24,7 +24,8 @@ abbrev pub after_turns : Draft → Option CallLine → Option Draft
 after_turns draft turns = option_and_then (script_after draft) (option_map line.Call turns)
 
 abbrev pub after_call : Draft → Option Call → Option Draft
-after_call draft call = option_and_then (script_after draft) (option_map (λ call. line.Call (Once call)) call)
+after_call draft call =
+    option_and_then (script_after draft) (option_map (λ call. line.Call (Once call)) call)
 
 -- the draft after so many more calls
 abbrev pub with_calls : Draft → ℕ → Option Draft

@@ -8,7 +8,9 @@ use Rattle.std.specs.Fmt.{decimal}
 
 -- a hexadecimal digit's value, in both cases
 abbrev pub digit_of : ℕ → Option ℕ
-digit_of c = if nat_le 48 c && nat_le c 57 then Some (c - 48) else (if nat_le 65 c && nat_le c 70 then Some (c - 55) else (if nat_le 97 c && nat_le c 102 then Some (c - 87) else None))
+digit_of c = if nat_le 48 c && nat_le c 57 then Some (c - 48)
+    else (if nat_le 65 c && nat_le c 70 then Some (c - 55)
+    else (if nat_le 97 c && nat_le c 102 then Some (c - 87) else None))
 
 -- the octet of two digits
 abbrev pub octet_of : ℕ → ℕ → Option ℕ
@@ -46,7 +48,8 @@ word_octets (c ∷ word) = if bytes_eq (c ∷ word) (codes "-") then Some [] els
 
 -- octets, where there are from `least` to `most` of them
 abbrev pub within : ℕ → ℕ → List ℕ → Option (List ℕ)
-within least most octets = if nat_le least (length octets) && nat_le (length octets) most then Some octets else None
+within least most octets =
+    if nat_le least (length octets) && nat_le (length octets) most then Some octets else None
 
 -- the number of a word of four digits
 abbrev pub word_code : List ℕ → Option ℕ

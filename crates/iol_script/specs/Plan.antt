@@ -18,13 +18,17 @@ field_of name wanted most _ = None
 abbrev pub bounded : ℕ → ℕ → Option ℕ
 bounded clients each = if nat_le (clients * each) 64 then Some each else None
 
--- the draft after the words of a line: a line without words says nothing, and each other has its place
+-- the draft after the words of a line: a line without words says nothing, and each
+-- other has its place
 abbrev pub words_after : PlanDraft → List (List ℕ) → Option PlanDraft
 words_after draft [] = Some draft
 words_after Empty (name ∷ words) = option_map Ports (field_of name (codes "ports") 32 words)
-words_after (Ports p) (name ∷ words) = option_map (Clients p) (field_of name (codes "clients") 16 words)
-words_after (Clients p k) (name ∷ words) = option_map (Each p k) (option_and_then (bounded k) (field_of name (codes "each") 64 words))
-words_after (Each p k m) (name ∷ words) = option_map (Turns p k m) (field_of name (codes "turns") 100000 words)
+words_after (Ports p) (name ∷ words) =
+    option_map (Clients p) (field_of name (codes "clients") 16 words)
+words_after (Clients p k) (name ∷ words) =
+    option_map (Each p k) (option_and_then (bounded k) (field_of name (codes "each") 64 words))
+words_after (Each p k m) (name ∷ words) =
+    option_map (Turns p k m) (field_of name (codes "turns") 100000 words)
 words_after (Turns p k m t) (name ∷ words) = None
 
 -- the draft after a line, where the line is good in its place
@@ -44,7 +48,8 @@ pub record PlanNumbers : Type 0 where
   pub turns : ℕ
 
 abbrev pub numbers_of : Plan → PlanNumbers
-numbers_of plan = record { ports = plan.ports; clients = plan.clients; each = plan.each; turns = plan.turns }
+numbers_of plan =
+    record { ports = plan.ports; clients = plan.clients; each = plan.each; turns = plan.turns }
 
 -- the plan of a draft, or the number of the line behind the last, where a line is missing
 abbrev pub whole_plan : ℕ → Result PlanDraft ℕ → Result PlanNumbers ℕ

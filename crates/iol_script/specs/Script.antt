@@ -33,7 +33,8 @@ pub record Draft : Type 0 where
 
 -- no line is read
 abbrev pub empty_draft : Draft
-empty_draft = record { page = None; limits = None; params = []; steps = []; calls = 0; begun = false }
+empty_draft =
+    record { page = None; limits = None; params = []; steps = []; calls = 0; begun = false }
 
 -- the steps of a line of the wire
 abbrev pub steps_of : WireLine → List Step
@@ -45,28 +46,41 @@ abbrev pub line_calls : CallLine → List Call
 line_calls (Once call) = call ∷ []
 line_calls (Turns n) = replicate n Turn
 
--- the draft after a setting: the page and the limits are given at most once, a parameter is one of 32 at places of their own
+-- the draft after a setting: the page and the limits are given at most once, a
+-- parameter is one of 32 at places of their own
 abbrev pub with_setting : Draft → Setting → Option Draft
-with_setting draft (setting.Page octets) = if is_none draft.page then Some (record draft { page = Some octets }) else None
+with_setting draft (setting.Page octets) =
+    if is_none draft.page then Some (record draft { page = Some octets }) else None
 with_setting draft (setting.Limits busy journal) =
-    if is_none draft.limits then Some (record draft { limits = Some (record { journal = journal; busy = busy; given = 0 }) }) else None
+    if is_none draft.limits
+    then Some
+    (record draft { limits = Some (record { journal = journal; busy = busy; given = 0 }) })
+    else None
 with_setting draft (setting.Param place writable value) =
     if nat_lt (length draft.params) 32 && is_none (number_of draft.params place)
-    then Some (record draft { params = draft.params ++ record { place = place; writable = writable; value = value } ∷ [] })
+    then Some
+    (record draft {
+      params = draft.params
+          ++ record { place = place; writable = writable; value = value } ∷ [];
+    })
     else None
 
 -- a draft with at most 1,000,000 steps and 1,000,000 calls
 abbrev pub in_bounds : Draft → Option Draft
-in_bounds draft = if nat_le (length draft.steps) 1000000 && nat_le draft.calls 1000000 then Some draft else None
+in_bounds draft =
+    if nat_le (length draft.steps) 1000000 && nat_le draft.calls 1000000 then Some draft else None
 
 -- the draft after a line, where the line is good in its place
 abbrev pub script_after : Draft → RunLine → Option Draft
 script_after draft line.Skip = Some draft
 script_after draft (line.Setting setting) = if draft.begun then None else with_setting draft setting
-script_after draft (line.Wire wire) = in_bounds (record draft { steps = draft.steps ++ steps_of wire; begun = true })
-script_after draft (line.Call call) = in_bounds (record draft { calls = draft.calls + length (line_calls call); begun = true })
+script_after draft (line.Wire wire) =
+    in_bounds (record draft { steps = draft.steps ++ steps_of wire; begun = true })
+script_after draft (line.Call call) =
+    in_bounds (record draft { calls = draft.calls + length (line_calls call); begun = true })
 
--- the draft after a line with its number, or the number of the first bad line: it fits no form, or is refused in its place
+-- the draft after a line with its number, or the number of the first bad line: it
+-- fits no form, or is refused in its place
 abbrev pub draft_after : Result Draft ℕ → ℕ × List ℕ → Result Draft ℕ
 draft_after (Err bad) line = Err bad
 draft_after (Ok draft) line = ok_or (option_and_then (script_after draft) (run_form line.1)) line.0

@@ -1,6 +1,7 @@
 //! Whether the words of a line of `run` fit a call.
 //!
-//! While a script is read its calls are only counted. Nothing is built here: a request has up to 232 octets.
+//! While a script is read its calls are only counted. Nothing is built here: a
+//! request has up to 232 octets.
 ghost use Rattle.std.specs.Prelude.{◌≡◌, is_some};
 ghost use Rattle.iol_script.specs.RunLines.{alone, bare_call, call_form, image_form, read_form, request_form, ticket_form, urgent_form, write_form};
 ghost use Rattle.iol_script.specs.Text.{words_left};

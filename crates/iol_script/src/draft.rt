@@ -90,8 +90,8 @@ impl<A: Allocator> Draft<A> {
         self.take_words(number, words)
     }
 
-    /// One more line is read, by its words. Each kind has a function of its own, and no line is built as a value: of a
-    /// call it is only asked whether the words fit.
+    /// One more line is read, by its words. Each kind has a function of its own, and
+    /// no line is built as a value: of a call it is only asked whether the words fit.
     fn take_words(&mut self, number: u64, mut words: Words) -> Result<(), ScriptFault>
         ensures good { OnOk result (after_words self.old (words_left words.entry) ≡ Some self.new) }
         ensures bad { (n : ℕ) → result ≡ Err (Line n) → (n ≡ number)

@@ -1,9 +1,10 @@
 //! What the lines of the program's input say.
 //!
-//! A text is cut into numbered lines and a line into words; a word is a name, a number or octets. A [`CheckLine`] asks
-//! for a layout or spells a message. A [`RunLine`] sets up a device and a port, makes steps of the wire between them,
-//! or makes calls of the port, and a [`Script`] is what all the lines of a text set up. A [`Plan`] is what the lines of a
-//! text say that many ports and their clients are to do. All of this is this project's own format (profile).
+//! A text is cut into numbered lines and a line into words; a word is a name, a number or octets.
+//! A [`CheckLine`] asks for a layout or spells a message. A [`RunLine`] sets up a device and a
+//! port, makes steps of the wire between them, or makes calls of the port, and a [`Script`] is
+//! what all the lines of a text set up. A [`Plan`] is what the lines of a text say that many
+//! ports and their clients are to do. All of this is this project's own format (profile).
 #![tactic(auto)]
 
 mod call_check;

@@ -66,7 +66,8 @@ fn pairs_of<const N: usize>(word: &[u8]) -> Option<ArrayVec<u8, N>>
     if left.is_empty() { Some(octets) } else { None }
 }
 
-/// The octets of one word of pairs of hexadecimal digits, in both cases, up to `N`; `-` stands for none.
+/// The octets of one word of pairs of hexadecimal digits, in both cases, up to `N`;
+/// `-` stands for none.
 pub fn hexadecimal_octets<const N: usize>(word: &[u8]) -> Option<ArrayVec<u8, N>>
     ensures { option_map (λ octets. octets.items) result
         ≡ option_and_then (within 0 N) (word_octets word.now) }
@@ -78,7 +79,8 @@ pub fn hexadecimal_octets<const N: usize>(word: &[u8]) -> Option<ArrayVec<u8, N>
     }
 }
 
-/// Whether a word gives octets in pairs of digits, or none by `-`, and how many is from `least` to `most`.
+/// Whether a word gives octets in pairs of digits, or none by `-`, and how many is
+/// from `least` to `most`.
 pub(crate) fn fits_octets(word: &[u8], least: usize, most: usize) -> bool
     ensures { result ≡ is_some (option_and_then (within least most) (word_octets word.now)) }
 {

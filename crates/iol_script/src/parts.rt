@@ -16,7 +16,8 @@ fn place_of(text: &[u8], mark: u8) -> Option<usize>
 /// What stands before the first `mark`, and what stands behind it if there is one.
 fn cut(text: &[u8], mark: u8) -> (&[u8], Option<&[u8]>)
     ensures parts { slice_split (λ b. b == mark) text.now
-        ≡ result.0.now ∷ option_map_or (λ later. slice_split (λ b. b == mark) later.now) result.1 [] }
+        ≡ result.0.now
+        ∷ option_map_or (λ later. slice_split (λ b. b == mark) later.now) result.1 [] }
     ensures whole { IfNone result.1 (result.0.now ≡ text.now) }
     ensures shorter { IfSome result.1 (λ later. length result.0.now + length later.now + 1
         ≡ length text.now) }
@@ -27,7 +28,8 @@ fn cut(text: &[u8], mark: u8) -> (&[u8], Option<&[u8]>)
     }
 }
 
-/// The lines of a text with their numbers, from 1 on. Each ends with a line feed, which the last may lack.
+/// The lines of a text with their numbers, from 1 on. Each ends with a line feed,
+/// which the last may lack.
 #[derive(Clone, Copy, Debug)]
 pub struct Lines<'a> {
     left: &'a [u8],
@@ -81,7 +83,8 @@ impl<'a> Words<'a> {
     ghost use Rattle.std.specs.Prelude.{◌≡◌};
     ghost use Rattle.iol_script.specs.Text.{line_words, words_left};
 
-    /// The words of a line of at most 1,024 bytes. A blank line and a comment, which begins with `#`, have none.
+    /// The words of a line of at most 1,024 bytes. A blank line and a comment,
+    /// which begins with `#`, have none.
     pub fn of(line: &'a [u8]) -> Option<Words<'a>>
         ensures { option_map words_left result ≡ line_words line.now }
     {

@@ -15,9 +15,11 @@ pub struct Plan {
     pub ports: u32,
     /// How many clients each port has: 1 to 16.
     pub clients: u32,
-    /// How many requests each client submits: 1 to 64. Those of all clients of a port are 64 at most.
+    /// How many requests each client submits: 1 to 64. Those of all clients of a
+    /// port are 64 at most.
     pub each: u32,
-    /// How many turns each port makes while its clients submit, and how many afterwards: 1 to 100,000.
+    /// How many turns each port makes while its clients submit, and how many
+    /// afterwards: 1 to 100,000.
     pub turns: u32,
     pub ghost ranges: { ArePlanned ports clients each turns },
 }
@@ -27,9 +29,10 @@ impl Plan {
 
     /// Reads the lines of a whole input, from first to last, without memory.
     ///
-    /// Four lines say something, in this order: `ports`, `clients`, `each` and `turns`, each with its number. Refused
-    /// is the first line that is bad: one that fits no form, that stands in another's place, or that makes the clients
-    /// of a port submit more than 64 requests. Where the input ends before its `turns`, the line behind its last is bad.
+    /// Four lines say something, in this order: `ports`, `clients`, `each` and `turns`, each
+    /// with its number. Refused is the first line that is bad: one that fits no form, that
+    /// stands in another's place, or that makes the clients of a port submit more than 64
+    /// requests. Where the input ends before its `turns`, the line behind its last is bad.
     pub fn read(input: &[u8]) -> Result<Plan, ScriptFault>
         requires { length input.now < usize.MAX }
         ensures plan { IfOk result (λ plan. plan_of (numbered_lines input.now)

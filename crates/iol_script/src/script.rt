@@ -18,8 +18,8 @@ use std::alloc::{Allocator, Global};
 
 /// What the lines of `run` set up: the device, the port and the wire between them.
 ///
-/// The calls are not kept, so that they take no memory. Of a line with a call it is only seen that it fits a form; it is
-/// parsed when it is carried out.
+/// The calls are not kept, so that they take no memory. Of a line with a call it is
+/// only seen that it fits a form; it is parsed when it is carried out.
 #[derive(Drop)]
 pub struct Script<A: Allocator = Global> {
     /// Direct parameter page 1 of the device.
@@ -35,8 +35,9 @@ pub struct Script<A: Allocator = Global> {
 impl<A: Allocator> Script<A> {
     /// Reads the lines of a whole input, from first to last.
     ///
-    /// The settings stand before the first line of the wire and the first call, the page and the limits at most once.
-    /// There are at most 1,000,000 steps and 1,000,000 calls. Answered is the first fault that is met: the first bad
+    /// The settings stand before the first line of the wire and the first call, the
+    /// page and the limits at most once. There are at most 1,000,000 steps and
+    /// 1,000,000 calls. Answered is the first fault that is met: the first bad
     /// line, or a growth that is refused. A bad line is found without memory.
     pub fn read(alloc: A, input: &[u8]) -> Result<Script<A>, ScriptFault>
         // What is read.

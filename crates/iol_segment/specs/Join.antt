@@ -10,7 +10,8 @@ use Rattle.iol_segment.specs.declared.took.Took.TheVariants.{Repeat, More, Whole
 use Rattle.iol_segment.specs.declared.took.JoinFault.{JoinFault}
 use Rattle.iol_segment.specs.declared.took.JoinFault.TheVariants.{WrongCount, BadIsduLength}
 
--- what joined octets are: too few yet, a text with octets behind it or none, or of a total length that no text has
+-- what joined octets are: too few yet, a text with octets behind it or none, or of
+-- a total length that no text has
 pub data Stage : Type 0 where
   Open : Stage
   Complete : List ℕ → Stage
@@ -40,7 +41,8 @@ is_whole_by (Ok n) text = nat_le n (length text)
 abbrev pub is_whole : List ℕ → Bool
 is_whole text = is_whole_by (total_at text) text
 
--- What a contract sees of a joiner: what it joins, whether START was taken, the last COUNT behind it, the text so far
+-- What a contract sees of a joiner: what it joins, whether START was taken, the
+-- last COUNT behind it, the text so far
 pub record Joining : Type 0 where
   pub requests : Bool
   pub started : Bool
@@ -58,8 +60,16 @@ pub record Taken : Type 0 where
 
 -- a segment was taken under START, or under a COUNT, and the octets are these
 abbrev pub staged : Bool → Option ℕ → List ℕ → Stage → Taken
-staged requests count octets Open = record { took = Ok More; joining = record { requests = requests; started = true; count = count; text = octets } }
-staged requests count octets (Complete text) = record { took = Ok Whole; joining = record { requests = requests; started = true; count = count; text = text } }
+staged requests count octets Open =
+    record {
+      took = Ok More;
+      joining = record { requests = requests; started = true; count = count; text = octets };
+    }
+staged requests count octets (Complete text) =
+    record {
+      took = Ok Whole;
+      joining = record { requests = requests; started = true; count = count; text = text };
+    }
 staged requests count octets Wrong = record { took = Err BadIsduLength; joining = empty requests }
 
 -- 1 behind START, 0 behind 15
@@ -76,11 +86,13 @@ is_last (Some d) c = d == c
 abbrev pub counted : Joining → ℕ → List ℕ → Taken
 counted j c octets =
     if is_last j.count c then record { took = Ok Repeat; joining = j } else
-    if (c == next_count j.count) && not (is_whole j.text) then staged j.requests (Some c) (j.text ++ octets) (stage (j.text ++ octets)) else
+    if (c == next_count j.count) && not (is_whole j.text)
+    then staged j.requests (Some c) (j.text ++ octets) (stage (j.text ++ octets)) else
     record { took = Err WrongCount; joining = empty j.requests }
 
 -- a segment under its flow
 abbrev pub taken : Joining → Flow → List ℕ → Taken
 taken j Start octets = staged j.requests None octets (stage octets)
-taken j (Count c) octets = if j.started then counted j c octets else record { took = Err WrongCount; joining = empty j.requests }
+taken j (Count c) octets = if j.started then counted j c octets
+    else record { took = Err WrongCount; joining = empty j.requests }
 taken j any octets = record { took = Err WrongCount; joining = empty j.requests }

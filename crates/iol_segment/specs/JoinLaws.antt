@@ -47,7 +47,13 @@ count_at (suc i) = Some (suc i % 16)
 
 -- the joiner that has the segments up to the i-th
 abbrev pub standing : Bool → ℕ → List ℕ → ℕ → Joining
-standing requests size text i = record { requests = requests; started = true; count = count_at i; text = take (suc i * size) text }
+standing requests size text i =
+    record {
+      requests = requests;
+      started = true;
+      count = count_at i;
+      text = take (suc i * size) text;
+    }
 
 -- the answer to segment i
 abbrev pub took_at : ℕ → List ℕ → ℕ → Took
@@ -56,17 +62,30 @@ took_at size text i = if nat_le (length text) (suc i * size) then Whole else Mor
 -- for a text that holds its own length, in segments of this size
 pub record JoinLaws (size : ℕ) : Type 0 where
   -- the whole cut, each pair one or more times running, given to any joiner
-  pub answers : (j : Joining) (text more : List ℕ) → HoldsLength text → length more ≡ length (cut size text) → results j (repeated (cut size text) more) ≡ expected more
+  pub answers : (j : Joining) (text more : List ℕ) → HoldsLength text
+      → length more ≡ length (cut size text)
+      → results j (repeated (cut size text) more) ≡ expected more
   -- and the joiner after it has the text
-  pub joins : (j : Joining) (text more : List ℕ) → HoldsLength text → length more ≡ length (cut size text) →
-      ((fed j (repeated (cut size text) more)).text ≡ text) × ((fed j (repeated (cut size text) more)).requests ≡ j.requests)
+  pub joins : (j : Joining) (text more : List ℕ) → HoldsLength text
+      → length more ≡ length (cut size text) →
+      ((fed j (repeated (cut size text) more)).text ≡ text)
+      × ((fed j (repeated (cut size text) more)).requests ≡ j.requests)
   -- such a text is whole, so the joiner may be asked for its value
   pub ready : (text : List ℕ) → HoldsLength text → IsTrue (is_whole text)
   -- one step each: START to any joiner, the next COUNT, the same again
-  pub first : (j : Joining) (text : List ℕ) → HoldsLength text → taken j (flow_at 0) (segment size text 0) ≡ record { took = Ok (took_at size text 0); joining = standing j.requests size text 0 }
-  pub next : (requests : Bool) (text : List ℕ) (i : ℕ) → HoldsLength text → suc i * size < length text →
-      taken (standing requests size text i) (flow_at (suc i)) (segment size text (suc i)) ≡ record { took = Ok (took_at size text (suc i)); joining = standing requests size text (suc i) }
+  pub first : (j : Joining) (text : List ℕ) → HoldsLength text
+      → taken j (flow_at 0) (segment size text 0)
+      ≡ record { took = Ok (took_at size text 0); joining = standing j.requests size text 0 }
+  pub next : (requests : Bool) (text : List ℕ) (i : ℕ) → HoldsLength text
+      → suc i * size < length text →
+      taken (standing requests size text i) (flow_at (suc i)) (segment size text (suc i))
+      ≡ record {
+        took = Ok (took_at size text (suc i));
+        joining = standing requests size text (suc i);
+      }
   pub again : (requests : Bool) (text : List ℕ) (i : ℕ) (octets : List ℕ) →
-      taken (standing requests size text (suc i)) (flow_at (suc i)) octets ≡ record { took = Ok Repeat; joining = standing requests size text (suc i) }
+      taken (standing requests size text (suc i)) (flow_at (suc i)) octets
+      ≡ record { took = Ok Repeat; joining = standing requests size text (suc i) }
   -- with the last segment the joiner has the text
-  pub whole : (requests : Bool) (text : List ℕ) (i : ℕ) → length text ≤ suc i * size → (standing requests size text i).text ≡ text
+  pub whole : (requests : Bool) (text : List ℕ) (i : ℕ) → length text ≤ suc i * size
+      → (standing requests size text i).text ≡ text

@@ -14,4 +14,5 @@ pub record IsRequestSource (octets : Request → List ℕ) : Type 0 where
 -- a reaction's: the text of the answer to its request
 pub record IsReactionSource (octets : Reaction → List ℕ) : Type 0 where
   pub text : (r : Reaction) → sealed (octets r) ≡ answer_text (is_read r.request) r.answer
-  pub spells : (r : Reaction) → FitsAnswer (is_read r.request) r.answer → IsAnswerText (is_read r.request) r.answer (sealed (octets r))
+  pub spells : (r : Reaction) → FitsAnswer (is_read r.request) r.answer
+      → IsAnswerText (is_read r.request) r.answer (sealed (octets r))

@@ -32,18 +32,27 @@ pub record TextLaws (size : ℕ) : Type 0 where
   pub within : (text : List ℕ) (i : ℕ) → i < segments size text → i * size < length text
   pub past : (text : List ℕ) (i : ℕ) → segments size text ≤ i → length text ≤ i * size
   -- a text that holds its own length isn't whole before its last segment, and is whole with it
-  pub grows : (text : List ℕ) (i : ℕ) → HoldsLength text → IsBefore size text i → stage (joined size text i) ≡ Open
-  pub ends : (text : List ℕ) (i : ℕ) → HoldsLength text → IsLast size text i → stage (joined size text i) ≡ Complete text
+  pub grows : (text : List ℕ) (i : ℕ) → HoldsLength text → IsBefore size text i
+      → stage (joined size text i) ≡ Open
+  pub ends : (text : List ℕ) (i : ℕ) → HoldsLength text → IsLast size text i
+      → stage (joined size text i) ≡ Complete text
   -- so a request's, which is then found to be its
   pub requests : (r : Request) → IsRequest r → HoldsLength (request_text r)
-  pub request_grows : (r : Request) (i : ℕ) → IsRequest r → IsBefore size (request_text r) i → stage (joined size (request_text r) i) ≡ Open
-  pub request_ends : (r : Request) (i : ℕ) → IsRequest r → IsLast size (request_text r) i → stage (joined size (request_text r) i) ≡ Complete (request_text r)
-  pub finds : (r : Request) (more : List ℕ) → IsRequest r → request_of (request_text r ++ more) ≡ Some r
+  pub request_grows : (r : Request) (i : ℕ) → IsRequest r → IsBefore size (request_text r) i
+      → stage (joined size (request_text r) i) ≡ Open
+  pub request_ends : (r : Request) (i : ℕ) → IsRequest r → IsLast size (request_text r) i
+      → stage (joined size (request_text r) i) ≡ Complete (request_text r)
+  pub finds : (r : Request) (more : List ℕ) → IsRequest r
+      → request_of (request_text r ++ more) ≡ Some r
   -- and an answer's, to a read or to a write
   pub answers : (read : Bool) (a : Answer) → FitsAnswer read a → HoldsLength (answer_text read a)
   -- which is refused by nothing
-  pub accepted : (read : Bool) (a : Answer) → FitsAnswer read a → answer_fault read (answer_text read a) ≡ None
+  pub accepted : (read : Bool) (a : Answer) → FitsAnswer read a
+      → answer_fault read (answer_text read a) ≡ None
   -- and begins neither with 00, no service, nor with 01, busy; nor does its first segment
-  pub begins : (read : Bool) (a : Answer) → FitsAnswer read a → 2 ≤ slice_index (answer_text read a) 0
-  pub busy : (read : Bool) (a : Answer) → FitsAnswer read a → (slice_index (segment size (answer_text read a) 0) 0 == 1) ≡ false
-  pub silent : (read : Bool) (a : Answer) → FitsAnswer read a → (slice_index (segment size (answer_text read a) 0) 0 == 0) ≡ false
+  pub begins : (read : Bool) (a : Answer) → FitsAnswer read a
+      → 2 ≤ slice_index (answer_text read a) 0
+  pub busy : (read : Bool) (a : Answer) → FitsAnswer read a
+      → (slice_index (segment size (answer_text read a) 0) 0 == 1) ≡ false
+  pub silent : (read : Bool) (a : Answer) → FitsAnswer read a
+      → (slice_index (segment size (answer_text read a) 0) 0 == 0) ≡ false

@@ -22,8 +22,8 @@ const LONGEST: usize = 238;
 
 /// The text of a request or of an answer, joined from its segments (IEC 61131-9, 7.3.6).
 ///
-/// Contracts see what it joins, whether START was taken, the last COUNT taken behind it, and the text
-/// so far.
+/// Contracts see what it joins, whether START was taken, the last COUNT taken
+/// behind it, and the text so far.
 #[derive(Drop)]
 pub struct Joiner {
     /// Whether it joins requests, else answers.
@@ -40,7 +40,12 @@ impl Model for Joiner {
 
     ghost Value = { Joining };
 
-    ghost view = { λ j. record { requests = j.requests; started = j.started; count = j.count; text = j.text.items } };
+    ghost view = { λ j. record {
+      requests = j.requests;
+      started = j.started;
+      count = j.count;
+      text = j.text.items;
+    } };
 
     ghost invariant = { λ j. IfSome j.count (λ c. c < 16) };
 }
@@ -62,10 +67,10 @@ impl Joiner {
 
     /// Takes a segment under its flow (IEC 61131-9, 7.3.6).
     ///
-    /// START empties the joiner and takes the segment. The COUNT taken last is a repeat, and is not
-    /// taken again; right behind START there is none. The next COUNT, 1 behind START and 0 behind 15,
-    /// is taken while the text is not whole. The segment may have any number of octets; those behind
-    /// the text are ignored (profile).
+    /// START empties the joiner and takes the segment. The COUNT taken last is a repeat,
+    /// and is not taken again; right behind START there is none. The next COUNT, 1
+    /// behind START and 0 behind 15, is taken while the text is not whole. The segment
+    /// may have any number of octets; those behind the text are ignored (profile).
     ///
     /// Either refusal leaves the joiner empty, so that only START is taken then (profile):
     /// - 15 `WrongCount`: any other flow;
@@ -93,9 +98,11 @@ impl Joiner {
         is_whole(&self.text)
     }
 
-    /// The request whose text was taken, as `iol_isdu::read_request` reads it, where the joiner lies.
+    /// The request whose text was taken, as `iol_isdu::read_request` reads it,
+    /// where the joiner lies.
     ///
-    /// The text is whole, as [`take`](Joiner::take) has answered. The first of these that holds refuses:
+    /// The text is whole, as [`take`](Joiner::take) has answered. The first of
+    /// these that holds refuses:
     /// - 12 `BadService`: the service is no request's, or its texts don't have this total length;
     /// - 13 `BadChkpdu`: the XOR of all octets of the text is not 0.
     pub fn request(&self) -> Result<Request, IsduFault>
@@ -109,10 +116,11 @@ impl Joiner {
         read_request(&self.text)
     }
 
-    /// The request whose text was taken, as `iol_isdu::read_request` reads it. A refusal gives the joiner
-    /// up all the same.
+    /// The request whose text was taken, as `iol_isdu::read_request` reads it. A
+    /// refusal gives the joiner up all the same.
     ///
-    /// The text is whole, as [`take`](Joiner::take) has answered. The first of these that holds refuses:
+    /// The text is whole, as [`take`](Joiner::take) has answered. The first of
+    /// these that holds refuses:
     /// - 12 `BadService`: the service is no request's, or its texts don't have this total length;
     /// - 13 `BadChkpdu`: the XOR of all octets of the text is not 0.
     pub fn into_request(self) -> Result<Request, IsduFault>
@@ -126,13 +134,15 @@ impl Joiner {
         self.request()
     }
 
-    /// The answer to this request whose text was taken, as `iol_isdu::read_answer` reads it. A refusal
-    /// gives the joiner up all the same.
+    /// The answer to this request whose text was taken, as `iol_isdu::read_answer`
+    /// reads it. A refusal gives the joiner up all the same.
     ///
-    /// The text is whole, as [`take`](Joiner::take) has answered. The first of these that holds refuses:
+    /// The text is whole, as [`take`](Joiner::take) has answered. The first of
+    /// these that holds refuses:
     /// - 12 `BadService`: the service is no answer's, or its texts don't have this total length;
     /// - 13 `BadChkpdu`: the XOR of all octets of the text is not 0;
-    /// - 14 `WrongAnswerKind`: it answers a write and the request is a read, or the other way round.
+    /// - 14 `WrongAnswerKind`: it answers a write and the request is a read, or the
+    ///   other way round.
     pub fn into_answer(self, request: &Request) -> Result<Answer, IsduFault>
         requires kind { self.requests ≡ false }
         requires whole { is_whole self.text ≡ true }

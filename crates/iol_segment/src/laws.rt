@@ -10,7 +10,8 @@ use iol_isdu::{Request, one_text_each};
 
 /// A law of the definitions, without code: what the octets of the two sources are.
 ///
-/// Followed by their XOR they are the text that `iol_isdu` writes for the request, or for the answer.
+/// Followed by their XOR they are the text that `iol_isdu` writes for the request,
+/// or for the answer.
 pub fn sources_are_texts()
     ensures request { IsRequestSource ⟦<Request as Source>⟧.octets }
     ensures reaction { IsReactionSource ⟦<Reaction as Source>⟧.octets }
@@ -18,8 +19,8 @@ pub fn sources_are_texts()
     one_text_each();
 }
 
-/// A law of the definitions, without code: what a [`Cutter`](crate::Cutter) gives, one pair after the
-/// other and then none, is the cut of its text. Each segment has the size that is asked for.
+/// A law of the definitions, without code: what a [`Cutter`](crate::Cutter) gives, one pair after
+/// the other and then none, is the cut of its text. Each segment has the size that is asked for.
 pub fn cut_is_whole()
     ensures whole { (size : ℕ) → 1 ≤ size → CutIsPairs size }
     ensures sized { SegmentsHaveSize }
@@ -27,17 +28,18 @@ pub fn cut_is_whole()
 
 /// A law of the definitions, without code: what the segments of a text say once they are joined.
 ///
-/// The segments of a text are those that begin within it. A text that holds its own length isn't whole before its last segment, and is whole with it. Each request's and
-/// answer's text holds its own length. No answer's is refused, or begins with 00 or with 01, which the
-/// device sends where it has no answer, or none yet.
+/// The segments of a text are those that begin within it. A text that holds its own
+/// length isn't whole before its last segment, and is whole with it. Each request's
+/// and answer's text holds its own length. No answer's is refused, or begins with
+/// 00 or with 01, which the device sends where it has no answer, or none yet.
 pub fn texts_join()
     ensures { (size : ℕ) → 1 ≤ size → TextLaws size }
 {
     one_text_each();
 }
 
-/// A law of the definitions, without code: what a [`Joiner`](crate::Joiner) says of the segments of a
-/// text that holds its own length, each given one or more times running.
+/// A law of the definitions, without code: what a [`Joiner`](crate::Joiner) says of the
+/// segments of a text that holds its own length, each given one or more times running.
 ///
 /// It answers `Whole` at the first giving of the last, and `More` or `Repeat` before. It then holds
 /// the text, without the octets that fill the last segment.

@@ -1,9 +1,10 @@
-//! The texts of the ISDU channel of IO-Link, cut into segments and joined again (IEC 61131-9, 7.3.6).
+//! The texts of the ISDU channel of IO-Link, cut into segments and joined again
+//! (IEC 61131-9, 7.3.6).
 //!
-//! A text, of a request of the master or of the device's answer, goes in as many messages as it takes,
-//! one segment each, under START and then COUNT 1, 2 and on. [`Cutter`] gives the segments of a text,
-//! of which it keeps no copy; [`Joiner`] takes them, tells a repeated one from the next, and gives the
-//! request or the answer. Nothing allocates.
+//! A text, of a request of the master or of the device's answer, goes in as many messages
+//! as it takes, one segment each, under START and then COUNT 1, 2 and on. [`Cutter`]
+//! gives the segments of a text, of which it keeps no copy; [`Joiner`] takes them, tells
+//! a repeated one from the next, and gives the request or the answer. Nothing allocates.
 #![tactic(auto)]
 
 mod append;

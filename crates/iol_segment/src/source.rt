@@ -5,7 +5,8 @@ use iol_isdu::{Answer, Front, Request, answer_front, request_front};
 
 /// A value whose ISDU text can be had in pieces, with no copy of it.
 ///
-/// The text is the octets that the source gives, followed by their XOR, the CHKPDU (IEC 61131-9, A.5.6).
+/// The text is the octets that the source gives, followed by their XOR, the CHKPDU
+/// (IEC 61131-9, A.5.6).
 pub trait Source {
     /// The octets of the text before its CHKPDU.
     ghost octets: { Self → List ℕ };

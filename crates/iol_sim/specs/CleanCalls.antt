@@ -21,24 +21,44 @@ never e = absurd (cc)
 
 module _ {P : Type 0} (gives : Gives P) where
   -- what an application carried out is carried out at the far end, whatever the application is
-  worked_off : (request : Option Request) (old new : Far) (before after : P) → IsCarriedOut gives request old before new after → IsWorkedOff request old new
+  worked_off : (request : Option Request) (old new : Far) (before after : P)
+      → IsCarriedOut gives request old before new after → IsWorkedOff request old new
   worked_off None old new before after h = h.0
   worked_off (Some request) old new before after h = by_room (has_room old) h
     where
       Carries : Type 0
-      Carries = (answer : Answer) × gives before request answer after × IsTrue (fits request answer) × (new ≡ local old (Carry answer))
+      Carries = (answer : Answer) × gives before request answer after × IsTrue (fits request answer)
+          × (new ≡ local old (Carry answer))
 
       by_room : (b : Bool) → MatchBool b Carries ((new ≡ old) × (after ≡ before))
-          → MatchBool b ((answer : Answer) × IsTrue (fits request answer) × (new ≡ local old (Carry answer))) (new ≡ old)
+          → MatchBool b
+          ((answer : Answer) × IsTrue (fits request answer) × (new ≡ local old (Carry answer)))
+          (new ≡ old)
       by_room true h = (h.0, h.2, h.3)
       by_room false h = h.0
 
-  exchange_by : (device : Running P) (steps : List Step) (auto silent : Bool) (silence : ℕ) (sent : List ℕ) (answer : Option (ArrayVec ℕ)) (new : Simulated P)
-      → is_clean (record { device = device; steps = steps; auto = auto; silent = silent; silence = silence }) ≡ true
-      → IsExchange gives (record { device = device; steps = steps; auto = auto; silent = silent; silence = silence }) sent answer new
+  exchange_by : (device : Running P) (steps : List Step) (auto silent : Bool) (silence : ℕ)
+      (sent : List ℕ) (answer : Option (ArrayVec ℕ)) (new : Simulated P)
+      → is_clean
+      (record {
+        device = device;
+        steps = steps;
+        auto = auto;
+        silent = silent;
+        silence = silence;
+      }) ≡ true
+      → IsExchange gives
+      (record {
+        device = device;
+        steps = steps;
+        auto = auto;
+        silent = silent;
+        silence = silence;
+      }) sent answer new
       → CleanExchange device.far sent (octets_in answer) new.device.far × IsTrue (is_clean new)
   exchange_by device [] true false silence sent answer new clean x =
-      let worked : IsWorked gives device x.ready = subst (λ (d : Running P). IsWorked gives d x.ready) x.ready_is.steps x.ready_is.work in (
+      let worked : IsWorked gives device x.ready =
+      subst (λ (d : Running P). IsWorked gives d x.ready) x.ready_is.steps x.ready_is.work in (
         record {
           ready = x.ready.far;
           work = worked_off _ device.far x.ready.far device.app x.ready.app worked.carried;
@@ -51,17 +71,37 @@ module _ {P : Type 0} (gives : Gives P) where
   exchange_by device [] false silent silence sent answer new clean x = never clean
   exchange_by device (step ∷ steps) auto silent silence sent answer new clean x = never clean
 
-  wake_by : (device : Running P) (steps : List Step) (auto silent : Bool) (silence : ℕ) (answer : Option Rate) (new : Simulated P)
-      → is_clean (record { device = device; steps = steps; auto = auto; silent = silent; silence = silence }) ≡ true
-      → IsWake gives (record { device = device; steps = steps; auto = auto; silent = silent; silence = silence }) answer new → IsTrue (is_clean new)
-  wake_by device [] true false silence answer new clean x = ap (λ (s : Simulated P). is_clean s) x.new_is
+  wake_by : (device : Running P) (steps : List Step) (auto silent : Bool) (silence : ℕ)
+      (answer : Option Rate) (new : Simulated P)
+      → is_clean
+      (record {
+        device = device;
+        steps = steps;
+        auto = auto;
+        silent = silent;
+        silence = silence;
+      }) ≡ true
+      → IsWake gives
+      (record {
+        device = device;
+        steps = steps;
+        auto = auto;
+        silent = silent;
+        silence = silence;
+      }) answer new → IsTrue (is_clean new)
+  wake_by device [] true false silence answer new clean x =
+      ap (λ (s : Simulated P). is_clean s) x.new_is
   wake_by device [] true true silence answer new clean x = never clean
   wake_by device [] false silent silence answer new clean x = never clean
   wake_by device (step ∷ steps) auto silent silence answer new clean x = never clean
 
-  pub exchanges_cleanly : (old : Simulated P) (sent : List ℕ) (answer : Option (ArrayVec ℕ)) (new : Simulated P) → IsTrue (is_clean old) → IsExchange gives old sent answer new
+  pub exchanges_cleanly : (old : Simulated P) (sent : List ℕ) (answer : Option (ArrayVec ℕ))
+      (new : Simulated P) → IsTrue (is_clean old) → IsExchange gives old sent answer new
       → CleanExchange old.device.far sent (octets_in answer) new.device.far × IsTrue (is_clean new)
-  exchanges_cleanly old sent answer new clean x = exchange_by old.device old.steps old.auto old.silent old.silence sent answer new clean x
+  exchanges_cleanly old sent answer new clean x =
+      exchange_by old.device old.steps old.auto old.silent old.silence sent answer new clean x
 
-  pub wakes_cleanly : (old : Simulated P) (answer : Option Rate) (new : Simulated P) → IsTrue (is_clean old) → IsWake gives old answer new → IsTrue (is_clean new)
-  wakes_cleanly old answer new clean x = wake_by old.device old.steps old.auto old.silent old.silence answer new clean x
+  pub wakes_cleanly : (old : Simulated P) (answer : Option Rate) (new : Simulated P)
+      → IsTrue (is_clean old) → IsWake gives old answer new → IsTrue (is_clean new)
+  wakes_cleanly old answer new clean x =
+      wake_by old.device old.steps old.auto old.silent old.silence answer new clean x

@@ -54,11 +54,15 @@ prepared sim device = record {
   silence = sim.silence;
 }
 
--- the device as the call finds it: the steps are done, unless the wire is silent, and then the work where it is automatic
-pub record IsReady {P : Type 0} (gives : Gives P) (sim : Simulated P) (device : Running P) : Type 0 where
+-- the device as the call finds it: the steps are done, unless the wire is silent,
+-- and then the work where it is automatic
+pub record IsReady {P : Type 0} (gives : Gives P) (sim : Simulated P)
+    (device : Running P) : Type 0 where
   pub stepped : Running P
-  pub steps : MatchBool sim.silent (stepped ≡ sim.device) (AreDone gives sim.steps sim.device stepped)
-  pub work : MatchBool (if sim.silent then sim.auto else auto_of sim.auto sim.steps) (IsWorked gives stepped device) (device ≡ stepped)
+  pub steps : MatchBool sim.silent (stepped ≡ sim.device)
+      (AreDone gives sim.steps sim.device stepped)
+  pub work : MatchBool (if sim.silent then sim.auto else auto_of sim.auto sim.steps)
+      (IsWorked gives stepped device) (device ≡ stepped)
 
 -- A wake
 
@@ -72,7 +76,8 @@ abbrev pub rate_by : Fate → Option Rate
 rate_by Clean = Some Com2
 rate_by fate = None
 
-pub record IsWake {P : Type 0} (gives : Gives P) (old : Simulated P) (answer : Option Rate) (new : Simulated P) : Type 0 where
+pub record IsWake {P : Type 0} (gives : Gives P) (old : Simulated P) (answer : Option Rate)
+    (new : Simulated P) : Type 0 where
   pub ready : Running P
   pub ready_is : IsReady gives old ready
   pub new_is : new ≡ prepared old (woken_by (fate_now old) ready)
@@ -85,12 +90,15 @@ pub record IsWake {P : Type 0} (gives : Gives P) (old : Simulated P) (answer : O
 abbrev pub damaged : List ℕ → List ℕ
 damaged octets = with_flip octets (length octets - 1) 0
 
--- the far end after an exchange, and what comes back; more than 66 octets, which no layout has, are lost where they would be damaged
+-- the far end after an exchange, and what comes back; more than 66 octets, which no
+-- layout has, are lost where they would be damaged
 abbrev pub exchanged : Fate → Far → List ℕ → Heard
 exchanged Clean far sent = hear far sent
 exchanged BackLost far sent = record { far = (hear far sent).far; reply = None }
-exchanged BackDamaged far sent = record { far = (hear far sent).far; reply = option_map damaged (hear far sent).reply }
-exchanged OutDamaged far sent = if nat_le (length sent) 66 then hear far (damaged sent) else record { far = far; reply = None }
+exchanged BackDamaged far sent =
+    record { far = (hear far sent).far; reply = option_map damaged (hear far sent).reply }
+exchanged OutDamaged far sent =
+    if nat_le (length sent) 66 then hear far (damaged sent) else record { far = far; reply = None }
 exchanged fate far sent = record { far = far; reply = None }
 
 -- only a clean exchange brings an unaltered reply
@@ -98,9 +106,15 @@ abbrev pub silence_by : Fate → ℕ → Option (List ℕ) → ℕ
 silence_by Clean silence reply = silence_after silence reply
 silence_by fate silence reply = silence_after silence None
 
-pub record IsExchange {P : Type 0} (gives : Gives P) (old : Simulated P) (sent : List ℕ) (answer : Option (ArrayVec ℕ)) (new : Simulated P) : Type 0 where
+pub record IsExchange {P : Type 0} (gives : Gives P) (old : Simulated P) (sent : List ℕ)
+    (answer : Option (ArrayVec ℕ)) (new : Simulated P) : Type 0 where
   pub ready : Running P
   pub ready_is : IsReady gives old ready
-  pub new_is : new ≡ record (prepared old (record ready { far = (exchanged (fate_now old) ready.far sent).far })) { silence = silence_by (fate_now old) old.silence (octets_in answer) }
+  pub new_is : new
+      ≡ record (prepared old
+      (record ready { far = (exchanged (fate_now old) ready.far sent).far })) {
+        silence =
+            silence_by (fate_now old) old.silence (octets_in answer);
+      }
   pub answer_is : octets_in answer ≡ (exchanged (fate_now old) ready.far sent).reply
   pub first : new.device.first ≡ old.device.first

@@ -1,8 +1,9 @@
-//! A wire that is simulated: a device stands at its far end, and a script says what happens to it and to each call.
+//! A wire that is simulated: a device stands at its far end, and a script says what
+//! happens to it and to each call.
 //!
-//! A [`Sim`] loses and damages messages as its script says, and it is an honest wire whatever the script. A [`Raw`]
-//! answers given messages in order, and is not honest. [`Params`] is an application for the device: parameters that
-//! are read and written.
+//! A [`Sim`] loses and damages messages as its script says, and it is an honest wire
+//! whatever the script. A [`Raw`] answers given messages in order, and is not honest.
+//! [`Params`] is an application for the device: parameters that are read and written.
 #![tactic(auto)]
 
 mod fault;

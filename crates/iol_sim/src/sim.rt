@@ -24,8 +24,9 @@ const LONGEST: usize = 66;
 
 /// A wire with a device at its far end, and a script of what happens to it and to each call.
 ///
-/// Each call first uses the steps of the script up to and with the next fate, then has the application work where
-/// that is automatic, as it is at first, and then goes as the fate says. An ended script is clean.
+/// Each call first uses the steps of the script up to and with the next fate, then
+/// has the application work where that is automatic, as it is at first, and then
+/// goes as the fate says. An ended script is clean.
 #[derive(Drop)]
 pub struct Sim<P: App, A: Allocator + Copy = Global> {
     line: Line,
@@ -72,7 +73,8 @@ impl<P: App, A: Allocator + Copy> Sim<P, A> {
 
     /// A wire to this device, with this script, which isn't copied.
     ///
-    /// Refused with 24 OutOfMemory, the device and the script handed back, where there is no memory for the device.
+    /// Refused with 24 OutOfMemory, the device and the script handed back, where
+    /// there is no memory for the device.
     pub fn new(
         alloc: A,
         device: Device<P, Kept<A>>,
@@ -110,9 +112,10 @@ impl<P: App, A: Allocator + Copy> Sim<P, A> {
         &self.device
     }
 
-    /// A law of each such wire, without code of its own: the application of the device at the far end is what the one
-    /// with which that device was opened becomes by carrying out the requests of its record, in their order, each once
-    /// and with the answer that stands beside it, and by nothing else.
+    /// A law of each such wire, without code of its own: the application of the
+    /// device at the far end is what the one with which that device was opened
+    /// becomes by carrying out the requests of its record, in their order, each
+    /// once and with the answer that stands beside it, and by nothing else.
     pub fn app_follows_record(&self)
         ensures { Follows P.carry_out_gives self.now.device.first self.now.device.far.carried
             self.now.device.app }
@@ -223,11 +226,15 @@ impl<P: App, A: Allocator + Copy> Sim<P, A> {
 
     /// The octets are sent. Answers whether a reply comes back; it is put into the buffer.
     fn pass(&mut self, fate: Fate, sent: &[u8], reply: &mut Message) -> bool
-        ensures answer { (if result then Some reply.new.items else None) ≡ (exchanged fate self.old.device.far sent.now).reply }
+        ensures answer { (if result then Some reply.new.items else None)
+            ≡ (exchanged fate self.old.device.far sent.now).reply }
         ensures device { self.new
             ≡ record self.old {
               device =
-                  record self.old.device { far = (exchanged fate self.old.device.far sent.now).far };
+                  record self.old.device {
+                    far =
+                        (exchanged fate self.old.device.far sent.now).far;
+                  };
             } }
         ensures octets { fate ≡ Fate.BackDamaged
             → IfSome (hear self.old.device.far sent.now).reply AreOctets }
@@ -251,10 +258,15 @@ impl<P: App, A: Allocator + Copy> Sim<P, A> {
     /// The octets are sent, and come damaged.
     fn pass_damaged(&mut self, sent: &[u8], reply: &mut Message) -> bool
         requires { length sent.now ≤ LONGEST }
-        ensures answer { (if result then Some reply.new.items else None) ≡ (hear self.old.device.far (damaged sent.now)).reply }
+        ensures answer { (if result then Some reply.new.items else None)
+            ≡ (hear self.old.device.far (damaged sent.now)).reply }
         ensures device { self.new
             ≡ record self.old {
-              device = record self.old.device { far = (hear self.old.device.far (damaged sent.now)).far };
+              device =
+                  record self.old.device {
+                    far =
+                        (hear self.old.device.far (damaged sent.now)).far;
+                  };
             } }
     {
         let mut message = Message::try_from(sent).unwrap();
@@ -278,8 +290,9 @@ impl<P: App, A: Allocator + Copy> Sim<P, A> {
 impl<A: Allocator + Copy> Sim<Params, A> {
     ghost use Rattle.iol_sim.specs.Params.{AnsweredBy};
 
-    /// A law of each such wire, without code of its own: each request of the record of the device at the far end, in
-    /// their order, was answered by its parameters as they were then, and they are now what those requests made of them.
+    /// A law of each such wire, without code of its own: each request of the record
+    /// of the device at the far end, in their order, was answered by its parameters
+    /// as they were then, and they are now what those requests made of them.
     #[tactic(auto, using(crate::proofs::Entries::stored))]
     pub fn record_is_answered_by_params(&self)
         ensures { AnsweredBy self.now.device.first self.now.device.far.carried self.now.device.app }

@@ -1,4 +1,5 @@
--- From what happens at the far end to steps, and to what nothing stores: the device's answer, a late request, and whether the frozen list was reported.
+-- From what happens at the far end to steps, and to what nothing stores: the
+-- device's answer, a late request, and whether the frozen list was reported.
 use Rattle.std.specs.Prelude.{◌≡◌, ℕ, Bool, true, false, not, ◌&&◌, if◌then◌else◌, List, [], ◌∷◌, ◌++◌, take, Option, Some, None, ⊤}
 use Rattle.iol_octets.specs.declared.control.Mc.{Mc}
 use Rattle.iol_mseq.specs.declared.master.MasterMsg.{MasterMsg}
@@ -14,12 +15,14 @@ use Rattle.iol_link.specs.Honest.{Passage, OutLost, BackLost, Clean}
 use Rattle.iol_steps.specs.Step.{Step, Carry, LateCarry, Freeze, Confirm, OutputOn, OutputOff, Input, PowerLoss, Image}
 use Rattle.iol_steps.specs.Session.{unanswered}
 
--- the answer that the device gave to the request under way, and a request that was cut off and may yet be carried out
+-- the answer that the device gave to the request under way, and a request that was
+-- cut off and may yet be carried out
 pub record Hidden : Type 0 where
   pub answer : Option Answer
   pub late : Option Request
 
--- the request that the device may still carry out: the one under way where it has no answer; where none is, the late one
+-- the request that the device may still carry out: the one under way where it has
+-- no answer; where none is, the late one
 abbrev pub open_request : Option Request → Hidden → Option Request
 open_request None hidden = hidden.late
 open_request (Some request) hidden = unanswered hidden.answer request
@@ -37,7 +40,8 @@ carry_step (Some request) answer = Carry answer
 
 -- an answer counts where the device is handed a request, has room and the answer fits
 abbrev pub carry_steps : Option Request → IsduState → Far → Answer → List Step
-carry_steps request (Handed held) far answer = if has_room far && fits held answer then carry_step request answer ∷ [] else []
+carry_steps request (Handed held) far answer =
+    if has_room far && fits held answer then carry_step request answer ∷ [] else []
 carry_steps request state far answer = []
 
 abbrev pub raise_steps : Events → Event → List Step
@@ -52,7 +56,8 @@ own_step request far OwnPower = PowerLoss ∷ []
 
 abbrev pub own_steps : Option Request → Far → List LocalStep → List Step
 own_steps request far [] = []
-own_steps request far (step ∷ steps) = own_step request far step ++ own_steps request (local far step) steps
+own_steps request far (step ∷ steps) =
+    own_step request far step ++ own_steps request (local far step) steps
 
 -- an answer belongs to the request under way, else to the late one
 abbrev pub hidden_carried : Option Request → Answer → Hidden → Hidden
@@ -60,7 +65,8 @@ hidden_carried None answer hidden = record hidden { late = None }
 hidden_carried (Some request) answer hidden = record hidden { answer = Some answer }
 
 abbrev pub hidden_carry : Option Request → IsduState → Far → Answer → Hidden → Hidden
-hidden_carry request (Handed held) far answer hidden = if has_room far && fits held answer then hidden_carried request answer hidden else hidden
+hidden_carry request (Handed held) far answer hidden =
+    if has_room far && fits held answer then hidden_carried request answer hidden else hidden
 hidden_carry request state far answer hidden = hidden
 
 abbrev pub hidden_after : Option Request → Far → LocalStep → Hidden → Hidden
@@ -69,7 +75,8 @@ hidden_after request far step hidden = hidden
 
 abbrev pub hidden_through : Option Request → Far → List LocalStep → Hidden → Hidden
 hidden_through request far [] hidden = hidden
-hidden_through request far (step ∷ steps) hidden = hidden_through request (local far step) steps (hidden_after request far step hidden)
+hidden_through request far (step ∷ steps) hidden =
+    hidden_through request (local far step) steps (hidden_after request far step hidden)
 
 -- a list that is frozen now was not reported, nor is one after a power cycle
 abbrev pub told_after : Far → LocalStep → Bool → Bool
@@ -79,7 +86,8 @@ told_after far step told = told
 
 abbrev pub told_through : Far → List LocalStep → Bool → Bool
 told_through far [] told = told
-told_through far (step ∷ steps) told = told_through (local far step) steps (told_after far step told)
+told_through far (step ∷ steps) told =
+    told_through (local far step) steps (told_after far step told)
 
 -- What a message does that the device accepts
 
@@ -88,7 +96,8 @@ confirm_steps memory = if not memory.held && not (is_empty memory.frozen) then C
 
 -- any other message, or a wake
 abbrev pub release_steps : Events → List Step
-release_steps memory = if is_empty memory.frozen && not (is_empty memory.waiting) then Freeze (take 6 memory.waiting) ∷ [] else []
+release_steps memory = if is_empty memory.frozen && not (is_empty memory.waiting)
+    then Freeze (take 6 memory.waiting) ∷ [] else []
 
 abbrev pub event_steps : Events → Bool → List Step
 event_steps memory true = confirm_steps memory
@@ -103,7 +112,8 @@ abbrev pub confirms_by : Mc → Bool
 confirms_by mc = is_confirm mc.channel mc.read mc.address
 
 abbrev pub worked_steps : Far → List ℕ → MasterMsg → List Step
-worked_steps far octets message = event_steps far.events (confirms_by message.mc) ++ output_steps (output_of (worked far octets message))
+worked_steps far octets message = event_steps far.events (confirms_by message.mc)
+    ++ output_steps (output_of (worked far octets message))
 
 abbrev pub heard_steps_as : Option (Far × MasterMsg) → List ℕ → List Step
 heard_steps_as None octets = []
@@ -113,7 +123,8 @@ abbrev pub heard_steps : Far → List ℕ → List Step
 heard_steps far octets = heard_steps_as (accepted far octets) octets
 
 abbrev pub told_released : Events → Bool → Bool
-told_released memory told = if is_empty memory.frozen && not (is_empty memory.waiting) then false else told
+told_released memory told =
+    if is_empty memory.frozen && not (is_empty memory.waiting) then false else told
 
 abbrev pub told_worked : Events → Bool → Bool → Bool
 told_worked memory true told = told
@@ -139,10 +150,12 @@ told_passed BackLost far octets told = told_heard far octets told
 told_passed Clean far octets told = told_heard far octets told
 
 abbrev pub exchange_steps : Option Request → Far → List LocalStep → Passage → List ℕ → List Step
-exchange_steps request far steps passage octets = own_steps request far steps ++ passed_steps passage (locals far steps) octets
+exchange_steps request far steps passage octets =
+    own_steps request far steps ++ passed_steps passage (locals far steps) octets
 
 abbrev pub told_exchanged : Far → List LocalStep → Passage → List ℕ → Bool → Bool
-told_exchanged far steps passage octets told = told_passed passage (locals far steps) octets (told_through far steps told)
+told_exchanged far steps passage octets told =
+    told_passed passage (locals far steps) octets (told_through far steps told)
 
 -- One wake: the device's own steps, and the wake's effect, if any
 

@@ -58,7 +58,8 @@ pub data Step : Type 0 where
   -- the link takes another mode, or is down for a cause
   Move : Mode → Option Why → Step
 
--- The one call of the wire in a turn: a wake, and whether it was answered; an exchange, and whether it brought a good reply
+-- The one call of the wire in a turn: a wake, and whether it was answered; an
+-- exchange, and whether it brought a good reply
 pub data WireCall : Type 0 where
   Woke : Bool → WireCall
   Exchanged : Bool → WireCall
@@ -77,7 +78,8 @@ CallFits Preoperate (Exchanged replied) = ⊤
 CallFits Operate (Exchanged replied) = ⊤
 CallFits mode call = ⊥
 
--- what doesn't change while a port runs: how many busy replies a request may have, and the page of its device
+-- what doesn't change while a port runs: how many busy replies a request may have,
+-- and the page of its device
 pub record Terms : Type 0 where
   pub busy_limit : ℕ
   pub page : List ℕ
@@ -107,8 +109,8 @@ silence_left moment = silence_by moment.call moment.silence
 
 -- Steps of one turn beside each other
 
--- two steps that don't stand in one turn: a second of a kind, a denial beside a taking, and a busy reply beside the
--- taking or the carrying out of its request
+-- two steps that don't stand in one turn: a second of a kind, a denial beside a
+-- taking, and a busy reply beside the taking or the carrying out of its request
 abbrev pub clash : Step → Step → Bool
 clash (Take ticket request) (Take other next) = true
 clash (Take ticket request) (Deny other) = true
@@ -129,7 +131,8 @@ clash step other = false
 
 abbrev pub is_clash_free : List Step → Bool
 is_clash_free [] = true
-is_clash_free (step ∷ steps) = list_all (λ other. not (clash step other)) steps && is_clash_free steps
+is_clash_free (step ∷ steps) =
+    list_all (λ other. not (clash step other)) steps && is_clash_free steps
 
 -- the steps that the book hears of
 abbrev pub is_for_book : Step → Bool

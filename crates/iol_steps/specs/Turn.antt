@@ -1,4 +1,5 @@
--- What a turn gives: one call of the wire and one list of steps, allowed and with their effects in each part of the abstract port.
+-- What a turn gives: one call of the wire and one list of steps, allowed and with
+-- their effects in each part of the abstract port.
 use Rattle.std.specs.Prelude.{◌≡◌, ◌≢◌, ◌⊎◌, ◌≤◌, Bool, not, List, ◌++◌, filter, None, IsTrue}
 use Rattle.std.specs.List.{list_all}
 use Rattle.iol_steps.specs.declared.mode.Mode.{Mode}
@@ -18,7 +19,8 @@ abbrev pub is_calm : Step → Bool
 is_calm step = not (clash Busy step)
 
 -- the call, and the steps that the book and the kept events hear of
-pub record IsTurn (s : Station) (said : Said) (next : Station) (call : WireCall) (steps : List Step) : Type 0 where
+pub record IsTurn (s : Station) (said : Said) (next : Station) (call : WireCall)
+    (steps : List Step) : Type 0 where
   pub fits : CallFits s.seen.mode call
   pub silence : next.silence ≡ silence_by call s.silence
   pub terms : next.terms ≡ s.terms
@@ -28,27 +30,33 @@ pub record IsTurn (s : Station) (said : Said) (next : Station) (call : WireCall)
   pub said_book : filter is_for_book steps ≡ woke_up s.seen.mode next.seen.mode ++ book_said said
   pub said_reports : filter is_report steps ≡ reports_said said
 
-pub record TurnsSession (s : Station) (u : Unseen) (next : Station) (after : Unseen) (call : WireCall) (steps : List Step) : Type 0 where
+pub record TurnsSession (s : Station) (u : Unseen) (next : Station) (after : Unseen)
+    (call : WireCall) (steps : List Step) : Type 0 where
   pub may : MaySessionAll (moment_of s call) steps (session_in s u)
   pub is : session_through steps (session_in s u) ≡ session_in next after
 
-pub record TurnsFrozen (s : Station) (u : Unseen) (next : Station) (after : Unseen) (steps : List Step) : Type 0 where
+pub record TurnsFrozen (s : Station) (u : Unseen) (next : Station) (after : Unseen)
+    (steps : List Step) : Type 0 where
   pub may : MayFrozenAll steps (frozen_in s u)
   pub is : frozen_through steps (frozen_in s u) ≡ frozen_in next after
 
--- a turn that began in OPERATE and leaves no silence leaves the image equal to the device's input; one that ends in another
--- mode leaves none; any other leaves the image as it was
+-- a turn that began in OPERATE and leaves no silence leaves the image equal to the device's
+-- input; one that ends in another mode leaves none; any other leaves the image as it was
 abbrev pub ImageIsLast : Moment → Mode → Images → Images → Type 0
 ImageIsLast moment ended i next =
-    ((moment.began ≡ Operate) × (silence_by moment.call moment.silence ≡ 0) → next.image ≡ next.input)
+    ((moment.began ≡ Operate) × (silence_by moment.call moment.silence ≡ 0)
+    → next.image ≡ next.input)
     × (ended ≢ Operate → next.image ≡ None)
-    × ((moment.began ≢ Operate) ⊎ (1 ≤ silence_by moment.call moment.silence) → ended ≡ Operate → next.image ≡ i.image)
+    × ((moment.began ≢ Operate) ⊎ (1 ≤ silence_by moment.call moment.silence) → ended ≡ Operate
+    → next.image ≡ i.image)
 
 -- a turn that began in OPERATE without silence and leaves none leaves the device's output as wanted
 abbrev pub OutputIsWanted : Moment → Images → Images → Type 0
-OutputIsWanted moment i next = (moment.began ≡ Operate) × (moment.silence ≡ 0) × (silence_by moment.call moment.silence ≡ 0) → next.output ≡ i.wanted
+OutputIsWanted moment i next = (moment.began ≡ Operate) × (moment.silence ≡ 0)
+    × (silence_by moment.call moment.silence ≡ 0) → next.output ≡ i.wanted
 
-pub record TurnsImages (s : Station) (next : Station) (call : WireCall) (steps : List Step) : Type 0 where
+pub record TurnsImages (s : Station) (next : Station) (call : WireCall)
+    (steps : List Step) : Type 0 where
   pub may : MayImagesAll (moment_of s call) steps (images_in s)
   pub is : images_through (moment_of s call) steps (images_in s) ≡ images_in next
   pub image_is_last : ImageIsLast (moment_of s call) next.seen.mode (images_in s) (images_in next)

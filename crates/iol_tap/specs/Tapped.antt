@@ -22,16 +22,19 @@ wake_noted answer = Wake answer
 abbrev pub exchange_noted : List ℕ → Option (ArrayVec ℕ) → Passed
 exchange_noted sent answer = Exchange (record { items = take 66 sent }) answer
 
-module _ {W : Type 0} (wakes : W → Option Rate → W → Type 0) (gives : W → List ℕ → Option (ArrayVec ℕ) → W → Type 0) where
+module _ {W : Type 0} (wakes : W → Option Rate → W → Type 0)
+    (gives : W → List ℕ → Option (ArrayVec ℕ) → W → Type 0) where
   -- a wake of the tap: one of the wire within, and its note
   abbrev pub TapWakes : Tapped W → Option Rate → Tapped W → Type 0
   TapWakes old answer new = wakes old.wire answer new.wire × (new.last ≡ Some (wake_noted answer))
 
   -- an exchange of the tap: one of the wire within, and its note
   abbrev pub TapGives : Tapped W → List ℕ → Option (ArrayVec ℕ) → Tapped W → Type 0
-  TapGives old sent answer new = gives old.wire sent answer new.wire × (new.last ≡ Some (exchange_noted sent answer))
+  TapGives old sent answer new = gives old.wire sent answer new.wire
+      × (new.last ≡ Some (exchange_noted sent answer))
 
   -- a note is of one call of a wire, which led from the one state of it to the other
   abbrev pub IsNoteOf : Passed → W → W → Type 0
   IsNoteOf (Wake answer) old new = wakes old answer new
-  IsNoteOf (Exchange first answer) old new = (sent : List ℕ) × (first.items ≡ take 66 sent) × gives old sent answer new
+  IsNoteOf (Exchange first answer) old new = (sent : List ℕ) × (first.items ≡ take 66 sent)
+      × gives old sent answer new

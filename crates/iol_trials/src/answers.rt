@@ -1,4 +1,5 @@
-//! Whose answers the record of a port's device has: those of the parameters with which that device was opened.
+//! Whose answers the record of a port's device has: those of the parameters with
+//! which that device was opened.
 ghost use Rattle.std.specs.Prelude.{IfOk};
 ghost use Rattle.iol_app.specs.StationState.{wire_of};
 ghost use Rattle.iol_sim.specs.Params.{AnsweredBy};
@@ -26,8 +27,8 @@ const PLACE: Place = Place { index: 16, sub: 0 };
 /// How many turns a start-up and one short request take, and two more.
 const TURNS: u32 = 20;
 
-/// A port over a new device with these parameters, once these calls were made: the parameters, as each request left
-/// them, answered all that its record has.
+/// A port over a new device with these parameters, once these calls were made: the
+/// parameters, as each request left them, answered all that its record has.
 fn played(
     alloc: Global,
     params: Params,

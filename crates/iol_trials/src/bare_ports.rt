@@ -1,4 +1,5 @@
-//! Ports over a wire that answers no message: memory refused in turn, refusals, and calls by their names.
+//! Ports over a wire that answers no message: memory refused in turn, refusals, and
+//! calls by their names.
 ghost use Rattle.std.proofs.Common.{rules};
 ghost use Rattle.std.specs.Prelude.{[], false, ⊤, None};
 ghost use Rattle.iol_far.specs.Far.{opened};
@@ -143,8 +144,8 @@ impl Urgency {
 enum Submitted {
     /// Nothing was refused.
     Taken(Result<Ticket, PortFault>),
-    /// Memory was refused. What the submit answered, whether the journal was empty afterwards, and what the same
-    /// submit answered once memory was there.
+    /// Memory was refused. What the submit answered, whether the journal was empty
+    /// afterwards, and what the same submit answered once memory was there.
     Refused(Result<Ticket, PortFault>, bool, Result<Ticket, PortFault>),
 }
 

@@ -1,4 +1,5 @@
-//! A request that is cancelled at each of its messages, with one fault at each call of the wire after that.
+//! A request that is cancelled at each of its messages, with one fault at each call
+//! of the wire after that.
 use crate::play::device_of;
 use crate::ports::{carried, opened, read, turn};
 use iol_book::{BookFault, Limits, Outcome, Ticket};
@@ -40,7 +41,8 @@ static FATES: [Fate; 7] = [
     Fate::Silent,
 ];
 
-/// After so many turns the request is cancelled; then the call of this number, counted from 0, has a fate.
+/// After so many turns the request is cancelled; then the call of this number,
+/// counted from 0, has a fate.
 #[derive(Clone, Copy, Debug)]
 struct Trial {
     turns: u32,
@@ -135,7 +137,8 @@ impl Trial {
         }
     }
 
-    /// The ABORT is the next message, so that only a wire that is silent from there on leaves it unanswered.
+    /// The ABORT is the next message, so that only a wire that is silent from there
+    /// on leaves it unanswered.
     fn outcome(&self) -> Result<Outcome, Fail> {
         let is_lost = self.is_silent() && self.turns < DONE;
         if self.is_under_way() && !(is_lost && self.call == 0) {
@@ -212,7 +215,8 @@ fn scarce_port(alloc: Global, scarce: &Scarce) -> Result<Port<Sim<Params>, &Scar
     Port::open(scarce, wire, &LIMITS).map_err(|(fault, _)| Fail::from(fault))
 }
 
-/// Nor does the turn that ends the request; a cancel again, by its name, is answered as the first was.
+/// Nor does the turn that ends the request; a cancel again, by its name, is
+/// answered as the first was.
 #[test]
 fn a_cancel_takes_no_memory(rt: HostRuntime) -> Result<(), Fail> {
     let scarce = Scarce::new(rt.alloc());

@@ -1,4 +1,5 @@
-//! The program's commands, from a reader to a writer: what they print, and each read, write and request for memory refused.
+//! The program's commands, from a reader to a writer: what they print, and each
+//! read, write and request for memory refused.
 
 use crate::commands::runs::PLAIN;
 use iol_cell::Handle;
@@ -267,7 +268,8 @@ fn fails_at_each_write(rt: HostRuntime) -> Result<(), Fail> {
     Ok(())
 }
 
-/// Whether a command was refused memory under this order: then it has to say so, and to write nothing.
+/// Whether a command was refused memory under this order: then it has to say so,
+/// and to write nothing.
 fn is_refused(
     rt: &impl Abort,
     alloc: Global,
@@ -289,8 +291,8 @@ fn is_refused(
     refused
 }
 
-/// The number of the first request for memory that a run of the case doesn't make; each before it is refused, alone and
-/// with all that follow.
+/// The number of the first request for memory that a run of the case doesn't make;
+/// each before it is refused, alone and with all that follow.
 fn first_unmade(rt: &impl Abort, alloc: Global, scarce: &Scarce, case: &Case) -> Option<u64> {
     for number in 0..1000 {
         if !is_refused(rt, alloc, scarce, case, Refusal::Only(number)) {

@@ -176,7 +176,8 @@ fn submit<W: Wire, L: Ledger, K: Ledger, A: Handle, R: Wait>(
     }
 }
 
-/// Submits at a desk without submits under an order to refuse memory, and says whether a request was refused.
+/// Submits at a desk without submits under an order to refuse memory, and says
+/// whether a request was refused.
 fn submit_refusing<L: Ledger, K: Ledger, R: Wait + Abort>(
     rt: &R,
     scarce: &Scarce,

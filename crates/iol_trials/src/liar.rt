@@ -15,7 +15,8 @@ pub enum Lie {
     Octet(usize, u8),
 }
 
-/// A device behind a wire that tells the truth for some exchanges, lies for some, and tells the truth from then on.
+/// A device behind a wire that tells the truth for some exchanges, lies for some,
+/// and tells the truth from then on.
 #[derive(Drop)]
 pub struct Liar {
     sim: Sim<Params>,

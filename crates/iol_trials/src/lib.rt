@@ -1,7 +1,9 @@
-//! Links, stations, ports, masters and their clients over the simulated wire: whole runs, one after another.
+//! Links, stations, ports, masters and their clients over the simulated wire: whole
+//! runs, one after another.
 //!
-//! What a link, a station, a port and a wire do at each call is proved in their own crates. Beside the tests this crate
-//! has the laws of a port over a simulated wire that need both: whose application answered the record's requests.
+//! What a link, a station, a port and a wire do at each call is proved in their own
+//! crates. Beside the tests this crate has the laws of a port over a simulated wire
+//! that need both: whose application answered the record's requests.
 #![tactic(auto)]
 
 mod laws;

@@ -128,7 +128,8 @@ fn through<W: Wire, K: Ledger>(
     guard: &mut MutexGuard<'_, Held<W, K>>,
     ticket: Ticket,
 ) -> Result<Outcome, PortFault>
-    ensures { Does W.honest W.far W.silence (mutex_guard_value guard.old).parts (call.Collect ticket) (outcome_reply result) (mutex_guard_value guard.new).parts }
+    ensures { Does W.honest W.far W.silence (mutex_guard_value guard.old).parts
+        (call.Collect ticket) (outcome_reply result) (mutex_guard_value guard.new).parts }
 {
     guard.collect(ticket)
 }
@@ -207,7 +208,8 @@ fn cancelled<W: Wire, L: Ledger, K: Ledger, R: Wait>(
     held.cancel(ticket).map_err(MasterFault::Port)
 }
 
-/// One desk's urgent request goes before the other's, and is cancelled under the port's lock while it is under way.
+/// One desk's urgent request goes before the other's, and is cancelled under the
+/// port's lock while it is under way.
 fn cancel_row<L: Ledger, K: Ledger, R: Wait + Abort>(
     rt: &R,
     alloc: Global,

@@ -15,7 +15,8 @@ use std::alloc::Global;
 use std::process::Abort;
 use std::test::Fail;
 
-/// The lengths of the replies to a start-up and to a read of 16/0 behind it: the START write, busy, the answer.
+/// The lengths of the replies to a start-up and to a read of 16/0 behind it: the
+/// START write, busy, the answer.
 static LENGTHS: [usize; 17] = [2, 2, 2, 2, 2, 2, 2, 2, 2, 2, 1, 1, 1, 1, 1, 9, 9];
 
 /// How many of these are replies to the start-up.
@@ -144,7 +145,8 @@ fn lied(
     play(rt, alloc, AnyWire(liar), stretches, (truths, lies))
 }
 
-/// Octets that are no reply cost a turn, but in the place of busy, and in three turns on end the link.
+/// Octets that are no reply cost a turn, but in the place of busy, and in three
+/// turns on end the link.
 fn is_no_reply(rt: &impl Abort, alloc: Global, lie: Lie, truths: u32) -> Result<(), Fail> {
     let once: &[Stretch] = if truths == BEFORE_BUSY {
         &ON_TIME
@@ -180,7 +182,8 @@ fn replies_of_other_lengths_are_none(rt: HostRuntime) -> Result<(), Fail> {
     Ok(())
 }
 
-/// Whether the checksum of an octet with these bits flipped is that of the octet: an even number of its four pairs are.
+/// Whether the checksum of an octet with these bits flipped is that of the octet:
+/// an even number of its four pairs are.
 fn is_unseen(change: u8) -> bool {
     matches!(change, 0x0F | 0x33 | 0x3C | 0xC3 | 0xCC | 0xF0 | 0xFF)
 }
@@ -215,7 +218,8 @@ fn each_octet_at_each_place_has_its_ending(rt: HostRuntime) -> Result<(), Fail> 
     Ok(())
 }
 
-/// A device that hands no request on is busy for ever, each time until the limit of 100 replies, and then an ABORT is sent.
+/// A device that hands no request on is busy for ever, each time until the limit of
+/// 100 replies, and then an ABORT is sent.
 #[test]
 fn a_device_may_be_busy_for_ever(rt: HostRuntime) -> Result<(), Fail> {
     let mut steps = Vec::new(rt.alloc());
@@ -380,7 +384,8 @@ static ROWS: [Row; 12] = [
         ],
         stretches: &[CUT_OFF, LINKED],
     },
-    // A page of V1.0: MasterCycleTime and DeviceOperate follow. One without ISDU, where IDLE 1 does.
+    // A page of V1.0: MasterCycleTime and DeviceOperate follow. One without ISDU,
+    // where IDLE 1 does.
     Row {
         replies: &[
             Replies::Page(2, &[0x10, 0x39]),
@@ -427,7 +432,8 @@ static ROWS: [Row; 12] = [
         ],
         stretches: &[NO_CODE, LINKED],
     },
-    // A StatusCode without details, and one that marks no place; then the flag stands in each reply.
+    // A StatusCode without details, and one that marks no place; then the flag
+    // stands in each reply.
     Row {
         replies: &[
             Replies::StartUp,
@@ -449,7 +455,8 @@ static ROWS: [Row; 12] = [
         ],
         stretches: &[FORM, FORM_READ, FORM_READ],
     },
-    // A StatusCode whose bit 6 is 1, with place 1, and one with place 6 alone; codes that are reserved.
+    // A StatusCode whose bit 6 is 1, with place 1, and one with place 6 alone;
+    // codes that are reserved.
     Row {
         replies: &[
             Replies::StartUp,

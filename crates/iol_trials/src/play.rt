@@ -39,7 +39,8 @@ pub struct Case<'a> {
 enum Effect {
     /// The turn is made once more, and all that follows comes one turn later.
     Later,
-    /// Nothing: something was lost in that turn all the same, or it is the device that the turn waits for.
+    /// Nothing: something was lost in that turn all the same, or it is the device
+    /// that the turn waits for.
     Same,
     /// The link is lost.
     Lost,
@@ -155,7 +156,8 @@ impl<'a> Case<'a> {
         Ok(())
     }
 
-    /// A turn as it is in the table; where something else is lost in it, what comes back isn't compared.
+    /// A turn as it is in the table; where something else is lost in it, what comes
+    /// back isn't compared.
     fn turn(
         &self,
         rt: &impl Abort,
@@ -226,7 +228,8 @@ impl<'a> Case<'a> {
         }
     }
 
-    /// All is silent from a turn on: a wake fails at once, and a link is lost with the third message in a row.
+    /// All is silent from a turn on: a wake fails at once, and a link is lost with
+    /// the third message in a row.
     fn lose(&self, rt: &impl Abort, bench: &mut Bench<'_>, turn: usize) -> Result<(), Fail> {
         let run = self.run;
         let (turns, why) = match turn {

@@ -81,7 +81,8 @@ fn fallen_silent(rt: &impl Abort, alloc: Global) -> Result<Sim<Params>, Fail> {
     Ok(port.into_wire())
 }
 
-/// A request is cut off when the wire falls silent; the next port over that wire, mended, has its own carried out.
+/// A request is cut off when the wire falls silent; the next port over that wire,
+/// mended, has its own carried out.
 #[test]
 fn a_wire_that_is_given_back_serves_another_port(rt: HostRuntime) -> Result<(), Fail> {
     let mut wire = fallen_silent(&rt, rt.alloc())?;
@@ -108,7 +109,8 @@ impl Change {
     }
 }
 
-/// Input 12 34 for 17 calls of the wire, none for one, 56 78 from then on; the last three replies are lost.
+/// Input 12 34 for 17 calls of the wire, none for one, 56 78 from then on; the last
+/// three replies are lost.
 const CHANGES: [(u32, Change); 8] = [
     (1, Change::Input([0x12, 0x34])),
     (16, Change::Call(Fate::Clean)),

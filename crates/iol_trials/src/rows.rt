@@ -52,8 +52,8 @@ pub enum Opposite {
     Replies(&'static [&'static [u8]]),
 }
 
-/// A run. Turns are counted from 0, and each makes one call of the wire; what stands at a turn is done before it, or seen
-/// after it.
+/// A run. Turns are counted from 0, and each makes one call of the wire; what
+/// stands at a turn is done before it, or seen after it.
 #[derive(Clone, Copy)]
 pub struct Run {
     pub name: &'static str,

@@ -184,7 +184,8 @@ impl<W: Wire> Client<W> {
     }
 }
 
-/// A port over this wire goes by the table, after which no request is outstanding; the mark says which run it is.
+/// A port over this wire goes by the table, after which no request is outstanding;
+/// the mark says which run it is.
 pub fn play<W: Wire + Drop>(
     rt: &impl Abort,
     alloc: Global,

@@ -55,7 +55,8 @@ static OTHER_REVISION: [[u8; 2]; 10] = [
     [0x07, 0x0F],
 ];
 
-/// A link over this wire stands so after so many turns each; the number says which run it is. The wire is handed back.
+/// A link over this wire stands so after so many turns each; the number says which
+/// run it is. The wire is handed back.
 fn goes<W: Wire>(rt: &impl Abort, wire: W, stops: &[(u32, At)], number: u32) -> W {
     let mut next = Next::Down(Link::new(wire));
     for (turns, wanted) in stops {
@@ -65,8 +66,8 @@ fn goes<W: Wire>(rt: &impl Abort, wire: W, stops: &[(u32, At)], number: u32) -> 
     wire_of(next)
 }
 
-/// A link stands in OPERATE a turn after PREOPERATE, and of its exchanges these were made, with those of the table
-/// among them.
+/// A link stands in OPERATE a turn after PREOPERATE, and of its exchanges these
+/// were made, with those of the table among them.
 fn is_watched(
     rt: &impl Abort,
     alloc: Global,

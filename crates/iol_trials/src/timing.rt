@@ -1,4 +1,5 @@
-//! Ports over a clean wire: how many turns a request takes, by the lengths of its text and of its answer's.
+//! Ports over a clean wire: how many turns a request takes, by the lengths of its
+//! text and of its answer's.
 use crate::play::device_of;
 use crate::ports::{carried, collects, opened, turn};
 use iol_book::{BookFault, Outcome, Ticket};
@@ -120,7 +121,8 @@ const WRITTEN: u32 = 2;
 
 const REFUSED: u32 = 4;
 
-/// A place that has a form of its own, and the lengths of the texts of a read and of the values' writes there.
+/// A place that has a form of its own, and the lengths of the texts of a read and
+/// of the values' writes there.
 struct Form {
     place: Place,
     read: u32,

@@ -1,4 +1,5 @@
-//! How the program ends where a command isn't carried out: its status, and its text on standard error.
+//! How the program ends where a command isn't carried out: its status, and its text
+//! on standard error.
 ghost use Rattle.std.specs.Prelude.{◌≡◌};
 ghost use Rattle.std.specs.Process.{exit_status};
 ghost use Rattle.iolink.specs.Ending.{status_after};

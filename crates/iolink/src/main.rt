@@ -1,7 +1,8 @@
 //! The program `iolink`: it reads standard input whole, and prints what its command makes of it.
 //!
-//! It ends with status 0; with status 1 and one line on standard error where the command fails; or with status 2
-//! and the text of `clap` on standard error where the command line is refused, or asks for help or the version.
+//! It ends with status 0; with status 1 and one line on standard error where the
+//! command fails; or with status 2 and the text of `clap` on standard error where
+//! the command line is refused, or asks for help or the version.
 #![tactic(auto)]
 
 mod command;

@@ -33,7 +33,8 @@ pub(crate) fn perform<T: Threads + Wait + Sync, R: Read, W: Write>(
     // What is written.
     ensures printed { OnOk result (Writes (R.remaining reader.old)
         (W.contents writer.old) (W.contents writer.new) (Prints mode)) }
-    ensures nothing { OnErr result (result ≢ Err WriteFailed → (mode ≡ Trace → result ≢ Err OutOfMemory)
+    ensures nothing { OnErr result
+        (result ≢ Err WriteFailed → (mode ≡ Trace → result ≢ Err OutOfMemory)
         → Keeps (W.contents writer.old) (W.contents writer.new)) }
 {
     match mode {

@@ -23,7 +23,9 @@ abbrev pub number_of : Bool → ℕ
 number_of true = 0
 number_of false = 255
 
--- an answer is brought: the step that carries the handed request out with it, or 255 where it isn't taken
+-- an answer is brought: the step that carries the handed request out with it, or
+-- 255 where it isn't taken
 abbrev pub Answers : Answer → IolDevice → ℕ → IolDevice → Type 0
 Answers answer old result new =
-    (far_of new ≡ local (far_of old) (LocalStep.Carry answer)) × (result ≡ number_of (takes_answer (far_of old) answer))
+    (far_of new ≡ local (far_of old) (LocalStep.Carry answer))
+    × (result ≡ number_of (takes_answer (far_of old) answer))

@@ -14,4 +14,5 @@ abbrev pub IsShown : Option Request → IolRequest → Type 0
 IsShown None out = out.kind ≡ 0
 IsShown (Some (Read place)) out = (out.kind ≡ 1) × IsAt place out × (out.length ≡ 0)
 IsShown (Some (Write place octets)) out =
-    (out.kind ≡ 2) × IsAt place out × (out.length ≡ length octets.items) × (take out.length out.octets ≡ octets.items)
+    (out.kind ≡ 2) × IsAt place out × (out.length ≡ length octets.items)
+    × (take out.length out.octets ≡ octets.items)

@@ -17,8 +17,8 @@ use std::alloc::Global;
 
 /// Opens a device with this direct parameter page 1, asleep. It takes no memory after this.
 ///
-/// 0, or the first of these that holds, with the handle as it was: 253 it is open already; 8, 7 or 2 the page is
-/// refused, as by `Page::layouts`; 24 there is no memory.
+/// 0, or the first of these that holds, with the handle as it was: 253 it is open
+/// already; 8, 7 or 2 the page is refused, as by `Page::layouts`; 24 there is no memory.
 #[unsafe(no_mangle)]
 pub extern "C" fn iol_device_open(alloc: Global, handle: &mut IolDevice, page: &[u8; 10]) -> u8
     ensures once { IsTrue handle.old.is_open → (result ≡ 253) × (handle.new ≡ handle.old) }
@@ -104,8 +104,8 @@ pub extern "C" fn iol_device_power_cycle(alloc: Global, handle: &mut IolDevice) 
     0
 }
 
-/// Raises an event: 0, or 252 where the handle is closed, and then 16, with nothing changed, where the event memory is
-/// full.
+/// Raises an event: 0, or 252 where the handle is closed, and then 16, with nothing
+/// changed, where the event memory is full.
 #[unsafe(no_mangle)]
 pub extern "C" fn iol_device_raise(
     alloc: Global,

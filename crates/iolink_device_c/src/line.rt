@@ -15,7 +15,8 @@ pub struct IolReply {
     pub octets: [u8; 66],
 }
 
-/// These octets came: 0 and what is sent back, or 252 where the handle is closed, with `out` as it was.
+/// These octets came: 0 and what is sent back, or 252 where the handle is closed,
+/// with `out` as it was.
 #[unsafe(no_mangle)]
 pub extern "C" fn iol_device_hear(
     alloc: Global,

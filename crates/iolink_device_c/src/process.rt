@@ -11,8 +11,8 @@ use iol_image::Image;
 use iolink_handle::{CLOSED, put};
 use std::alloc::Global;
 
-/// The process data in from now on: 0, or 252 where the handle is closed, and then 29, with nothing changed, for
-/// another number of octets than the page has, or where it has none.
+/// The process data in from now on: 0, or 252 where the handle is closed, and then 29, with
+/// nothing changed, for another number of octets than the page has, or where it has none.
 #[unsafe(no_mangle)]
 pub extern "C" fn iol_device_set_input(alloc: Global, handle: &mut IolDevice, octets: &[u8]) -> u8
     ensures closed { IsFalse handle.old.is_open → IsRefused result handle.old handle.new }
@@ -70,7 +70,8 @@ pub struct IolImage {
     pub octets: [u8; 32],
 }
 
-/// The process data out, none while none is valid: 0, or 252 where the handle is closed, with `out` as it was.
+/// The process data out, none while none is valid: 0, or 252 where the handle is
+/// closed, with `out` as it was.
 #[unsafe(no_mangle)]
 pub extern "C" fn iol_device_output(alloc: Global, handle: &mut IolDevice, out: &mut IolImage) -> u8
     ensures closed { IsFalse handle.old.is_open → IsRefused result handle.old handle.new }

@@ -30,8 +30,8 @@ pub struct IolRequest {
     pub octets: [u8; 232],
 }
 
-/// The request that is handed over and has no answer yet, of kind 0 where there is none: 0, or 252 where the handle is
-/// closed, with `out` as it was. It changes nothing.
+/// The request that is handed over and has no answer yet, of kind 0 where there is none:
+/// 0, or 252 where the handle is closed, with `out` as it was. It changes nothing.
 #[unsafe(no_mangle)]
 pub extern "C" fn iol_device_handed(
     alloc: Global,
@@ -107,8 +107,8 @@ fn answered(alloc: Global, handle: &mut IolDevice, answer: Answer) -> u8
 
 /// The read that is handed over gave these octets.
 ///
-/// 0, or the first of these that holds, with nothing changed: 252 the handle is closed; 9 more than 232 octets; 255 no
-/// read is handed over.
+/// 0, or the first of these that holds, with nothing changed: 252 the handle is
+/// closed; 9 more than 232 octets; 255 no read is handed over.
 #[unsafe(no_mangle)]
 pub extern "C" fn iol_device_answer_read(alloc: Global, handle: &mut IolDevice, octets: &[u8]) -> u8
     ensures closed { IsFalse handle.old.is_open → IsRefused result handle.old handle.new }
@@ -128,8 +128,8 @@ pub extern "C" fn iol_device_answer_read(alloc: Global, handle: &mut IolDevice, 
     }
 }
 
-/// The write that is handed over is done: 0, or 252 where the handle is closed, and then 255, with nothing changed,
-/// where no write is handed over.
+/// The write that is handed over is done: 0, or 252 where the handle is closed, and
+/// then 255, with nothing changed, where no write is handed over.
 #[unsafe(no_mangle)]
 pub extern "C" fn iol_device_answer_written(alloc: Global, handle: &mut IolDevice) -> u8
     ensures closed { IsFalse handle.old.is_open → IsRefused result handle.old handle.new }
@@ -144,8 +144,8 @@ pub extern "C" fn iol_device_answer_written(alloc: Global, handle: &mut IolDevic
     answered(alloc, handle, Answer::Written)
 }
 
-/// The request that is handed over is refused, with ErrorCode and AdditionalCode: 0, or 252 where the handle is closed,
-/// and then 255, with nothing changed, where none is handed over.
+/// The request that is handed over is refused, with ErrorCode and AdditionalCode: 0, or 252
+/// where the handle is closed, and then 255, with nothing changed, where none is handed over.
 #[unsafe(no_mangle)]
 pub extern "C" fn iol_device_answer_refused(
     alloc: Global,

@@ -1,7 +1,8 @@
-//! What the libraries for C have in common: the box behind a handle, octets that go out, and the refusals of their own.
+//! What the libraries for C have in common: the box behind a handle, octets that go
+//! out, and the refusals of their own.
 //!
-//! A handle of C is a `#[repr(C)]` struct of the library that it belongs to, with one pointer. Such a struct can have no
-//! type parameter, so each library has its own, and makes it of a [`Loose`].
+//! A handle of C is a `#[repr(C)]` struct of the library that it belongs to, with one pointer. Such
+//! a struct can have no type parameter, so each library has its own, and makes it of a [`Loose`].
 #![tactic(auto)]
 
 mod loose;

@@ -1,4 +1,5 @@
-//! The refusals that calls from C have beside those of the library, and the library's that they answer themselves.
+//! The refusals that calls from C have beside those of the library, and the
+//! library's that they answer themselves.
 
 /// There is no memory, as the library says it.
 pub const OUT_OF_MEMORY: u8 = 24;

@@ -20,15 +20,18 @@ parts_of handle = handle.held.value.port.parts
 abbrev pub IsRefused : ℕ → IolPort → IolPort → Type 0
 IsRefused result old new = (result ≡ 252) × (new ≡ old)
 
--- all stays but the port's parts: the handle is as open as it was, the port's opening and the archived journal are what they were
+-- all stays but the port's parts: the handle is as open as it was, the port's
+-- opening and the archived journal are what they were
 abbrev pub Stays : IolPort → IolPort → Type 0
 Stays old new =
     (new.is_open ≡ old.is_open)
-    × (new.held.value ≡ record old.held.value { port = record old.held.value.port { parts = parts_of new } })
+    × (new.held.value
+    ≡ record old.held.value { port = record old.held.value.port { parts = parts_of new } })
 
 -- the call of C is this call of the abstract port, with this answer
 abbrev pub CallDoes : IolPort → Call → Answered → IolPort → Type 0
-CallDoes old call answered new = Does is_honest far_of silence_of (parts_of old) call answered (parts_of new)
+CallDoes old call answered new =
+    Does is_honest far_of silence_of (parts_of old) call answered (parts_of new)
 
 -- the number of an answer: that of its refusal, or 0
 abbrev pub number_of : {X : Type 0} → Result X PortFault → ℕ
@@ -38,7 +41,8 @@ number_of (Err why) = fault_number why
 -- a rate by its number: 0 for no answer, 1 to 3 for COM1 to COM3
 abbrev pub rate_of : ℕ → Option Rate
 rate_of number =
-    if nat_eq number 1 then Some Com1 else if nat_eq number 2 then Some Com2 else if nat_eq number 3 then Some Com3 else None
+    if nat_eq number 1 then Some Com1 else if nat_eq number 2 then Some Com2 else if nat_eq number 3
+    then Some Com3 else None
 
 -- what came on the line: nothing where there are no octets
 abbrev pub answer_of : List ℕ → Option (ArrayVec ℕ)

@@ -43,15 +43,18 @@ entered Ordinary book request = submitted book request
 entered Urgent book request = submitted_urgent book request
 
 -- a request is entered: the number, and the ticket that C is told
-pub record Enters (urgency : Urgency) (request : Request) (old : IolPort) (number ticket : ℕ) (new : IolPort) : Type 0 where
+pub record Enters (urgency : Urgency) (request : Request) (old : IolPort) (number ticket : ℕ)
+    (new : IolPort) : Type 0 where
   pub answer : Result Ticket PortFault
   pub number_is : number ≡ number_of answer
   pub ticket_is : ticket ≡ ticket_out answer
-  pub gives : SubmitGives (parts_of old) (entered urgency (parts_of old).book.state request) answer (parts_of new)
+  pub gives : SubmitGives (parts_of old) (entered urgency (parts_of old).book.state request) answer
+      (parts_of new)
   pub does : CallDoes old (entering urgency request) (ticket_reply answer) new
 
 -- the outcome of a ticket is handed out, or refused and nothing is written for C
-pub record Collects (ticket : ℕ) (old : IolPort) (number : ℕ) (before after : IolOutcome) (new : IolPort) : Type 0 where
+pub record Collects (ticket : ℕ) (old : IolPort) (number : ℕ) (before after : IolOutcome)
+    (new : IolPort) : Type 0 where
   pub answer : Result Outcome PortFault
   pub number_is : number ≡ number_of answer
   pub gives : CollectGives (parts_of old) (ticket_of ticket) answer (parts_of new)

@@ -36,7 +36,8 @@ why_shown (Some why) = why_number why
 -- a status as C is shown it
 abbrev pub IsShown : Status → IolStatus → Type 0
 IsShown status out =
-    (out.mode ≡ mode_number status.mode) × (out.why ≡ why_shown status.why) × (out.event_form ≡ status.event_form)
+    (out.mode ≡ mode_number status.mode) × (out.why ≡ why_shown status.why)
+    × (out.event_form ≡ status.event_form)
 
 -- an answer's kind
 abbrev pub answer_kind : Answer → ℕ
@@ -82,7 +83,8 @@ AreShown octets count room = (count ≡ length octets) × (take count room ≡ o
 -- an outcome as C is shown it
 abbrev pub IsOutcome : Outcome → IolOutcome → Type 0
 IsOutcome outcome out =
-    (out.kind ≡ outcome_kind outcome) × (out.cause ≡ outcome_cause outcome) × AreShown (outcome_octets outcome) out.length out.octets
+    (out.kind ≡ outcome_kind outcome) × (out.cause ≡ outcome_cause outcome)
+    × AreShown (outcome_octets outcome) out.length out.octets
 
 -- the place of a request
 abbrev pub IsAt : Place → IolRequest → Type 0
@@ -91,7 +93,8 @@ IsAt place out = (out.index ≡ place.index) × (out.sub ≡ place.sub)
 -- a request as C is shown it
 abbrev pub IsRequest : Request → IolRequest → Type 0
 IsRequest (request.Read place) out = (out.kind ≡ 1) × IsAt place out × (out.length ≡ 0)
-IsRequest (request.Write place octets) out = (out.kind ≡ 2) × IsAt place out × AreShown octets.items out.length out.octets
+IsRequest (request.Write place octets) out = (out.kind ≡ 2) × IsAt place out
+    × AreShown octets.items out.length out.octets
 
 -- whether a request or an outcome is shown: their kinds are 0 where none is
 abbrev pub HasNoRequest : IolEntry → Type 0
@@ -102,12 +105,18 @@ HasNoOutcome out = out.outcome.kind ≡ 0
 
 -- an entry of a journal as C is shown it
 abbrev pub IsEntry : Entry → IolEntry → Type 0
-IsEntry (entry.Submitted ticket request) out = (out.kind ≡ 1) × (out.ticket ≡ ticket.0) × IsRequest request out.request × HasNoOutcome out
-IsEntry (entry.Urgent ticket request) out = (out.kind ≡ 2) × (out.ticket ≡ ticket.0) × IsRequest request out.request × HasNoOutcome out
-IsEntry (entry.Taken ticket) out = (out.kind ≡ 8) × (out.ticket ≡ ticket.0) × HasNoRequest out × HasNoOutcome out
-IsEntry (entry.Answered ticket outcome) out = (out.kind ≡ 9) × (out.ticket ≡ ticket.0) × IsOutcome outcome out.outcome × HasNoRequest out
-IsEntry (entry.Withdrawn ticket) out = (out.kind ≡ 12) × (out.ticket ≡ ticket.0) × HasNoRequest out × HasNoOutcome out
-IsEntry (entry.Collected ticket) out = (out.kind ≡ 16) × (out.ticket ≡ ticket.0) × HasNoRequest out × HasNoOutcome out
+IsEntry (entry.Submitted ticket request) out = (out.kind ≡ 1) × (out.ticket ≡ ticket.0)
+    × IsRequest request out.request × HasNoOutcome out
+IsEntry (entry.Urgent ticket request) out = (out.kind ≡ 2) × (out.ticket ≡ ticket.0)
+    × IsRequest request out.request × HasNoOutcome out
+IsEntry (entry.Taken ticket) out = (out.kind ≡ 8) × (out.ticket ≡ ticket.0) × HasNoRequest out
+    × HasNoOutcome out
+IsEntry (entry.Answered ticket outcome) out = (out.kind ≡ 9) × (out.ticket ≡ ticket.0)
+    × IsOutcome outcome out.outcome × HasNoRequest out
+IsEntry (entry.Withdrawn ticket) out = (out.kind ≡ 12) × (out.ticket ≡ ticket.0) × HasNoRequest out
+    × HasNoOutcome out
+IsEntry (entry.Collected ticket) out = (out.kind ≡ 16) × (out.ticket ≡ ticket.0) × HasNoRequest out
+    × HasNoOutcome out
 
 -- the next entry, or kind 0 at the end
 abbrev pub IsNext : Option Entry → IolEntry → Type 0

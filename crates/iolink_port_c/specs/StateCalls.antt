@@ -1,4 +1,5 @@
--- What the calls of C on the link, process data and events answer and leave, where the handle is open.
+-- What the calls of C on the link, process data and events answer and leave, where
+-- the handle is open.
 use Rattle.std.specs.Prelude.{◌≡◌, ℕ, List, Result, IfOk, OnErr}
 use Rattle.iol_event.specs.declared.event.Event.{Event}
 use Rattle.iol_port.specs.declared.call.Call.TheVariants as call
@@ -34,7 +35,8 @@ abbrev pub IsEvent : Event → IolEvent → Type 0
 IsEvent event out = (out.qualifier ≡ event.qualifier) × (out.code ≡ event.code)
 
 -- the event that was kept longest is handed out, or none is and nothing is written for C
-pub record TakesEvent (old : IolPort) (number : ℕ) (before after : IolEvent) (new : IolPort) : Type 0 where
+pub record TakesEvent (old : IolPort) (number : ℕ) (before after : IolEvent)
+    (new : IolPort) : Type 0 where
   pub answer : Result Event PortFault
   pub number_is : number ≡ number_of answer
   pub gives : TakeEventGives (parts_of old) answer (parts_of new)

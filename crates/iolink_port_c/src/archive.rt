@@ -46,18 +46,19 @@ pub struct IolRequest {
 #[repr(C)]
 pub struct IolEntry {
     pub ticket: u64,
-    /// 1 submitted and 2 submitted as urgent, with the request; 8 taken; 9 answered, with the outcome; 12 withdrawn; 16
-    /// collected. 0 where the journal is at its end.
+    /// 1 submitted and 2 submitted as urgent, with the request; 8 taken; 9 answered,
+    /// with the outcome; 12 withdrawn; 16 collected. 0 where the journal is at its end.
     pub kind: u8,
     pub request: IolRequest,
     pub outcome: IolOutcome,
 }
 
-/// Begins a new journal and keeps the old one for `iol_port_entry`, in place of the one that was kept before.
+/// Begins a new journal and keeps the old one for `iol_port_entry`, in place of the
+/// one that was kept before.
 ///
-/// 0 and how many entries it has, or the first of 252 where the handle is closed, which leaves `count` as it is, and 28
-/// where a ticket is outstanding or a request that was cut off may still be carried out: `count` is 0 then, and the
-/// journal that was kept before stays.
+/// 0 and how many entries it has, or the first of 252 where the handle is closed, which leaves
+/// `count` as it is, and 28 where a ticket is outstanding or a request that was cut off may
+/// still be carried out: `count` is 0 then, and the journal that was kept before stays.
 #[unsafe(no_mangle)]
 pub extern "C" fn iol_port_archive(alloc: Global, handle: &mut IolPort, count: &mut u32) -> u8
     ensures closed { IsFalse handle.old.is_open → IsRefused result handle.old handle.new }
@@ -96,8 +97,9 @@ pub extern "C" fn iol_port_archive(alloc: Global, handle: &mut IolPort, count: &
     code
 }
 
-/// Hands out the next entry of the journal that was archived last, the oldest first: 0, or 252 where the handle is
-/// closed, which leaves `out` as it is. At the end the kind is 0, and the memory of that journal is given back.
+/// Hands out the next entry of the journal that was archived last, the oldest
+/// first: 0, or 252 where the handle is closed, which leaves `out` as it is. At the
+/// end the kind is 0, and the memory of that journal is given back.
 #[unsafe(no_mangle)]
 pub extern "C" fn iol_port_entry(alloc: Global, handle: &mut IolPort, out: &mut IolEntry) -> u8
     ensures closed { IsFalse handle.old.is_open → IsRefused result handle.old handle.new }

@@ -10,8 +10,8 @@ use std::alloc::Global;
 use std::marker::Model;
 use std::ptr::null_mut;
 
-/// What lies behind the pointer: the port, and the journal that was handed out last, of which C reads one entry after
-/// the other.
+/// What lies behind the pointer: the port, and the journal that was handed out
+/// last, of which C reads one entry after the other.
 #[derive(Drop)]
 pub struct Master {
     pub port: Port<Line, Global>,

@@ -26,8 +26,8 @@ pub struct IolMessage {
     pub octets: [u8; 66],
 }
 
-/// Says what the next turn sends, and changes nothing: 0, or 252 where the handle is closed, which leaves `out` as it
-/// is.
+/// Says what the next turn sends, and changes nothing: 0, or 252 where the handle
+/// is closed, which leaves `out` as it is.
 ///
 /// Any other call may change it: ask right before the line is used.
 #[unsafe(no_mangle)]
@@ -61,9 +61,9 @@ pub extern "C" fn iol_port_asks(alloc: Global, handle: &mut IolPort, out: &mut I
     0
 }
 
-/// The turn in which the line was woken: `rate` is 1 to 3 for the device that answered at COM1 to COM3, 0 where none
-/// did. 0, or the first of 252 where the handle is closed, 254 for a rate above 3, and 255 where the port asks for no
-/// wake; nothing changed then.
+/// The turn in which the line was woken: `rate` is 1 to 3 for the device that answered at
+/// COM1 to COM3, 0 where none did. 0, or the first of 252 where the handle is closed, 254
+/// for a rate above 3, and 255 where the port asks for no wake; nothing changed then.
 #[unsafe(no_mangle)]
 pub extern "C" fn iol_port_turn_woken(alloc: Global, handle: &mut IolPort, rate: u8) -> u8
     ensures closed { IsFalse handle.old.is_open → IsRefused result handle.old handle.new }
@@ -112,11 +112,12 @@ fn rate_named(number: u8) -> Option<Rate>
     }
 }
 
-/// The turn in which the octets that the port asks for were sent, and these came back in the time of a reply; none did
-/// where `octets` is empty. Of more than 66 octets give the first 66: a reply of a wrong length as it is.
+/// The turn in which the octets that the port asks for were sent, and these came
+/// back in the time of a reply; none did where `octets` is empty. Of more than 66
+/// octets give the first 66: a reply of a wrong length as it is.
 ///
-/// 0, or the first of 252 where the handle is closed, 254 for more than 66 octets, and 255 where the port asks for a
-/// wake; nothing changed then.
+/// 0, or the first of 252 where the handle is closed, 254 for more than 66 octets,
+/// and 255 where the port asks for a wake; nothing changed then.
 #[unsafe(no_mangle)]
 pub extern "C" fn iol_port_turn_answered(alloc: Global, handle: &mut IolPort, octets: &[u8]) -> u8
     ensures closed { IsFalse handle.old.is_open → IsRefused result handle.old handle.new }

@@ -24,8 +24,8 @@ const NO_ISDU: u8 = 16;
 pub struct IolOutcome {
     /// 1 read, 2 written, 3 refused by the device, 8 unknown, 12 withdrawn, 16 no ISDU.
     pub kind: u8,
-    /// Why it is unknown: 1 the link was lost, 2 restarted, 3 busy too long, 4 no text of an answer, 5 cancelled.
-    /// Else 0.
+    /// Why it is unknown: 1 the link was lost, 2 restarted, 3 busy too long, 4 no
+    /// text of an answer, 5 cancelled. Else 0.
     pub cause: u8,
     /// How many octets there are.
     pub length: u8,

@@ -22,8 +22,9 @@ const LEAST_BUSY: u16 = 2;
 
 /// Opens a port, whose link is down. The first ticket is `given` + 1.
 ///
-/// 0, or the first of 253 where the handle is open already, 254 where the journal isn't 4 to 1,000,000 entries or the
-/// busy limit isn't 2 to 65,535, and 24 where there is no memory. Where it is refused, nothing changed.
+/// 0, or the first of 253 where the handle is open already, 254 where the journal
+/// isn't 4 to 1,000,000 entries or the busy limit isn't 2 to 65,535, and 24 where
+/// there is no memory. Where it is refused, nothing changed.
 #[unsafe(no_mangle)]
 pub extern "C" fn iol_port_open(
     alloc: Global,

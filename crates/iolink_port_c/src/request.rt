@@ -97,8 +97,9 @@ fn told(answer: Result<Ticket, PortFault>, ticket: &mut u64) -> u8
     }
 }
 
-/// Enters a read: 0 and its ticket, or the first of 252 where the handle is closed, and 21 to 24 as the library refuses
-/// it. A closed handle leaves the ticket as it is; each other refusal makes it 0.
+/// Enters a read: 0 and its ticket, or the first of 252 where the handle is closed,
+/// and 21 to 24 as the library refuses it. A closed handle leaves the ticket as it
+/// is; each other refusal makes it 0.
 #[unsafe(no_mangle)]
 pub extern "C" fn iol_port_read(
     alloc: Global,
@@ -117,7 +118,8 @@ pub extern "C" fn iol_port_read(
     enter(alloc, handle, request, Urgency::Ordinary, ticket)
 }
 
-/// Enters an urgent read, before all requests that wait and aren't urgent. Answers as `iol_port_read` does.
+/// Enters an urgent read, before all requests that wait and aren't urgent. Answers
+/// as `iol_port_read` does.
 #[unsafe(no_mangle)]
 pub extern "C" fn iol_port_read_urgent(
     alloc: Global,
@@ -136,8 +138,9 @@ pub extern "C" fn iol_port_read_urgent(
     enter(alloc, handle, request, Urgency::Urgent, ticket)
 }
 
-/// Enters a write: 0 and its ticket, or the first of 252 where the handle is closed, 9 for more than 232 octets, and 21
-/// to 24 as the library refuses it. A closed handle leaves the ticket as it is; each other refusal makes it 0.
+/// Enters a write: 0 and its ticket, or the first of 252 where the handle is
+/// closed, 9 for more than 232 octets, and 21 to 24 as the library refuses it. A
+/// closed handle leaves the ticket as it is; each other refusal makes it 0.
 #[unsafe(no_mangle)]
 pub extern "C" fn iol_port_write(
     alloc: Global,
@@ -160,7 +163,8 @@ pub extern "C" fn iol_port_write(
     enter_write(alloc, handle, place, octets, Urgency::Ordinary, ticket)
 }
 
-/// Enters an urgent write, before all requests that wait and aren't urgent. Answers as `iol_port_write` does.
+/// Enters an urgent write, before all requests that wait and aren't urgent. Answers
+/// as `iol_port_write` does.
 #[unsafe(no_mangle)]
 pub extern "C" fn iol_port_write_urgent(
     alloc: Global,
@@ -183,8 +187,9 @@ pub extern "C" fn iol_port_write_urgent(
     enter_write(alloc, handle, place, octets, Urgency::Urgent, ticket)
 }
 
-/// Hands out the outcome of a ticket: 0, or the first of 252 where the handle is closed, 25 where no such ticket is
-/// outstanding, and 26 where it has no outcome yet. Where it is refused, `out` stays as it is.
+/// Hands out the outcome of a ticket: 0, or the first of 252 where the handle is
+/// closed, 25 where no such ticket is outstanding, and 26 where it has no outcome
+/// yet. Where it is refused, `out` stays as it is.
 #[unsafe(no_mangle)]
 pub extern "C" fn iol_port_collect(
     alloc: Global,
@@ -217,8 +222,8 @@ pub extern "C" fn iol_port_collect(
 
 /// Takes back a request that waits.
 ///
-/// 0, or the first of 252 where the handle is closed, 25 where no such ticket is outstanding, and 27 where it waits no
-/// longer.
+/// 0, or the first of 252 where the handle is closed, 25 where no such ticket is
+/// outstanding, and 27 where it waits no longer.
 #[unsafe(no_mangle)]
 pub extern "C" fn iol_port_withdraw(alloc: Global, handle: &mut IolPort, ticket: u64) -> u8
     ensures closed { IsFalse handle.old.is_open → IsRefused result handle.old handle.new }
@@ -240,8 +245,8 @@ pub extern "C" fn iol_port_withdraw(alloc: Global, handle: &mut IolPort, ticket:
     }
 }
 
-/// Asks to cut off the request under way: 0, or the first of 252 where the handle is closed, 25 where no such ticket is
-/// outstanding, and 36 where it waits or has an outcome.
+/// Asks to cut off the request under way: 0, or the first of 252 where the handle is
+/// closed, 25 where no such ticket is outstanding, and 36 where it waits or has an outcome.
 #[unsafe(no_mangle)]
 pub extern "C" fn iol_port_cancel(alloc: Global, handle: &mut IolPort, ticket: u64) -> u8
     ensures closed { IsFalse handle.old.is_open → IsRefused result handle.old handle.new }

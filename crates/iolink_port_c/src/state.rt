@@ -15,7 +15,8 @@ use iol_image::Image;
 use iolink_handle::{CLOSED, put};
 use std::alloc::Global;
 
-/// Cuts off the request under way, if any, and leaves the link in down: 0, or 252 where the handle is closed.
+/// Cuts off the request under way, if any, and leaves the link in down: 0, or 252
+/// where the handle is closed.
 #[unsafe(no_mangle)]
 pub extern "C" fn iol_port_restart(alloc: Global, handle: &mut IolPort) -> u8
     ensures closed { IsFalse handle.old.is_open → IsRefused result handle.old handle.new }
@@ -35,8 +36,8 @@ pub extern "C" fn iol_port_restart(alloc: Global, handle: &mut IolPort) -> u8
 
 /// Wants this output of the device.
 ///
-/// 0, or the first of 252 where the handle is closed, 29 where it isn't 1 to 32 octets, 34 where no start-up has told
-/// the lengths yet, and 29 for another number of octets than the device has.
+/// 0, or the first of 252 where the handle is closed, 29 where it isn't 1 to 32 octets, 34 where
+/// no start-up has told the lengths yet, and 29 for another number of octets than the device has.
 #[unsafe(no_mangle)]
 pub extern "C" fn iol_port_set_output(alloc: Global, handle: &mut IolPort, octets: &[u8]) -> u8
     ensures closed { IsFalse handle.old.is_open → IsRefused result handle.old handle.new }
@@ -130,8 +131,8 @@ pub struct IolEvent {
     pub code: u16,
 }
 
-/// Hands out the event that was kept longest: 0, or the first of 252 where the handle is closed, and 30 where none is
-/// kept. Where it is refused, `out` stays as it is.
+/// Hands out the event that was kept longest: 0, or the first of 252 where the handle
+/// is closed, and 30 where none is kept. Where it is refused, `out` stays as it is.
 #[unsafe(no_mangle)]
 pub extern "C" fn iol_port_take_event(alloc: Global, handle: &mut IolPort, out: &mut IolEvent) -> u8
     ensures closed { IsFalse handle.old.is_open → IsRefused result handle.old handle.new }
@@ -169,7 +170,8 @@ pub struct IolStatus {
     pub event_form: bool,
 }
 
-/// The mode of the link, and why it is down: 0, or 252 where the handle is closed, which leaves `out` as it is.
+/// The mode of the link, and why it is down: 0, or 252 where the handle is closed,
+/// which leaves `out` as it is.
 #[unsafe(no_mangle)]
 pub extern "C" fn iol_port_status(alloc: Global, handle: &mut IolPort, out: &mut IolStatus) -> u8
     ensures closed { IsFalse handle.old.is_open → IsRefused result handle.old handle.new }

@@ -1,9 +1,10 @@
-//! An allocator for tests: it refuses chosen requests for memory, and passes the others on to another allocator.
+//! An allocator for tests: it refuses chosen requests for memory, and passes the
+//! others on to another allocator.
 //!
-//! A collection takes a `&Scarce`, which is `Copy`, so several can share one. A test sets up its values under
-//! [`Refusal::Never`], gives an order, makes the one call that it looks at, and asks by [`Scarce::has_refused`]
-//! whether that call was refused memory. Counting the order's number up from 0 until nothing is refused shows
-//! the call at each of its requests.
+//! A collection takes a `&Scarce`, which is `Copy`, so several can share one. A test sets up
+//! its values under [`Refusal::Never`], gives an order, makes the one call that it looks at,
+//! and asks by [`Scarce::has_refused`] whether that call was refused memory. Counting the
+//! order's number up from 0 until nothing is refused shows the call at each of its requests.
 //!
 //! ```text
 //! scarce.order(Refusal::Never);
@@ -12,8 +13,9 @@
 //! let result = book.submit(request);
 //! ```
 //!
-//! A growth in place is a request too: it is an allocation, a copy and a release. A release is never refused.
-//! Where several threads ask at once, the numbers follow the order in which their requests come.
+//! A growth in place is a request too: it is an allocation, a copy and a release. A
+//! release is never refused. Where several threads ask at once, the numbers follow
+//! the order in which their requests come.
 #![tactic(auto)]
 
 use std::alloc::{AllocError, Allocator, Global};
@@ -34,11 +36,12 @@ struct Tally {
     end: AtomicU64,
 }
 
-/// An allocator that refuses what its last order says, and asks another, by default `Global`, for the rest.
+/// An allocator that refuses what its last order says, and asks another, by default
+/// `Global`, for the rest.
 ///
-/// What a request gives is what the other allocator gives, so all that is proved of a collection over that
-/// allocator holds over this one. Which requests are refused is tested, not proved: no contract can say what
-/// an atomic number holds.
+/// What a request gives is what the other allocator gives, so all that is proved of
+/// a collection over that allocator holds over this one. Which requests are refused
+/// is tested, not proved: no contract can say what an atomic number holds.
 pub struct Scarce<B: Allocator = Global> {
     inner: B,
     tally: Tally,

@@ -1,4 +1,5 @@
-//! A port over a line that claims, with a real device at its far end: the premise can be met, and is at every turn.
+//! A port over a line that claims, with a real device at its far end: the premise
+//! can be met, and is at every turn.
 ghost use Rattle.std.specs.Prelude.{◌≡◌, ℕ, Some, true};
 ghost use Rattle.iol_app.specs.declared.asked.Asked.{Asked};
 ghost use Rattle.iol_far.specs.Octets.{octets_in};

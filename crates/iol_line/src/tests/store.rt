@@ -10,7 +10,8 @@ use iol_page::Page;
 use std::alloc::Global;
 use std::test::Fail;
 
-/// The direct parameter page of the device, from address 0x02 on: V1.1, with ISDU, without process data.
+/// The direct parameter page of the device, from address 0x02 on: V1.1, with ISDU,
+/// without process data.
 const PAGE: [u8; 10] = [0x17, 0x2D, 0x11, 0, 0, 0x12, 0x34, 0, 0x01, 0x07];
 
 /// The application of the device: a parameter at index 16.

@@ -44,7 +44,8 @@ impl Random {
         }
     }
 
-    /// A call that speaks of one of the tickets given last. In a quiet list few requests are submitted.
+    /// A call that speaks of one of the tickets given last. In a quiet list few
+    /// requests are submitted.
     fn call(&mut self, last: u64, is_quiet: bool) -> Call {
         let ticket = Ticket(last.saturating_sub(self.number() % 8));
         let kind = if is_quiet {

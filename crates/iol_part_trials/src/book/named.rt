@@ -135,7 +135,8 @@ fn reply_to(book: &mut Book<Global>, call: Call) -> Said {
     }
 }
 
-/// Makes the calls of the rows in turn. The place of the first that says something else than stands beside it.
+/// Makes the calls of the rows in turn. The place of the first that says something
+/// else than stands beside it.
 pub fn first_wrong(book: &mut Book<Global>, rows: &[(Call, Said)]) -> Option<usize> {
     for (place, (call, said)) in rows.iter().enumerate() {
         if reply_to(book, *call) != *said {

@@ -43,7 +43,8 @@ impl Row {
     }
 }
 
-/// A book that has one row for each outstanding ticket, in the order of the tickets, and looks through them at each call.
+/// A book that has one row for each outstanding ticket, in the order of the
+/// tickets, and looks through them at each call.
 #[derive(Drop)]
 pub struct PlainBook {
     rows: Vec<Row>,

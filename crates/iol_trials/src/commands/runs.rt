@@ -171,7 +171,8 @@ fn plays_the_rows(rt: HostRuntime) -> Result<(), Fail> {
     Ok(())
 }
 
-/// A script whose first `clean` calls of the wire are clean, and then this line comes, and then these.
+/// A script whose first `clean` calls of the wire are clean, and then this line
+/// comes, and then these.
 fn disturbed(alloc: Global, clean: u32, line: &str, calls: &str) -> Result<String, AllocError> {
     let mut script = String::new(alloc);
     script.push_str("param 16 0 ro 4142\n")?;
@@ -201,8 +202,8 @@ fn loses_no_more_than_a_turn(rt: HostRuntime) -> Result<(), Fail> {
     Ok(())
 }
 
-/// A device of V1.0, with one more turn for the one that a fate takes; DeviceOperate is out in the last turn of
-/// start-up.
+/// A device of V1.0, with one more turn for the one that a fate takes;
+/// DeviceOperate is out in the last turn of start-up.
 #[test]
 fn old_devices_lose_no_more_than_a_turn(rt: HostRuntime) -> Result<(), Fail> {
     for clean in 0..16 {

@@ -110,8 +110,8 @@ fn is_refused(rt: &impl Abort, alloc: Global, scarce: &Scarce, refusal: Refusal)
     refused
 }
 
-/// The number of the first request for memory that a trace doesn't make; each before it is refused, alone and with all
-/// that follow.
+/// The number of the first request for memory that a trace doesn't make; each
+/// before it is refused, alone and with all that follow.
 fn first_unmade(rt: &impl Abort, alloc: Global, scarce: &Scarce) -> Option<u64> {
     for number in 0..1000 {
         if !is_refused(rt, alloc, scarce, Refusal::Only(number)) {
