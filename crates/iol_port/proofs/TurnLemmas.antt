@@ -1,5 +1,6 @@
 -- the three pieces of a turn make one turn of the abstract port
-use Rattle.std.proofs.Common.{◌≡◌, ◌≢◌, ◌∷◌, ◌++◌, [], List, Bool, ℕ, Option, Some, None, refl, ap, sym, ◌∙◌, subst, inl, inr}
+use Rattle.std.proofs.Common.{◌≡◌, ◌≢◌, ◌∷◌, ◌++◌, [], List, Bool, ℕ, Option, Some, None, refl, ap, sym, ◌∙◌, subst, inl, inr, arith}
+use Rattle.std.proofs.lemmas.Grind.{common_steps}
 use Rattle.iol_isdu.specs.declared.values.Request.{Request}
 use Rattle.iol_book.specs.declared.entries.Ticket.{Ticket}
 use Rattle.iol_book.specs.BookModel.{BookState, next_taken, took, denied, posted, ended_with}
@@ -145,16 +146,10 @@ module _ {W : Type 0} (honest : W → Bool) (far : W → Far) (silence : W → �
 
 -- a turn gives no ticket
 last_posted : (b : BookState) (o : Outcome) → (posted b o).last ≡ b.last
-last_posted b o = by_taken b.standing.taken
-  where
-    by_taken : (taken : Option (Ticket × Request)) → (ended_with b taken o).last ≡ b.last
-    by_taken None = refl
-    by_taken (Some t) = refl
+last_posted b o = grind (arith, common_steps)
 
 last_after : (step : Step) (b : BookState) → (book_after step b).last ≡ b.last
-last_after (Done a) b = last_posted b (outcome.Done a)
-last_after (Unknown c) b = last_posted b (outcome.Unknown c)
-last_after _ b = refl
+last_after step b = grind (arith, common_steps, last_posted)
 
 last_through : (steps : List Step) (b : BookState) → (book_through steps b).last ≡ b.last
 last_through [] b = refl
@@ -162,6 +157,4 @@ last_through (step ∷ steps) b = last_through steps (book_after step b) ∙ las
 
 module _ {W : Type 0} (honest : W → Bool) (far : W → Far) (silence : W → ℕ) where
   pub turn_gives_none : (s next : StationState W) (b mid after : BookState) (steps : List Step) → BeginsNext honest far silence s b next mid → after ≡ book_through steps mid → after.last ≡ b.last
-  turn_gives_none s next b mid after steps (inl (_, is)) e = ap (λ x. x.last) e ∙ last_through steps mid ∙ ap (λ x. x.last) is
-  turn_gives_none s next b mid after steps (inr (inl (t, q, head, is, _, _, _))) e = ap (λ x. x.last) e ∙ last_through steps mid ∙ ap (λ x. x.last) is
-  turn_gives_none s next b mid after steps (inr (inr (t, head, is, _, _, _, _))) e = ap (λ x. x.last) e ∙ last_through steps mid ∙ ap (λ x. x.last) is
+  turn_gives_none s next b mid after steps given given2 = grind (arith, common_steps, last_through)
