@@ -1,17 +1,12 @@
 -- only a cancel sets the mark, and only a request that has it is cancelled
-use Rattle.std.proofs.Common.{◌≡◌, ◌⊎◌, inl, inr, ◌∷◌, [], List, Bool, true, false, Option, Some, None, refl, sym, ap, ◌∙◌, arith}
+use Rattle.std.proofs.Common.{◌≡◌, ◌⊎◌, inl, inr, ◌∷◌, [], List, true, None, sym, ap, ◌∙◌, arith}
 use Rattle.std.proofs.lemmas.Grind.{common_steps}
-use Rattle.std.specs.Prelude.{IsSomeAnd, IsTrue, if◌then◌else◌}
-use Rattle.iol_isdu.specs.declared.values.Answer.{Answer}
-use Rattle.iol_isdu.specs.declared.values.Request.{Request}
-use Rattle.iol_isdu.specs.declared.values.Cause.{Cause}
-use Rattle.iol_isdu.specs.declared.values.Cause.TheVariants.{LinkLost, Cancelled}
+use Rattle.iol_isdu.specs.declared.values.Cause.TheVariants.{Cancelled}
 use Rattle.iol_book.specs.declared.entries.Ticket.{Ticket}
-use Rattle.iol_book.specs.declared.fault.BookFault.TheVariants.{NotInFlight, UnknownTicket}
 use Rattle.iol_book.specs.BookModel.{BookState, is_taken, flight_refusal}
 use Rattle.iol_steps.specs.Kinds.{restart_steps}
-use Rattle.iol_steps.specs.Step.{Step, Take, Carry, Done, Unknown, LateCarry, Busy, Moment}
-use Rattle.iol_steps.specs.Session.{Job, Session, session_after, session_through, carried_out, carried_late, busy_once_more, cut_for}
+use Rattle.iol_steps.specs.Step.{Step, Unknown}
+use Rattle.iol_steps.specs.Session.{Session, session_after, session_through}
 use Rattle.iol_port.specs.declared.call.Call.TheVariants as call
 use Rattle.iol_port.specs.declared.call.Answered.TheVariants as answered
 use Rattle.iol_port.specs.Run.{PortState, request_of}
@@ -26,12 +21,9 @@ asked_through : (steps : List Step) (s : Session) → is_asked (session_through 
 asked_through [] s h = h
 asked_through (step ∷ steps) s h = asked_after step s (asked_through steps (session_after step s) h)
 
-asked_may : (m : Moment) (job : Option Job) → IsSomeAnd job (λ job. IsTrue job.asked) → is_asked job ≡ true
-asked_may m job given = grind (arith, common_steps)
-
 pub cancelled_was_asked : CancelledWasAsked
 cancelled_was_asked m [] s may cancels = absurd cancels
-cancelled_was_asked m (Unknown Cancelled ∷ steps) s may cancels = asked_may m s.job may.0
+cancelled_was_asked m (Unknown Cancelled ∷ steps) s may cancels = grind (arith, common_steps)
 cancelled_was_asked m (step ∷ steps) s may cancels = asked_after step s (cancelled_was_asked m steps (session_after step s) may.1 cancels)
 
 flight_taken : (b : BookState) (t : Ticket) → flight_refusal b.standing t ≡ None → is_taken b.standing t ≡ true

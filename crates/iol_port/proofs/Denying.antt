@@ -7,12 +7,10 @@ use Rattle.indexmap.specs.IndexMap.{insert_entry}
 use Rattle.iol_isdu.specs.declared.values.Request.{Request}
 use Rattle.iol_book.specs.declared.entries.Ticket.{Ticket}
 use Rattle.iol_book.specs.declared.entries.Outcome.{Outcome}
-use Rattle.iol_book.specs.declared.entries.Outcome.TheVariants as outcome
 use Rattle.iol_book.specs.declared.entries.Outcome.TheVariants.{NoIsdu}
 use Rattle.iol_book.specs.Replay.{same_ticket}
-use Rattle.iol_book.specs.BookModel.{BookState, next_taken, denied, posted, ended_with}
+use Rattle.iol_book.specs.BookModel.{BookState, next_taken, denied, posted}
 use Rattle.iol_steps.specs.declared.said.Said.{Said}
-use Rattle.iol_steps.specs.declared.said.Said.TheVariants.{Answered as SaidAnswered, Cut}
 use Rattle.iol_steps.specs.Step.{Reset, book_said}
 use Rattle.iol_port.specs.Steps.{book_through}
 use Rattle.iol_port.specs.Asks.{lacks_isdu}

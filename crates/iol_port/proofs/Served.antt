@@ -37,11 +37,10 @@ takes_one : (room : Option ℕ) (base : List Carried) → takes_more room base �
 takes_one room base given = grind (arith, nat_tests, common_steps)
 
 takes_rest : (room : Option ℕ) (base : List Carried) (count : ℕ) (request : Request) (answer : Answer) → takes_all room base (suc count) ≡ true → takes_all room (grown_by base request answer) count ≡ true
-takes_rest None base count request answer h = refl
-takes_rest (Some room) base count request answer h =
+takes_rest room base count request answer h =
     let pair : Carried = record { request = request; answer = answer } in
     let more : length (base ++ pair ∷ []) ≡ length base + 1 = length-append base (pair ∷ []) in
-    grind (arith, nat_tests, more)
+    grind (arith, nat_tests, common_steps, more)
 
 -- Requests that wait in a book
 
@@ -218,8 +217,7 @@ module _ {W : Type 0} (honest : W → Bool) (far : W → Far) (clean : W → Boo
     -- of one request alone
     on_time : (ticket : Ticket) (request : Request) (p : Parts W) (n : ℕ) (now : Parts W) → AreServed honest far clean layouts (suc n) ((ticket, request) ∷ []) (record_of far p) p.book.state now
         → IsOnTime honest far clean layouts ticket request p (suc n) now
-    on_time ticket request p n now (inl (book, inl (few, is))) = inl (few, is, book)
-    on_time ticket request p n now (inl (book, inr (answer, few, is))) = inr (inl (answer, is, few, book))
+    on_time ticket request p n now (inl given) = grind (arith, common_steps)
     on_time ticket request p n now (inr (answer, few, rest)) = by (suc n - needed request answer) refl rest
       where
         by : (left : ℕ) → suc n - needed request answer ≡ left
@@ -277,7 +275,7 @@ module _ {W : Type 0} (honest : W → Bool) (far : W → Far) (clean : W → Boo
 
   pub so_far_none : (p : Parts W) → SoFar p [] p
   so_far_none p zero e layouts first rest may = (steady_first layouts first.0 first.1 p may.starts, begins layouts first rest p may)
-  so_far_none p (suc n) e layouts first rest may = absurd (let k : [] ≡ call.Turn ∷ replicate n call.Turn = e in cc)
+  so_far_none p (suc n) e layouts first rest may = absurd (cc)
 
   so_far_snoc : (p mid next : Parts W) (calls : List Call) (c : Call) → SoFar p calls mid → (c ≡ call.Turn → CleanTurn honest far clean mid next) → SoFar p (calls ++ c ∷ []) next
   so_far_snoc p mid next calls c so_far turn n e layouts first rest may =

@@ -1,5 +1,5 @@
 -- on every wire a run is its calls, one after another, and its wire comes from the first by calls and by what it was told alone
-use Rattle.std.proofs.Common.{◌<◌, ◌+◌, ◌∷◌, ◌++◌, [], List, ℕ, Option, Some, None, Bool, Result, Ok, Err, IfOk, IfErr, ◌≡◌, sym, ap, length, take, get_or, refl, subst, arith}
+use Rattle.std.proofs.Common.{◌<◌, ◌+◌, ◌∷◌, ◌++◌, [], List, ℕ, Option, Some, None, Bool, Result, Ok, Err, IfOk, IfErr, ◌≡◌, sym, length, take, get_or, refl, subst, arith}
 use Rattle.std.proofs.lemmas.Grind.{common_steps}
 use Rattle.std.proofs.lemmas.List.{take_more}
 use Rattle.std.specs.Result.{result_map_both}
@@ -7,8 +7,6 @@ use Rattle.arrayvec.specs.ArrayVec.{ArrayVec}
 use Rattle.iol_far.specs.Far.{Far}
 use Rattle.iol_link.specs.declared.wire.Rate.{Rate}
 use Rattle.iol_book.specs.declared.entries.Entry.{Entry}
-use Rattle.iol_book.specs.declared.entries.Ticket.{Ticket}
-use Rattle.iol_steps.specs.Step.{Image}
 use Rattle.iol_app.specs.declared.asked.Asked.{Asked}
 use Rattle.iol_app.specs.StationState.{wire_of}
 use Rattle.iol_port.specs.declared.call.Call.{Call}
@@ -21,7 +19,7 @@ use Rattle.iol_port.specs.Replies.{archive_reply, reply_of}
 use Rattle.iol_port.specs.Run.{opened}
 use Rattle.iol_port.specs.WireCalls.{ComesFrom, IsChange, AreChanges}
 use Rattle.iol_port.specs.View.{Parts, Opening, OpensWell, StandsFor, Does, Runs, IsPort, IsRun}
-use Rattle.iol_port.specs.EveryWire.{CancelGives, SetOutputGives, CallGives, RunGives}
+use Rattle.iol_port.specs.EveryWire.{CallGives, RunGives}
 use Rattle.iol_port.specs.Rewire.{StandsStill}
 use Rattle.iol_port.proofs.RunLemmas.{run_kept, run_kept_by, run_new}
 
