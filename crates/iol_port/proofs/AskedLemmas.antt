@@ -1,16 +1,12 @@
 -- only a cancel sets the mark, and only a request that has it is cancelled
-use Rattle.std.proofs.Common.{◌≡◌, ◌⊎◌, inl, inr, ◌∷◌, [], List, Bool, true, false, Option, Some, None, refl, sym, ap, ◌∙◌}
-use Rattle.std.specs.Prelude.{IsSomeAnd, IsTrue, if◌then◌else◌}
-use Rattle.iol_isdu.specs.declared.values.Answer.{Answer}
-use Rattle.iol_isdu.specs.declared.values.Request.{Request}
-use Rattle.iol_isdu.specs.declared.values.Cause.{Cause}
-use Rattle.iol_isdu.specs.declared.values.Cause.TheVariants.{LinkLost, Cancelled}
+use Rattle.std.proofs.Common.{◌≡◌, ◌⊎◌, inl, inr, ◌∷◌, [], List, true, None, sym, ap, ◌∙◌, arith}
+use Rattle.std.proofs.lemmas.Grind.{common_steps}
+use Rattle.iol_isdu.specs.declared.values.Cause.TheVariants.{Cancelled}
 use Rattle.iol_book.specs.declared.entries.Ticket.{Ticket}
-use Rattle.iol_book.specs.declared.fault.BookFault.TheVariants.{NotInFlight, UnknownTicket}
 use Rattle.iol_book.specs.BookModel.{BookState, is_taken, flight_refusal}
 use Rattle.iol_steps.specs.Kinds.{restart_steps}
-use Rattle.iol_steps.specs.Step.{Step, Take, Carry, Done, Unknown, LateCarry, Busy, Moment}
-use Rattle.iol_steps.specs.Session.{Job, Session, session_after, session_through, carried_out, carried_late, busy_once_more, cut_for}
+use Rattle.iol_steps.specs.Step.{Step, Unknown}
+use Rattle.iol_steps.specs.Session.{Session, session_after, session_through}
 use Rattle.iol_port.specs.declared.call.Call.TheVariants as call
 use Rattle.iol_port.specs.declared.call.Answered.TheVariants as answered
 use Rattle.iol_port.specs.Run.{PortState, request_of}
@@ -18,51 +14,20 @@ use Rattle.iol_port.proofs.CallsSound.{call_leaves}
 use Rattle.iol_port.specs.Promises.{CancelledWasAsked, AskedByCancel, is_asked}
 
 -- no step sets the mark
-asked_carried : (answer : Answer) (job : Option Job) (s : Session) → s.job ≡ job → is_asked (carried_out answer job s).job ≡ true → is_asked s.job ≡ true
-asked_carried answer None s is h = h
-asked_carried answer (Some job) s is h = ap is_asked is ∙ h
-
-asked_late : (answer : Answer) (late : Option Request) (s : Session) → is_asked (carried_late answer late s).job ≡ true → is_asked s.job ≡ true
-asked_late answer None s h = h
-asked_late answer (Some request) s h = h
-
-asked_busy : (job : Option Job) → is_asked (busy_once_more job) ≡ true → is_asked job ≡ true
-asked_busy None h = h
-asked_busy (Some job) h = h
-
-asked_cut : (cause : Cause) (s : Session) → is_asked (cut_for cause s).job ≡ true → is_asked s.job ≡ true
-asked_cut LinkLost s h = absurd (cc)
-asked_cut _ s h = absurd (cc)
-
 asked_after : (step : Step) (s : Session) → is_asked (session_after step s).job ≡ true → is_asked s.job ≡ true
-asked_after (Take ticket request) s h = absurd (cc)
-asked_after (Carry answer) s h = asked_carried answer s.job s refl h
-asked_after (Done answer) s h = absurd (cc)
-asked_after (Unknown cause) s h = asked_cut cause s h
-asked_after (LateCarry answer) s h = asked_late answer s.late s h
-asked_after Busy s h = asked_busy s.job h
-asked_after _ s h = h
+asked_after step s given = grind (arith, common_steps)
 
 asked_through : (steps : List Step) (s : Session) → is_asked (session_through steps s).job ≡ true → is_asked s.job ≡ true
 asked_through [] s h = h
 asked_through (step ∷ steps) s h = asked_after step s (asked_through steps (session_after step s) h)
 
-asked_may : (m : Moment) (job : Option Job) → IsSomeAnd job (λ job. IsTrue job.asked) → is_asked job ≡ true
-asked_may m None h = absurd h
-asked_may m (Some job) h = h
-
 pub cancelled_was_asked : CancelledWasAsked
 cancelled_was_asked m [] s may cancels = absurd cancels
-cancelled_was_asked m (Unknown Cancelled ∷ steps) s may cancels = asked_may m s.job may.0
+cancelled_was_asked m (Unknown Cancelled ∷ steps) s may cancels = grind (arith, common_steps)
 cancelled_was_asked m (step ∷ steps) s may cancels = asked_after step s (cancelled_was_asked m steps (session_after step s) may.1 cancels)
 
 flight_taken : (b : BookState) (t : Ticket) → flight_refusal b.standing t ≡ None → is_taken b.standing t ≡ true
-flight_taken b t free = by_test (is_taken b.standing t) _ free
-  where
-    by_test : (taken known : Bool) → (if taken then None else if known then Some NotInFlight else Some UnknownTicket) ≡ None → taken ≡ true
-    by_test true known h = refl
-    by_test false true h = absurd (cc)
-    by_test false false h = absurd (cc)
+flight_taken b t free = grind (arith, common_steps)
 
 pub asked_by_cancel : AskedByCancel
 asked_by_cancel a b c reply is = call_leaves Asked a b c reply is (record {

@@ -7,12 +7,10 @@ use Rattle.indexmap.specs.IndexMap.{insert_entry}
 use Rattle.iol_isdu.specs.declared.values.Request.{Request}
 use Rattle.iol_book.specs.declared.entries.Ticket.{Ticket}
 use Rattle.iol_book.specs.declared.entries.Outcome.{Outcome}
-use Rattle.iol_book.specs.declared.entries.Outcome.TheVariants as outcome
 use Rattle.iol_book.specs.declared.entries.Outcome.TheVariants.{NoIsdu}
 use Rattle.iol_book.specs.Replay.{same_ticket}
-use Rattle.iol_book.specs.BookModel.{BookState, next_taken, denied, posted, ended_with}
+use Rattle.iol_book.specs.BookModel.{BookState, next_taken, denied, posted}
 use Rattle.iol_steps.specs.declared.said.Said.{Said}
-use Rattle.iol_steps.specs.declared.said.Said.TheVariants.{Answered as SaidAnswered, Cut}
 use Rattle.iol_steps.specs.Step.{Reset, book_said}
 use Rattle.iol_port.specs.Steps.{book_through}
 use Rattle.iol_port.specs.Asks.{lacks_isdu}
@@ -34,24 +32,13 @@ lookup-entered (e ∷ es) t k o = grind (arith, common_steps, lookup-entered es 
 -- What a turn says enters none
 
 posted_none : (b : BookState) (o : Outcome) (k : Ticket) → (o ≡ NoIsdu → ⊥) → HasNoIsdu (posted b o) k → HasNoIsdu b k
-posted_none b o k differs h = by_taken b.standing.taken h
-  where
-    by_taken : (taken : Option (Ticket × Request)) → lookup (same_ticket k) (ended_with b taken o).standing.outcomes ≡ Some NoIsdu → HasNoIsdu b k
-    by_taken None h = h
-    by_taken (Some t) h = by (same_ticket k t.0) (sym (lookup-entered b.standing.outcomes t.0 k o) ∙ h)
-      where
-        by : (same : Bool) → cond same (Some o) (lookup (same_ticket k) b.standing.outcomes) ≡ Some NoIsdu → HasNoIsdu b k
-        by true h = absurd (differs (let e : Some o ≡ Some NoIsdu = h in cc))
-        by false h = h
+posted_none b o k differs given = grind (arith, common_steps, lookup-entered)
 
 said_none : (said : Said) (b : BookState) (k : Ticket) → HasNoIsdu (book_through (book_said said) b) k → HasNoIsdu b k
-said_none (SaidAnswered answer) b k h = posted_none b (outcome.Done answer) k (λ e. cc) h
-said_none (Cut cause) b k h = posted_none b (outcome.Unknown cause) k (λ e. cc) h
-said_none _ b k h = h
+said_none said b k given = grind (arith, common_steps, posted_none)
 
 through_none : (woke : Bool) (said : Said) (b : BookState) (k : Ticket) → HasNoIsdu (book_through (cond woke (Reset ∷ []) [] ++ book_said said) b) k → HasNoIsdu b k
-through_none true said b k h = said_none said (record b { unsure = false }) k h
-through_none false said b k h = said_none said b k h
+through_none woke said b k given = grind (arith, common_steps, said_none)
 
 -- without a request that is taken it says nothing to the book
 quiet_said : (said : Said) (b : BookState) → Asks said None → book_through (book_said said) b ≡ b
@@ -64,9 +51,6 @@ module _ {W : Type 0} (old next : Parts W) (mid : BookState) (woke : Bool) (said
 
   had : HasNoIsdu mid k
   had = through_none woke said mid k (subst (λ (x : BookState). HasNoIsdu x k) book has)
-
-  stays : mid ≡ b → HasNoIsdu b k
-  stays is = subst (λ (x : BookState). HasNoIsdu x k) is had
 
   -- this turn's denial
   denial : (t : Ticket) (q : Request) → next_taken b.standing ≡ Some (t, q) → old.station.session.isdu ≡ Some false → woke ≡ false → mid ≡ denied b t → IsDenied old next t
@@ -94,7 +78,5 @@ module _ {W : Type 0} (old next : Parts W) (mid : BookState) (woke : Bool) (said
   turn_denies ready mid_is asleep = by (next_taken b.standing) ready (lacks_isdu old.station.session.isdu) refl refl refl mid_is
     where
       by : (head : Option (Ticket × Request)) (r lacks : Bool) → next_taken b.standing ≡ head → ready ≡ r → lacks_isdu old.station.session.isdu ≡ lacks → mid ≡ taken_where r lacks head b → HasNoIsdu b k ⊎ IsDenied old next k
-      by None r lacks head is_ready told is = inl (stays is)
-      by (Some (t, q)) false lacks head is_ready told is = inl (stays is)
-      by (Some (t, q)) true false head is_ready told is = inl (subst (λ (x : BookState). HasNoIsdu x k) is had)
       by (Some (t, q)) true true head is_ready told is = denied_one t q head (none_there old.station.session.isdu told) (asleep is_ready) is
+      by _ _ _ head is_ready told is = inl (subst (λ (x : BookState). HasNoIsdu x k) is had)

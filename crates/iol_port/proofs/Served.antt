@@ -31,19 +31,16 @@ use Rattle.iol_port.proofs.CleanSession.{calm_ready}
 -- Room in the record
 
 takes_first : (room : Option ℕ) (base : List Carried) (count : ℕ) → takes_all room base (suc count) ≡ true → takes_more room base ≡ true
-takes_first None base count h = refl
-takes_first (Some room) base count h = grind (arith, nat_tests)
+takes_first room base count given = grind (arith, nat_tests, common_steps)
 
 takes_one : (room : Option ℕ) (base : List Carried) → takes_more room base ≡ true → takes_all room base 1 ≡ true
-takes_one None base h = refl
-takes_one (Some room) base h = grind (arith, nat_tests)
+takes_one room base given = grind (arith, nat_tests, common_steps)
 
 takes_rest : (room : Option ℕ) (base : List Carried) (count : ℕ) (request : Request) (answer : Answer) → takes_all room base (suc count) ≡ true → takes_all room (grown_by base request answer) count ≡ true
-takes_rest None base count request answer h = refl
-takes_rest (Some room) base count request answer h =
+takes_rest room base count request answer h =
     let pair : Carried = record { request = request; answer = answer } in
     let more : length (base ++ pair ∷ []) ≡ length base + 1 = length-append base (pair ∷ []) in
-    grind (arith, nat_tests, more)
+    grind (arith, nat_tests, common_steps, more)
 
 -- Requests that wait in a book
 
@@ -57,8 +54,7 @@ queue_next : (book : BookState) (first : Ticket × Request) (rest : List (Ticket
 queue_next book first rest queue = rw (queue.free, queue.order) refl
 
 behind : (urgent waiting : List (Ticket × Request)) (first : Ticket × Request) (rest : List (Ticket × Request)) → urgent ++ waiting ≡ first ∷ rest → drop 1 urgent ++ others_behind urgent waiting ≡ rest
-behind [] waiting first rest e = ap (drop 1) e
-behind (next ∷ urgent) waiting first rest e = let same : next ∷ (urgent ++ waiting) ≡ first ∷ rest = e in cc
+behind urgent waiting first rest given = grind (arith, common_steps)
 
 queue_rest : (book : BookState) (first : Ticket × Request) (rest : List (Ticket × Request)) (answer : Answer) → Queue book (first ∷ rest) → Queue (posted (took book first) (Done answer)) rest
 queue_rest book first rest answer queue = record {
@@ -68,12 +64,10 @@ queue_rest book first rest answer queue = record {
 }
 
 was_free : (taken : Option (Ticket × Request)) (list : List (Ticket × Request)) (first : Ticket × Request) → (if is_some taken then None else slice_get list 0) ≡ Some first → is_some taken ≡ false
-was_free None list first e = refl
-was_free (Some taken) list first e = absurd (let k : None ≡ Some first = e in cc)
+was_free taken list first given = grind (arith, common_steps)
 
 headed : (list : List (Ticket × Request)) (first : Ticket × Request) → slice_get list 0 ≡ Some first → list ≡ first ∷ drop 1 list
-headed [] first e = absurd (let k : None ≡ Some first = e in cc)
-headed (next ∷ list) first e = let k : Some next ≡ Some first = e in let same : next ≡ first = cc in ap (λ (q : Ticket × Request). q ∷ list) same
+headed list first given = grind (arith, common_steps)
 
 -- Calls
 
@@ -223,8 +217,7 @@ module _ {W : Type 0} (honest : W → Bool) (far : W → Far) (clean : W → Boo
     -- of one request alone
     on_time : (ticket : Ticket) (request : Request) (p : Parts W) (n : ℕ) (now : Parts W) → AreServed honest far clean layouts (suc n) ((ticket, request) ∷ []) (record_of far p) p.book.state now
         → IsOnTime honest far clean layouts ticket request p (suc n) now
-    on_time ticket request p n now (inl (book, inl (few, is))) = inl (few, is, book)
-    on_time ticket request p n now (inl (book, inr (answer, few, is))) = inr (inl (answer, is, few, book))
+    on_time ticket request p n now (inl given) = grind (arith, common_steps)
     on_time ticket request p n now (inr (answer, few, rest)) = by (suc n - needed request answer) refl rest
       where
         by : (left : ℕ) → suc n - needed request answer ≡ left
@@ -238,21 +231,10 @@ module _ {W : Type 0} (honest : W → Bool) (far : W → Far) (clean : W → Boo
     begins first rest p may = record {
       record_is = refl;
       book_is = refl;
-      may = λ ticket request is_next room. record {
-        wire = may.starts.wire;
-        link_is = may.starts.link_is;
-        is_honest = may.starts.is_honest;
-        is_clean = may.starts.is_clean;
-        ready = may.starts.ready;
-        link = may.starts.link;
-        operating = may.starts.operating;
-        level = may.starts.level;
-        isdu = may.starts.isdu;
-        told = may.starts.told;
-        quiet = may.starts.quiet;
-        room = may.starts.room;
-        next = is_next;
-      };
+      may = λ ticket request is_next room.
+          let found : Some first ≡ Some (ticket, request) = sym may.starts.next ∙ is_next in
+          let same : first ≡ (ticket, request) = cc in
+          subst (λ (next : Ticket × Request). MayStart honest far clean layouts next.0 next.1 p) same may.starts;
     }
 
     steady_first : (ticket : Ticket) (request : Request) (p : Parts W) → MayStart honest far clean layouts ticket request p → Steady (far (wire_of p.station.link)).room p
@@ -293,7 +275,7 @@ module _ {W : Type 0} (honest : W → Bool) (far : W → Far) (clean : W → Boo
 
   pub so_far_none : (p : Parts W) → SoFar p [] p
   so_far_none p zero e layouts first rest may = (steady_first layouts first.0 first.1 p may.starts, begins layouts first rest p may)
-  so_far_none p (suc n) e layouts first rest may = absurd (let k : [] ≡ call.Turn ∷ replicate n call.Turn = e in cc)
+  so_far_none p (suc n) e layouts first rest may = absurd (cc)
 
   so_far_snoc : (p mid next : Parts W) (calls : List Call) (c : Call) → SoFar p calls mid → (c ≡ call.Turn → CleanTurn honest far clean mid next) → SoFar p (calls ++ c ∷ []) next
   so_far_snoc p mid next calls c so_far turn n e layouts first rest may =

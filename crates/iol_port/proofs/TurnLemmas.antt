@@ -1,14 +1,13 @@
 -- the three pieces of a turn make one turn of the abstract port
-use Rattle.std.proofs.Common.{◌≡◌, ◌≢◌, ◌∷◌, ◌++◌, [], List, Bool, ℕ, Option, Some, None, refl, ap, sym, ◌∙◌, subst, inl, inr}
+use Rattle.std.proofs.Common.{◌≡◌, ◌≢◌, ◌∷◌, ◌++◌, [], List, Bool, ℕ, Some, None, refl, ap, sym, ◌∙◌, subst, inl, inr, arith}
+use Rattle.std.proofs.lemmas.Grind.{common_steps}
 use Rattle.iol_isdu.specs.declared.values.Request.{Request}
 use Rattle.iol_book.specs.declared.entries.Ticket.{Ticket}
-use Rattle.iol_book.specs.BookModel.{BookState, next_taken, took, denied, posted, ended_with}
-use Rattle.iol_book.specs.declared.entries.Outcome.{Outcome}
-use Rattle.iol_book.specs.declared.entries.Outcome.TheVariants as outcome
+use Rattle.iol_book.specs.BookModel.{BookState, next_taken, took, denied}
 use Rattle.std.specs.Option.{option_map}
 use Rattle.iol_steps.specs.declared.mode.Mode.TheVariants.{Down, Operate}
 use Rattle.iol_steps.specs.declared.said.Said.{Said}
-use Rattle.iol_steps.specs.Step.{Step, Take, Deny, Done, Unknown, Moment, woke_up, book_said, reports_said}
+use Rattle.iol_steps.specs.Step.{Step, Take, Deny, Moment, woke_up, book_said, reports_said}
 use Rattle.iol_steps.specs.Session.{MaySession, MaySessionAll, session_after, session_through}
 use Rattle.iol_far.specs.Far.{Far}
 use Rattle.iol_event.specs.declared.event.Event.{Event}
@@ -109,10 +108,10 @@ module _ (base : ℕ) (s next : Station) (u : Unseen) (said : Said) (b after : B
 
 module _ {W : Type 0} (honest : W → Bool) (far : W → Far) (silence : W → ℕ) where
   -- what the words of a turn leave, by the modes of the links
-  settles_seen : (old new : StationState W) (s n : Station) (said : Said) (b after : BookState) (kept later : List Event) → IsSeen honest far silence old s → IsSeen honest far silence new n →
-      after ≡ book_through (woke_up (mode_of old.link) (mode_of new.link) ++ book_said said) b → later ≡ kept_through (reports_said said) kept → Settles b kept s n said after later
-  settles_seen old new s n said b after kept later seen_old seen_new book kept_is =
-      record { posts = rw (seen_old.mode, seen_new.mode) book; keeps = kept_is }
+  settles_seen : (old new : StationState W) (s n : Station) (said : Said) (b start after : BookState) (kept later : List Event) → IsSeen honest far silence old s → IsSeen honest far silence new n →
+      after ≡ book_through (woke_up (mode_of old.link) (mode_of new.link) ++ book_said said) b → later ≡ kept_through (reports_said said) kept → b ≡ start → Settles start kept s n said after later
+  settles_seen old new s n said b start after kept later seen_old seen_new book kept_is is =
+      record { posts = rw (seen_old.mode, seen_new.mode, ← is) book; keeps = kept_is }
 
   pub turn_does : (p next : Parts W) (said : Said) (s : StationState W) (b : BookState) → BeginsNext honest far silence p.station p.book.state s b → TurnSteps honest far silence s said next.station
       → next.book.state ≡ book_through (woke_up (mode_of s.link) (mode_of next.station.link) ++ book_said said) b → next.kept ≡ kept_through (reports_said said) p.kept → Follows honest far silence p call.Turn answered.Nothing next
@@ -126,35 +125,23 @@ module _ {W : Type 0} (honest : W → Bool) (far : W → Far) (silence : W → �
       by_begins (inl (s_is, b_is)) gives book u shows =
           let seen : IsSeen honest far silence s u.station = rw s_is shows.seen in
           let (n, seen_next, g) = gives u.station u.unseen seen shows.stands in
-          let settles : Settles b p.kept u.station n said next.book.state next.kept = settles_seen s next.station u.station n said b next.book.state p.kept next.kept seen seen_next book kept in
-          let settled : Settles p.book.state p.kept u.station n said next.book.state next.kept = subst (λ x. Settles x p.kept u.station n said next.book.state next.kept) b_is settles in
+          let settled : Settles p.book.state p.kept u.station n said next.book.state next.kept = settles_seen s next.station u.station n said b _ next.book.state p.kept next.kept seen seen_next book kept b_is in
           (record { base = u.base; station = n; unseen = g.after }, record { seen = seen_next; stands = g.stands }, (refl, idle_turn u.base u.station n u.unseen said p.book.state next.book.state p.kept next.kept settled g))
       by_begins (inr (inl (t, q, head, b_is, free, s_is, begins))) gives book u shows =
           let (seen, taken) = begins u.station u.unseen shows.seen shows.stands in
           let (n, seen_next, g) = gives (begun q u.station) (unseen_begun u.unseen) seen taken.stands in
-          let settles : Settles b p.kept (begun q u.station) n said next.book.state next.kept = settles_seen s next.station (begun q u.station) n said b next.book.state p.kept next.kept seen seen_next book kept in
-          let settled : Settles (took p.book.state (t, q)) p.kept (begun q u.station) n said next.book.state next.kept = subst (λ x. Settles x p.kept (begun q u.station) n said next.book.state next.kept) b_is settles in
+          let settled : Settles (took p.book.state (t, q)) p.kept (begun q u.station) n said next.book.state next.kept = settles_seen s next.station (begun q u.station) n said b _ next.book.state p.kept next.kept seen seen_next book kept b_is in
           (record { base = u.base; station = n; unseen = g.after }, record { seen = seen_next; stands = g.stands }, (refl, taking_turn u.base u.station n u.unseen said p.book.state next.book.state p.kept next.kept t q head taken settled g))
       by_begins (inr (inr (t, head, b_is, free, s_is, told, denies))) gives book u shows =
           let seen : IsSeen honest far silence s u.station = rw s_is shows.seen in
           let (n, seen_next, g) = gives u.station u.unseen seen shows.stands in
-          let settles : Settles b p.kept u.station n said next.book.state next.kept = settles_seen s next.station u.station n said b next.book.state p.kept next.kept seen seen_next book kept in
-          let settled : Settles (denied p.book.state t) p.kept u.station n said next.book.state next.kept = subst (λ x. Settles x p.kept u.station n said next.book.state next.kept) b_is settles in
+          let settled : Settles (denied p.book.state t) p.kept u.station n said next.book.state next.kept = settles_seen s next.station u.station n said b _ next.book.state p.kept next.kept seen seen_next book kept b_is in
           let may_deny : (m : Moment) → m.terms ≡ u.station.terms → MaySession m (Deny t.0) (session_in u.station u.unseen) = λ m terms. denies u.station u.unseen shows.seen shows.stands m t.0 terms in
           (record { base = u.base; station = n; unseen = g.after }, record { seen = seen_next; stands = g.stands }, (refl, denying_turn u.base u.station n u.unseen said p.book.state next.book.state p.kept next.kept t head may_deny settled g))
 
 -- a turn gives no ticket
-last_posted : (b : BookState) (o : Outcome) → (posted b o).last ≡ b.last
-last_posted b o = by_taken b.standing.taken
-  where
-    by_taken : (taken : Option (Ticket × Request)) → (ended_with b taken o).last ≡ b.last
-    by_taken None = refl
-    by_taken (Some t) = refl
-
 last_after : (step : Step) (b : BookState) → (book_after step b).last ≡ b.last
-last_after (Done a) b = last_posted b (outcome.Done a)
-last_after (Unknown c) b = last_posted b (outcome.Unknown c)
-last_after _ b = refl
+last_after step b = grind (arith, common_steps)
 
 last_through : (steps : List Step) (b : BookState) → (book_through steps b).last ≡ b.last
 last_through [] b = refl
@@ -162,6 +149,4 @@ last_through (step ∷ steps) b = last_through steps (book_after step b) ∙ las
 
 module _ {W : Type 0} (honest : W → Bool) (far : W → Far) (silence : W → ℕ) where
   pub turn_gives_none : (s next : StationState W) (b mid after : BookState) (steps : List Step) → BeginsNext honest far silence s b next mid → after ≡ book_through steps mid → after.last ≡ b.last
-  turn_gives_none s next b mid after steps (inl (_, is)) e = ap (λ x. x.last) e ∙ last_through steps mid ∙ ap (λ x. x.last) is
-  turn_gives_none s next b mid after steps (inr (inl (t, q, head, is, _, _, _))) e = ap (λ x. x.last) e ∙ last_through steps mid ∙ ap (λ x. x.last) is
-  turn_gives_none s next b mid after steps (inr (inr (t, head, is, _, _, _, _))) e = ap (λ x. x.last) e ∙ last_through steps mid ∙ ap (λ x. x.last) is
+  turn_gives_none s next b mid after steps given given2 = grind (arith, common_steps, last_through)
