@@ -23,7 +23,7 @@ enum Tried {
     Run,
 }
 
-/// A command, its input, how many reads that takes, its output, and how many writes that takes.
+/// A command, its input, how many reads that takes, its output, and how many writes and flushes that takes.
 struct Case {
     command: Tried,
     input: &'static str,
@@ -38,14 +38,14 @@ static CASES: [Case; 2] = [
         input: "# two good lines\nm A2 00\n\nr 17 1B\n",
         reads: 8,
         output: "read page 02\nod 17 event 0 pd valid\n",
-        writes: 6,
+        writes: 7,
     },
     Case {
         command: Tried::Run,
         input: "param 16 0 ro 4142\nread 16 0\nturn 18\ncollect 1\n",
         reads: 11,
         output: PLAIN,
-        writes: 11,
+        writes: 12,
     },
 ];
 
@@ -62,7 +62,7 @@ fn perform<A: Handle, R: Read, W: Write>(
     }
 }
 
-/// Gives five bytes at each read. The read of this number fails, counted from 0.
+/// Gives five bytes at each read. The read of this number fails, counted from 0, and no other.
 #[derive(Drop)]
 struct Source<'a> {
     left: &'a [u8],
@@ -72,6 +72,7 @@ struct Source<'a> {
 impl Read for Source<'_> {
     fn read(&mut self, buf: &mut [u8]) -> io::Result<usize> {
         if self.fails_at == 0 {
+            self.fails_at = u32::MAX;
             return Err(ErrorKind::BrokenPipe.into());
         }
         self.fails_at -= 1;
@@ -83,26 +84,35 @@ impl Read for Source<'_> {
     }
 }
 
-/// Takes seven bytes at each write. The write of this number fails, counted from 0.
+/// Takes seven bytes at each write. The write or flush of this number fails, counted from 0, and no other.
 #[derive(Drop)]
 struct Sink {
     held: Vec<u8>,
     fails_at: u32,
 }
 
-impl Write for Sink {
-    fn write(&mut self, buf: &[u8]) -> io::Result<usize> {
+impl Sink {
+    /// One more write or flush.
+    fn begin(&mut self) -> io::Result<()> {
         if self.fails_at == 0 {
+            self.fails_at = u32::MAX;
             return Err(ErrorKind::BrokenPipe.into());
         }
         self.fails_at -= 1;
+        Ok(())
+    }
+}
+
+impl Write for Sink {
+    fn write(&mut self, buf: &[u8]) -> io::Result<usize> {
+        self.begin()?;
         let count = buf.len().min(7);
         self.held.extend_from_slice(&buf[..count])?;
         Ok(count)
     }
 
     fn flush(&mut self) -> io::Result<()> {
-        Ok(())
+        self.begin()
     }
 }
 
@@ -243,10 +253,13 @@ fn fails_at_each_read(rt: HostRuntime) -> Result<(), Fail> {
             let result = perform(case.command, rt.alloc(), &mut source, &mut sink);
             assert_eq!(rt; result, Err(ProgramFault::ReadFailed), "at {read}");
             assert!(rt; sink.held.is_empty());
+            // No read follows.
+            assert_eq!(rt; source.fails_at, u32::MAX);
         }
         let (mut source, mut sink) = failing(rt.alloc(), case.input, case.reads, u32::MAX);
         let result = perform(case.command, rt.alloc(), &mut source, &mut sink);
         assert_eq!(rt; result, Ok(()));
+        assert_eq!(rt; source.fails_at, 0);
         assert!(rt; sink.held.as_slice() == case.output.as_bytes());
     }
     Ok(())
@@ -259,6 +272,9 @@ fn fails_at_each_write(rt: HostRuntime) -> Result<(), Fail> {
             let (mut source, mut sink) = failing(rt.alloc(), case.input, u32::MAX, write);
             let result = perform(case.command, rt.alloc(), &mut source, &mut sink);
             assert_eq!(rt; result, Err(ProgramFault::WriteFailed), "at {write}");
+            // Nothing but the front of the output is written.
+            let begun = case.output.as_bytes().starts_with(sink.held.as_slice());
+            assert!(rt; begun, "at {write}");
         }
         let (mut source, mut sink) = failing(rt.alloc(), case.input, u32::MAX, case.writes);
         let result = perform(case.command, rt.alloc(), &mut source, &mut sink);

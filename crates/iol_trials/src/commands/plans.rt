@@ -78,12 +78,13 @@ fn fails_at_each_read_of_a_plan(rt: HostRuntime) {
 
 #[test]
 fn fails_at_each_write_of_its_counts(rt: HostRuntime) {
-    for write in 0..8 {
+    // Eight writes, and the flush.
+    for write in 0..9 {
         let (mut source, mut sink) = failing(rt.alloc(), PLAN, 8, write);
         let result = many(&rt, rt.alloc(), &mut source, &mut sink);
         assert_eq!(rt; result, Err(ProgramFault::WriteFailed), "at {write}");
     }
-    let (mut source, mut sink) = failing(rt.alloc(), PLAN, 8, 8);
+    let (mut source, mut sink) = failing(rt.alloc(), PLAN, 8, 9);
     let result = many(&rt, rt.alloc(), &mut source, &mut sink);
     assert_eq!(rt; result, Ok(()));
     assert!(rt; sink.held.as_slice() == PRINTED.as_bytes());

@@ -85,11 +85,13 @@ fn reads_all_lines_first(rt: HostRuntime) -> Result<(), Fail> {
 
 #[test]
 fn writes_as_it_goes(rt: HostRuntime) -> Result<(), Fail> {
+    let whole = traced(rt.alloc(), "turn 2000\n")?;
     for (writes, least) in [(0, 0), (9_500, 65_536)] {
         let (mut source, mut sink) = failing(rt.alloc(), "turn 2000\n", u32::MAX, writes);
         let result = trace(rt.alloc(), &mut source, &mut sink);
         assert_eq!(rt; result, Err(ProgramFault::WriteFailed), "at {writes}");
         assert!(rt; sink.held.len() >= least, "at {writes}");
+        assert!(rt; whole.as_slice().starts_with(sink.held.as_slice()));
     }
     Ok(())
 }
