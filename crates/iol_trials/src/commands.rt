@@ -23,7 +23,8 @@ enum Tried {
     Run,
 }
 
-/// A command, its input, how many reads that takes, its output, and how many writes and flushes that takes.
+/// A command, its input, how many reads that takes, its output, and how many writes
+/// and flushes that takes.
 struct Case {
     command: Tried,
     input: &'static str,
@@ -84,7 +85,8 @@ impl Read for Source<'_> {
     }
 }
 
-/// Takes seven bytes at each write. The write or flush of this number fails, counted from 0, and no other.
+/// Takes seven bytes at each write. The write or flush of this number fails,
+/// counted from 0, and no other.
 #[derive(Drop)]
 struct Sink {
     held: Vec<u8>,
