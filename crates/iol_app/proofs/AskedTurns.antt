@@ -7,6 +7,7 @@ use Rattle.iol_mseq.specs.declared.master.MasterMsg.{MasterMsg}
 use Rattle.iol_mseq.specs.declared.reply.Reply.{Reply}
 use Rattle.iol_far.specs.Far.{Far}
 use Rattle.iol_link.specs.declared.wire.Rate.{Rate}
+use Rattle.iol_link.specs.WireFacts.{WireFacts}
 use Rattle.iol_mode.specs.States.{Outcome}
 use Rattle.iol_steps.specs.declared.said.Said.{Said}
 use Rattle.iol_app.specs.declared.asked.Asked.{Asked}
@@ -17,13 +18,13 @@ use Rattle.iol_mode.specs.declared.states.State.TheVariants.{Down as AtDown, Sta
 use Rattle.iol_app.specs.State.{SessionState}
 use Rattle.iol_app.specs.StationState.{StationState, LinkFits, IsTurn, IsLinkTurn, IsExchange}
 use Rattle.iol_app.specs.Asking.{asked_of, asked_in}
-use Rattle.iol_app.specs.AskedCalls.{AskedWakes, AskedGives}
+use Rattle.iol_app.specs.AskedCalls.{asked_facts}
 use Rattle.iol_app.proofs.Askings.{sent_is}
 
-module _ {W : Type 0} (honest : W → Bool) (far : W → Far) (silence : W → ℕ) (wakes : W → Option Rate → W → Type 0) (gives : W → List ℕ → Option (ArrayVec ℕ) → W → Type 0) where
+module _ {W : Type 0} (facts : WireFacts W) where
   abbrev exchange_asked : (asked : Asked) (wire : W) (layout : Shape) (message : MasterMsg) (turned : Option Reply → Outcome) (s : SessionState) (said : Said) (new : StationState W)
-      → asked ≡ Exchange (record { items = master_text layout message }) → IsExchange honest far silence wakes gives wire layout message turned s said new
-      → IsExchange honest far silence (AskedWakes wakes asked) (AskedGives gives asked) wire layout message turned s said new
+      → asked ≡ Exchange (record { items = master_text layout message }) → IsExchange facts wire layout message turned s said new
+      → IsExchange (asked_facts facts asked) wire layout message turned s said new
   exchange_asked asked wire layout message turned s said new is x = record {
     answer = x.answer;
     called = (is, x.called);
@@ -33,8 +34,8 @@ module _ {W : Type 0} (honest : W → Bool) (far : W → Far) (silence : W → �
   }
 
   link_asked : (wire : W) (state : State) (s : SessionState) (room : Bool) (said : Said) (new : StationState W) → LinkFits (over wire state) s
-      → IsLinkTurn honest far silence wakes gives (over wire state) s room said new
-      → IsLinkTurn honest far silence (AskedWakes wakes (asked_in state s room)) (AskedGives gives (asked_in state s room)) (over wire state) s room said new
+      → IsLinkTurn facts (over wire state) s room said new
+      → IsLinkTurn (asked_facts facts (asked_in state s room)) (over wire state) s room said new
   link_asked wire (AtDown state) s room said new fits t = record {
     answer = t.answer;
     called = (refl, t.called);
@@ -63,6 +64,6 @@ module _ {W : Type 0} (honest : W → Bool) (far : W → Far) (silence : W → �
     accepted = t.accepted;
   }
 
-  pub turn_asked : (old : StationState W) (room : Bool) (said : Said) (new : StationState W) → LinkFits old.link old.session → IsTurn honest far silence wakes gives room old said new
-      → IsTurn honest far silence (AskedWakes wakes (asked_of old room)) (AskedGives gives (asked_of old room)) room old said new
+  pub turn_asked : (old : StationState W) (room : Bool) (said : Said) (new : StationState W) → LinkFits old.link old.session → IsTurn facts room old said new
+      → IsTurn (asked_facts facts (asked_of old room)) room old said new
   turn_asked old room said new fits t = link_asked old.link.wire old.link.state old.session room said new fits t

@@ -11,6 +11,7 @@ use Rattle.iol_mode.specs.Next.{message_out}
 use Rattle.iol_mode.specs.States.{sending_of}
 use Rattle.iol_steps.specs.declared.said.Said.{Said}
 use Rattle.iol_isdu.specs.declared.values.Request.{Request}
+use Rattle.iol_link.specs.WireFacts.{WireFacts}
 use Rattle.iol_app.specs.declared.request.Current.{Current}
 use Rattle.iol_app.specs.declared.session.Exchange as purpose
 use Rattle.iol_app.specs.declared.session.Exchange.TheVariants.{TellOutput, DropOutput, Abort, ReadEvent, ConfirmEvents, Request as NextMessage}
@@ -68,23 +69,24 @@ pub begun_text : (layout : Shape) (s : SessionState) (room : Bool) (request : Re
 begun_text layout s room request current ready is =
     ap (λ (c : Option Current). text_for layout NextMessage (record s { current = c })) is ∙ ap (λ (e : purpose.Exchange). text_for layout e (begun_in request s)) (sym (begun_due s room request ready))
 
-module _ {W : Type 0} (honest : W → Bool) (far : W → Far) (silence : W → ℕ) where
-  module _ (wakes : W → Option Rate → W → Type 0) (gives : W → List ℕ → Option (ArrayVec ℕ) → W → Type 0) where
-    called : (wire : W) (layout : Shape) (message : MasterMsg) (turned : _) (s : SessionState) (said : Said) (new : StationState W)
-        → IsExchange honest far silence wakes gives wire layout message turned s said new → (answer : Option (ArrayVec ℕ)) × gives wire (master_text layout message) answer (wire_of new.link)
-    called wire layout message turned s said new e = (e.answer, e.called)
+module _ {W : Type 0} (facts : WireFacts W) where
+  open facts use {exchange_gives as gives}
 
-    call_by : (wire : W) (state : State) (s : SessionState) (room : Bool) (said : Said) (new : StationState W) → LinkFits (over wire state) s
-        → IsTurn honest far silence wakes gives room (record { link = (over wire state); session = s }) said new
-        → IsCall wakes gives (asked_of (record { link = (over wire state); session = s }) room) (wire_of (over wire state)) (wire_of new.link)
-    call_by wire (AtDown state) s room said new fits turn = (turn.answer, turn.called)
-    call_by wire (AtStartup state) s room said new fits turn = called _ _ _ _ _ _ _ turn.exchange
-    call_by wire (AtPreoperate state) s room said new fits turn = called _ _ _ _ _ _ _ turn
-    call_by wire (AtOperate state) s room said new fits turn =
-        subst (λ (t : List ℕ). (answer : Option (ArrayVec ℕ)) × gives wire t answer (wire_of new.link))
-        (sent_is state.layouts.run state.out turn.message s room fits.out_for turn.is_for turn.carries)
-        (called _ _ _ _ _ _ _ turn.exchange)
+  called : (wire : W) (layout : Shape) (message : MasterMsg) (turned : _) (s : SessionState) (said : Said) (new : StationState W)
+      → IsExchange facts wire layout message turned s said new → (answer : Option (ArrayVec ℕ)) × gives wire (master_text layout message) answer (wire_of new.link)
+  called wire layout message turned s said new e = (e.answer, e.called)
 
-    pub turn_call : (old : StationState W) (room : Bool) (said : Said) (new : StationState W) → LinkFits old.link old.session → IsTurn honest far silence wakes gives room old said new
-        → IsCall wakes gives (asked_of old room) (wire_of old.link) (wire_of new.link)
-    turn_call old room said new fits turn = call_by old.link.wire old.link.state old.session room said new fits turn
+  call_by : (wire : W) (state : State) (s : SessionState) (room : Bool) (said : Said) (new : StationState W) → LinkFits (over wire state) s
+      → IsTurn facts room (record { link = (over wire state); session = s }) said new
+      → IsCall facts (asked_of (record { link = (over wire state); session = s }) room) (wire_of (over wire state)) (wire_of new.link)
+  call_by wire (AtDown state) s room said new fits turn = (turn.answer, turn.called)
+  call_by wire (AtStartup state) s room said new fits turn = called _ _ _ _ _ _ _ turn.exchange
+  call_by wire (AtPreoperate state) s room said new fits turn = called _ _ _ _ _ _ _ turn
+  call_by wire (AtOperate state) s room said new fits turn =
+      subst (λ (t : List ℕ). (answer : Option (ArrayVec ℕ)) × gives wire t answer (wire_of new.link))
+      (sent_is state.layouts.run state.out turn.message s room fits.out_for turn.is_for turn.carries)
+      (called _ _ _ _ _ _ _ turn.exchange)
+
+  pub turn_call : (old : StationState W) (room : Bool) (said : Said) (new : StationState W) → LinkFits old.link old.session → IsTurn facts room old said new
+      → IsCall facts (asked_of old room) (wire_of old.link) (wire_of new.link)
+  turn_call old room said new fits turn = call_by old.link.wire old.link.state old.session room said new fits turn

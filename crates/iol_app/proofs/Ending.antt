@@ -6,6 +6,7 @@ use Rattle.iol_isdu.specs.declared.values.Request.{Request}
 use Rattle.iol_event.specs.declared.event.Event.{Event}
 use Rattle.iol_far.specs.Far.{Far}
 use Rattle.iol_link.specs.declared.wire.Rate.{Rate}
+use Rattle.iol_link.specs.WireFacts.{WireFacts}
 use Rattle.iol_mode.specs.States.{Outcome}
 use Rattle.iol_mode.specs.States.{InDown as OutDown, InStartup as OutStartup, InPreoperate as OutPreoperate, InOperate as OutOperate}
 use Rattle.iol_steps.specs.declared.said.Said.{Said}
@@ -56,13 +57,13 @@ waked_current : (answered : Bool) (s : SessionState) → (waked_session answered
 waked_current true s = refl
 waked_current false s = refl
 
-module _ {W : Type 0} (honest : W → Bool) (far : W → Far) (silence : W → ℕ) (wakes : W → Option Rate → W → Type 0) (gives : W → List ℕ → Option (ArrayVec ℕ) → W → Type 0) where
-  link_ends : (wire : W) (state : State) (s : SessionState) (room : Bool) (said : Said) (new : StationState W) → IsLinkTurn honest far silence wakes gives (over wire state) s room said new → EndsRequest said (request_in s.current)
+module _ {W : Type 0} (facts : WireFacts W) where
+  link_ends : (wire : W) (state : State) (s : SessionState) (room : Bool) (said : Said) (new : StationState W) → IsLinkTurn facts (over wire state) s room said new → EndsRequest said (request_in s.current)
   link_ends wire (AtDown state) s room said new turn = settled_ends (waked_session (is_some turn.answer) s) _ said s.current (waked_current (is_some turn.answer) s) turn.settled.said_is
   link_ends wire (AtStartup state) s room said new turn = settled_ends s _ said s.current refl turn.exchange.settled.said_is
   link_ends wire (AtPreoperate state) s room said new turn = settled_ends s _ said s.current refl turn.settled.said_is
   link_ends wire (AtOperate state) s room said new turn =
       settled_ends (sent (due_of s room) s) _ said s.current (sent_current (due_of s room) s) turn.exchange.settled.said_is
 
-  pub turn_ends : (room : Bool) (old : StationState W) (said : Said) (new : StationState W) → IsTurn honest far silence wakes gives room old said new → EndsRequest said (request_in old.session.current)
+  pub turn_ends : (room : Bool) (old : StationState W) (said : Said) (new : StationState W) → IsTurn facts room old said new → EndsRequest said (request_in old.session.current)
   turn_ends room old said new turn = link_ends old.link.wire old.link.state old.session room said new turn

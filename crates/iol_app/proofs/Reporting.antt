@@ -16,6 +16,7 @@ use Rattle.iol_link.specs.declared.handler.Attempt.TheVariants.{Got, Again, Lost
 use Rattle.iol_link.specs.declared.wire.Rate.{Rate}
 use Rattle.iol_link.specs.Attempts.{Sending}
 use Rattle.iol_page.specs.declared.page.Layouts.{Layouts}
+use Rattle.iol_link.specs.WireFacts.{WireFacts}
 use Rattle.iol_mode.specs.States.{Outcome}
 use Rattle.iol_mode.specs.States.{InDown as OutDown, InStartup as OutStartup, InPreoperate as OutPreoperate, InOperate as OutOperate}
 use Rattle.iol_mode.specs.Next.{told_by}
@@ -213,9 +214,9 @@ sent_reading room s sending_out layouts attempt said valid (Some exchange) is_ou
     (λ read. inl (or_left (is_read_out s.exchange) (is_under_way s.events.reading) (ap is_read_out is_out ∙ ap (λ (x : Exchange). is_read_out (Some x)) read))) suits sending_out layouts attempt said in
     subst (λ (t : SessionState). IsSettledSaid (operate_by sending_out layouts attempt) t said → ReadingAfter room (is_reading s) said (is_reading (settled_session (operate_by sending_out layouts attempt) t))) (sym here) after said_is
 
-module _ {W : Type 0} (honest : W → Bool) (far : W → Far) (silence : W → ℕ) (wakes : W → Option Rate → W → Type 0) (gives : W → List ℕ → Option (ArrayVec ℕ) → W → Type 0) where
+module _ {W : Type 0} (facts : WireFacts W) where
   link_reading : (wire : W) (state : State) (session : SessionState) (room : Bool) (said : Said) (new : StationState W) → IsSession session → LinkFits (over wire state) session
-      → IsLinkTurn honest far silence wakes gives (over wire state) session room said new → ReadingAfter room (is_reading session) said (is_reading new.session)
+      → IsLinkTurn facts (over wire state) session room said new → ReadingAfter room (is_reading session) said (is_reading new.session)
   link_reading wire (AtDown state) session room said new valid fits turn =
       subst (λ (t : SessionState). ReadingAfter room (is_reading session) said (is_reading t)) (sym turn.settled.session)
       (woken_reading room session (is_some turn.answer) said fits turn.settled.said_is)
@@ -230,5 +231,5 @@ module _ {W : Type 0} (honest : W → Bool) (far : W → Far) (silence : W → �
       (sent_reading room session _ state.layouts _ said valid session.exchange refl settled.said_is)
 
   pub turn_reading : (room : Bool) (old : StationState W) (said : Said) (new : StationState W) → IsSession old.session → LinkFits old.link old.session
-      → IsTurn honest far silence wakes gives room old said new → ReadingAfter room (is_reading old.session) said (is_reading new.session)
+      → IsTurn facts room old said new → ReadingAfter room (is_reading old.session) said (is_reading new.session)
   turn_reading room old said new valid fits turn = link_reading old.link.wire old.link.state old.session room said new valid fits turn

@@ -1,6 +1,7 @@
 -- A station over another wire that stands to the same device is seen as before.
 use Rattle.std.proofs.Common.{◌≡◌, ◌∙◌, sym, subst, ℕ, Bool}
 use Rattle.iol_far.specs.Far.{Far}
+use Rattle.iol_link.specs.WireFacts.{WireFacts}
 use Rattle.iol_steps.specs.Station.{Station}
 use Rattle.iol_mode.specs.Next.{AnyLink}
 use Rattle.iol_app.specs.State.{SessionState}
@@ -8,9 +9,11 @@ use Rattle.iol_app.specs.StationState.{StationState, wire_of}
 use Rattle.iol_app.specs.Seen.{IsSeen, StateStart}
 use Rattle.iol_app.specs.Rewire.{rewired, RewireSteps}
 
-module _ {W : Type 0} (honest : W → Bool) (far : W → Far) (silence : W → ℕ) where
+module _ {W : Type 0} (facts : WireFacts W) where
+  open facts use {honest, far, silence}
+
   seen_by : (wire : W) (link : AnyLink W) (session : SessionState) (s : Station) → honest wire ≡ honest (wire_of link) → far wire ≡ far (wire_of link) → silence wire ≡ silence (wire_of link)
-      → IsSeen honest far silence (record { link = link; session = session }) s → IsSeen honest far silence (record { link = rewired wire link; session = session }) s
+      → IsSeen facts (record { link = link; session = session }) s → IsSeen facts (record { link = rewired wire link; session = session }) s
   seen_by wire link session s h f q seen = record {
     is_honest = seen.is_honest ∙ sym h;
     far_is = seen.far_is ∙ sym f;
@@ -31,7 +34,7 @@ module _ {W : Type 0} (honest : W → Bool) (far : W → Far) (silence : W → �
   }
 
   pub rewire_steps : (wire : W) (old new : StationState W) → honest wire ≡ honest (wire_of old.link) → far wire ≡ far (wire_of old.link) → silence wire ≡ silence (wire_of old.link)
-      → new ≡ record old { link = rewired wire old.link } → RewireSteps honest far silence old new
+      → new ≡ record old { link = rewired wire old.link } → RewireSteps facts old new
   unfolding RewireSteps
   rewire_steps wire old new h f q e s seen =
-      subst (λ (n : StationState W). IsSeen honest far silence n s) (sym e) (seen_by wire old.link old.session s h f q seen)
+      subst (λ (n : StationState W). IsSeen facts n s) (sym e) (seen_by wire old.link old.session s h f q seen)

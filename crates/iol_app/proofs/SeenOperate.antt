@@ -53,6 +53,7 @@ use Rattle.iol_link.specs.declared.handler.Attempt.TheVariants.{Again, Lost}
 use Rattle.iol_link.specs.declared.wire.Rate.{Rate}
 use Rattle.iol_link.specs.Attempts.{Sending as Sent, good_reply}
 use Rattle.iol_link.specs.Honest.{HonestExchange}
+use Rattle.iol_link.specs.WireFacts.{WireFacts}
 use Rattle.iol_mode.specs.Kept.{Kept}
 use Rattle.iol_mode.specs.declared.states.Operate.{Operate}
 use Rattle.iol_mode.specs.States.{Outcome}
@@ -185,10 +186,12 @@ same_output TellOutput output = refl
 same_output DropOutput output = refl
 same_output other output = refl
 
-module _ {W : Type 0} (honest : W → Bool) (far : W → Far) (silence : W → ℕ) (wakes : W → Option Rate → W → Type 0) (gives : W → List ℕ → Option (ArrayVec ℕ) → W → Type 0)
+module _ {W : Type 0} (facts : WireFacts W)
     (laws : OperateLaws) (link : Kept W Operate) (session : SessionState) (valid : IsSession session) (fits : LinkFits {W = W} (InOperate link) session) (said : Said) (new : StationState W)
-    (s : Station) (u : Unseen) (seen : IsSeen honest far silence (record { link = InOperate link; session = session }) s) (stands : Stands s u)
+    (s : Station) (u : Unseen) (seen : IsSeen facts (record { link = InOperate link; session = session }) s) (stands : Stands s u)
     (asked : layouts_of s.terms.page ≡ Ok link.state.layouts) where
+  open facts use {honest, far, silence}
+
   abbrev layouts : Layouts
   layouts = link.state.layouts
 
@@ -387,15 +390,15 @@ module _ {W : Type 0} (honest : W → Bool) (far : W → Far) (silence : W → �
     unanswered b = operate_by (record { message = message; tries = if b then 0 else tries + 1 }) layouts (if b then Lost else Again)
 
     by_tries : (b : Bool) → (tries == 2) ≡ b → Exchanges s u out next_far next_silence None → IsSettled (unanswered b) (out_session exchange output) said new
-        → IsMet honest far silence wakes gives link.wire (unanswered b) (wire_of new.link) → Steps honest far silence s u said new
+        → IsMet facts link.wire (unanswered b) (wire_of new.link) → Steps facts s u said new
     by_tries true two exchange_is settled both =
-        lost_steps honest far silence laws.lost s u out (out_session exchange output) said new exchange_is (grind (arith, nat_tests)) (seen.is_honest ∙ sym both.honesty) seen.busy_limit seen.event_form
+        lost_steps facts laws.lost s u out (out_session exchange output) said new exchange_is (grind (arith, nat_tests)) (seen.is_honest ∙ sym both.honesty) seen.busy_limit seen.event_form
         goes.shown (seen.output_told ∙ sym goes.told) settled (settled.said_is ∙ ap link_lost_said (sym seen.request))
     by_tries false two exchange_is settled both =
         let again : suc tries ≤ 2 = grind (arith, nat_tests) in
         let next : Station = missed s out next_far next_silence in
-        steps_by honest far silence s u said (quiet_said s.seen.request) new next
-        (settled_seen honest far silence (unanswered false) (out_session exchange output) said new next settled (record {
+        steps_by facts s u said (quiet_said s.seen.request) new next
+        (settled_seen facts (unanswered false) (out_session exchange output) said new next settled (record {
           is_honest = seen.is_honest ∙ sym both.honesty;
           far_is = refl;
           silence_is = refl;
@@ -433,7 +436,7 @@ module _ {W : Type 0} (honest : W → Bool) (far : W → Far) (silence : W → �
 
     by_brought : (reply : Reply) → length reply.input.items ≡ layouts.run.pd_in → Exchanges s u out next_far next_silence (Some reply)
         → IsSettled (OutOperate (record { out = None; layouts = layouts }) (Some reply)) (out_session exchange output) said new
-        → IsMet honest far silence wakes gives link.wire (OutOperate (record { out = None; layouts = layouts }) (Some reply)) (wire_of new.link) → Steps honest far silence s u said new
+        → IsMet facts link.wire (OutOperate (record { out = None; layouts = layouts }) (Some reply)) (wire_of new.link) → Steps facts s u said new
     by_brought reply sized exchange_is settled both =
         let tells : Tells s out next_far next_silence reply = laws.tells s u out next_far next_silence reply exchange_is in
         let on : ReadOn exchange reply.od.items session.events.reading reply.event (reading_had s out reply) =
@@ -445,8 +448,8 @@ module _ {W : Type 0} (honest : W → Bool) (far : W → Far) (silence : W → �
         let brings = brought.1 in
         let next : Station = had brought.0 s out reply next_far next_silence in
         let image : image_had (layout_at s).pd_in reply ≡ image_in reply = ap (λ (n : ℕ). image_had n reply) (ap (λ (l : Shape). l.pd_in) at ∙ sym sized) in
-        steps_by honest far silence s u said (said_of brought.0 s.seen.request) new next
-        (settled_seen honest far silence (OutOperate (record { out = None; layouts = layouts }) (Some reply)) (out_session exchange output) said new next settled (record {
+        steps_by facts s u said (said_of brought.0 s.seen.request) new next
+        (settled_seen facts (OutOperate (record { out = None; layouts = layouts }) (Some reply)) (out_session exchange output) said new next settled (record {
           is_honest = seen.is_honest ∙ sym both.honesty;
           far_is = refl;
           silence_is = refl;
@@ -474,8 +477,8 @@ module _ {W : Type 0} (honest : W → Bool) (far : W → Far) (silence : W → �
 
     by_reply : (answer : Option (List ℕ)) (reply : Option Reply) → good_reply layouts.run message answer ≡ reply → HonestExchange (far link.wire) (silence link.wire) octets answer next_far next_silence
         → IsSettled (operate_turned (record { out = Some (record { message = message; tries = tries }); layouts = layouts }) message reply) (out_session exchange output) said new
-        → IsMet honest far silence wakes gives link.wire (operate_turned (record { out = Some (record { message = message; tries = tries }); layouts = layouts }) message reply) (wire_of new.link)
-        → Steps honest far silence s u said new
+        → IsMet facts link.wire (operate_turned (record { out = Some (record { message = message; tries = tries }); layouts = layouts }) message reply) (wire_of new.link)
+        → Steps facts s u said new
     by_reply answer None good passes settled both = by_tries (tries == 2) refl (exchanges answer None passes good) settled both
     by_reply answer (Some reply) good passes settled both = by_brought reply (good_parts layouts.run message answer reply good).input (exchanges answer (Some reply) passes good) settled both
 
@@ -485,14 +488,14 @@ module _ {W : Type 0} (honest : W → Bool) (far : W → Far) (silence : W → �
       (is_for : IsOutFor (Some (sending_of link.state.out message).message) (sent (due_of session room) session))
       (carries : message_out link.state.out ≡ None → message.out.items ≡ carried_by session.output) (few : (sending_of link.state.out message).tries < 3)
       (accepts : (l : Link) → IsOperating layouts l → IsAccepted layouts s.terms.page l (sending_of link.state.out message).message)
-      (exchange : IsExchange honest far silence wakes gives link.wire layouts.run (sending_of link.state.out message).message (operate_turned link.state message) (sent (due_of session room) session) said new) where
+      (exchange : IsExchange facts link.wire layouts.run (sending_of link.state.out message).message (operate_turned link.state message) (sent (due_of session room) session) said new) where
     abbrev sends : Sent
     sends = sending_of link.state.out message
 
     accepted : IsAccepted layouts s.terms.page s.link sends.message
     accepted = accepted_here sends.message accepts
 
-    by_message : (due : Exchange) (output : Output) → Goes due output sends.message sends.tries → sent (due_of session room) session ≡ out_session due output → Steps honest far silence s u said new
+    by_message : (due : Exchange) (output : Output) → Goes due output sends.message sends.tries → sent (due_of session room) session ≡ out_session due output → Steps facts s u said new
     by_message due output goes same =
         let answer = octets_in exchange.answer in
         by_reply due output sends.message sends.tries goes few accepted answer (good_reply layouts.run sends.message answer) refl (exchange.passes h)
@@ -503,7 +506,7 @@ module _ {W : Type 0} (honest : W → Bool) (far : W → Far) (silence : W → �
     none_out None is = refl
     none_out (Some sending) is = absurd is
 
-    by_due : session.exchange ≡ None → Steps honest far silence s u said new
+    by_due : session.exchange ≡ None → Steps facts s u said new
     by_due free =
         let due : Exchange = due_of session room in
         let same : sent due session ≡ sending due session = ap (λ (e : Option Exchange). sent_by e due session) free in
@@ -534,7 +537,7 @@ module _ {W : Type 0} (honest : W → Bool) (far : W → Far) (silence : W → �
     some_out None exchange is = absurd is
     some_out (Some sending) exchange is = refl
 
-    by_out : (out_for : Exchange) → session.exchange ≡ Some out_for → Steps honest far silence s u said new
+    by_out : (out_for : Exchange) → session.exchange ≡ Some out_for → Steps facts s u said new
     by_out out_for is_out =
         let same : sent (due_of session room) session ≡ session = ap (λ (e : Option Exchange). sent_by e (due_of session room) session) is_out in
         let here : session ≡ out_session out_for session.output = ap (λ (e : Option Exchange). let t : SessionState = record session { exchange = e } in t) is_out in
@@ -556,17 +559,19 @@ module _ {W : Type 0} (honest : W → Bool) (far : W → Far) (silence : W → �
           shown = subst (λ (x : Shown). ShownSeen (out_session out_for session.output) x) (sym (made_out s w out_is)) (subst (λ (t : SessionState). ShownSeen t s.shown) here seen.shown);
         }) (same ∙ here)
 
-    by_exchange : (e : Option Exchange) → session.exchange ≡ e → Steps honest far silence s u said new
+    by_exchange : (e : Option Exchange) → session.exchange ≡ e → Steps facts s u said new
     by_exchange None e = by_due e
     by_exchange (Some out_for) e = by_out out_for e
 
-module _ {W : Type 0} (honest : W → Bool) (far : W → Far) (silence : W → ℕ) (wakes : W → Option Rate → W → Type 0) (gives : W → List ℕ → Option (ArrayVec ℕ) → W → Type 0)
+module _ {W : Type 0} (facts : WireFacts W)
     (laws : OperateLaws) (link : Kept W Operate) (session : SessionState) (valid : IsSession session) (fits : LinkFits {W = W} (InOperate link) session) (said : Said) (new : StationState W)
-    (s : Station) (u : Unseen) (seen : IsSeen honest far silence (record { link = InOperate link; session = session }) s) (stands : Stands s u) where
-  pub operate_seen : (room : Bool) → IsOperateTurn honest far silence wakes gives link.wire link.state session room said new → Steps honest far silence s u said new
+    (s : Station) (u : Unseen) (seen : IsSeen facts (record { link = InOperate link; session = session }) s) (stands : Stands s u) where
+  open facts use {honest, far}
+
+  pub operate_seen : (room : Bool) → IsOperateTurn facts link.wire link.state session room said new → Steps facts s u said new
   operate_seen room turn =
-      let h : IsTrue (honest link.wire) = honest_by honest far silence (record { link = InOperate link; session = session }) s u seen stands in
+      let h : IsTrue (honest link.wire) = honest_by facts (record { link = InOperate link; session = session }) s u seen stands in
       let page : (far link.wire).page ≡ s.terms.page = ap (λ (f : Far). f.page) (sym seen.far_is) ∙ stands.page in
       let asked : layouts_of s.terms.page ≡ Ok link.state.layouts = ap layouts_of (sym page) ∙ (turn.stood h).told in
-      by_exchange honest far silence wakes gives laws link session valid fits said new s u seen stands asked room turn.message h turn.is_for turn.carries turn.few
+      by_exchange facts laws link session valid fits said new s u seen stands asked room turn.message h turn.is_for turn.carries turn.few
       (λ l operating. subst (λ (p : List ℕ). IsAccepted link.state.layouts p l (sending_of link.state.out turn.message).message) page (turn.accepted h l operating)) turn.exchange session.exchange refl

@@ -25,6 +25,7 @@ use Rattle.iol_link.specs.declared.wire.Rate.{Rate}
 use Rattle.iol_link.specs.Attempts.{good_reply}
 use Rattle.iol_link.specs.Honest.{HonestExchange}
 use Rattle.iol_link.specs.Meeting.{PageStays}
+use Rattle.iol_link.specs.WireFacts.{WireFacts}
 use Rattle.iol_mode.specs.Kept.{Kept}
 use Rattle.iol_mode.specs.declared.states.Startup.{Startup}
 use Rattle.iol_mode.specs.declared.states.Told.{Told}
@@ -79,9 +80,11 @@ pub record StartLaws : Type 0 where
   pub lost : LostGives
   pub started : StartedGives
 
-module _ {W : Type 0} (honest : W → Bool) (far : W → Far) (silence : W → ℕ) (wakes : W → Option Rate → W → Type 0) (gives : W → List ℕ → Option (ArrayVec ℕ) → W → Type 0)
+module _ {W : Type 0} (facts : WireFacts W)
     (laws : StartLaws) (link : Kept W Startup) (session : SessionState) (valid : IsSession session) (fits : LinkFits {W = W} (InStartup link) session) (said : Said) (new : StationState W)
-    (s : Station) (u : Unseen) (seen : IsSeen honest far silence (record { link = InStartup link; session = session }) s) (stands : Stands s u) where
+    (s : Station) (u : Unseen) (seen : IsSeen facts (record { link = InStartup link; session = session }) s) (stands : Stands s u) where
+  open facts use {honest, far, silence}
+
   abbrev message : MasterMsg
   message = link.state.sent.message
 
@@ -135,16 +138,16 @@ module _ {W : Type 0} (honest : W → Bool) (far : W → Far) (silence : W → �
   unanswered b = startup_by (record { message = message; tries = if b then 0 else link.state.sent.tries + 1 }) link.state.step (if b then Lost else Again)
 
   by_tries : (b : Bool) → (link.state.sent.tries == 2) ≡ b → IsTrue (honest link.wire) → Exchanges s u out next_far next_silence None → IsSettled (unanswered b) session said new
-      → IsMet honest far silence wakes gives link.wire (unanswered b) (wire_of new.link) → Steps honest far silence s u said new
+      → IsMet facts link.wire (unanswered b) (wire_of new.link) → Steps facts s u said new
   by_tries true two h exchange settled both =
-      lost_steps honest far silence laws.lost s u out session said new exchange (grind (arith, nat_tests)) (seen.is_honest ∙ sym both.honesty) seen.busy_limit seen.event_form
+      lost_steps facts laws.lost s u out session said new exchange (grind (arith, nat_tests)) (seen.is_honest ∙ sym both.honesty) seen.busy_limit seen.event_form
       (subst (λ (x : Shown). ShownSeen session x) (sym (start_made s other)) seen.shown) seen.output_told settled
       (settled.said_is ∙ ap lost_said fits.0.0 ∙ sym (ap link_lost_said free))
   by_tries false two h exchange settled both =
       let few : suc link.state.sent.tries ≤ 2 = (let low : link.state.sent.tries ≤ 2 = seen.start.few in grind (arith, nat_tests)) in
       let next : Station = missed s out next_far next_silence in
-      steps_by honest far silence s u said (quiet_said s.seen.request) new next
-      (seen_as honest far silence (unanswered false) session session said new next settled (told_stays (told_by link.state.step) session valid fits.1) (record {
+      steps_by facts s u said (quiet_said s.seen.request) new next
+      (seen_as facts (unanswered false) session session said new next settled (told_stays (told_by link.state.step) session valid fits.1) (record {
         is_honest = seen.is_honest ∙ sym both.honesty;
         far_is = refl;
         silence_is = refl;
@@ -171,7 +174,7 @@ module _ {W : Type 0} (honest : W → Bool) (far : W → Far) (silence : W → �
 
   in_startup : (brought : Brought) (reply : Reply) (layout : Option Shape) (isdu : Option Bool) (output : Output) (state : Startup) → s.is_honest ≡ honest (wire_of new.link) → seen_after brought s.seen ≡ s.seen
       → output.told ≡ session.output.told → ShownSeen (here layout isdu output) (shown_started brought s) → state.sent.tries ≡ 0 → StartupSeen state next_silence next_far → turned s.terms.page s.link octets message ≡ startup_link
-      → IsSeen honest far silence (record { link = InStartup (record { wire = wire_of new.link; state = state }); session = here layout isdu output }) (rising brought s out reply next_far next_silence)
+      → IsSeen facts (record { link = InStartup (record { wire = wire_of new.link; state = state }); session = here layout isdu output }) (rising brought s out reply next_far next_silence)
   in_startup brought reply layout isdu output state honesty same told shown first start linked = record {
     is_honest = honesty;
     far_is = refl;
@@ -235,28 +238,28 @@ module _ {W : Type 0} (honest : W → Bool) (far : W → Far) (silence : W → �
 
     -- the page has more octets, or a message behind it was heard
     went : (step : Step) → told_in (told_by step) session ≡ session → step_link link.state.step ≡ startup_link → IsSettled (begun step) session said new
-        → IsMet honest far silence wakes gives link.wire (begun step) (wire_of new.link) → Steps honest far silence s u said new
+        → IsMet facts link.wire (begun step) (wire_of new.link) → Steps facts s u said new
     went step stays linked settled both =
-        steps_by honest far silence s u said (quiet_said s.seen.request) new (rising Went s out reply next_far next_silence)
-        (seen_as honest far silence (begun step) session session said new (rising Went s out reply next_far next_silence) settled stays
+        steps_by facts s u said (quiet_said s.seen.request) new (rising Went s out reply next_far next_silence)
+        (seen_as facts (begun step) session session said new (rising Went s out reply next_far next_silence) settled stays
         (in_startup Went reply session.layout session.isdu session.output (record { sent = unsent (step_message step); step = step }) (seen.is_honest ∙ sym both.honesty) refl refl seen.shown refl
         (record { fits = both.fits; few = lit≤ tt; stands = both.stands h }) (turned_is ∙ linked)))
         (given Went tt) (settled.said_is ∙ sym idle)
 
     -- the page is whole
     by_page : (asked : Result Layouts PageFault) (octets : List ℕ) → layouts_of octets ≡ asked → step_link link.state.step ≡ startup_link → IsSettled (checked asked octets) session said new
-        → IsMet honest far silence wakes gives link.wire (checked asked octets) (wire_of new.link) → FaultFits (checked asked octets) next_far → Steps honest far silence s u said new
+        → IsMet facts link.wire (checked asked octets) (wire_of new.link) → FaultFits (checked asked octets) next_far → Steps facts s u said new
     by_page (Err fault) octets same linked settled both fault_fits =
         let asked : layouts_of s.terms.page ≡ Err fault = ap layouts_of (sym (page_is answer passes)) ∙ fault_fits fault refl in
-        steps_by honest far silence s u said (quiet_said s.seen.request) new (downed s (seen_after (Faulted (fault_why fault)) s.seen) next_far next_silence)
-        (settled_seen honest far silence (checked (Err fault) octets) session said new (downed s (seen_after (Faulted (fault_why fault)) s.seen) next_far next_silence) settled
-        (downed_seen honest far silence (wire_of new.link) (record { why = Some (fault_why fault) }) session s (seen_after (Faulted (fault_why fault)) s.seen) (seen.is_honest ∙ sym both.honesty) seen.busy_limit seen.event_form
+        steps_by facts s u said (quiet_said s.seen.request) new (downed s (seen_after (Faulted (fault_why fault)) s.seen) next_far next_silence)
+        (settled_seen facts (checked (Err fault) octets) session said new (downed s (seen_after (Faulted (fault_why fault)) s.seen) next_far next_silence) settled
+        (downed_seen facts (wire_of new.link) (record { why = Some (fault_why fault) }) session s (seen_after (Faulted (fault_why fault)) s.seen) (seen.is_honest ∙ sym both.honesty) seen.busy_limit seen.event_form
         seen.shown seen.output_told free refl refl))
         (given (Faulted (fault_why fault)) (seen.mode, ap fault_in asked)) (settled.said_is ∙ ap lost_said fits.0.0 ∙ sym idle)
     by_page (Ok layouts) octets same linked settled both fault_fits =
         let asked : layouts_of s.terms.page ≡ Ok layouts = ap layouts_of (sym (page_is answer passes)) ∙ behind_told (record { layouts = layouts; cycle = slice_index octets 0 }) layouts.pre next_far (both.stands h).step in
-        steps_by honest far silence s u said (quiet_said s.seen.request) new (rising Checked s out reply next_far next_silence)
-        (seen_as honest far silence (checked (Ok layouts) octets) session (told layouts.run layouts.isdu session) said new (rising Checked s out reply next_far next_silence) settled
+        steps_by facts s u said (quiet_said s.seen.request) new (rising Checked s out reply next_far next_silence)
+        (seen_as facts (checked (Ok layouts) octets) session (told layouts.run layouts.isdu session) said new (rising Checked s out reply next_far next_silence) settled
         (behind_session (record { layouts = layouts; cycle = slice_index octets 0 }) layouts.pre session)
         (in_startup Checked reply (Some layouts.run) (Some layouts.isdu) (told_length layouts.run.pd_out session.output) _ (seen.is_honest ∙ sym both.honesty) refl (told_told layouts.run.pd_out session.output)
         (told_shown session s.shown layouts.run layouts.isdu (knows_isdu s.terms.page) (output_length s.terms.page) valid seen.shown stands.wanted stands.length_told (lengths layouts asked) (sym (told_isdu layouts asked))) refl
@@ -264,7 +267,7 @@ module _ {W : Type 0} (honest : W → Bool) (far : W → Far) (silence : W → �
         (given Checked seen.mode) (settled.said_is ∙ sym idle)
 
     by_octets : (octets : List ℕ) → step_link link.state.step ≡ startup_link → IsSettled (page_after octets) session said new
-        → IsMet honest far silence wakes gives link.wire (page_after octets) (wire_of new.link) → FaultFits (page_after octets) next_far → Steps honest far silence s u said new
+        → IsMet facts link.wire (page_after octets) (wire_of new.link) → FaultFits (page_after octets) next_far → Steps facts s u said new
     by_octets octets linked settled both fault_fits =
         ⊎_elim
         (λ (e : (length octets == 10) ≡ true). by_page (layouts_of octets) octets refl linked (rw e at settled) (rw e at both) (rw e at fault_fits))
@@ -272,7 +275,7 @@ module _ {W : Type 0} (honest : W → Bool) (far : W → Far) (silence : W → �
         (cases_Bool (length octets == 10))
 
     by_step : (step : Step) → link.state.step ≡ step → IsSettled (step_after step reply) session said new
-        → IsMet honest far silence wakes gives link.wire (step_after step reply) (wire_of new.link) → FaultFits (step_after step reply) next_far → Steps honest far silence s u said new
+        → IsMet facts link.wire (step_after step reply) (wire_of new.link) → FaultFits (step_after step reply) next_far → Steps facts s u said new
     by_step (Read read) e settled both fault_fits = by_octets (read.items ++ slice_index reply.od.items 0 ∷ []) (ap step_link e) settled both fault_fits
     by_step (Ident page pre) e settled both fault_fits =
         went (Leave page pre) (told_stays (Some page.layouts) session valid (subst (λ (t : Step). IsTold (told_by t) session) e fits.1)) (ap step_link e) settled both
@@ -280,8 +283,8 @@ module _ {W : Type 0} (honest : W → Bool) (far : W → Far) (silence : W → �
         went (Enter page) (told_stays (Some page.layouts) session valid (subst (λ (t : Step). IsTold (told_by t) session) e fits.1)) (ap step_link e) settled both
     by_step (Leave page pre) e settled both fault_fits =
         let next : Station = rising (Rose ModePreoperate) s out reply next_far next_silence in
-        steps_by honest far silence s u said (quiet_said s.seen.request) new next
-        (settled_seen honest far silence (step_after (Leave page pre) reply) session said new next settled (record {
+        steps_by facts s u said (quiet_said s.seen.request) new next
+        (settled_seen facts (step_after (Leave page pre) reply) session said new next settled (record {
           is_honest = seen.is_honest ∙ sym both.honesty;
           far_is = refl;
           silence_is = refl;
@@ -310,8 +313,8 @@ module _ {W : Type 0} (honest : W → Bool) (far : W → Far) (silence : W → �
             k.present ∙ sym k.old ∙ ap (λ (p : Option Shape). is_some p) at_leave.0.pre_is
     by_step (Enter page) e settled both fault_fits =
         let next : Station = rising (Rose ModeOperate) s out reply next_far next_silence in
-        steps_by honest far silence s u said (quiet_said s.seen.request) new next
-        (seen_as honest far silence (step_after (Enter page) reply) session (entered reply.event session) said new next settled entered_is (record {
+        steps_by facts s u said (quiet_said s.seen.request) new next
+        (seen_as facts (step_after (Enter page) reply) session (entered reply.event session) said new next settled entered_is (record {
           is_honest = seen.is_honest ∙ sym both.honesty;
           far_is = refl;
           silence_is = refl;
@@ -342,12 +345,12 @@ module _ {W : Type 0} (honest : W → Bool) (far : W → Far) (silence : W → �
 
   by_reply : (answer : Option (List ℕ)) (reply : Option Reply) → good_reply startup_shape message answer ≡ reply → IsTrue (honest link.wire)
       → HonestExchange (far link.wire) (silence link.wire) octets answer next_far next_silence → IsSettled (startup_turned link.state reply) session said new
-      → IsMet honest far silence wakes gives link.wire (startup_turned link.state reply) (wire_of new.link) → FaultFits (startup_turned link.state reply) next_far → Steps honest far silence s u said new
+      → IsMet facts link.wire (startup_turned link.state reply) (wire_of new.link) → FaultFits (startup_turned link.state reply) next_far → Steps facts s u said new
   by_reply answer None good h passes settled both fault_fits = by_tries (link.state.sent.tries == 2) refl h (exchanges answer None passes good) settled both
   by_reply answer (Some reply) good h passes settled both fault_fits = by_step answer reply h passes (exchanges answer (Some reply) passes good) link.state.step refl settled both fault_fits
 
-  pub startup_seen : IsStartupTurn honest far silence wakes gives link.wire link.state session said new → Steps honest far silence s u said new
+  pub startup_seen : IsStartupTurn facts link.wire link.state session said new → Steps facts s u said new
   startup_seen turn =
-      let h : IsTrue (honest link.wire) = honest_by honest far silence (record { link = InStartup link; session = session }) s u seen stands in
+      let h : IsTrue (honest link.wire) = honest_by facts (record { link = InStartup link; session = session }) s u seen stands in
       let exchange = turn.exchange in
       by_reply (octets_in exchange.answer) (good_reply startup_shape message (octets_in exchange.answer)) refl h (exchange.passes h) exchange.settled exchange.both (turn.fault h)

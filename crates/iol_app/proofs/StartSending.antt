@@ -11,6 +11,7 @@ use Rattle.iol_far.specs.Level.{Quiet, Other, taken}
 use Rattle.iol_far.specs.Linked.{TextsAreHeard}
 use Rattle.iol_link.specs.Attempts.{good_reply}
 use Rattle.iol_link.specs.Honest.{HonestExchange}
+use Rattle.iol_link.specs.WireFacts.{WireFacts}
 use Rattle.iol_mode.specs.States.{lost as lost_outcome}
 use Rattle.iol_steps.specs.declared.mode.Mode.{Mode}
 use Rattle.iol_steps.specs.declared.mode.Mode.TheVariants.{Down as ModeDown, Operate as ModeOperate}
@@ -61,14 +62,16 @@ start_no_list s w reply page e = absurd (let k : false ≡ true = sym (page_read
 
 -- The third attempt, in every mode
 
-module _ {W : Type 0} (honest : W → Bool) (far : W → Far) (silence : W → ℕ) where
+module _ {W : Type 0} (facts : WireFacts W) where
+  open facts use {honest, far, silence}
+
   pub lost_steps : (law : LostGives) (s : Station) (u : Unseen) (w : Out) (session : SessionState) (said : Said) (new : StationState W)
       → Exchanges s u w (far (wire_of new.link)) (silence (wire_of new.link)) None → w.tries ≡ 2
       → s.is_honest ≡ honest (wire_of new.link) → s.terms.busy_limit ≡ session.limit → s.event_form ≡ is_refused session.events.reading → ShownSeen session (made s).shown → s.output_told ≡ session.output.told
-      → IsSettled lost_outcome session said new → said ≡ lost_said s.seen.request → Steps honest far silence s u said new
+      → IsSettled lost_outcome session said new → said ≡ lost_said s.seen.request → Steps facts s u said new
   lost_steps law s u w session said new exchanges third is_honest limit form shown told settled said_is =
       let next : Station = lost s (far (wire_of new.link)) (silence (wire_of new.link)) in
-      steps_by honest far silence s u said (lost_said s.seen.request) new next
-      (settled_seen honest far silence lost_outcome session said new next settled
-      (downed_seen honest far silence (wire_of new.link) (record { why = Some Lost }) session (made s) (seen_after Gone s.seen) is_honest limit form shown told refl refl refl))
+      steps_by facts s u said (lost_said s.seen.request) new next
+      (settled_seen facts lost_outcome session said new next settled
+      (downed_seen facts (wire_of new.link) (record { why = Some Lost }) session (made s) (seen_after Gone s.seen) is_honest limit form shown told refl refl refl))
       (law s u w (far (wire_of new.link)) (silence (wire_of new.link)) exchanges third) said_is

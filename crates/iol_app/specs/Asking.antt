@@ -8,6 +8,7 @@ use Rattle.iol_mseq.specs.Texts.{master_text}
 use Rattle.iol_mseq.specs.declared.master.MasterMsg.{MasterMsg}
 use Rattle.iol_isdu.specs.declared.values.Request.{Request}
 use Rattle.iol_link.specs.declared.wire.Rate.{Rate}
+use Rattle.iol_link.specs.WireFacts.{WireFacts}
 use Rattle.iol_mode.specs.Next.{message_out}
 use Rattle.iol_app.specs.declared.asked.Asked.{Asked}
 use Rattle.iol_app.specs.declared.asked.Asked.TheVariants.{Wake, Exchange}
@@ -79,9 +80,10 @@ module _ {W : Type 0} where
   asked_of s room = asked_in s.link.state s.session room
 
   -- one call of the wire is the one that was asked
-  module _ (wakes : W → Option Rate → W → Type 0)
-      (gives : W → List ℕ → Option (ArrayVec ℕ) → W → Type 0) where
+  module _ (facts : WireFacts W) where
+    open facts use {wake_gives, exchange_gives}
+
     abbrev pub IsCall : Asked → W → W → Type 0
-    IsCall Wake old new = (answer : Option Rate) × wakes old answer new
+    IsCall Wake old new = (answer : Option Rate) × wake_gives old answer new
     IsCall (Exchange octets) old new = (answer : Option (ArrayVec ℕ))
-        × gives old octets.items answer new
+        × exchange_gives old octets.items answer new

@@ -1,6 +1,7 @@
 -- A station that goes on over another wire.
 use Rattle.std.specs.Prelude.{ℕ, Bool}
 use Rattle.iol_far.specs.Far.{Far}
+use Rattle.iol_link.specs.WireFacts.{WireFacts}
 use Rattle.iol_steps.specs.Station.{Station}
 use Rattle.iol_mode.specs.Next.{AnyLink}
 use Rattle.iol_app.specs.StationState.{StationState}
@@ -12,7 +13,7 @@ module _ {W : Type 0} where
   rewired wire link = record link { wire = wire }
 
   -- What is seen of a station stays
-  module _ (honest : W → Bool) (far : W → Far) (silence : W → ℕ) where
+  module _ (facts : WireFacts W) where
     unfoldable pub RewireSteps : StationState W → StationState W → Type 0
-    RewireSteps old new = (s : Station) → IsSeen honest far silence old s
-        → IsSeen honest far silence new s
+    RewireSteps old new = (s : Station) → IsSeen facts old s
+        → IsSeen facts new s

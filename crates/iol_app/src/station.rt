@@ -10,7 +10,7 @@ ghost use Rattle.iol_app.specs.Due.{is_ready};
 ghost use Rattle.iol_app.specs.Reports.{is_reading, ReadingAfter};
 ghost use Rattle.iol_app.specs.Seen.{TurnSteps, NewSteps, BeginSteps, AbortSteps, WantSteps, RestartSteps, DenySteps, CancelSteps};
 ghost use Rattle.iol_app.specs.Asking.{asked_of, prepared, IsCall};
-ghost use Rattle.iol_app.specs.AskedCalls.{AskedWakes, AskedGives};
+ghost use Rattle.iol_app.specs.AskedCalls.{asked_facts};
 ghost use Rattle.iol_app.specs.Rewire.{rewired, RewireSteps};
 ghost use Rattle.iol_app.specs.StationState.{wire_of, mode_of, why_of, is_operating, waked_session, settled_session, attempt_session, IsAttemptSaid, IsReplyHearable, LinkFits, NextFits, IsSettledSaid, IsTurn};
 
@@ -68,7 +68,7 @@ impl<W: Wire> Station<W> {
         ensures mode { mode_of result.link ≡ Mode.Down }
         ensures why { why_of result.link ≡ None }
         ensures session { result.session ≡ opened busy }
-        ensures steps { NewSteps W.honest W.far W.silence busy result }
+        ensures steps { NewSteps W.facts busy result }
     {
         new_station_stands();
         Station {
@@ -157,7 +157,7 @@ impl<W: Wire> Station<W> {
         requires operate { mode_of self.now.link ≡ Mode.Operate }
         requires free { self.now.session.current ≡ None }
         requires isdu { self.now.session.isdu ≡ Some false }
-        ensures steps { DenySteps W.honest W.far W.silence self.now }
+        ensures steps { DenySteps W.facts self.now }
     {
         denial_changes_nothing();
     }
@@ -169,7 +169,7 @@ impl<W: Wire> Station<W> {
         requires isdu { self.old.session.isdu ≢ Some false }
         ensures station { self.new
             ≡ record self.old { session = begun_in request self.old.session } }
-        ensures steps { BeginSteps W.honest W.far W.silence request self.old self.new }
+        ensures steps { BeginSteps W.facts request self.old self.new }
     {
         begin_takes_the_request();
         self.session.begin(request);
@@ -189,8 +189,8 @@ impl<W: Wire> Station<W> {
         requires { IsSome self.old.session.current }
         ensures station { self.new
             ≡ record self.old { session = aborted_in cause self.old.session } }
-        ensures steps { AbortSteps W.honest W.far W.silence cause self.old self.new }
-        ensures cancel { CancelSteps W.honest W.far W.silence cause self.old self.new }
+        ensures steps { AbortSteps W.facts cause self.old self.new }
+        ensures cancel { CancelSteps W.facts cause self.old self.new }
     {
         cancel_marks_the_request();
         self.session.abort(cause);
@@ -204,8 +204,7 @@ impl<W: Wire> Station<W> {
         ensures ok { OnOk result (self.new
             ≡ record self.old { session = wanting (Some image.now) self.old.session }) }
         ensures err { OnErr result (self.new ≡ self.old) }
-        ensures steps { OnOk result (WantSteps W.honest W.far W.silence (Some image.now) self.old
-            self.new) }
+        ensures steps { OnOk result (WantSteps W.facts (Some image.now) self.old self.new) }
     {
         wanted_output_stands();
         self.session.set_output(image)
@@ -214,7 +213,7 @@ impl<W: Wire> Station<W> {
     /// Wants no output.
     pub fn clear_output(&mut self)
         ensures station { self.new ≡ record self.old { session = wanting None self.old.session } }
-        ensures steps { WantSteps W.honest W.far W.silence None self.old self.new }
+        ensures steps { WantSteps W.facts None self.old self.new }
     {
         wanted_output_stands();
         self.session.clear_output();
@@ -227,7 +226,7 @@ impl<W: Wire> Station<W> {
         ensures why { why_of self.new.link ≡ None }
         ensures session { self.new.session ≡ left self.old.session }
         ensures cut { result ≡ is_some self.old.session.current }
-        ensures steps { RestartSteps W.honest W.far W.silence self.old self.new }
+        ensures steps { RestartSteps W.facts self.old self.new }
     {
         restart_cuts_the_request();
         self.link.leave();
@@ -244,17 +243,15 @@ impl<W: Wire> Station<W> {
     pub fn turn(&mut self, room: bool) -> Said
         ensures request { request_in self.new.session.current
             ≡ request_after (request_in self.old.session.current) result }
-        ensures turn { IsTurn W.honest W.far W.silence W.wake_gives W.exchange_gives room self.old
-            result self.new }
+        ensures turn { IsTurn W.facts room self.old result self.new }
         ensures ends { EndsRequest result (request_in self.old.session.current) }
         ensures reading { ReadingAfter room (is_reading self.old.session) result
             (is_reading self.new.session) }
-        ensures steps { TurnSteps W.honest W.far W.silence self.old result self.new }
-        ensures asked { IsCall W.wake_gives W.exchange_gives (asked_of self.old room)
+        ensures steps { TurnSteps W.facts self.old result self.new }
+        ensures asked { IsCall W.facts (asked_of self.old room)
             (wire_of self.old.link) (wire_of self.new.link) }
-        ensures exact { IsTurn W.honest W.far W.silence
-            (AskedWakes W.wake_gives (asked_of self.old room))
-            (AskedGives W.exchange_gives (asked_of self.old room)) room self.old result self.new }
+        ensures exact { IsTurn (asked_facts W.facts (asked_of self.old room)) room
+            self.old result self.new }
     {
         let mut said = Said::Idle;
         self.turn_into(room, &mut said);
@@ -267,17 +264,15 @@ impl<W: Wire> Station<W> {
         requires idle { said.old ≡ Said.Idle }
         ensures request { request_in self.new.session.current
             ≡ request_after (request_in self.old.session.current) said.new }
-        ensures turn { IsTurn W.honest W.far W.silence W.wake_gives W.exchange_gives room self.old
-            said.new self.new }
+        ensures turn { IsTurn W.facts room self.old said.new self.new }
         ensures ends { EndsRequest said.new (request_in self.old.session.current) }
         ensures reading { ReadingAfter room (is_reading self.old.session) said.new
             (is_reading self.new.session) }
-        ensures steps { TurnSteps W.honest W.far W.silence self.old said.new self.new }
-        ensures asked { IsCall W.wake_gives W.exchange_gives (asked_of self.old room)
+        ensures steps { TurnSteps W.facts self.old said.new self.new }
+        ensures asked { IsCall W.facts (asked_of self.old room)
             (wire_of self.old.link) (wire_of self.new.link) }
-        ensures exact { IsTurn W.honest W.far W.silence
-            (AskedWakes W.wake_gives (asked_of self.old room))
-            (AskedGives W.exchange_gives (asked_of self.old room)) room self.old said.new self.new }
+        ensures exact { IsTurn (asked_facts W.facts (asked_of self.old room)) room
+            self.old said.new self.new }
     {
         station_laws();
         self.turned(room, said);
@@ -287,8 +282,7 @@ impl<W: Wire> Station<W> {
         requires idle { said.old ≡ Said.Idle }
         ensures request { request_in self.new.session.current
             ≡ request_after (request_in self.old.session.current) said.new }
-        ensures turn { IsTurn W.honest W.far W.silence W.wake_gives W.exchange_gives room self.old
-            said.new self.new }
+        ensures turn { IsTurn W.facts room self.old said.new self.new }
         ensures fits { LinkFits self.old.link self.old.session }
         ensures valid { IsSession self.old.session }
     {
@@ -307,12 +301,12 @@ impl<W: Wire> Station<W> {
     /// Goes on over this wire, which stands to the same device as the one before;
     /// that one is handed back.
     pub fn rewire(&mut self, wire: W) -> W
-        requires honest { W.honest wire ≡ W.honest (wire_of self.old.link) }
-        requires far { W.far wire ≡ W.far (wire_of self.old.link) }
-        requires silence { W.silence wire ≡ W.silence (wire_of self.old.link) }
+        requires honest { W.facts.honest wire ≡ W.facts.honest (wire_of self.old.link) }
+        requires far { W.facts.far wire ≡ W.facts.far (wire_of self.old.link) }
+        requires silence { W.facts.silence wire ≡ W.facts.silence (wire_of self.old.link) }
         ensures station { self.new ≡ record self.old { link = rewired wire self.old.link } }
         ensures before { result ≡ wire_of self.old.link }
-        ensures steps { RewireSteps W.honest W.far W.silence self.old self.new }
+        ensures steps { RewireSteps W.facts self.old self.new }
     {
         self.link.rewire(wire)
     }
@@ -326,7 +320,7 @@ fn waked<W: Wire>(link: &mut AnyLink<W>, session: &mut Session, said: &mut Said)
     ensures request { request_in session.new.current
         ≡ request_after (request_in session.old.current) said.new }
     ensures turn { (room : Bool)
-        → IsTurn W.honest W.far W.silence W.wake_gives W.exchange_gives room
+        → IsTurn W.facts room
         (record { link = link.old; session = session.old }) said.new
         (record { link = link.new; session = session.new }) }
     ensures fits { LinkFits link.new session.new }
@@ -362,7 +356,7 @@ fn risen<W: Wire>(link: &mut AnyLink<W>, session: &mut Session, said: &mut Said)
     ensures request { request_in session.new.current
         ≡ request_after (request_in session.old.current) said.new }
     ensures turn { (room : Bool)
-        → IsTurn W.honest W.far W.silence W.wake_gives W.exchange_gives room
+        → IsTurn W.facts room
         (record { link = link.old; session = session.old }) said.new
         (record { link = link.new; session = session.new }) }
     ensures fits { LinkFits link.new session.new }
@@ -403,8 +397,7 @@ fn operated<W: Wire>(link: &mut AnyLink<W>, session: &mut Session, room: bool, s
     requires fits { LinkFits link.old session.old }
     ensures request { request_in session.new.current
         ≡ request_after (request_in session.old.current) said.new }
-    ensures turn { IsTurn W.honest W.far W.silence W.wake_gives W.exchange_gives room
-        (record { link = link.old; session = session.old }) said.new
+    ensures turn { IsTurn W.facts room (record { link = link.old; session = session.old }) said.new
         (record { link = link.new; session = session.new }) }
     ensures fits { LinkFits link.new session.new }
 {

@@ -7,6 +7,7 @@ use Rattle.std.proofs.lemmas.List.Folds.{list_any-append}
 use Rattle.arrayvec.specs.ArrayVec.{ArrayVec}
 use Rattle.iol_far.specs.Far.{Far}
 use Rattle.iol_link.specs.declared.wire.Rate.{Rate}
+use Rattle.iol_link.specs.WireFacts.{WireFacts}
 use Rattle.iol_port.specs.declared.call.Call.{Call}
 use Rattle.iol_port.specs.declared.call.Call.TheVariants.{Turn}
 use Rattle.iol_port.specs.declared.call.Answered.{Answered}
@@ -40,12 +41,12 @@ pub calls_in-first : (lines rest : List (ℕ × List ℕ)) (number : ℕ) (line 
     → calls_in lines ≡ line_calls call ++ calls_in rest
 calls_in-first lines rest number line call is fits = ap calls_in is ∙ ap (λ (o : Option RunLine). option_map_or calls_of o [] ++ calls_in rest) fits
 
-module _ {W : Type 0} (honest : W → Bool) (far : W → Far) (silence : W → ℕ) (wakes : W → Option Rate → W → Type 0) (gives : W → List ℕ → Option (ArrayVec ℕ) → W → Type 0) where
+module _ {W : Type 0} (facts : WireFacts W) where
   abbrev Made : Parts W → List Call → List Answered → Parts W → Type 0
-  Made p calls answers q = RunGives honest far silence wakes gives p calls answers q
+  Made p calls answers q = RunGives facts p calls answers q
 
   abbrev Plays : Parts W → List Call → Parts W → List ℕ → Type 0
-  Plays p calls q text = PortPlays honest far silence wakes gives p calls q text
+  Plays p calls q text = PortPlays facts p calls q text
 
   -- what the calls of a run answer, and those that come after it
   answers_text-append : (p q : Parts W) (calls more : List Call) (replies others : List Answered) → Made p calls replies q
@@ -66,12 +67,12 @@ module _ {W : Type 0} (honest : W → Bool) (far : W → Far) (silence : W → �
   made_join p q r (call ∷ calls) more [] others made later = absurd made
 
   -- and so it is for what it stands for
-  runs_none : (p : Parts W) → Runs honest far silence p [] [] p
+  runs_none : (p : Parts W) → Runs facts p [] [] p
   unfolding Runs
   runs_none p a stands = (a, refl, stands)
 
-  runs_more : RunsJoin → (p q r : Parts W) (calls more : List Call) (replies others : List Answered) → Runs honest far silence p calls replies q → Runs honest far silence q more others r
-      → Runs honest far silence p (calls ++ more) (replies ++ others) r
+  runs_more : RunsJoin → (p q r : Parts W) (calls more : List Call) (replies others : List Answered) → Runs facts p calls replies q → Runs facts q more others r
+      → Runs facts p (calls ++ more) (replies ++ others) r
   unfolding Runs
   runs_more join p q r calls more replies others first second a stands =
       let (b, run, there) = first a stands in
@@ -104,7 +105,7 @@ module _ {W : Type 0} (honest : W → Bool) (far : W → Far) (silence : W → �
 
   -- the calls of a run are played, and what they answered is printed
   pub run_played : {T E : Type 0} (r : Result T E) (p q : Parts W) (calls : List Call) (answers asked shown : List Answered) (old new : List ℕ)
-      → Made p calls answers q → Runs honest far silence p calls answers q → asked ≡ answers → shown ≡ answers → false ≡ list_any lacks_memory asked → OnOk r (new ≡ old ++ answers_text calls shown)
+      → Made p calls answers q → Runs facts p calls answers q → asked ≡ answers → shown ≡ answers → false ≡ list_any lacks_memory asked → OnOk r (new ≡ old ++ answers_text calls shown)
       → OnOk r ((text : List ℕ) × (new ≡ old ++ text) × Plays p calls q text)
   run_played (Ok x) p q calls answers asked shown old new made runs these those granted wrote =
       let none : list_any lacks_memory answers ≡ false = ap (list_any lacks_memory) (sym these) ∙ sym granted in (

@@ -8,7 +8,7 @@ use Rattle.iol_mseq.specs.Shape.{Shape}
 use Rattle.iol_page.specs.declared.page.Layouts.{Layouts}
 use Rattle.iol_far.specs.Far.{Far}
 use Rattle.iol_link.specs.declared.wire.Rate.{Rate}
-use Rattle.iol_tap.specs.Tapped.{Tapped, through, wake_noted, exchange_noted, TapWakes, TapGives, IsNoteOf}
+use Rattle.iol_tap.specs.Tapped.{Tapped, wake_noted, exchange_noted, tap_facts, IsNoteOf}
 use Rattle.iol_tap.specs.declared.tap.Passed.{Passed}
 use Rattle.iol_tap.specs.declared.tap.Passed.TheVariants as passed
 use Rattle.iol_steps.specs.declared.mode.Mode.{Mode}
@@ -28,9 +28,10 @@ use Rattle.iol_port.specs.EveryWire.{CallGives}
 use Rattle.iol_commands.specs.Passing.{PrintsPassed}
 use Rattle.iol_far.specs.declared.carried.Carried.{Carried}
 use Rattle.iol_sim.specs.Params.{Stores}
-use Rattle.iol_sim.specs.Sim.{Simulated, IsWake, IsExchange}
+use Rattle.iol_sim.specs.Sim.{Simulated, sim_facts}
 use Rattle.iol_sim.specs.declared.params.Entry.{Entry}
 use Rattle.iol_page.specs.Page.{layouts_of}
+use Rattle.iol_link.specs.WireFacts.{WireFacts}
 use Rattle.iol_script.specs.Script.{ScriptValue, script_in, calls_in}
 use Rattle.iol_script.specs.Text.{numbered_lines}
 use Rattle.iol_commands.proofs.RunLemmas.{carried_is}
@@ -57,9 +58,9 @@ flows_join a b c x y z text later p q = record {
       ∙ ap (λ (l : List ℕ). p.written ++ l) q.rest ∙ sym (append_assoc p.written q.written z);
 }
 
-module _ {W : Type 0} (honest : W → Bool) (far : W → Far) (silence : W → ℕ) (wakes : W → Option Rate → W → Type 0) (gives : W → List ℕ → Option (ArrayVec ℕ) → W → Type 0) where
+module _ {W : Type 0} (facts : WireFacts W) where
   -- a call of the wire, and the note of it
-  noted : (asked : Asked) (old new : Tapped W) → IsCall (TapWakes wakes gives) (TapGives wakes gives) asked old new → (note : Passed) × (new.last ≡ Some note) × IsNoteOf wakes gives note old.wire new.wire
+  noted : (asked : Asked) (old new : Tapped W) → IsCall (tap_facts facts) asked old new → (note : Passed) × (new.last ≡ Some note) × IsNoteOf facts note old.wire new.wire
   noted Wake old new (answer, called) = (wake_noted answer, called.1, called.0)
   noted (Exchange octets) old new (answer, called) = (exchange_noted octets.items answer, called.1, (octets.items, refl, called.0))
 
@@ -67,13 +68,13 @@ module _ {W : Type 0} (honest : W → Bool) (far : W → Far) (silence : W → �
     -- what passes in a call is what is noted of it
     passes_of : (call : Call) (asked : Asked) (old new : Tapped W) (s : Stage W) (t : Stage W) (layout : Shape) (text : List ℕ)
         → wire_at s ≡ old.wire → wire_at t ≡ new.wire → layout ≡ layout_in s.port.session.mode layouts
-        → IsWireCall (TapWakes wakes gives) (TapGives wakes gives) call asked old new → PrintsNoteOf call s.number layout new.last t.number text
-        → Passes honest far silence wakes gives layouts s call t text
+        → IsWireCall (tap_facts facts) call asked old new → PrintsNoteOf call s.number layout new.last t.number text
+        → Passes facts layouts s call t text
     passes_of call.Turn asked old new s t layout text before after shape called printed =
         let (note, last, is) = noted asked old new called in
         let shown : PrintsNote s.number (layout_in s.port.session.mode layouts) (Some note) t.number text =
         subst (λ (l : Shape). PrintsNote s.number l (Some note) t.number text) shape (subst (λ (o : Option Passed). PrintsNote s.number layout o t.number text) last printed) in
-        (note, subst (λ (w : W). IsNoteOf wakes gives note w (wire_at t)) (sym before) (subst (λ (w : W). IsNoteOf wakes gives note old.wire w) (sym after) is), shown.0, shown.1)
+        (note, subst (λ (w : W). IsNoteOf facts note w (wire_at t)) (sym before) (subst (λ (w : W). IsNoteOf facts note old.wire w) (sym after) is), shown.0, shown.1)
     passes_of (call.Submit request) asked old new s t layout text before after shape called printed = (printed.0, after ∙ ap (λ (w : Tapped W). w.wire) called ∙ sym before, printed.1)
     passes_of (call.SubmitUrgent request) asked old new s t layout text before after shape called printed = (printed.0, after ∙ ap (λ (w : Tapped W). w.wire) called ∙ sym before, printed.1)
     passes_of (call.Collect ticket) asked old new s t layout text before after shape called printed = (printed.0, after ∙ ap (λ (w : Tapped W). w.wire) called ∙ sym before, printed.1)
@@ -87,57 +88,57 @@ module _ {W : Type 0} (honest : W → Bool) (far : W → Far) (silence : W → �
     passes_of call.Status asked old new s t layout text before after shape called printed = (printed.0, after ∙ ap (λ (w : Tapped W). w.wire) called ∙ sym before, printed.1)
     passes_of call.Archive asked old new s t layout text before after shape called printed = (printed.0, after ∙ ap (λ (w : Tapped W). w.wire) called ∙ sym before, printed.1)
 
-    traces_join : (s m t : Stage W) (calls more : List Call) (text later : List ℕ) → Traces honest far silence wakes gives layouts s calls m text → Traces honest far silence wakes gives layouts m more t later → Traces honest far silence wakes gives layouts s (calls ++ more) t (text ++ later)
+    traces_join : (s m t : Stage W) (calls more : List Call) (text later : List ℕ) → Traces facts layouts s calls m text → Traces facts layouts m more t later → Traces facts layouts s (calls ++ more) t (text ++ later)
     traces_join s m t [] more text later (same, none) second =
-        subst (λ (l : List ℕ). Traces honest far silence wakes gives layouts s more t (l ++ later)) (sym none) (subst (λ (x : Stage W). Traces honest far silence wakes gives layouts x more t later) same second)
+        subst (λ (l : List ℕ). Traces facts layouts s more t (l ++ later)) (sym none) (subst (λ (x : Stage W). Traces facts layouts x more t later) same second)
     traces_join s m t (call ∷ calls) more text later (mid, first, rest, is, one, others) second =
         (mid, first, rest ++ later, ap (λ (l : List ℕ). l ++ later) is ∙ append_assoc first rest later, one, traces_join mid m t calls more rest later others second)
 
-module _ {W : Type 0} (honest : W → Bool) (far : W → Far) (silence : W → ℕ) (wakes : W → Option Rate → W → Type 0) (gives : W → List ℕ → Option (ArrayVec ℕ) → W → Type 0) (layouts : Layouts) where
+module _ {W : Type 0} (facts : WireFacts W) (layouts : Layouts) where
   -- no call is made
-  pub port_traces_none : (n : ℕ) (p : Parts (Tapped W)) → PortTraces honest far silence wakes gives layouts n p [] n p []
+  pub port_traces_none : (n : ℕ) (p : Parts (Tapped W)) → PortTraces facts layouts n p [] n p []
   unfolding PortTraces
   port_traces_none n p a stands = (a, (refl, refl), stands)
 
   -- more calls are made
   pub port_traces_join : (n m k : ℕ) (p q r : Parts (Tapped W)) (calls more : List Call) (text later : List ℕ)
-      → PortTraces honest far silence wakes gives layouts n p calls m q text → PortTraces honest far silence wakes gives layouts m q more k r later
-      → PortTraces honest far silence wakes gives layouts n p (calls ++ more) k r (text ++ later)
+      → PortTraces facts layouts n p calls m q text → PortTraces facts layouts m q more k r later
+      → PortTraces facts layouts n p (calls ++ more) k r (text ++ later)
   unfolding PortTraces
   port_traces_join n m k p q r calls more text later first second a stands =
       let (b, traces, there) = first a stands in
       let (c, goes_on, last) = second b there in
-      (c, traces_join honest far silence wakes gives layouts (stage_of n a p) (stage_of m b q) (stage_of k c r) calls more text later traces goes_on, last)
+      (c, traces_join facts layouts (stage_of n a p) (stage_of m b q) (stage_of k c r) calls more text later traces goes_on, last)
 
   -- one call, by what its port says of itself, of the call and of the wire
   pub call_traced : (n m : ℕ) (p q : Parts (Tapped W)) (made : Call) (reply : Answered) (status : Status) (asked : Asked) (text passed : List ℕ)
-      → Follows (through honest) (through far) (through silence) p call.Status (answered.Status status) p
-      → Follows (through honest) (through far) (through silence) p made reply q
-      → CallGives (through honest) (through far) (through silence) (TapWakes wakes gives) (TapGives wakes gives) p made reply q
-      → IsWireCall (TapWakes wakes gives) (TapGives wakes gives) made asked (wire_of p.station.link) (wire_of q.station.link)
+      → Follows (tap_facts facts) p call.Status (answered.Status status) p
+      → Follows (tap_facts facts) p made reply q
+      → CallGives (tap_facts facts) p made reply q
+      → IsWireCall (tap_facts facts) made asked (wire_of p.station.link) (wire_of q.station.link)
       → lacks_memory reply ≡ false → PrintsNoteOf made n (layout_in status.mode layouts) (wire_of q.station.link).last m passed
-      → text ≡ passed ++ answer_text made reply → PortTraces honest far silence wakes gives layouts n p (made ∷ []) m q text
+      → text ≡ passed ++ answer_text made reply → PortTraces facts layouts n p (made ∷ []) m q text
   unfolding PortTraces Follows
   call_traced n m p q made reply status asked text passed says goes gives_it called granted printed is a stands =
       let (same, said, still) = says a stands in
       let (b, call_is, there) = goes a stands in
       let inner : status ≡ record { mode = a.session.mode; why = a.session.why; event_form = false } = cc (said.0) in
       let mode : status.mode ≡ a.session.mode = ap (λ (s : Status). s.mode) inner in
-      let passes : Passes honest far silence wakes gives layouts (stage_of n a p) made (stage_of m b q) passed =
-      passes_of honest far silence wakes gives layouts made asked (wire_of p.station.link) (wire_of q.station.link) (stage_of n a p) (stage_of m b q) (layout_in status.mode layouts) passed
+      let passes : Passes facts layouts (stage_of n a p) made (stage_of m b q) passed =
+      passes_of facts layouts made asked (wire_of p.station.link) (wire_of q.station.link) (stage_of n a p) (stage_of m b q) (layout_in status.mode layouts) passed
       refl refl (ap (λ (x : Mode). layout_in x layouts) mode) called printed in
-      let one : TracesCall honest far silence wakes gives layouts (stage_of n a p) made (stage_of m b q) text = record { reply = reply; passed = passed; call_is = call_is; made = gives_it; granted = granted; passes = passes; text_is = is } in
+      let one : TracesCall facts layouts (stage_of n a p) made (stage_of m b q) text = record { reply = reply; passed = passed; call_is = call_is; made = gives_it; granted = granted; passes = passes; text_is = is } in
       (b, (stage_of m b q, text, [], sym (append-nil text), one, (refl, refl)), there)
 
   -- the same as it is printed
   pub call_printed : {T E : Type 0} (r : Result T E) (old mid new : List ℕ) (n m : ℕ) (p q : Parts (Tapped W)) (made : Call) (reply : Answered) (status : Status) (asked : Asked) (layout : Shape) (wire : Tapped W) (passed : List ℕ)
-      → Follows (through honest) (through far) (through silence) p call.Status (answered.Status status) p
-      → Follows (through honest) (through far) (through silence) p made reply q
-      → CallGives (through honest) (through far) (through silence) (TapWakes wakes gives) (TapGives wakes gives) p made reply q
-      → IsWireCall (TapWakes wakes gives) (TapGives wakes gives) made asked (wire_of p.station.link) (wire_of q.station.link)
+      → Follows (tap_facts facts) p call.Status (answered.Status status) p
+      → Follows (tap_facts facts) p made reply q
+      → CallGives (tap_facts facts) p made reply q
+      → IsWireCall (tap_facts facts) made asked (wire_of p.station.link) (wire_of q.station.link)
       → false ≡ lacks_memory reply → layout ≡ layout_in status.mode layouts → wire ≡ wire_of q.station.link → PrintsNoteOf made n layout wire.last m passed
       → mid ≡ old ++ passed → OnOk r (new ≡ mid ++ answer_text made reply)
-      → OnOk r ((text : List ℕ) × (new ≡ old ++ text) × PortTraces honest far silence wakes gives layouts n p (made ∷ []) m q text)
+      → OnOk r ((text : List ℕ) × (new ≡ old ++ text) × PortTraces facts layouts n p (made ∷ []) m q text)
   call_printed (Ok x) old mid new n m p q made reply status asked layout wire passed says goes gives_it called granted shape same printed before wrote =
       let text : List ℕ = passed ++ answer_text made reply in
       let noted_by : PrintsNoteOf made n (layout_in status.mode layouts) (wire_of q.station.link).last m passed =
@@ -150,7 +151,7 @@ module _ {W : Type 0} (honest : W → Bool) (far : W → Far) (silence : W → �
 
   -- some calls are traced, and what is printed is written or waits
   abbrev pub Goes : Layouts → Option (List ℕ) → Option (List ℕ) → List ℕ → List ℕ → ℕ → Parts (Tapped W) → List Call → ℕ → Parts (Tapped W) → Type 0
-  Goes of a b x y n p calls m q = (text : List ℕ) × Flows a b x y text × PortTraces honest far silence wakes gives of n p calls m q text
+  Goes of a b x y n p calls m q = (text : List ℕ) × Flows a b x y text × PortTraces facts of n p calls m q text
 
   pub goes_none : (a : Option (List ℕ)) (x : List ℕ) (n : ℕ) (p : Parts (Tapped W)) → Goes layouts a a x x n p [] n p
   goes_none a x n p = ([], flows_none a x, port_traces_none n p)
@@ -158,10 +159,10 @@ module _ {W : Type 0} (honest : W → Bool) (far : W → Far) (silence : W → �
   pub goes_join : (same : Layouts) (a b c : Option (List ℕ)) (x y z : List ℕ) (n m k : ℕ) (p q r : Parts (Tapped W)) (calls more all : List Call)
       → same ≡ layouts → calls ++ more ≡ all → Goes layouts a b x y n p calls m q → Goes same b c y z m q more k r → Goes layouts a c x z n p all k r
   goes_join same a b c x y z n m k p q r calls more all is whole (text, flows, traces) (later, flows_on, traces_on) =
-      let traced : PortTraces honest far silence wakes gives layouts m q more k r later = subst (λ (l : Layouts). PortTraces honest far silence wakes gives l m q more k r later) is traces_on in (
+      let traced : PortTraces facts layouts m q more k r later = subst (λ (l : Layouts). PortTraces facts l m q more k r later) is traces_on in (
         text ++ later,
         flows_join a b c x y z text later flows flows_on,
-        subst (λ (l : List Call). PortTraces honest far silence wakes gives layouts n p l k r (text ++ later)) whole (port_traces_join n m k p q r calls more text later traces traced),
+        subst (λ (l : List Call). PortTraces facts layouts n p l k r (text ++ later)) whole (port_traces_join n m k p q r calls more text later traces traced),
       )
 
 -- a text is printed, and some of what waits is written
@@ -194,20 +195,14 @@ whole_written (Ok v) a b d empty waits out shown text record_is P none flows is 
 whole_written (Err v) a b d empty waits out shown text record_is P none flows is same holds wrote = tt
 
 -- the wire of a script, as a port over a tap on it sees it
-abbrev sim_honest : Tapped (Simulated (List Entry)) → Bool
-sim_honest = through (λ (sim : Simulated (List Entry)). true)
-
-abbrev sim_far : Tapped (Simulated (List Entry)) → Far
-sim_far = through (λ (sim : Simulated (List Entry)). sim.device.far)
-
-abbrev sim_silence : Tapped (Simulated (List Entry)) → ℕ
-sim_silence = through (λ (sim : Simulated (List Entry)). sim.silence)
+abbrev tapped : WireFacts (Tapped (Simulated (List Entry)))
+tapped = tap_facts (sim_facts Stores)
 
 -- a port over a tap on the first wire of a script, and its calls traced to the end
 pub traced_out : (script : ScriptValue) (layouts : Layouts) (p q : Parts (Tapped (Simulated (List Entry)))) (a : PortState) (opening : Opening (Tapped (Simulated (List Entry)))) (tap : Tapped (Simulated (List Entry))) (of : Layouts) (n m : ℕ) (calls : List Call) (text : List ℕ) (entries : List Carried)
-    → of ≡ layouts → n ≡ 1 → StandsFor sim_honest sim_far sim_silence p a → a ≡ first_port script.limits script.page
-    → opening ≡ opening_of sim_honest sim_far sim_silence script.limits tap → tap ≡ first_tap script → IsOpened opening p
-    → PortTraces (λ (sim : Simulated (List Entry)). true) (λ (sim : Simulated (List Entry)). sim.device.far) (λ (sim : Simulated (List Entry)). sim.silence) (IsWake Stores) (IsExchange Stores) of n p calls m q text
+    → of ≡ layouts → n ≡ 1 → StandsFor tapped p a → a ≡ first_port script.limits script.page
+    → opening ≡ opening_of tapped script.limits tap → tap ≡ first_tap script → IsOpened opening p
+    → PortTraces (sim_facts Stores) of n p calls m q text
     → entries ≡ (wire_of q.station.link).wire.device.far.carried → TracesOut script layouts calls (text ++ record_text entries)
 unfolding PortTraces
 traced_out script layouts p q a opening tap of n m calls text entries told from_one stands first over tap_is opens goes those =
@@ -215,10 +210,10 @@ traced_out script layouts p q a opening tap of n m calls text entries told from_
     let begun : Stage (Simulated (List Entry)) = stage_of n a p in
     let stage : begun ≡ first_stage script p =
     ap (λ (k : ℕ). stage_of k a p) from_one ∙ ap (λ (x : PortState). stage_of 1 x p) first in
-    let carried : (wire_of q.station.link).wire.device.far.carried ≡ b.session.carried = carried_is sim_honest sim_far sim_silence q b there in
+    let carried : (wire_of q.station.link).wire.device.far.carried ≡ b.session.carried = carried_is tapped q b there in
     record {
       first = p;
-      opens = subst (λ (o : Opening (Tapped (Simulated (List Entry)))). IsOpened o p) (over ∙ ap (λ (t : Tapped (Simulated (List Entry))). opening_of sim_honest sim_far sim_silence script.limits t) tap_is) opens;
+      opens = subst (λ (o : Opening (Tapped (Simulated (List Entry)))). IsOpened o p) (over ∙ ap (λ (t : Tapped (Simulated (List Entry))). opening_of tapped script.limits t) tap_is) opens;
       last = stage_of m b q;
       calls_text = text;
       traces = subst (λ (s : Stage (Simulated (List Entry))). TracesOverWire layouts s calls (stage_of m b q) text) stage

@@ -7,9 +7,10 @@ use Rattle.iol_book.specs.declared.fault.BookFault.TheVariants.{OutOfMemory}
 use Rattle.iol_far.specs.Far.{Far}
 use Rattle.iol_far.specs.Far as device
 use Rattle.iol_link.specs.declared.wire.Rate.{Rate}
+use Rattle.iol_link.specs.WireFacts.{WireFacts}
 use Rattle.iol_sim.specs.Params.{Stores}
 use Rattle.iol_sim.specs.declared.params.Entry.{Entry}
-use Rattle.iol_sim.specs.Sim.{Simulated, IsWake, IsExchange}
+use Rattle.iol_sim.specs.Sim.{Simulated, sim_facts}
 use Rattle.iol_app.specs.StationState.{wire_of}
 use Rattle.iol_port.specs.declared.call.Call.{Call}
 use Rattle.iol_port.specs.declared.call.Answered.{Answered}
@@ -49,16 +50,14 @@ first_wire script = record {
 
 -- Calls are made on a port, one after the other: none of the answers lacks memory,
 -- and the text is what they are.
-module _ {W : Type 0} (honest : W → Bool) (far : W → Far) (silence : W → ℕ)
-    (wakes : W → Option Rate → W → Type 0)
-    (gives : W → List ℕ → Option (ArrayVec ℕ) → W → Type 0) where
+module _ {W : Type 0} (facts : WireFacts W) where
   pub record PortPlays (p : Parts W) (calls : List Call) (next : Parts W)
       (text : List ℕ) : Type 0 where
     pub answers : List Answered
     -- each call does to the port's own parts, and to its wire, just what a call does there
-    pub made : RunGives honest far silence wakes gives p calls answers next
+    pub made : RunGives facts p calls answers next
     -- and whatever abstract port it stands for, that makes these calls with the same answers
-    pub runs : Runs honest far silence p calls answers next
+    pub runs : Runs facts p calls answers next
     pub granted : list_any lacks_memory answers ≡ false
     pub text_is : text ≡ answers_text calls answers
 
@@ -66,14 +65,12 @@ module _ {W : Type 0} (honest : W → Bool) (far : W → Far) (silence : W → �
 abbrev pub MadeOverWire : Parts (Simulated (List Entry)) → List Call → List Answered
     → Parts (Simulated (List Entry)) → Type 0
 MadeOverWire p calls answers next =
-    RunGives (λ sim. true) (λ sim. sim.device.far) (λ sim. sim.silence) (IsWake Stores)
-    (IsExchange Stores) p calls answers next
+    RunGives (sim_facts Stores) p calls answers next
 
 -- with what the port of a script is opened
 abbrev pub first_opening : ScriptValue → Opening (Simulated (List Entry))
 first_opening script =
-    opening_of (λ sim. true) (λ sim. sim.device.far) (λ sim. sim.silence) script.limits
-    (first_wire script)
+    opening_of (sim_facts Stores) script.limits (first_wire script)
 
 -- What is printed for calls: what they answer, and then the device's record. They
 -- are made on a new port over the script's wire; and the abstract port over the new

@@ -7,11 +7,12 @@ use Rattle.iol_page.specs.Page.{layouts_of}
 use Rattle.iol_page.specs.declared.page.Layouts.{Layouts}
 use Rattle.iol_far.specs.Far.{Far}
 use Rattle.iol_link.specs.declared.wire.Rate.{Rate}
-use Rattle.iol_tap.specs.Tapped.{Tapped, through, TapWakes, TapGives, IsNoteOf}
+use Rattle.iol_link.specs.WireFacts.{WireFacts}
+use Rattle.iol_tap.specs.Tapped.{Tapped, tap_facts, IsNoteOf}
 use Rattle.iol_tap.specs.declared.tap.Passed.{Passed}
 use Rattle.iol_sim.specs.Params.{Stores}
 use Rattle.iol_sim.specs.declared.params.Entry.{Entry}
-use Rattle.iol_sim.specs.Sim.{Simulated, IsWake, IsExchange}
+use Rattle.iol_sim.specs.Sim.{Simulated, sim_facts}
 use Rattle.iol_steps.specs.declared.mode.Mode.{Mode}
 use Rattle.iol_steps.specs.declared.mode.Mode.TheVariants.{Down, Startup, Preoperate, Operate}
 use Rattle.iol_app.specs.StationState.{wire_of}
@@ -44,14 +45,12 @@ pub record Stage (W : Type 0) : Type 0 where
 abbrev pub wire_at : {W : Type 0} → Stage W → W
 wire_at s = (wire_of s.parts.station.link).wire
 
-module _ {W : Type 0} (honest : W → Bool) (far : W → Far) (silence : W → ℕ)
-    (wakes : W → Option Rate → W → Type 0) (gives : W → List ℕ → Option (ArrayVec ℕ) → W → Type 0)
-    (layouts : Layouts) where
+module _ {W : Type 0} (facts : WireFacts W) (layouts : Layouts) where
   -- what passes in a call: a turn makes one call of the wire, whose octets are
   -- shown in the layout of the mode before it; no other call touches the wire
   abbrev pub Passes : Stage W → Call → Stage W → List ℕ → Type 0
   Passes s Turn t text =
-      (note : Passed) × IsNoteOf wakes gives note (wire_at s) (wire_at t)
+      (note : Passed) × IsNoteOf facts note (wire_at s) (wire_at t)
       × PrintsPassed s.number (layout_in s.port.session.mode layouts) note text
       × (t.number ≡ s.number + 1)
   Passes s other t text = (text ≡ []) × (wire_at t ≡ wire_at s) × (t.number ≡ s.number)
@@ -63,8 +62,7 @@ module _ {W : Type 0} (honest : W → Bool) (far : W → Far) (silence : W → �
     pub reply : Answered
     pub passed : List ℕ
     pub call_is : CallOf s.port call reply t.port
-    pub made : CallGives (through honest) (through far) (through silence) (TapWakes wakes gives)
-        (TapGives wakes gives) s.parts call reply t.parts
+    pub made : CallGives (tap_facts facts) s.parts call reply t.parts
     pub granted : lacks_memory reply ≡ false
     pub passes : Passes s call t passed
     pub text_is : text ≡ passed ++ answer_text call reply
@@ -83,8 +81,7 @@ first_tap script = record { wire = first_wire script; last = None }
 -- with what the port of a script is opened, over that tap
 abbrev pub tapped_opening : ScriptValue → Opening (Tapped (Simulated (List Entry)))
 tapped_opening script =
-    opening_of (through (λ sim. true)) (through (λ sim. sim.device.far))
-    (through (λ sim. sim.silence)) script.limits (first_tap script)
+    opening_of (tap_facts (sim_facts Stores)) script.limits (first_tap script)
 
 -- a new port over the tap, before its first call
 abbrev pub first_stage : ScriptValue → Parts (Tapped (Simulated (List Entry)))
@@ -96,8 +93,7 @@ first_stage script first =
 abbrev pub TracesOverWire : Layouts → Stage (Simulated (List Entry)) → List Call
     → Stage (Simulated (List Entry)) → List ℕ → Type 0
 TracesOverWire layouts s calls t text =
-    Traces (λ sim. true) (λ sim. sim.device.far) (λ sim. sim.silence) (IsWake Stores)
-    (IsExchange Stores) layouts s calls t text
+    Traces (sim_facts Stores) layouts s calls t text
 
 -- What is printed for calls: what passes and what they answer, and then the
 -- device's record. They are made on a new port over a tap on the script's wire.
@@ -143,17 +139,15 @@ place number waits written port =
 
 -- Whatever abstract port a port over a tap stands for: the calls are traced, and
 -- the port stands for the one that they lead to.
-module _ {W : Type 0} (honest : W → Bool) (far : W → Far) (silence : W → ℕ)
-    (wakes : W → Option Rate → W → Type 0) (gives : W → List ℕ → Option (ArrayVec ℕ) → W → Type 0)
-    (layouts : Layouts) where
+module _ {W : Type 0} (facts : WireFacts W) (layouts : Layouts) where
   unfoldable pub PortTraces : ℕ → Parts (Tapped W) → List Call → ℕ → Parts (Tapped W) → List ℕ
       → Type 0
   PortTraces number p calls after next text =
-      (a : PortState) → StandsFor (through honest) (through far) (through silence) p a
+      (a : PortState) → StandsFor (tap_facts facts) p a
       → (b : PortState)
-      × Traces honest far silence wakes gives layouts (stage_of number a p) calls
+      × Traces facts layouts (stage_of number a p) calls
       (stage_of after b next) text
-      × StandsFor (through honest) (through far) (through silence) next b
+      × StandsFor (tap_facts facts) next b
 
   -- from one place to the next: these calls are traced, and their text is printed behind what waits
   abbrev pub TracesFrom : Place W → List Call → Place W → Type 0

@@ -29,7 +29,7 @@ pub(crate) fn play_lines<W: Wire, A: Handle>(
 ) -> Result<(), AllocError>
     ensures { OnOk result ((text : List ℕ)
         × (string_bytes output.new ≡ string_bytes output.old ++ text)
-        × PortPlays W.honest W.far W.silence W.wake_gives W.exchange_gives
+        × PortPlays W.facts
         port.old.parts (calls_in (numbered_lines input.now)) port.new.parts text) }
 {
     runs_join();
@@ -64,7 +64,7 @@ fn play_line<W: Wire, A: Handle>(
     requires { turns.now ≡ replicate PIECE Turn }
     ensures { OnOk result ((text : List ℕ)
         × (string_bytes output.new ≡ string_bytes output.old ++ text)
-        × PortPlays W.honest W.far W.silence W.wake_gives W.exchange_gives
+        × PortPlays W.facts
         port.old.parts (line_calls line.now) port.new.parts text) }
 {
     match line {
@@ -84,7 +84,7 @@ fn play_turns<W: Wire, A: Handle>(
     requires { turns.now ≡ replicate PIECE Turn }
     ensures { OnOk result ((text : List ℕ)
         × (string_bytes output.new ≡ string_bytes output.old ++ text)
-        × PortPlays W.honest W.far W.silence W.wake_gives W.exchange_gives
+        × PortPlays W.facts
         port.old.parts (replicate count Turn) port.new.parts text) }
 {
     runs_join();
@@ -106,7 +106,7 @@ fn play<W: Wire, A: Handle>(
 ) -> Result<(), AllocError>
     ensures { OnOk result ((text : List ℕ)
         × (string_bytes output.new ≡ string_bytes output.old ++ text)
-        × PortPlays W.honest W.far W.silence W.wake_gives W.exchange_gives
+        × PortPlays W.facts
         port.old.parts calls.now port.new.parts text) }
 {
     let Ok(answers) = port.run(alloc, calls) else {

@@ -61,7 +61,7 @@ impl<A: Handle> Tracer<A> {
     ) -> Result<(), ProgramFault>
         requires { self.old.number + length (calls_in (numbered_lines input.now)) < 2 ^ 64 }
         ensures traced { OnOk result
-            (TracesFrom W.honest W.far W.silence W.wake_gives W.exchange_gives self.old.layouts
+            (TracesFrom W.facts self.old.layouts
             (place self.old.number (string_bytes self.old.output)
             (O.contents writer.old) port.old.parts)
             (calls_in (numbered_lines input.now))
@@ -87,7 +87,7 @@ impl<A: Handle> Tracer<A> {
     ) -> Result<(), ProgramFault>
         requires { self.old.number + length (line_calls line.now) < 2 ^ 64 }
         ensures traced { OnOk result
-            (TracesFrom W.honest W.far W.silence W.wake_gives W.exchange_gives self.old.layouts
+            (TracesFrom W.facts self.old.layouts
             (place self.old.number (string_bytes self.old.output)
             (O.contents writer.old) port.old.parts)
             (line_calls line.now)
@@ -113,7 +113,7 @@ impl<A: Handle> Tracer<A> {
     ) -> Result<(), ProgramFault>
         requires { self.old.number + count < 2 ^ 64 }
         ensures traced { OnOk result
-            (TracesFrom W.honest W.far W.silence W.wake_gives W.exchange_gives self.old.layouts
+            (TracesFrom W.facts self.old.layouts
             (place self.old.number (string_bytes self.old.output)
             (O.contents writer.old) port.old.parts)
             (replicate count Turn)
@@ -138,7 +138,7 @@ impl<A: Handle> Tracer<A> {
     ) -> Result<(), ProgramFault>
         requires { self.old.number + 1 < 2 ^ 64 }
         ensures traced { OnOk result
-            (TracesFrom W.honest W.far W.silence W.wake_gives W.exchange_gives self.old.layouts
+            (TracesFrom W.facts self.old.layouts
             (place self.old.number (string_bytes self.old.output)
             (O.contents writer.old) port.old.parts)
             (call.now ∷ [])
@@ -157,7 +157,7 @@ impl<A: Handle> Tracer<A> {
         requires { self.old.number + 1 < 2 ^ 64 }
         ensures traced { OnOk result ((text : List ℕ)
             × (string_bytes self.new.output ≡ string_bytes self.old.output ++ text)
-            × PortTraces W.honest W.far W.silence W.wake_gives W.exchange_gives self.old.layouts
+            × PortTraces W.facts self.old.layouts
             self.old.number port.old.parts (call.now ∷ []) self.new.number port.new.parts text) }
         ensures number { OnOk result (self.new.number ≤ self.old.number + 1) }
         ensures layouts { self.new.layouts ≡ self.old.layouts }

@@ -16,7 +16,7 @@ use Rattle.iol_line.specs.declared.given.Given.{Given}
 use Rattle.iol_line.specs.declared.given.Given.TheVariants.{Wake, Exchange}
 use Rattle.iol_line.specs.Standing.{Standing, unheard}
 use Rattle.iol_line.specs.Told.{rate_told, answer_told}
-use Rattle.iol_line.specs.HonestTold.{HonestState, Premise, ExchangePremise, IsHonestLine, given_in, at_woken, at_heard, standing, Wakes, Gives, far_of, silence_of}
+use Rattle.iol_line.specs.HonestTold.{HonestState, Premise, ExchangePremise, IsHonestLine, given_in, at_woken, at_heard, standing, Wakes, Gives}
 
 -- A device that can be stays one
 
@@ -74,7 +74,7 @@ wakes_by at None p = no_wake at
 wakes_by at (Some (Wake rate, after)) p = p.0
 wakes_by at (Some (Exchange sent answer, after)) p = no_wake at
 
-pub wake_is_honest : (l : HonestState) (rate : Option Rate) (next : HonestState) → IsHonestLine l → Wakes l rate next → HonestWake (far_of l) (is_some rate) (far_of next)
+pub wake_is_honest : (l : HonestState) (rate : Option Rate) (next : HonestState) → IsHonestLine l → Wakes l rate next → HonestWake l.at.far (is_some rate) next.at.far
 wake_is_honest l rate next line gives =
     subst (λ (r : Option Rate). HonestWake l.at.far (is_some r) next.at.far) (sym gives.0)
     (subst (λ (n : HonestState). HonestWake l.at.far (is_some (rate_told (given_in l.told))) n.at.far) (sym gives.1) (wakes_by l.at l.told line.premise))
@@ -98,7 +98,7 @@ exchanges_by at (Some (Exchange sent answer, after)) octets regular p = split (b
     split false e = no_exchange at octets regular
 
 pub exchange_is_honest : (l : HonestState) (octets : List ℕ) (answer : Option (ArrayVec ℕ)) (next : HonestState) → IsHonestLine l → Gives l octets answer next
-    → HonestExchange (far_of l) (silence_of l) octets (octets_in answer) (far_of next) (silence_of next)
+    → HonestExchange l.at.far l.at.silence octets (octets_in answer) next.at.far next.at.silence
 exchange_is_honest l octets answer next line gives =
     subst (λ (a : Option (ArrayVec ℕ)). ExchangePremise l.at octets (octets_in a) next.at) (sym gives.0)
     (subst (λ (n : HonestState). ExchangePremise l.at octets (octets_in (answer_told (given_in l.told) octets)) n.at) (sym gives.1)

@@ -15,7 +15,7 @@ use Rattle.iol_port.specs.EveryWire.{TurnGives}
 use Rattle.iol_port.specs.Rewire.{rewired_parts}
 use Rattle.iol_line.specs.declared.given.Given.{Given}
 use Rattle.iol_line.specs.declared.given.Given.TheVariants.{Wake, Exchange}
-use Rattle.iol_line.specs.Told.{is_honest, far_of, silence_of, Wakes, Gives, answer_told}
+use Rattle.iol_line.specs.Told.{line_facts, Wakes, Gives, answer_told}
 use Rattle.iol_line.specs.Driving.{Woken, Answered, NoWake, NoExchange, TurnWoken, TurnAnswered}
 use Rattle.iol_line.proofs.ToldTurns.{Brings, told_turn}
 
@@ -32,17 +32,17 @@ octets_are a sent octets is also =
     ap (λ (m : ArrayVec ℕ). m.items) same
 
 pub woken_turn : (p mid : Parts (Option Given)) (rate : Option Rate) (line : Option Given) (next : Parts (Option Given)) → asks_of p ≡ asked.Wake → line ≡ Some (Wake rate)
-    → mid ≡ rewired_parts line p → TurnGives is_honest far_of silence_of Wakes Gives mid next → TurnWoken is_honest far_of silence_of rate None p next
+    → mid ≡ rewired_parts line p → TurnGives line_facts mid next → TurnWoken line_facts rate None p next
 woken_turn p mid rate line next asks told parts turn =
     let parts_told : mid ≡ rewired_parts (Some (Wake rate)) p = subst (λ (l : Option Given). mid ≡ rewired_parts l p) told parts in
-    let brings : Brings is_honest far_of silence_of Wakes Gives (Woken rate None) NoExchange (asks_of p) (Some (Wake rate)) (wire_of p.station.link) = record {
+    let brings : Brings line_facts (Woken rate None) NoExchange (asks_of p) (Some (Wake rate)) (wire_of p.station.link) = record {
       honesty = refl;
       device = refl;
       quiet = refl;
       woken = λ came new is w. w;
       answered = λ octets came new is x. no_exchange (asks_of p) octets asks is;
     } in
-    told_turn is_honest far_of silence_of Wakes Gives (Woken rate None) NoExchange (Some (Wake rate)) p mid next parts_told brings turn
+    told_turn line_facts (Woken rate None) NoExchange (Some (Wake rate)) p mid next parts_told brings turn
 
 pub bytes_same : (xs : List ℕ) → bytes_eq xs xs ≡ true
 bytes_same xs = grind (arith, common_steps, bytes_eq-Decides xs xs)
@@ -51,11 +51,11 @@ pub answer_is : (octets : List ℕ) (sent : ArrayVec ℕ) (answer : Option (Arra
 answer_is octets sent answer same = ap (λ (b : Bool). if b then answer else None) (ap (λ (o : List ℕ). bytes_eq o sent.items) same ∙ bytes_same sent.items)
 
 pub answered_turn : (p mid : Parts (Option Given)) (sent : ArrayVec ℕ) (answer : Option (ArrayVec ℕ)) (line : Option Given) (next : Parts (Option Given)) → asks_of p ≡ asked.Exchange sent
-    → line ≡ Some (Exchange sent answer) → mid ≡ rewired_parts line p → TurnGives is_honest far_of silence_of Wakes Gives mid next
-    → TurnAnswered is_honest far_of silence_of sent answer None p next
+    → line ≡ Some (Exchange sent answer) → mid ≡ rewired_parts line p → TurnGives line_facts mid next
+    → TurnAnswered line_facts sent answer None p next
 answered_turn p mid sent answer line next asks told parts turn =
     let parts_told : mid ≡ rewired_parts (Some (Exchange sent answer)) p = subst (λ (l : Option Given). mid ≡ rewired_parts l p) told parts in
-    let brings : Brings is_honest far_of silence_of Wakes Gives NoWake (Answered sent answer None) (asks_of p) (Some (Exchange sent answer)) (wire_of p.station.link) = record {
+    let brings : Brings line_facts NoWake (Answered sent answer None) (asks_of p) (Some (Exchange sent answer)) (wire_of p.station.link) = record {
       honesty = refl;
       device = refl;
       quiet = refl;
@@ -64,4 +64,4 @@ answered_turn p mid sent answer line next asks told parts turn =
           let same : octets ≡ sent.items = octets_are (asks_of p) sent octets asks is in
           (same, x.0 ∙ answer_is octets sent answer same, x.1);
     } in
-    told_turn is_honest far_of silence_of Wakes Gives NoWake (Answered sent answer None) (Some (Exchange sent answer)) p mid next parts_told brings turn
+    told_turn line_facts NoWake (Answered sent answer None) (Some (Exchange sent answer)) p mid next parts_told brings turn

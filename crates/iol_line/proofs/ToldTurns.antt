@@ -12,6 +12,7 @@ use Rattle.iol_far.specs.Far.{Far}
 use Rattle.iol_far.specs.Level.{Link as FarLink}
 use Rattle.iol_link.specs.Honest.{HonestExchange, HonestWake}
 use Rattle.iol_link.specs.declared.wire.Rate.{Rate}
+use Rattle.iol_link.specs.WireFacts.{WireFacts}
 use Rattle.iol_mode.specs.States.{Outcome}
 use Rattle.iol_mode.specs.Stands.{OperateStands, IsOperating, IsAccepted}
 use Rattle.iol_mode.specs.States.{sending_of}
@@ -24,16 +25,19 @@ use Rattle.iol_mode.specs.declared.states.State.{State}
 use Rattle.iol_mode.specs.declared.states.State.TheVariants.{Down as AtDown, Startup as AtStartup, Preoperate as AtPreoperate, Operate as AtOperate}
 use Rattle.iol_app.specs.State.{SessionState}
 use Rattle.iol_app.specs.StationState.{StationState, wire_of, IsLinkTurn, IsWake, IsExchange}
-use Rattle.iol_app.specs.AskedCalls.{AskedWakes, AskedGives}
+use Rattle.iol_app.specs.AskedCalls.{AskedWakes, AskedGives, asked_facts}
 use Rattle.iol_app.specs.Rewire.{rewired}
 use Rattle.iol_book.specs.BookModel.{BookValue}
 use Rattle.iol_port.specs.View.{Parts}
 use Rattle.iol_port.specs.Asks.{asks_of, has_room}
 use Rattle.iol_port.specs.EveryWire.{TurnGives}
 use Rattle.iol_port.specs.Rewire.{rewired_parts}
+use Rattle.iol_line.specs.Driving.{called_facts}
 
-module _ {W : Type 0} (honest : W → Bool) (far : W → Far) (silence : W → ℕ) (wakes : W → Option Rate → W → Type 0) (gives : W → List ℕ → Option (ArrayVec ℕ) → W → Type 0)
+module _ {W : Type 0} (facts : WireFacts W)
     (wakes' : W → Option Rate → W → Type 0) (gives' : W → List ℕ → Option (ArrayVec ℕ) → W → Type 0) where
+  open facts use {honest, far, silence, wake_gives as wakes, exchange_gives as gives}
+
   -- a line that stands to the same device as this wire, and whose calls are calls of this wire under other relations
   record Stands (line wire : W) : Type 0 where
     honesty : honest line ≡ honest wire
@@ -46,7 +50,7 @@ module _ {W : Type 0} (honest : W → Bool) (far : W → Far) (silence : W → �
     claims : IsTrue (honest wire) → IsTrue (honest line)
     claims t = subst IsTrue (sym same.honesty) t
 
-    wake_over : (s : SessionState) (said : Said) (new : StationState W) → IsWake honest far silence wakes gives line s said new → IsWake honest far silence wakes' gives' wire s said new
+    wake_over : (s : SessionState) (said : Said) (new : StationState W) → IsWake facts line s said new → IsWake (called_facts facts wakes' gives') wire s said new
     wake_over s said new t = record {
       answer = t.answer;
       called = same.woken _ _ t.called;
@@ -58,7 +62,7 @@ module _ {W : Type 0} (honest : W → Bool) (far : W → Far) (silence : W → �
     }
 
     abbrev exchange_over : (layout : Shape) (message : MasterMsg) (turned : Option Reply → Outcome) (s : SessionState) (said : Said) (new : StationState W)
-        → IsExchange honest far silence wakes gives line layout message turned s said new → IsExchange honest far silence wakes' gives' wire layout message turned s said new
+        → IsExchange facts line layout message turned s said new → IsExchange (called_facts facts wakes' gives') wire layout message turned s said new
     exchange_over layout message turned s said new x = record {
       answer = x.answer;
       called = same.answered _ _ _ x.called;
@@ -76,7 +80,7 @@ module _ {W : Type 0} (honest : W → Bool) (far : W → Far) (silence : W → �
     }
 
   link_over : (line : W) (wire : W) (state : State) → Stands line (wire_of (over wire state)) → (s : SessionState) (room : Bool) (said : Said) (new : StationState W)
-      → IsLinkTurn honest far silence wakes gives (rewired line (over wire state)) s room said new → IsLinkTurn honest far silence wakes' gives' (over wire state) s room said new
+      → IsLinkTurn facts (rewired line (over wire state)) s room said new → IsLinkTurn (called_facts facts wakes' gives') (over wire state) s room said new
   link_over line wire (AtDown state) same s room said new t = wake_over line wire same s said new t
   link_over line wire (AtStartup state) same s room said new t = record {
     exchange = exchange_over line wire same _ _ _ _ _ _ t.exchange;
@@ -97,8 +101,10 @@ module _ {W : Type 0} (honest : W → Bool) (far : W → Far) (silence : W → �
         (t.accepted (claims line wire same c));
   }
 
-module _ {W : Type 0} (honest : W → Bool) (far : W → Far) (silence : W → ℕ) (wakes : W → Option Rate → W → Type 0) (gives : W → List ℕ → Option (ArrayVec ℕ) → W → Type 0)
+module _ {W : Type 0} (facts : WireFacts W)
     (wakes' : W → Option Rate → W → Type 0) (gives' : W → List ℕ → Option (ArrayVec ℕ) → W → Type 0) where
+  open facts use {honest, far, silence, wake_gives as wakes, exchange_gives as gives}
+
   -- what the line gives of what the port asks for is what the other wire gives
   pub record Brings (asked : Asked) (line wire : W) : Type 0 where
     pub honesty : honest line ≡ honest wire
@@ -108,7 +114,7 @@ module _ {W : Type 0} (honest : W → Bool) (far : W → Far) (silence : W → �
     pub answered : (octets : List ℕ) (came : Option (ArrayVec ℕ)) (new : W) → asked ≡ Exchange (record { items = octets }) → gives line octets came new → gives' wire octets came new
 
   stands : (asked : Asked) (line wire : W) → Brings asked line wire
-      → Stands honest far silence (AskedWakes wakes asked) (AskedGives gives asked) (AskedWakes wakes' asked) (AskedGives gives' asked) line wire
+      → Stands (asked_facts facts asked) (AskedWakes (called_facts facts wakes' gives') asked) (AskedGives (called_facts facts wakes' gives') asked) line wire
   stands asked line wire b = record {
     honesty = b.honesty;
     device = b.device;
@@ -119,11 +125,11 @@ module _ {W : Type 0} (honest : W → Bool) (far : W → Far) (silence : W → �
 
   turn_by : (line : W) (link : AnyLink W) (s : SessionState) (book : BookValue) (kept : List Event) (next : Parts W)
       → Brings (asks_of (record { station = record { link = link; session = s }; book = book; kept = kept })) line (wire_of link)
-      → TurnGives honest far silence wakes gives (record { station = record { link = rewired line link; session = s }; book = book; kept = kept }) next
-      → TurnGives honest far silence wakes' gives' (record { station = record { link = link; session = s }; book = book; kept = kept }) next
-  turn_by line link s book kept next b t = record {
+      → TurnGives facts (record { station = record { link = rewired line link; session = s }; book = book; kept = kept }) next
+      → TurnGives (called_facts facts wakes' gives') (record { station = record { link = link; session = s }; book = book; kept = kept }) next
+  turn_by line link s book kept next b t = let asked = asks_of (record { station = record { link = link; session = s }; book = book; kept = kept }) in record {
     said = t.said;
-    turn = link_over honest far silence _ _ _ _ line link.wire link.state (stands _ line link.wire b) _ (has_room kept) _ _ t.turn;
+    turn = link_over (asked_facts facts asked) (AskedWakes (called_facts facts wakes' gives') asked) (AskedGives (called_facts facts wakes' gives') asked) line link.wire link.state (stands _ line link.wire b) _ (has_room kept) _ _ t.turn;
     book = t.book;
     kept = t.kept;
     denies = λ ticket has. ⊎_elim inl (λ d. inr (record { told = d.told; waited = d.waited; free = d.free; book = d.book })) (t.denies ticket has);
@@ -131,6 +137,6 @@ module _ {W : Type 0} (honest : W → Bool) (far : W → Far) (silence : W → �
 
   -- the turn of a port, once its wire is that line
   pub told_turn : (line : W) (p mid next : Parts W) → mid ≡ rewired_parts line p → Brings (asks_of p) line (wire_of p.station.link)
-      → TurnGives honest far silence wakes gives mid next → TurnGives honest far silence wakes' gives' p next
+      → TurnGives facts mid next → TurnGives (called_facts facts wakes' gives') p next
   told_turn line p mid next e b t =
-      turn_by line p.station.link p.station.session p.book p.kept next b (subst (λ (q : Parts W). TurnGives honest far silence wakes gives q next) e t)
+      turn_by line p.station.link p.station.session p.book p.kept next b (subst (λ (q : Parts W). TurnGives facts q next) e t)

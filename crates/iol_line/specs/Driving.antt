@@ -1,8 +1,8 @@
 -- A port whose line is told from outside.
 use Rattle.std.specs.Prelude.{◌≡◌, ℕ, Bool, List, Option}
 use Rattle.arrayvec.specs.ArrayVec.{ArrayVec}
-use Rattle.iol_far.specs.Far.{Far}
 use Rattle.iol_link.specs.declared.wire.Rate.{Rate}
+use Rattle.iol_link.specs.WireFacts.{WireFacts}
 use Rattle.iol_app.specs.StationState.{wire_of}
 use Rattle.iol_port.specs.View.{Parts, Port}
 use Rattle.iol_port.specs.EveryWire.{TurnGives}
@@ -28,13 +28,18 @@ module _ {W : Type 0} where
   abbrev pub NoExchange : W → List ℕ → Option (ArrayVec ℕ) → W → Type 0
   NoExchange old octets came new = ⊥
 
+  -- the wire, whose calls give this
+  abbrev pub called_facts : WireFacts W → (W → Option Rate → W → Type 0)
+      → (W → List ℕ → Option (ArrayVec ℕ) → W → Type 0) → WireFacts W
+  called_facts facts wakes gives = record facts { wake_gives = wakes; exchange_gives = gives }
+
   -- The exact turn of a port in which its line is woken and brings that; in which
   -- those octets are sent and bring that
-  module _ (honest : W → Bool) (far : W → Far) (silence : W → ℕ) where
+  module _ (facts : WireFacts W) where
     abbrev pub TurnWoken : Option Rate → W → Parts W → Parts W → Type 0
     TurnWoken rate after old new =
-        TurnGives honest far silence (Woken rate after) NoExchange old new
+        TurnGives (called_facts facts (Woken rate after) NoExchange) old new
 
     abbrev pub TurnAnswered : ArrayVec ℕ → Option (ArrayVec ℕ) → W → Parts W → Parts W → Type 0
     TurnAnswered sent answer after old new =
-        TurnGives honest far silence NoWake (Answered sent answer after) old new
+        TurnGives (called_facts facts NoWake (Answered sent answer after)) old new

@@ -5,6 +5,7 @@ use Rattle.std.specs.Option.{option_map}
 use Rattle.iol_far.specs.Octets.{octets_in}
 use Rattle.iol_far.specs.Far.{Far}
 use Rattle.iol_far.specs.Laws.{IsRegular}
+use Rattle.iol_link.specs.WireFacts.{WireFacts}
 use Rattle.iol_link.specs.declared.wire.Rate.{Rate}
 use Rattle.iol_link.specs.Honest.{HonestExchange, HonestWake}
 use Rattle.iol_line.specs.declared.given.Given.{Given}
@@ -62,15 +63,6 @@ standing at = record { at = at; told = None }
 
 -- The line as a wire: the next call gives what it was told
 
-abbrev pub is_honest : HonestState → Bool
-is_honest l = true
-
-abbrev pub far_of : HonestState → Far
-far_of l = l.at.far
-
-abbrev pub silence_of : HonestState → ℕ
-silence_of l = l.at.silence
-
 abbrev pub Wakes : HonestState → Option Rate → HonestState → Type 0
 Wakes l rate next = (rate ≡ rate_told (given_in l.told)) × (next ≡ standing (at_woken l.at l.told))
 
@@ -78,6 +70,15 @@ abbrev pub Gives : HonestState → List ℕ → Option (ArrayVec ℕ) → Honest
 Gives l octets answer next = (answer ≡ answer_told (given_in l.told) octets)
     × (next ≡ standing (at_heard l.at l.told octets))
 
--- it may be told anything that keeps the premise, and stands where it stood
-abbrev pub Tells : HonestState → HonestState → Type 0
-Tells l next = next.at ≡ l.at
+-- what it is to a contract: honest; it may be told anything that keeps the premise, and stands
+-- where it stood
+abbrev pub honest_facts : WireFacts HonestState
+honest_facts = record {
+  honest = λ l. true;
+  far = λ l. l.at.far;
+  silence = λ l. l.at.silence;
+  clean = λ l. false;
+  wake_gives = Wakes;
+  exchange_gives = Gives;
+  tells = λ l next. next.at ≡ l.at;
+}

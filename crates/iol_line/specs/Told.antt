@@ -1,7 +1,7 @@
 -- A line that is told from outside what its next call brings: what each call of it gives.
 use Rattle.std.specs.Prelude.{◌≡◌, ℕ, Bool, true, false, if◌then◌else◌, List, [], Option, Some, None, bytes_eq, ⊤}
 use Rattle.arrayvec.specs.ArrayVec.{ArrayVec}
-use Rattle.iol_far.specs.Far.{Far, opened}
+use Rattle.iol_link.specs.WireFacts.{WireFacts, unknown}
 use Rattle.iol_link.specs.declared.wire.Rate.{Rate}
 use Rattle.iol_line.specs.declared.given.Given.{Given}
 use Rattle.iol_line.specs.declared.given.Given.TheVariants.{Wake, Exchange}
@@ -28,15 +28,6 @@ answer_told told octets = None
 -- The line as a wire that claims nothing: the next call gives what it was told, and
 -- is told of no more
 
-abbrev pub is_honest : Option Given → Bool
-is_honest told = false
-
-abbrev pub far_of : Option Given → Far
-far_of told = opened [] None
-
-abbrev pub silence_of : Option Given → ℕ
-silence_of told = 0
-
 abbrev pub Wakes : Option Given → Option Rate → Option Given → Type 0
 Wakes told rate next = (rate ≡ rate_told told) × (next ≡ None)
 
@@ -44,5 +35,9 @@ abbrev pub Gives : Option Given → List ℕ → Option (ArrayVec ℕ) → Optio
 Gives told octets answer next = (answer ≡ answer_told told octets) × (next ≡ None)
 
 -- it may be told anything
-abbrev pub Tells : Option Given → Option Given → Type 0
-Tells told next = ⊤
+abbrev pub line_facts : WireFacts (Option Given)
+line_facts = record unknown {
+  wake_gives = Wakes;
+  exchange_gives = Gives;
+  tells = λ told next. ⊤;
+}

@@ -5,7 +5,7 @@ ghost use Rattle.iol_port.specs.declared.call.Call.TheVariants as call;
 ghost use Rattle.iol_port.specs.declared.call.Answered.TheVariants as answered;
 ghost use Rattle.iol_port.specs.View.{Does};
 ghost use Rattle.iol_port.specs.Asks.{asks_of};
-ghost use Rattle.iol_line.specs.Told.{is_honest, far_of, silence_of};
+ghost use Rattle.iol_line.specs.Told.{line_facts};
 ghost use Rattle.iol_line.specs.Driving.{line_of, TurnWoken, TurnAnswered};
 
 use crate::line::Line;
@@ -21,9 +21,8 @@ use iol_port::Port;
 /// whose one wake brings this.
 pub fn turn_woken<A: Handle>(port: &mut Port<Line, A>, rate: Option<Rate>)
     requires { asks_of port.old.parts ≡ Asked.Wake }
-    ensures does { Does is_honest far_of silence_of
-        port.old.parts call.Turn answered.Nothing port.new.parts }
-    ensures gives { TurnWoken is_honest far_of silence_of rate None port.old.parts port.new.parts }
+    ensures does { Does line_facts port.old.parts call.Turn answered.Nothing port.new.parts }
+    ensures gives { TurnWoken line_facts rate None port.old.parts port.new.parts }
     ensures line { line_of port.new ≡ None }
     ensures rest { port.new ≡ record port.old { parts = port.new.parts } }
 {
@@ -39,10 +38,8 @@ pub fn turn_woken<A: Handle>(port: &mut Port<Line, A>, rate: Option<Rate>)
 /// than 66 octets give the first 66: it is of a wrong length as it is.
 pub fn turn_answered<A: Handle>(port: &mut Port<Line, A>, sent: Message, answer: Option<Message>)
     requires { asks_of port.old.parts ≡ Asked.Exchange sent }
-    ensures does { Does is_honest far_of silence_of
-        port.old.parts call.Turn answered.Nothing port.new.parts }
-    ensures gives { TurnAnswered is_honest far_of silence_of
-        sent answer None port.old.parts port.new.parts }
+    ensures does { Does line_facts port.old.parts call.Turn answered.Nothing port.new.parts }
+    ensures gives { TurnAnswered line_facts sent answer None port.old.parts port.new.parts }
     ensures line { line_of port.new ≡ None }
     ensures rest { port.new ≡ record port.old { parts = port.new.parts } }
 {

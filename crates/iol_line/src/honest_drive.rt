@@ -9,7 +9,7 @@ ghost use Rattle.iol_port.specs.declared.call.Answered.TheVariants as answered;
 ghost use Rattle.iol_port.specs.View.{Does};
 ghost use Rattle.iol_port.specs.Asks.{asks_of};
 ghost use Rattle.iol_line.specs.Standing.{Standing, woken_to};
-ghost use Rattle.iol_line.specs.HonestTold.{ExchangePremise, standing, is_honest, far_of, silence_of};
+ghost use Rattle.iol_line.specs.HonestTold.{ExchangePremise, standing, honest_facts};
 ghost use Rattle.iol_line.specs.Driving.{line_of, TurnWoken, TurnAnswered};
 
 use crate::honest_line::HonestLine;
@@ -29,9 +29,8 @@ pub fn honest_turn_woken<T, A: Handle>(port: &mut Port<HonestLine, A>, rate: Opt
     ghost after: { Far }
     requires asked { asks_of port.old.parts ≡ Asked.Wake }
     requires premise { HonestWake (line_of port.old).at.far (is_some rate) after }
-    ensures does { Does is_honest far_of silence_of
-        port.old.parts call.Turn answered.Nothing port.new.parts }
-    ensures gives { TurnWoken is_honest far_of silence_of
+    ensures does { Does honest_facts port.old.parts call.Turn answered.Nothing port.new.parts }
+    ensures gives { TurnWoken honest_facts
         rate (standing (woken_to (line_of port.old).at after)) port.old.parts port.new.parts }
     ensures line { line_of port.new ≡ standing (woken_to (line_of port.old).at after) }
     ensures rest { port.new ≡ record port.old { parts = port.new.parts } }
@@ -57,9 +56,8 @@ pub fn honest_turn_answered<T, A: Handle>(
     ghost after: { Standing }
     requires asked { asks_of port.old.parts ≡ Asked.Exchange sent }
     requires premise { ExchangePremise (line_of port.old).at sent.items (octets_in answer) after }
-    ensures does { Does is_honest far_of silence_of
-        port.old.parts call.Turn answered.Nothing port.new.parts }
-    ensures gives { TurnAnswered is_honest far_of silence_of
+    ensures does { Does honest_facts port.old.parts call.Turn answered.Nothing port.new.parts }
+    ensures gives { TurnAnswered honest_facts
         sent answer (standing after) port.old.parts port.new.parts }
     ensures line { line_of port.new ≡ standing after }
     ensures rest { port.new ≡ record port.old { parts = port.new.parts } }

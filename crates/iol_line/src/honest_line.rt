@@ -150,21 +150,9 @@ impl HonestLine {
 
 impl Wire for HonestLine {
     ghost use Rattle.std.proofs.Common.{rules};
-    ghost use Rattle.iol_line.specs.HonestTold as told;
+    ghost use Rattle.iol_line.specs.HonestTold.{honest_facts};
 
-    ghost far = { told.far_of };
-
-    ghost honest = { told.is_honest };
-
-    ghost silence = { told.silence_of };
-
-    ghost clean = { λ l. false };
-
-    ghost wake_gives = { told.Wakes };
-
-    ghost exchange_gives = { told.Gives };
-
-    ghost tells = { told.Tells };
+    ghost facts = { honest_facts };
 
     ghost clean_exchanges = { λ old sent answer new never. Prim.search rules };
 

@@ -79,21 +79,9 @@ impl Line {
 
 impl Wire for Line {
     ghost use Rattle.std.proofs.Common.{rules};
-    ghost use Rattle.iol_line.specs.Told as told;
+    ghost use Rattle.iol_line.specs.Told.{line_facts};
 
-    ghost far = { told.far_of };
-
-    ghost honest = { told.is_honest };
-
-    ghost silence = { told.silence_of };
-
-    ghost clean = { told.is_honest };
-
-    ghost wake_gives = { told.Wakes };
-
-    ghost exchange_gives = { told.Gives };
-
-    ghost tells = { told.Tells };
+    ghost facts = { line_facts };
 
     ghost clean_exchanges = { λ old sent answer new never. Prim.search rules };
 

@@ -1,4 +1,5 @@
 pub mod Honest
+pub mod WireFacts
 pub mod Attempts
 pub mod Damage
 pub mod Meeting

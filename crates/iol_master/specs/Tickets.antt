@@ -2,6 +2,7 @@
 use Rattle.std.specs.Prelude.{◌≡◌, ℕ, ◌+◌, ◌^◌, ◌<◌, ◌⊎◌, Bool, Result, Ok, Err, IfErr}
 use Rattle.iol_isdu.specs.declared.values.Request.{Request}
 use Rattle.iol_far.specs.Far.{Far}
+use Rattle.iol_link.specs.WireFacts.{WireFacts}
 use Rattle.iol_book.specs.declared.entries.Ticket.{Ticket}
 use Rattle.iol_book.specs.BookModel.{BookState, submitted, submitted_urgent}
 use Rattle.iol_book.specs.declared.fault.BookFault.TheVariants.{TicketsSpent, OutOfMemory as NoMemory}
@@ -31,11 +32,11 @@ abbrev pub book_with : Urgency → BookState → Request → BookState
 book_with Ordinary book request = submitted book request
 book_with Urgent book request = submitted_urgent book request
 
-module _ {W : Type 0} (honest : W → Bool) (far : W → Far) (silence : W → ℕ) where
+module _ {W : Type 0} (facts : WireFacts W) where
   -- the port's own submit, with its answer: memory is lacking only where the book had no room left
   abbrev pub Submits : Port W → Urgency → Request → Result Ticket PortFault → Port W → Type 0
   Submits p kind request answer p' =
-      Does honest far silence p.parts (submit_call kind request) (ticket_reply answer) p'.parts
+      Does facts p.parts (submit_call kind request) (ticket_reply answer) p'.parts
       × (p' ≡ record p { parts = p'.parts })
       × IfErr answer (λ why. why ≡ Book NoMemory → p.parts.book.room ≡ 0)
       × SubmitGives p.parts (book_with kind p.parts.book.state request) answer p'.parts

@@ -47,7 +47,7 @@ fn submit_as<W: Wire, A: Handle>(
     urgency: Urgency,
     request: Request,
 ) -> Result<Ticket, PortFault>
-    ensures { Submits W.honest W.far W.silence port.old urgency request result port.new }
+    ensures { Submits W.facts port.old urgency request result port.new }
 {
     match urgency {
         Urgency::Ordinary => port.submit(request),
@@ -109,8 +109,7 @@ impl<W: Wire, K: Ledger, A: Handle> Held<W, K, A> {
         urgency: Urgency,
         request: Request,
     ) -> Result<Ticket, MasterFault>
-        ensures { Enters W.honest W.far W.silence self.old accounts.old desk.old urgency request
-            result
+        ensures { Enters W.facts self.old accounts.old desk.old urgency request result
             self.new accounts.new desk.new }
     {
         if accounts.is_spent() {
@@ -136,7 +135,7 @@ impl<W: Wire, K: Ledger, A: Handle> Held<W, K, A> {
     /// Refused, with nothing changed, by 25 where no such ticket is outstanding, and by 26 where it
     /// has no outcome yet.
     pub fn collect(&mut self, ticket: Ticket) -> Result<Outcome, PortFault>
-        ensures does { Does W.honest W.far W.silence self.old.parts
+        ensures does { Does W.facts self.old.parts
             (call.Collect ticket) (outcome_reply result) self.new.parts }
         ensures gives { CollectGives self.old.parts ticket result self.new.parts }
         ensures rest { self.new ≡ record self.old { parts = self.new.parts } }
@@ -149,7 +148,7 @@ impl<W: Wire, K: Ledger, A: Handle> Held<W, K, A> {
     /// Refused, with nothing changed, by 25 where no such ticket is outstanding, and by 27 where it
     /// waits no longer.
     pub fn withdraw(&mut self, ticket: Ticket) -> Result<(), PortFault>
-        ensures does { Does W.honest W.far W.silence self.old.parts
+        ensures does { Does W.facts self.old.parts
             (call.Withdraw ticket) (nothing_reply result) self.new.parts }
         ensures gives { WithdrawGives self.old.parts ticket result self.new.parts }
         ensures rest { self.new ≡ record self.old { parts = self.new.parts } }
@@ -165,7 +164,7 @@ impl<W: Wire, K: Ledger, A: Handle> Held<W, K, A> {
     /// that it was cut off for another cause. Refused, with nothing changed, by 25 where
     /// no such ticket is outstanding, and by 36 where it waits, or has an outcome.
     pub fn cancel(&mut self, ticket: Ticket) -> Result<(), PortFault>
-        ensures does { Does W.honest W.far W.silence self.old.parts
+        ensures does { Does W.facts self.old.parts
             (call.Cancel ticket) (nothing_reply result) self.new.parts }
         ensures gives { CancelGives self.old.parts ticket result self.new.parts }
         ensures rest { self.new ≡ record self.old { parts = self.new.parts } }
@@ -179,8 +178,7 @@ impl<W: Wire, K: Ledger, A: Handle> Held<W, K, A> {
     /// What waits goes on waiting. The device may still carry the request that was cut off out,
     /// once, until a wake succeeds.
     pub fn restart<R: Wait>(&mut self, rt: &R)
-        ensures does { Does W.honest W.far W.silence self.old.parts call.Restart answered.Nothing
-            self.new.parts }
+        ensures does { Does W.facts self.old.parts call.Restart answered.Nothing self.new.parts }
         ensures gives { RestartGives self.old.parts self.new.parts }
         ensures opening { self.new.opening ≡ self.old.opening }
         ensures shown { self.new.writer
@@ -194,7 +192,7 @@ impl<W: Wire, K: Ledger, A: Handle> Held<W, K, A> {
     /// Refused, with nothing changed, by the first of 34 where no start-up has told the lengths of
     /// the process data yet, and 29 where the image has not the length that was told last.
     pub fn set_output(&mut self, image: &Image) -> Result<(), PortFault>
-        ensures does { Does W.honest W.far W.silence self.old.parts
+        ensures does { Does W.facts self.old.parts
             (call.SetOutput image.now) (nothing_reply result) self.new.parts }
         ensures gives { SetOutputGives self.old.parts image.now result self.new.parts }
         ensures rest { self.new ≡ record self.old { parts = self.new.parts } }
@@ -204,7 +202,7 @@ impl<W: Wire, K: Ledger, A: Handle> Held<W, K, A> {
 
     /// Wants no output of the device.
     pub fn clear_output(&mut self)
-        ensures does { Does W.honest W.far W.silence self.old.parts call.ClearOutput
+        ensures does { Does W.facts self.old.parts call.ClearOutput
             answered.Nothing self.new.parts }
         ensures gives { ClearOutputGives self.old.parts self.new.parts }
         ensures rest { self.new ≡ record self.old { parts = self.new.parts } }
@@ -218,7 +216,7 @@ impl<W: Wire, K: Ledger, A: Handle> Held<W, K, A> {
     /// This is the read under the port's lock. A seat at the cell in which the port publishes
     /// (crate iol_image) reads the image without it.
     pub fn image(&self) -> Option<&Image>
-        ensures does { Does W.honest W.far W.silence self.now.parts
+        ensures does { Does W.facts self.now.parts
             call.Look (answered.Image (option_copied result)) self.now.parts }
         ensures value { option_copied result ≡ self.now.parts.station.session.image }
     {
@@ -227,7 +225,7 @@ impl<W: Wire, K: Ledger, A: Handle> Held<W, K, A> {
 
     /// Hands out the event that was kept longest. Refused by 30 where none is kept.
     pub fn take_event(&mut self) -> Result<Event, PortFault>
-        ensures does { Does W.honest W.far W.silence self.old.parts
+        ensures does { Does W.facts self.old.parts
             call.TakeEvent (event_reply result) self.new.parts }
         ensures gives { TakeEventGives self.old.parts result self.new.parts }
         ensures rest { self.new ≡ record self.old { parts = self.new.parts } }
@@ -237,7 +235,7 @@ impl<W: Wire, K: Ledger, A: Handle> Held<W, K, A> {
 
     /// The mode of the link, and why it is down.
     pub fn status(&self) -> Status
-        ensures does { Does W.honest W.far W.silence self.now.parts
+        ensures does { Does W.facts self.now.parts
             call.Status (answered.Status result) self.now.parts }
         ensures value { result ≡ status_of self.now.parts.station }
     {
@@ -250,7 +248,7 @@ impl<W: Wire, K: Ledger, A: Handle> Held<W, K, A> {
     /// cut off by a lost link or a restart and no wake succeeded since, as the device may still
     /// carry that request out.
     pub fn archive(&mut self) -> Result<Vec<Entry, A>, PortFault>
-        ensures does { Does W.honest W.far W.silence self.old.parts
+        ensures does { Does W.facts self.old.parts
             call.Archive
             (reply_of (λ entries. answered.Archived (length entries.items)) result)
             self.new.parts }
@@ -270,13 +268,11 @@ impl<W: Wire, K: Ledger, A: Handle> Held<W, K, A> {
     /// in this turn; where the device has no ISDU it is denied, never taken, and IDLE 1 goes out.
     /// At most 64 events are kept, and a list of events is read only where there is room for it.
     pub fn turn<R: Wait>(&mut self, rt: &R)
-        ensures does { Does W.honest W.far W.silence self.old.parts call.Turn answered.Nothing
-            self.new.parts }
-        ensures clean { CleanTurn W.honest W.far W.clean self.old.parts self.new.parts }
-        ensures asked { IsCall W.wake_gives W.exchange_gives (asks_of self.old.parts)
+        ensures does { Does W.facts self.old.parts call.Turn answered.Nothing self.new.parts }
+        ensures clean { CleanTurn W.facts self.old.parts self.new.parts }
+        ensures asked { IsCall W.facts (asks_of self.old.parts)
             (wire_of self.old.parts.station.link) (wire_of self.new.parts.station.link) }
-        ensures gives { TurnGives W.honest W.far W.silence W.wake_gives W.exchange_gives
-            self.old.parts self.new.parts }
+        ensures gives { TurnGives W.facts self.old.parts self.new.parts }
         ensures opening { self.new.opening ≡ self.old.opening }
         ensures shown { self.new.writer
             ≡ shown_in self.new.parts.station.session.image self.old.writer }
@@ -292,12 +288,11 @@ impl<W: Wire, K: Ledger, A: Handle> Held<W, K, A> {
     /// device's record fits the journal, and both ends are level between requests.
     pub fn keeps_record(&self)
         ensures replayed { IsReplayed self.now.parts.book.state }
-        ensures run { IsRun W.honest W.far W.silence self.now.opening self.now.parts }
-        ensures wire { ComesFrom W.wake_gives W.exchange_gives W.tells
+        ensures run { IsRun W.facts self.now.opening self.now.parts }
+        ensures wire { ComesFrom W.facts
             self.now.opening.wire (wire_of self.now.parts.station.link) }
-        ensures record_fits { OpensWell self.now.opening
-            → KeepsRecord W.honest W.far W.silence self.now.parts }
-        ensures level { OpensWell self.now.opening → IsLevelBetween W.far self.now.parts }
+        ensures record_fits { OpensWell self.now.opening → KeepsRecord W.facts self.now.parts }
+        ensures level { OpensWell self.now.opening → IsLevelBetween W.facts self.now.parts }
     {
         self.port.keeps_record();
     }

@@ -12,7 +12,7 @@ use Rattle.iol_far.specs.Level.{Link as FarLink}
 use Rattle.iol_page.specs.declared.page.Layouts.{Layouts}
 use Rattle.iol_link.specs.declared.handler.Attempt.{Attempt}
 use Rattle.iol_link.specs.Attempts.{Sending, good_reply}
-use Rattle.iol_link.specs.Honest.{HonestExchange}
+use Rattle.iol_link.specs.WireFacts.{WireFacts, Passes}
 use Rattle.iol_mode.specs.declared.states.State.{State}
 use Rattle.iol_mode.specs.declared.states.State.TheVariants.{Startup as AtStartup, Preoperate as AtPreoperate, Operate as AtOperate}
 use Rattle.iol_mode.specs.declared.states.Operate.{Operate}
@@ -39,16 +39,15 @@ abbrev pub IsEnd : Attempt → Outcome → Type 0
 IsEnd attempt outcome = (sending : Sending) × (layouts : Layouts)
     × (outcome ≡ operate_by sending layouts attempt)
 
-module _ {W : Type 0} (honest : W → Bool) (far : W → Far) (silence : W → ℕ)
-    (gives : W → List ℕ → Option (ArrayVec ℕ) → W → Type 0) where
+module _ {W : Type 0} (facts : WireFacts W) where
+  open facts use {honest, far, silence, exchange_gives}
+
   -- one exchange of this message, in this layout
   pub record IsExchange (wire : W) (layout : Shape) (message : MasterMsg)
       (turned : Option Reply → Outcome) (outcome : Outcome) (new : W) : Type 0 where
     pub answer : Option (ArrayVec ℕ)
-    pub called : gives wire (master_text layout message) answer new
-    pub passes : IsTrue (honest wire)
-        → HonestExchange (far wire) (silence wire) (master_text layout message) (octets_in answer)
-        (far new) (silence new)
+    pub called : exchange_gives wire (master_text layout message) answer new
+    pub passes : Passes facts wire (master_text layout message) answer new
     pub honesty : honest new ≡ honest wire
     pub outcome_is : outcome ≡ turned (good_reply layout message (octets_in answer))
     pub fits : OutcomeFits outcome

@@ -8,7 +8,7 @@ ghost use Rattle.iol_mseq.specs.Texts.{master_text};
 ghost use Rattle.iol_far.specs.Octets.{octets_in};
 ghost use Rattle.iol_link.specs.declared.wire.Rate.{Rate};
 ghost use Rattle.iol_link.specs.Attempts.{good_reply, attempt_of};
-ghost use Rattle.iol_link.specs.Honest.{HonestExchange, HonestWake};
+ghost use Rattle.iol_link.specs.WireFacts.{Wakes, Passes};
 ghost use Rattle.iol_mode.specs.Messages.{stays};
 ghost use Rattle.iol_mode.specs.States.{OperateFits, OutcomeFits, StateFits, IsDown, IsStartup, IsPreoperate, Takes, is_starting, waked, state_of, outcome_with, startup_turned, preoperate_turned, operate_turned, sending_of, counted, left_by};
 ghost use Rattle.iol_far.specs.Level.{Link as FarLink};
@@ -52,8 +52,8 @@ impl<W: Wire, S: Mode> Model for Link<W, S> {
     ghost view = { λ link. record { wire = link.wire; state = link.state } };
 
     ghost invariant = { λ link. S.fits link.state
-        × (IsTrue (W.honest link.wire)
-        → S.stands link.state (W.silence link.wire) (W.far link.wire)) };
+        × (IsTrue (W.facts.honest link.wire)
+        → S.stands link.state (W.facts.silence link.wire) (W.facts.far link.wire)) };
 }
 
 /// The link after a turn, in its new mode.
@@ -87,11 +87,10 @@ fn send<W: Wire>(
 ) -> Attempt
     requires { HasMasterParts layout.now (sending_of out.old message.now).message }
     ensures called { (answer : Option (ArrayVec ℕ))
-        × W.exchange_gives wire.old
+        × W.facts.exchange_gives wire.old
         (master_text layout.now (sending_of out.old message.now).message) answer wire.new
-        × (IsTrue (W.honest wire.old) → HonestExchange (W.far wire.old) (W.silence wire.old)
-        (master_text layout.now (sending_of out.old message.now).message) (octets_in answer)
-        (W.far wire.new) (W.silence wire.new))
+        × Passes W.facts wire.old
+        (master_text layout.now (sending_of out.old message.now).message) answer wire.new
         × (result
         ≡ attempt_of (sending_of out.old message.now).tries
         (good_reply layout.now (sending_of out.old message.now).message (octets_in answer)))
@@ -101,7 +100,7 @@ fn send<W: Wire>(
         (good_reply layout.now (sending_of out.old message.now).message
         (octets_in answer)))) }
     ensures few { (sending_of out.old message.now).tries < 3 }
-    ensures honesty { W.honest wire.new ≡ W.honest wire.old }
+    ensures honesty { W.facts.honest wire.new ≡ W.facts.honest wire.old }
 {
     match out {
         Some(sent) => {
@@ -124,10 +123,9 @@ fn send<W: Wire>(
 /// The turn of STARTUP: its message is sent once.
 fn startup_turn<W: Wire>(state: &mut State, wire: &mut W) -> Attempt
     requires fits { IsStartup state.old }
-    requires stands { IsTrue (W.honest wire.old)
-        → StateStands state.old (W.silence wire.old) (W.far wire.old) }
-    ensures { IsStartTurn W.honest W.far W.silence W.exchange_gives wire.old state.old
-        (outcome_with result state.new) wire.new }
+    requires stands { IsTrue (W.facts.honest wire.old)
+        → StateStands state.old (W.facts.silence wire.old) (W.facts.far wire.old) }
+    ensures { IsStartTurn W.facts wire.old state.old (outcome_with result state.new) wire.new }
 {
     laws();
     let State::Startup(Startup { sent, .. }) = state else {
@@ -141,10 +139,9 @@ fn startup_turn<W: Wire>(state: &mut State, wire: &mut W) -> Attempt
 /// The turn of PREOPERATE: its message is sent once.
 fn preoperate_turn<W: Wire>(state: &mut State, wire: &mut W) -> Attempt
     requires fits { IsPreoperate state.old }
-    requires stands { IsTrue (W.honest wire.old)
-        → StateStands state.old (W.silence wire.old) (W.far wire.old) }
-    ensures { IsStartTurn W.honest W.far W.silence W.exchange_gives wire.old state.old
-        (outcome_with result state.new) wire.new }
+    requires stands { IsTrue (W.facts.honest wire.old)
+        → StateStands state.old (W.facts.silence wire.old) (W.facts.far wire.old) }
+    ensures { IsStartTurn W.facts wire.old state.old (outcome_with result state.new) wire.new }
 {
     laws();
     let State::Preoperate(preoperate) = state else {
@@ -159,10 +156,9 @@ fn preoperate_turn<W: Wire>(state: &mut State, wire: &mut W) -> Attempt
 fn start_turn<W: Wire>(state: &mut State, wire: &mut W) -> Attempt
     requires mode { is_starting state.old ≡ true }
     requires fits { StateFits state.old }
-    requires stands { IsTrue (W.honest wire.old)
-        → StateStands state.old (W.silence wire.old) (W.far wire.old) }
-    ensures { IsStartTurn W.honest W.far W.silence W.exchange_gives wire.old state.old
-        (outcome_with result state.new) wire.new }
+    requires stands { IsTrue (W.facts.honest wire.old)
+        → StateStands state.old (W.facts.silence wire.old) (W.facts.far wire.old) }
+    ensures { IsStartTurn W.facts wire.old state.old (outcome_with result state.new) wire.new }
 {
     match state {
         State::Startup(_) => startup_turn(state, wire),
@@ -176,9 +172,9 @@ fn operate_turn<W: Wire>(state: &mut State, message: &MasterMsg, wire: &mut W) -
     requires fits { StateFits state.old }
     requires takes { Takes state.old message.now }
     requires stays { IsTrue (stays message.now) }
-    requires stands { IsTrue (W.honest wire.old)
-        → StateStands state.old (W.silence wire.old) (W.far wire.old) }
-    ensures turn { IsOperateTurn W.honest W.far W.silence W.exchange_gives wire.old state.old
+    requires stands { IsTrue (W.facts.honest wire.old)
+        → StateStands state.old (W.facts.silence wire.old) (W.facts.far wire.old) }
+    ensures turn { IsOperateTurn W.facts wire.old state.old
         message.now (outcome_with result state.new) wire.new }
     ensures ends { IsEnd result (outcome_with result state.new) }
 {
@@ -234,18 +230,18 @@ impl<W: Wire> Link<W, State> {
     /// Down with `NoWake`. Answers the rate of that device.
     pub fn wake(&mut self) -> Option<Rate>
         requires { IsDown self.old.state }
-        ensures honest { W.honest self.new.wire ≡ W.honest self.old.wire }
-        ensures quiet { W.silence self.new.wire ≡ W.silence self.old.wire }
+        ensures honest { W.facts.honest self.new.wire ≡ W.facts.honest self.old.wire }
+        ensures quiet { W.facts.silence self.new.wire ≡ W.facts.silence self.old.wire }
 
         // the wire is woken once; its answer alone says what becomes of the mode
-        ensures called { W.wake_gives self.old.wire result self.new.wire }
-        ensures passes { IsTrue (W.honest self.old.wire)
-            → HonestWake (W.far self.old.wire) (is_some result) (W.far self.new.wire) }
+        ensures called { W.facts.wake_gives self.old.wire result self.new.wire }
+        ensures passes { Wakes W.facts self.old.wire result self.new.wire }
         ensures state { self.new.state ≡ state_of (waked (is_some result)) }
 
         // on an honest wire
-        ensures stands { IsTrue (W.honest self.old.wire) → OutcomeStands (waked (is_some result))
-            (W.silence self.new.wire) (W.far self.new.wire) }
+        ensures stands { IsTrue (W.facts.honest self.old.wire)
+            → OutcomeStands (waked (is_some result)) (W.facts.silence self.new.wire)
+            (W.facts.far self.new.wire) }
     {
         laws();
         let rate = self.wire.wake();
@@ -262,8 +258,7 @@ impl<W: Wire> Link<W, State> {
     /// fault of the page, or with `Lost` at the third attempt in a row that had no good reply.
     pub fn rise(&mut self) -> Attempt
         requires { is_starting self.old.state ≡ true }
-        ensures turn { IsStartTurn W.honest W.far W.silence W.exchange_gives self.old.wire
-            self.old.state
+        ensures turn { IsStartTurn W.facts self.old.wire self.old.state
             (outcome_with result self.new.state) self.new.wire }
     {
         start_turn(&mut self.state, &mut self.wire)
@@ -276,8 +271,7 @@ impl<W: Wire> Link<W, State> {
     pub fn exchange(&mut self, message: &MasterMsg) -> Attempt
         requires takes { Takes self.old.state message.now }
         requires stays { IsTrue (stays message.now) }
-        ensures turn { IsOperateTurn W.honest W.far W.silence W.exchange_gives self.old.wire
-            self.old.state message.now
+        ensures turn { IsOperateTurn W.facts self.old.wire self.old.state message.now
             (outcome_with result self.new.state) self.new.wire }
         ensures ends { IsEnd result (outcome_with result self.new.state) }
     {
@@ -316,9 +310,9 @@ impl<W: Wire, S: Mode> Link<W, S> {
     /// Goes on over this wire, which stands to the same device as the one before;
     /// that one is handed back.
     pub fn rewire(&mut self, wire: W) -> W
-        requires honest { W.honest wire ≡ W.honest self.old.wire }
-        requires far { W.far wire ≡ W.far self.old.wire }
-        requires silence { W.silence wire ≡ W.silence self.old.wire }
+        requires honest { W.facts.honest wire ≡ W.facts.honest self.old.wire }
+        requires far { W.facts.far wire ≡ W.facts.far self.old.wire }
+        requires silence { W.facts.silence wire ≡ W.facts.silence self.old.wire }
         ensures link { self.new ≡ record self.old { wire = wire } }
         ensures before { result ≡ self.old.wire }
     {
@@ -364,19 +358,19 @@ impl<W: Wire> Link<W, Down> {
 
     /// Makes a wake-up request: STARTUP, where the device answers it, else Down with `NoWake`.
     pub fn turn(self) -> Next<W>
-        ensures honest { W.honest (wire_of result) ≡ W.honest self.wire }
-        ensures quiet { W.silence (wire_of result) ≡ W.silence self.wire }
+        ensures honest { W.facts.honest (wire_of result) ≡ W.facts.honest self.wire }
+        ensures quiet { W.facts.silence (wire_of result) ≡ W.facts.silence self.wire }
 
         // the wire is woken once; its answer alone says what becomes of the mode
-        ensures wakes { (answer : Option Rate) × W.wake_gives self.wire answer (wire_of result)
-            × (IsTrue (W.honest self.wire)
-            → HonestWake (W.far self.wire) (is_some answer) (W.far (wire_of result)))
+        ensures wakes { (answer : Option Rate)
+            × W.facts.wake_gives self.wire answer (wire_of result)
+            × Wakes W.facts self.wire answer (wire_of result)
             × (outcome_of result ≡ waked (is_some answer)) }
 
         // on an honest wire
-        ensures stands { IsTrue (W.honest self.wire)
-            → OutcomeStands (outcome_of result) (W.silence (wire_of result))
-            (W.far (wire_of result)) }
+        ensures stands { IsTrue (W.facts.honest self.wire)
+            → OutcomeStands (outcome_of result) (W.facts.silence (wire_of result))
+            (W.facts.far (wire_of result)) }
     {
         let mut link = Link {
             wire: self.wire,
@@ -396,7 +390,7 @@ impl<W: Wire> Link<W, Startup> {
     /// good reply to DeviceOperate the mode is OPERATE (profile). Down with a fault of
     /// the page, or with `Lost` at the third attempt in a row that had no good reply.
     pub fn turn(self) -> Next<W>
-        ensures { IsRise W.honest W.far W.silence W.exchange_gives self.wire startup_shape
+        ensures { IsRise W.facts self.wire startup_shape
             self.state.sent.message (startup_turned self.state) (outcome_of result)
             (wire_of result) }
     {
@@ -418,8 +412,8 @@ impl<W: Wire> Link<W, Startup> {
     /// The layouts that the page asks for, once this start-up has checked it.
     pub fn told(&self) -> Option<&Layouts>
         ensures told { option_copied result ≡ told_by self.now.state.step }
-        ensures page { IsTrue (W.honest self.now.wire)
-            → IfSome result (λ t. IsTold t.now (W.far self.now.wire)) }
+        ensures page { IsTrue (W.facts.honest self.now.wire)
+            → IfSome result (λ t. IsTold t.now (W.facts.far self.now.wire)) }
     {
         self.state.told()
     }
@@ -431,7 +425,7 @@ impl<W: Wire> Link<W, Preoperate> {
     /// With the good reply to DeviceOperate the mode is OPERATE. Down with `Lost`
     /// at the third attempt in a row that had no good reply.
     pub fn turn(self) -> Next<W>
-        ensures { IsRise W.honest W.far W.silence W.exchange_gives self.wire self.state.pre
+        ensures { IsRise W.facts self.wire self.state.pre
             self.state.sent.message (preoperate_turned self.state) (outcome_of result)
             (wire_of result) }
     {
@@ -453,8 +447,8 @@ impl<W: Wire> Link<W, Preoperate> {
     /// The layouts that the page asks for.
     pub fn told(&self) -> Option<&Layouts>
         ensures told { option_copied result ≡ Some self.now.state.layouts }
-        ensures page { IsTrue (W.honest self.now.wire)
-            → IfSome result (λ t. IsTold t.now (W.far self.now.wire)) }
+        ensures page { IsTrue (W.facts.honest self.now.wire)
+            → IfSome result (λ t. IsTold t.now (W.facts.far self.now.wire)) }
     {
         Some(&self.state.layouts)
     }
@@ -468,7 +462,7 @@ impl<W: Wire> Link<W, Operate> {
     pub fn turn(self, message: &MasterMsg) -> Next<W>
         requires fits { HasMasterParts self.state.layouts.run message.now }
         requires stays { IsTrue (stays message.now) }
-        ensures { IsCycle W.honest W.far W.silence W.exchange_gives self.wire self.state
+        ensures { IsCycle W.facts self.wire self.state
             message.now (outcome_of result) (wire_of result) }
     {
         let mut link = Link {
@@ -498,8 +492,8 @@ impl<W: Wire> Link<W, Operate> {
     /// The layouts that the page asks for.
     pub fn told(&self) -> Option<&Layouts>
         ensures told { option_copied result ≡ Some self.now.state.layouts }
-        ensures page { IsTrue (W.honest self.now.wire)
-            → IfSome result (λ t. IsTold t.now (W.far self.now.wire)) }
+        ensures page { IsTrue (W.facts.honest self.now.wire)
+            → IfSome result (λ t. IsTold t.now (W.facts.far self.now.wire)) }
     {
         Some(&self.state.layouts)
     }

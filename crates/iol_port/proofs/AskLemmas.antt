@@ -4,6 +4,7 @@ use Rattle.arrayvec.specs.ArrayVec.{ArrayVec}
 use Rattle.iol_isdu.specs.declared.values.Request.{Request}
 use Rattle.iol_far.specs.Far.{Far}
 use Rattle.iol_link.specs.declared.wire.Rate.{Rate}
+use Rattle.iol_link.specs.WireFacts.{WireFacts}
 use Rattle.iol_book.specs.BookModel.{BookState}
 use Rattle.iol_steps.specs.declared.mode.Mode.{Mode}
 use Rattle.iol_steps.specs.declared.said.Said.{Said}
@@ -11,14 +12,14 @@ use Rattle.iol_steps.specs.Step.{Reset, is_down, woke_up, book_said}
 use Rattle.iol_app.specs.StationState.{StationState, wire_of, mode_of, IsTurn}
 use Rattle.iol_app.specs.Asking.{asked_of, prepared, IsCall}
 use Rattle.iol_port.specs.Steps.{book_through}
-use Rattle.iol_app.specs.AskedCalls.{AskedWakes, AskedGives}
+use Rattle.iol_app.specs.AskedCalls.{asked_facts}
 
 module _ {W : Type 0} where
   -- the turn's call is the one that was asked of the port
-  pub call_asked : (wakes : W → Option Rate → W → Type 0) (gives : W → List ℕ → Option (ArrayVec ℕ) → W → Type 0) (old mid new : StationState W) (next : Option Request) (room : Bool)
-      → mid ≡ prepared next old room → IsCall wakes gives (asked_of mid room) (wire_of mid.link) (wire_of new.link)
-      → IsCall wakes gives (asked_of (prepared next old room) room) (wire_of old.link) (wire_of new.link)
-  call_asked wakes gives old mid new next room e call = subst (λ (s : StationState W). IsCall wakes gives (asked_of s room) (wire_of s.link) (wire_of new.link)) e call
+  pub call_asked : (facts : WireFacts W) (old mid new : StationState W) (next : Option Request) (room : Bool)
+      → mid ≡ prepared next old room → IsCall facts (asked_of mid room) (wire_of mid.link) (wire_of new.link)
+      → IsCall facts (asked_of (prepared next old room) room) (wire_of old.link) (wire_of new.link)
+  call_asked facts old mid new next room e call = subst (λ (s : StationState W). IsCall facts (asked_of s room) (wire_of s.link) (wire_of new.link)) e call
 
   -- a wake had success where the mode says so
   pub book_told : (old mid new : StationState W) (next : Option Request) (room woke : Bool) (began ended : Mode) (said : Said) (b : BookState)
@@ -32,14 +33,14 @@ module _ {W : Type 0} where
 
 -- The exact turn of a port makes the call that the port asks for.
 
-module _ {W : Type 0} (honest : W → Bool) (far : W → Far) (silence : W → ℕ) (wakes : W → Option Rate → W → Type 0) (gives : W → List ℕ → Option (ArrayVec ℕ) → W → Type 0) where
+module _ {W : Type 0} (facts : WireFacts W) where
   -- the station's turn, with the call that it asks for
   abbrev Turns : Bool → StationState W → Said → StationState W → Type 0
-  Turns room s said new = IsTurn honest far silence (AskedWakes wakes (asked_of s room)) (AskedGives gives (asked_of s room)) room s said new
+  Turns room s said new = IsTurn (asked_facts facts (asked_of s room)) room s said new
 
   -- it began with the next request begun
   pub turn_begun_asked : (old mid new : StationState W) (next : Option Request) (room has : Bool) (said : Said) → room ≡ has → mid ≡ prepared next old room
-      → IsTurn honest far silence (AskedWakes wakes (asked_of mid room)) (AskedGives gives (asked_of mid room)) room mid said new
-      → IsTurn honest far silence (AskedWakes wakes (asked_of (prepared next old has) has)) (AskedGives gives (asked_of (prepared next old has) has)) has (prepared next old has) said new
+      → IsTurn (asked_facts facts (asked_of mid room)) room mid said new
+      → IsTurn (asked_facts facts (asked_of (prepared next old has) has)) has (prepared next old has) said new
   turn_begun_asked old mid new next room has said same begun turn =
       subst (λ (r : Bool). Turns r (prepared next old r) said new) same (subst (λ (s : StationState W). Turns room s said new) begun turn)

@@ -35,6 +35,7 @@ use Rattle.iol_app.specs.Messages.{Head, head_of, progress_head, progress_data, 
 use Rattle.iol_app.specs.State.{SessionState, sending, sent, sent_by, absorbed, IsMessageFor, IsOutFor}
 use Rattle.iol_app.specs.StationState.{StationState, wire_of, IsSettled, IsTurn, IsLinkTurn, IsOperateTurn}
 use Rattle.iol_link.specs.Honest.{CleanExchange}
+use Rattle.iol_link.specs.WireFacts.{WireFacts}
 use Rattle.iol_port.specs.Clean.{ExchangesCleanly, IsQuiet, IsCalm, Stood}
 use Rattle.iol_port.proofs.CleanHearing.{HeardWell, heard_well}
 
@@ -112,11 +113,13 @@ work_same far ready (Some request) h = by_room (has_room far) h
 
 -- One turn
 
-module _ {W : Type 0} (honest : W → Bool) (far : W → Far) (silence : W → ℕ) (wakes : W → Option Rate → W → Type 0) (gives : W → List ℕ → Option (ArrayVec ℕ) → W → Type 0) (clean : W → Bool) where
+module _ {W : Type 0} (facts : WireFacts W) where
+  open facts use {far}
+
   -- What a turn gives that sends a message of the request
   pub record Turned (layouts : Layouts) (old : StationState W) (wire : W) (c : Current) (said : Said) (new : StationState W) : Type 0 where
     pub next : W
-    pub stood : Stood honest far clean layouts operate_link new next
+    pub stood : Stood facts layouts operate_link new next
     pub message : MasterMsg
     pub head : head_of message.mc ≡ progress_head c.progress
     pub octets : message.od.items ≡ progress_data c.progress
@@ -130,12 +133,12 @@ module _ {W : Type 0} (honest : W → Bool) (far : W → Far) (silence : W → �
     pub limit : new.session.limit ≡ old.session.limit
     pub said_is : IsSaid NextMessage old.session.limit reply.od.items (Some c) said
 
-  module _ (cleanly : ExchangesCleanly clean far gives) (read_back : RepliesAreRead) (stays_sized : InputStaysSized) where
+  module _ (cleanly : ExchangesCleanly facts) (read_back : RepliesAreRead) (stays_sized : InputStaysSized) where
     pub turned : (layouts : Layouts) (link : Link) (old : StationState W) (wire : W) (room : Bool) (c : Current) (said : Said) (new : StationState W)
-        → Stood honest far clean layouts link old wire → old.session.current ≡ Some c → c.abort ≡ None → IsTurn honest far silence wakes gives room old said new
+        → Stood facts layouts link old wire → old.session.current ≡ Some c → c.abort ≡ None → IsTurn facts room old said new
         → Turned layouts old wire c said new
     turned layouts link old wire room c said new stood is abort turn =
-        by_turn (subst (λ (l : AnyLink W). IsLinkTurn honest far silence wakes gives l old.session room said new) stood.link_is turn)
+        by_turn (subst (λ (l : AnyLink W). IsLinkTurn facts l old.session room said new) stood.link_is turn)
       where
         s : SessionState
         s = old.session
@@ -143,7 +146,7 @@ module _ {W : Type 0} (honest : W → Bool) (far : W → Far) (silence : W → �
         sent_is : sent (due_of s room) s ≡ sending NextMessage s
         sent_is = ap (λ (e : Option Exchange). sent_by e (due_of s room) s) stood.calm.exchange ∙ ap (λ (e : Exchange). sending e s) (request_due s room c stood.calm is abort)
 
-        by_turn : IsOperateTurn honest far silence wakes gives wire (record { out = None; layouts = layouts }) s room said new → Turned layouts old wire c said new
+        by_turn : IsOperateTurn facts wire (record { out = None; layouts = layouts }) s room said new → Turned layouts old wire c said new
         by_turn t =
             let message : MasterMsg = t.message in
             let o : List ℕ = master_text layouts.run message in

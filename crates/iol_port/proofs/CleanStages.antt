@@ -35,6 +35,7 @@ use Rattle.iol_far.specs.Record.{takes_more}
 use Rattle.iol_far.specs.Local.{Carry, local, carried_by, has_room, IsWorkedOff}
 use Rattle.iol_far.specs.Level.{Link, link_of, grown_by}
 use Rattle.iol_link.specs.declared.wire.Rate.{Rate}
+use Rattle.iol_link.specs.WireFacts.{WireFacts}
 use Rattle.iol_mode.specs.Stands.{operate_link}
 use Rattle.iol_app.specs.Messages.{Head, progress_head, progress_data}
 use Rattle.iol_app.specs.StationState.{StationState, IsTurn}
@@ -205,20 +206,22 @@ work_done f ready request base is carried room h =
           carried = ap (λ (g : Far). g.carried) carries ∙ ap (λ (xs : List Carried). xs ++ record { request = request; answer = answer } ∷ []) carried;
         }
 
-module _ {W : Type 0} (honest : W → Bool) (far : W → Far) (silence : W → ℕ) (wakes : W → Option Rate → W → Type 0) (gives : W → List ℕ → Option (ArrayVec ℕ) → W → Type 0) (clean : W → Bool) where
+module _ {W : Type 0} (facts : WireFacts W) where
+  open facts use {far}
+
   pub record Next (layouts : Layouts) (request : Request) (base : List Carried) (turns : ℕ) (said : Said) (new : StationState W) : Type 0 where
     pub stage : Stage
     pub wire : W
-    pub at : At honest far clean layouts request base stage new wire
+    pub at : At facts layouts request base stage new wire
     pub turns_are : turns_at layouts.run.od request stage ≡ suc turns
     pub said_is : SaidAt stage said
 
-  module _ (laws : CleanLaws) (cleanly : ExchangesCleanly clean far gives) (layouts : Layouts) (low : 1 ≤ layouts.run.od) (request : Request) (valid : IsRequest request) (base : List Carried) where
+  module _ (laws : CleanLaws) (cleanly : ExchangesCleanly facts) (layouts : Layouts) (low : 1 ≤ layouts.run.od) (request : Request) (valid : IsRequest request) (base : List Carried) where
     abbrev size : ℕ
     size = layouts.run.od
 
     abbrev Turns : StationState W → W → Current → Said → StationState W → Type 0
-    Turns old wire c said new = Turned honest far silence wakes gives clean layouts old wire c said new
+    Turns old wire c said new = Turned facts layouts old wire c said new
 
     -- what the message makes of the device's ISDU state
     abbrev after : Current → IsduState → IsduState
@@ -232,7 +235,7 @@ module _ {W : Type 0} (honest : W → Bool) (far : W → Far) (silence : W → �
       state_by = grind (arith, common_steps)
 
       pub state_is : link_of (far wire) ≡ operate_link → (far t.next).isdu ≡ after c t.ready.isdu
-      state_is given = grind (arith, common_steps)
+      state_is given = state_by ∙ ap (λ (state : IsduState). after c state) (t.heard_as.before_is (ap (λ (l : Link). l.waits) (same.link_is ∙ given)))
 
       pub od_is : t.reply.od.items ≡ (if (progress_head c.progress).read then isdu_data size (far t.next).isdu else [])
       od_is = t.heard_as.od ∙ ap (λ (h : Head). if h.read then isdu_data size (far t.next).isdu else []) t.head
@@ -254,12 +257,12 @@ module _ {W : Type 0} (honest : W → Bool) (far : W → Far) (silence : W → �
       pub has_text : (text : List ℕ) → replied old.session.limit t.reply.od.items c ≡ HasText text → (new.session.current ≡ None) × IsOutcomeSaid (is_read c.cutter.source) (HasText text) said
       has_text text e = (t.current ∙ ap going e, subst (λ (o : Outcome). IsOutcomeSaid (is_read c.cutter.source) o said) e t.said_is)
 
-    module _ (room : Bool) (old : StationState W) (wire : W) (said : Said) (new : StationState W) (turn : IsTurn honest far silence wakes gives room old said new) where
-      takes : (c : Current) → Stood honest far clean layouts operate_link old wire → old.session.current ≡ Some c → c.abort ≡ None → Turns old wire c said new
-      takes c stood is abort = turned honest far silence wakes gives clean cleanly laws.read_back laws.sized layouts operate_link old wire room c said new stood is abort turn
+    module _ (room : Bool) (old : StationState W) (wire : W) (said : Said) (new : StationState W) (turn : IsTurn facts room old said new) where
+      takes : (c : Current) → Stood facts layouts operate_link old wire → old.session.current ≡ Some c → c.abort ≡ None → Turns old wire c said new
+      takes c stood is abort = turned facts cleanly laws.read_back laws.sized layouts operate_link old wire room c said new stood is abort turn
 
       -- another segment of the request
-      write_step : (i : ℕ) → At honest far clean layouts request base (Written (suc i)) old wire → suc i * size < length (request_text request) → Next layouts request base (suc i) said new
+      write_step : (i : ℕ) → At facts layouts request base (Written (suc i)) old wire → suc i * size < length (request_text request) → Next layouts request base (suc i) said new
       write_step i at more =
           let c : Current = sends request size (suc i) in
           let is : old.session.current ≡ Some c = at.fits.1 ∙ ap (λ (x : Current). Some x) (sends_is request size (suc i) more) in
@@ -271,7 +274,7 @@ module _ {W : Type 0} (honest : W → Bool) (far : W → Far) (silence : W → �
           next_is old wire c said new t (suc i) at.room at.limit (Written (suc (suc i))) (more, goes.0, state, t.heard_as.carried ∙ ap (λ (f : Far). f.carried) still ∙ at.fits.3) refl goes.1
 
       -- the device has it whole
-      ask_step : (i : ℕ) → At honest far clean layouts request base (Written (suc i)) old wire → length (request_text request) ≤ suc i * size → Next layouts request base (suc i) said new
+      ask_step : (i : ℕ) → At facts layouts request base (Written (suc i)) old wire → length (request_text request) ≤ suc i * size → Next layouts request base (suc i) said new
       ask_step i at ends =
           let c : Current = asks request size (suc i) 0 in
           let is : old.session.current ≡ Some c = at.fits.1 ∙ ap (λ (x : Current). Some x) (asks_is request size (suc i) ends) in
@@ -308,7 +311,7 @@ module _ {W : Type 0} (honest : W → Bool) (far : W → Far) (silence : W → �
           (cases_lt (suc j * size) (length (answer_text request answer)))
 
       -- its first segment
-      first_step : At honest far clean layouts request base Waiting old wire → Next layouts request base (segments size (request_text request) + 1) said new
+      first_step : At facts layouts request base Waiting old wire → Next layouts request base (segments size (request_text request) + 1) said new
       first_step at =
           let c : Current = asks request size at.fits.0 1 in
           let t : Turns old wire c said new = takes c at.stood at.fits.1 refl in
@@ -321,7 +324,7 @@ module _ {W : Type 0} (honest : W → Bool) (far : W → Far) (silence : W → �
           (omega arith)
 
       -- its next segment
-      next_step : (answer : Answer) (j : ℕ) → At honest far clean layouts request base (Reading answer (suc j)) old wire → Next layouts request base (segments size (request_text request) + 1 + suc j) said new
+      next_step : (answer : Answer) (j : ℕ) → At facts layouts request base (Reading answer (suc j)) old wire → Next layouts request base (segments size (request_text request) + 1 + suc j) said new
       next_step answer j at =
           let c : Current = gets size (laws.texts size low) (laws.joins size low) laws.one (laws.segments size low).fitting request answer at.fits.4 at.fits.0 j in
           let t : Turns old wire c said new = takes c at.stood at.fits.1 refl in
@@ -334,7 +337,7 @@ module _ {W : Type 0} (honest : W → Bool) (far : W → Far) (silence : W → �
           (omega arith)
 
       -- from each stage to the next
-      pub step : (stage : Stage) → At honest far clean layouts request base stage old wire → ((answer : Answer) → stage ≡ Ended answer → ⊥) → Next layouts request base (turns_at size request stage) said new
+      pub step : (stage : Stage) → At facts layouts request base stage old wire → ((answer : Answer) → stage ≡ Ended answer → ⊥) → Next layouts request base (turns_at size request stage) said new
       step (Written zero) at goes = absurd at.fits
       step (Written (suc i)) at goes = ⊎_elim
           (λ (more : suc i * size < length (request_text request)). write_step i at more)
@@ -347,12 +350,12 @@ module _ {W : Type 0} (honest : W → Bool) (far : W → Far) (silence : W → �
 
       -- The first turn: the request was begun, and nothing is handed at the device
 
-      module _ (link : Link) (stood : Stood honest far clean layouts link old wire) where
+      module _ (link : Link) (stood : Stood facts layouts link old wire) where
         first_takes : (other : ℕ) → old.session.current ≡ Some (sent_on (cutting request other 0) None) → Turns old wire (sends request other 0) said new
         first_takes other current =
             let none : 0 * other < length (request_text request) = let whole = text_some request in omega (arith, whole) in
             let is : old.session.current ≡ Some (sends request other 0) = current ∙ ap (λ (x : Current). Some x) (sends_is request other 0 none) in
-            turned honest far silence wakes gives clean cleanly laws.read_back laws.sized layouts link old wire room (sends request other 0) said new stood is refl turn
+            turned facts cleanly laws.read_back laws.sized layouts link old wire room (sends request other 0) said new stood is refl turn
 
         -- it is cut in segments of the layout's size
         same_size : (other : ℕ) → old.session.current ≡ Some (sent_on (cutting request other 0) None) → other ≡ size

@@ -14,6 +14,7 @@ use Rattle.iol_far.specs.Far.{Far}
 use Rattle.iol_far.specs.Local.{has_room}
 use Rattle.iol_far.specs.Record.{takes_more}
 use Rattle.iol_far.specs.Level.{Quiet, Stands, grown_by}
+use Rattle.iol_link.specs.WireFacts.{WireFacts}
 use Rattle.iol_mode.specs.Stands.{operate_link}
 use Rattle.iol_mode.specs.Next.{AnyLink}
 use Rattle.iol_book.specs.declared.entries.Ticket.{Ticket}
@@ -87,9 +88,11 @@ none_left needed n e = omega (arith, e)
 one_more : (needed n : ℕ) → needed ≤ suc n → suc (suc n - needed) ≡ suc (suc n) - needed
 one_more needed n few = omega (arith, few)
 
-module _ {W : Type 0} (honest : W → Bool) (far : W → Far) (clean : W → Bool) where
+module _ {W : Type 0} (facts : WireFacts W) where
+  open facts use {honest, far}
+
   record_at : (layouts : Layouts) (ticket : Ticket) (request : Request) (base : List Carried) (book : BookState) (stage : Stage) (now : Parts W)
-      (is : IsAt honest far clean layouts ticket request base book stage now) → record_of far now ≡ (far is.wire).carried
+      (is : IsAt facts layouts ticket request base book stage now) → record_of facts now ≡ (far is.wire).carried
   record_at layouts ticket request base book stage now is = ap (λ (l : AnyLink W). (far (wire_of l)).carried) is.at.stood.link_is
 
   -- the wire is honest, and the device's record has this room
@@ -97,7 +100,7 @@ module _ {W : Type 0} (honest : W → Bool) (far : W → Far) (clean : W → Boo
     pub is_honest : IsTrue (honest (wire_of now.station.link))
     pub room_is : (far (wire_of now.station.link)).room ≡ room
 
-  steady_more : (room : Option ℕ) (mid next : Parts W) → Steady room mid → CleanTurn honest far clean mid next → Steady room next
+  steady_more : (room : Option ℕ) (mid next : Parts W) → Steady room mid → CleanTurn facts mid next → Steady room next
   steady_more room mid next steady turn = record {
     is_honest = subst IsTrue (sym turn.honesty) steady.is_honest;
     room_is = turn.room steady.is_honest ∙ steady.room_is;
@@ -108,25 +111,25 @@ module _ {W : Type 0} (honest : W → Bool) (far : W → Far) (clean : W → Boo
     needed request answer = turns_needed layouts.run.od request answer
 
     abbrev pub After : ℕ → Ticket × Request → List Carried → BookState → Parts W → Type 0
-    After n next base book now = IsAfter honest far clean layouts next.0 next.1 base book n now
+    After n next base book now = IsAfter facts layouts next.0 next.1 base book n now
 
     -- between requests: the next one may start, if there is one and the record has room
     pub record Idle (base : List Carried) (book : BookState) (now : Parts W) : Type 0 where
-      pub record_is : record_of far now ≡ base
+      pub record_is : record_of facts now ≡ base
       pub book_is : now.book.state ≡ book
       pub may : (ticket : Ticket) (request : Request) → next_taken now.book.state.standing ≡ Some (ticket, request) → IsTrue (has_room (far (wire_of now.station.link)))
-          → MayStart honest far clean layouts ticket request now
+          → MayStart facts layouts ticket request now
 
     -- where the port stands after so many turns
     abbrev pub Going : ℕ → List (Ticket × Request) → List Carried → BookState → Parts W → Type 0
     Going zero requests base book now = Idle base book now
-    Going (suc n) [] base book now = (more : List Carried) × (record_of far now ≡ base ++ more)
+    Going (suc n) [] base book now = (more : List Carried) × (record_of facts now ≡ base ++ more)
     Going (suc n) (next ∷ rest) base book now =
         ((after : After (suc n) next base book now) × ((answer : Answer) → after.stage ≡ Ended answer → ⊥))
         ⊎ ((answer : Answer) × (needed next.1 answer ≤ suc n) × Going (suc n - needed next.1 answer) rest (grown_by base next.1 answer) (posted (took book next) (Done answer)) now)
 
     idle_at : (ticket : Ticket) (request : Request) (base : List Carried) (book : BookState) (answer : Answer) (now : Parts W)
-        → IsAt honest far clean layouts ticket request base book (Ended answer) now → Idle (grown_by base request answer) (posted (took book (ticket, request)) (Done answer)) now
+        → IsAt facts layouts ticket request base book (Ended answer) now → Idle (grown_by base request answer) (posted (took book (ticket, request)) (Done answer)) now
     idle_at ticket request base book answer now is = record {
       record_is = record_at layouts ticket request base book (Ended answer) now is ∙ is.at.fits.1;
       book_is = is.book_is;
@@ -157,7 +160,7 @@ module _ {W : Type 0} (honest : W → Bool) (far : W → Far) (clean : W → Boo
     went : (n : ℕ) (next : Ticket × Request) (rest : List (Ticket × Request)) (base : List Carried) (book : BookState) (now : Parts W) → After (suc n) next base book now → Going (suc n) (next ∷ rest) base book now
     went n next rest base book now after = by after.stage after.is_at after.turns_are
       where
-        by : (stage : Stage) → IsAt honest far clean layouts next.0 next.1 base book stage now → turns_at layouts.run.od next.1 stage ≡ suc n → Going (suc n) (next ∷ rest) base book now
+        by : (stage : Stage) → IsAt facts layouts next.0 next.1 base book stage now → turns_at layouts.run.od next.1 stage ≡ suc n → Going (suc n) (next ∷ rest) base book now
         by (Ended answer) is turns = inr (
           answer,
           omega (arith, turns),
@@ -168,7 +171,7 @@ module _ {W : Type 0} (honest : W → Bool) (far : W → Far) (clean : W → Boo
 
     -- one turn more
     going_more : (room : Option ℕ) (n : ℕ) (requests : List (Ticket × Request)) (base : List Carried) (book : BookState) (mid next : Parts W)
-        → Queue book requests → takes_all room base (length requests) ≡ true → Steady room mid → CleanTurn honest far clean mid next
+        → Queue book requests → takes_all room base (length requests) ≡ true → Steady room mid → CleanTurn facts mid next
         → Going n requests base book mid → Going (suc n) requests base book next
     going_more room zero [] base book mid next queue fits steady turn idle =
         let grown = turn.grows steady.is_honest in
@@ -179,7 +182,7 @@ module _ {W : Type 0} (honest : W → Bool) (far : W → Far) (clean : W → Boo
     going_more room zero (first ∷ rest) base book mid next queue fits steady turn idle =
         let some : has_room (far (wire_of mid.station.link)) ≡ true = rw (steady.room_is, idle.record_is) (takes_first room base (length rest) fits) in
         let is_next : next_taken mid.book.state.standing ≡ Some first = ap (λ (b : BookState). next_taken b.standing) idle.book_is ∙ queue_next book first rest queue in
-        let after : After 1 first (record_of far mid) mid.book.state next = turn.starts layouts first.0 first.1 (idle.may first.0 first.1 is_next some) in
+        let after : After 1 first (record_of facts mid) mid.book.state next = turn.starts layouts first.0 first.1 (idle.may first.0 first.1 is_next some) in
         went 0 first rest base book next
         (subst (λ (b : BookState). After 1 first base b next) idle.book_is (subst (λ (xs : List Carried). After 1 first xs mid.book.state next) idle.record_is after))
     going_more room (suc n) (first ∷ rest) base book mid next queue fits steady turn (inl (after, goes)) =
@@ -194,8 +197,8 @@ module _ {W : Type 0} (honest : W → Bool) (far : W → Far) (clean : W → Boo
     )
 
     -- what that says of the record and of the book
-    on_its_way : CleanLaws → (stage : Stage) (n : ℕ) (next : Ticket × Request) (base : List Carried) (book : BookState) (now : Parts W) → IsAt honest far clean layouts next.0 next.1 base book stage now
-        → turns_at layouts.run.od next.1 stage ≡ n → ((answer : Answer) → stage ≡ Ended answer → ⊥) → IsOnItsWay honest far clean layouts n next base book now
+    on_its_way : CleanLaws → (stage : Stage) (n : ℕ) (next : Ticket × Request) (base : List Carried) (book : BookState) (now : Parts W) → IsAt facts layouts next.0 next.1 base book stage now
+        → turns_at layouts.run.od next.1 stage ≡ n → ((answer : Answer) → stage ≡ Ended answer → ⊥) → IsOnItsWay facts layouts n next base book now
     on_its_way laws (Written zero) n next base book now is turns goes = absurd is.at.fits
     on_its_way laws (Written (suc i)) n next base book now is turns goes =
         let few = segment_within layouts.run.od (laws.texts layouts.run.od is.low) (request_text next.1) i is.at.fits.0 in
@@ -207,7 +210,7 @@ module _ {W : Type 0} (honest : W → Bool) (far : W → Far) (clean : W → Boo
         (is.book_is, inr (answer, omega (arith, few, turns), record_at layouts next.0 next.1 base book (Reading answer (suc j)) now is ∙ is.at.fits.3))
     on_its_way laws (Ended answer) n next base book now is turns goes = absurd (goes answer refl)
 
-    are_served : CleanLaws → (n : ℕ) (requests : List (Ticket × Request)) (base : List Carried) (book : BookState) (now : Parts W) → Going n requests base book now → AreServed honest far clean layouts n requests base book now
+    are_served : CleanLaws → (n : ℕ) (requests : List (Ticket × Request)) (base : List Carried) (book : BookState) (now : Parts W) → Going n requests base book now → AreServed facts layouts n requests base book now
     are_served laws zero requests base book now idle = (idle.record_is, idle.book_is)
     are_served laws (suc n) [] base book now grown = grown
     are_served laws (suc n) (next ∷ rest) base book now (inl (after, goes)) = inl (on_its_way laws after.stage (suc n) next base book now after.is_at after.turns_are goes)
@@ -215,35 +218,35 @@ module _ {W : Type 0} (honest : W → Bool) (far : W → Far) (clean : W → Boo
         inr (answer, few, are_served laws (suc n - needed next.1 answer) rest (grown_by base next.1 answer) (posted (took book next) (Done answer)) now going)
 
     -- of one request alone
-    on_time : (ticket : Ticket) (request : Request) (p : Parts W) (n : ℕ) (now : Parts W) → AreServed honest far clean layouts (suc n) ((ticket, request) ∷ []) (record_of far p) p.book.state now
-        → IsOnTime honest far clean layouts ticket request p (suc n) now
+    on_time : (ticket : Ticket) (request : Request) (p : Parts W) (n : ℕ) (now : Parts W) → AreServed facts layouts (suc n) ((ticket, request) ∷ []) (record_of facts p) p.book.state now
+        → IsOnTime facts layouts ticket request p (suc n) now
     on_time ticket request p n now (inl given) = grind (arith, common_steps)
     on_time ticket request p n now (inr (answer, few, rest)) = by (suc n - needed request answer) refl rest
       where
         by : (left : ℕ) → suc n - needed request answer ≡ left
-            → AreServed honest far clean layouts left [] (grown_by (record_of far p) request answer) (posted (took p.book.state (ticket, request)) (Done answer)) now
-            → IsOnTime honest far clean layouts ticket request p (suc n) now
+            → AreServed facts layouts left [] (grown_by (record_of facts p) request answer) (posted (took p.book.state (ticket, request)) (Done answer)) now
+            → IsOnTime facts layouts ticket request p (suc n) now
         by zero left (is, book) = inr (inr (inl (answer, is, omega (arith, few, left), book)))
         by (suc k) left (more, is) = inr (inr (inr (answer, more, is, omega (arith, few, left))))
 
     -- where it begins
-    begins : (first : Ticket × Request) (rest : List (Ticket × Request)) (p : Parts W) → MayServe honest far clean layouts first rest p → Going zero (first ∷ rest) (record_of far p) p.book.state p
+    begins : (first : Ticket × Request) (rest : List (Ticket × Request)) (p : Parts W) → MayServe facts layouts first rest p → Going zero (first ∷ rest) (record_of facts p) p.book.state p
     begins first rest p may = record {
       record_is = refl;
       book_is = refl;
       may = λ ticket request is_next room.
           let found : Some first ≡ Some (ticket, request) = sym may.starts.next ∙ is_next in
           let same : first ≡ (ticket, request) = cc in
-          subst (λ (next : Ticket × Request). MayStart honest far clean layouts next.0 next.1 p) same may.starts;
+          subst (λ (next : Ticket × Request). MayStart facts layouts next.0 next.1 p) same may.starts;
     }
 
-    steady_first : (ticket : Ticket) (request : Request) (p : Parts W) → MayStart honest far clean layouts ticket request p → Steady (far (wire_of p.station.link)).room p
+    steady_first : (ticket : Ticket) (request : Request) (p : Parts W) → MayStart facts layouts ticket request p → Steady (far (wire_of p.station.link)).room p
     steady_first ticket request p may = record {
       is_honest = subst (λ (l : AnyLink W). IsTrue (honest (wire_of l))) (sym may.link_is) may.is_honest;
       room_is = refl;
     }
 
-    queue_first : (first : Ticket × Request) (rest : List (Ticket × Request)) (p : Parts W) → MayServe honest far clean layouts first rest p → Queue p.book.state (first ∷ rest)
+    queue_first : (first : Ticket × Request) (rest : List (Ticket × Request)) (p : Parts W) → MayServe facts layouts first rest p → Queue p.book.state (first ∷ rest)
     queue_first first rest p may = record {
       free = was_free p.book.state.standing.taken (p.book.state.standing.urgent ++ p.book.state.standing.waiting) first may.starts.next;
       others = may.others;
@@ -251,7 +254,7 @@ module _ {W : Type 0} (honest : W → Bool) (far : W → Far) (clean : W → Boo
     }
 
     -- one request may be served where it may start
-    may_serve : (ticket : Ticket) (request : Request) (p : Parts W) → MayStart honest far clean layouts ticket request p → MayServe honest far clean layouts (ticket, request) [] p
+    may_serve : (ticket : Ticket) (request : Request) (p : Parts W) → MayStart facts layouts ticket request p → MayServe facts layouts (ticket, request) [] p
     may_serve ticket request p may =
         let s = p.book.state.standing in
         let list : List (Ticket × Request) = s.urgent ++ s.waiting in
@@ -262,7 +265,7 @@ module _ {W : Type 0} (honest : W → Bool) (far : W → Far) (clean : W → Boo
           starts = may;
           others = drop 1 list;
           in_order = headed list (ticket, request) head;
-          room = takes_one (far (wire_of p.station.link)).room (record_of far p) some;
+          room = takes_one (far (wire_of p.station.link)).room (record_of facts p) some;
         }
 
   -- Whole runs
@@ -270,31 +273,31 @@ module _ {W : Type 0} (honest : W → Bool) (far : W → Far) (clean : W → Boo
   -- where the port stands after so many turns and no other call
   abbrev pub SoFar : Parts W → List Call → Parts W → Type 0
   SoFar p calls now =
-      (n : ℕ) → calls ≡ replicate n call.Turn → (layouts : Layouts) (first : Ticket × Request) (rest : List (Ticket × Request)) → MayServe honest far clean layouts first rest p
-      → Steady (far (wire_of p.station.link)).room now × Going layouts n (first ∷ rest) (record_of far p) p.book.state now
+      (n : ℕ) → calls ≡ replicate n call.Turn → (layouts : Layouts) (first : Ticket × Request) (rest : List (Ticket × Request)) → MayServe facts layouts first rest p
+      → Steady (far (wire_of p.station.link)).room now × Going layouts n (first ∷ rest) (record_of facts p) p.book.state now
 
   pub so_far_none : (p : Parts W) → SoFar p [] p
   so_far_none p zero e layouts first rest may = (steady_first layouts first.0 first.1 p may.starts, begins layouts first rest p may)
   so_far_none p (suc n) e layouts first rest may = absurd (cc)
 
-  so_far_snoc : (p mid next : Parts W) (calls : List Call) (c : Call) → SoFar p calls mid → (c ≡ call.Turn → CleanTurn honest far clean mid next) → SoFar p (calls ++ c ∷ []) next
+  so_far_snoc : (p mid next : Parts W) (calls : List Call) (c : Call) → SoFar p calls mid → (c ≡ call.Turn → CleanTurn facts mid next) → SoFar p (calls ++ c ∷ []) next
   so_far_snoc p mid next calls c so_far turn n e layouts first rest may =
       let found : (n ≡ suc (length calls)) × (calls ≡ replicate (length calls) call.Turn) × (c ≡ call.Turn) = snoc_turns calls c n e in
       let mid_is = so_far (length calls) found.1 layouts first rest may in
-      let t : CleanTurn honest far clean mid next = turn found.2 in
+      let t : CleanTurn facts mid next = turn found.2 in
       let room : Option ℕ = (far (wire_of p.station.link)).room in (
         steady_more room mid next mid_is.0 t,
-        subst (λ (k : ℕ). Going layouts k (first ∷ rest) (record_of far p) p.book.state next) (sym found.0)
-            (going_more layouts room (length calls) (first ∷ rest) (record_of far p) p.book.state mid next (queue_first layouts first rest p may) may.room mid_is.0 t mid_is.1),
+        subst (λ (k : ℕ). Going layouts k (first ∷ rest) (record_of facts p) p.book.state next) (sym found.0)
+            (going_more layouts room (length calls) (first ∷ rest) (record_of facts p) p.book.state mid next (queue_first layouts first rest p may) may.room mid_is.0 t mid_is.1),
       )
 
-  pub so_far_more : (p mid next : Parts W) (calls : List Call) (i : ℕ) (d : Call) → i < length calls → SoFar p (take i calls) mid → (get_or calls i d ≡ call.Turn → CleanTurn honest far clean mid next)
+  pub so_far_more : (p mid next : Parts W) (calls : List Call) (i : ℕ) (d : Call) → i < length calls → SoFar p (take i calls) mid → (get_or calls i d ≡ call.Turn → CleanTurn facts mid next)
       → SoFar p (take (i + 1) calls) next
   so_far_more p mid next calls i d below so_far turn = rw (take_more calls i d below) (so_far_snoc p mid next (take i calls) (get_or calls i d) so_far turn)
 
-  pub clean_serves : CleanLaws → (p next : Parts W) (calls : List Call) (i : ℕ) → length calls ≤ i → SoFar p (take i calls) next → CleanServes honest far clean p calls next
+  pub clean_serves : CleanLaws → (p next : Parts W) (calls : List Call) (i : ℕ) → length calls ≤ i → SoFar p (take i calls) next → CleanServes facts p calls next
   clean_serves laws p next calls i all so_far n e layouts first rest may =
-      are_served layouts laws n (first ∷ rest) (record_of far p) p.book.state next (so_far n (take_all i calls all ∙ e) layouts first rest may).1
+      are_served layouts laws n (first ∷ rest) (record_of facts p) p.book.state next (so_far n (take_all i calls all ∙ e) layouts first rest may).1
 
-  pub clean_runs : (p next : Parts W) (calls : List Call) → CleanServes honest far clean p calls next → CleanRuns honest far clean p calls next
+  pub clean_runs : (p next : Parts W) (calls : List Call) → CleanServes facts p calls next → CleanRuns facts p calls next
   clean_runs p next calls serves n e layouts ticket request may = on_time layouts ticket request p n next (serves (suc n) e layouts (ticket, request) [] (may_serve layouts ticket request p may))

@@ -11,6 +11,7 @@ use Rattle.iol_steps.specs.Step.{Step, Take, Deny, Moment, woke_up, book_said, r
 use Rattle.iol_steps.specs.Session.{MaySession, MaySessionAll, session_after, session_through}
 use Rattle.iol_far.specs.Far.{Far}
 use Rattle.iol_event.specs.declared.event.Event.{Event}
+use Rattle.iol_link.specs.WireFacts.{WireFacts}
 use Rattle.iol_steps.specs.Station.{Station, Unseen, Stands, session_in, job_of}
 use Rattle.iol_steps.specs.Exchange.{begun, unseen_begun}
 use Rattle.iol_steps.specs.Promises.{Begins}
@@ -106,24 +107,24 @@ module _ (base : ℕ) (s next : Station) (u : Unseen) (said : Said) (b after : B
         record { may_images = (tt, g.images.may); images = sym g.images.is; image_is_last = g.images.image_is_last; output_is_wanted = g.images.output_is_wanted },
       )
 
-module _ {W : Type 0} (honest : W → Bool) (far : W → Far) (silence : W → ℕ) where
+module _ {W : Type 0} (facts : WireFacts W) where
   -- what the words of a turn leave, by the modes of the links
-  settles_seen : (old new : StationState W) (s n : Station) (said : Said) (b start after : BookState) (kept later : List Event) → IsSeen honest far silence old s → IsSeen honest far silence new n →
+  settles_seen : (old new : StationState W) (s n : Station) (said : Said) (b start after : BookState) (kept later : List Event) → IsSeen facts old s → IsSeen facts new n →
       after ≡ book_through (woke_up (mode_of old.link) (mode_of new.link) ++ book_said said) b → later ≡ kept_through (reports_said said) kept → b ≡ start → Settles start kept s n said after later
   settles_seen old new s n said b start after kept later seen_old seen_new book kept_is is =
       record { posts = rw (seen_old.mode, seen_new.mode, ← is) book; keeps = kept_is }
 
-  pub turn_does : (p next : Parts W) (said : Said) (s : StationState W) (b : BookState) → BeginsNext honest far silence p.station p.book.state s b → TurnSteps honest far silence s said next.station
-      → next.book.state ≡ book_through (woke_up (mode_of s.link) (mode_of next.station.link) ++ book_said said) b → next.kept ≡ kept_through (reports_said said) p.kept → Follows honest far silence p call.Turn answered.Nothing next
+  pub turn_does : (p next : Parts W) (said : Said) (s : StationState W) (b : BookState) → BeginsNext facts p.station p.book.state s b → TurnSteps facts s said next.station
+      → next.book.state ≡ book_through (woke_up (mode_of s.link) (mode_of next.station.link) ++ book_said said) b → next.kept ≡ kept_through (reports_said said) p.kept → Follows facts p call.Turn answered.Nothing next
   unfolding TurnSteps BeginSteps DenySteps
-  turn_does p next said s b begins gives book kept = does_by_choice honest far silence p call.Turn answered.Nothing next (λ u shows. by_begins begins gives book u shows)
+  turn_does p next said s b begins gives book kept = does_by_choice facts p call.Turn answered.Nothing next (λ u shows. by_begins begins gives book u shows)
     where
       After : Choice → Type 0
-      After u = (v : Choice) × Shows honest far silence next v × CallOf (state_of u p.book.state p.kept) call.Turn answered.Nothing (state_of v next.book.state next.kept)
+      After u = (v : Choice) × Shows facts next v × CallOf (state_of u p.book.state p.kept) call.Turn answered.Nothing (state_of v next.book.state next.kept)
 
-      by_begins : BeginsNext honest far silence p.station p.book.state s b → TurnSteps honest far silence s said next.station → next.book.state ≡ book_through (woke_up (mode_of s.link) (mode_of next.station.link) ++ book_said said) b → (u : Choice) → Shows honest far silence p u → After u
+      by_begins : BeginsNext facts p.station p.book.state s b → TurnSteps facts s said next.station → next.book.state ≡ book_through (woke_up (mode_of s.link) (mode_of next.station.link) ++ book_said said) b → (u : Choice) → Shows facts p u → After u
       by_begins (inl (s_is, b_is)) gives book u shows =
-          let seen : IsSeen honest far silence s u.station = rw s_is shows.seen in
+          let seen : IsSeen facts s u.station = rw s_is shows.seen in
           let (n, seen_next, g) = gives u.station u.unseen seen shows.stands in
           let settled : Settles p.book.state p.kept u.station n said next.book.state next.kept = settles_seen s next.station u.station n said b _ next.book.state p.kept next.kept seen seen_next book kept b_is in
           (record { base = u.base; station = n; unseen = g.after }, record { seen = seen_next; stands = g.stands }, (refl, idle_turn u.base u.station n u.unseen said p.book.state next.book.state p.kept next.kept settled g))
@@ -133,7 +134,7 @@ module _ {W : Type 0} (honest : W → Bool) (far : W → Far) (silence : W → �
           let settled : Settles (took p.book.state (t, q)) p.kept (begun q u.station) n said next.book.state next.kept = settles_seen s next.station (begun q u.station) n said b _ next.book.state p.kept next.kept seen seen_next book kept b_is in
           (record { base = u.base; station = n; unseen = g.after }, record { seen = seen_next; stands = g.stands }, (refl, taking_turn u.base u.station n u.unseen said p.book.state next.book.state p.kept next.kept t q head taken settled g))
       by_begins (inr (inr (t, head, b_is, free, s_is, told, denies))) gives book u shows =
-          let seen : IsSeen honest far silence s u.station = rw s_is shows.seen in
+          let seen : IsSeen facts s u.station = rw s_is shows.seen in
           let (n, seen_next, g) = gives u.station u.unseen seen shows.stands in
           let settled : Settles (denied p.book.state t) p.kept u.station n said next.book.state next.kept = settles_seen s next.station u.station n said b _ next.book.state p.kept next.kept seen seen_next book kept b_is in
           let may_deny : (m : Moment) → m.terms ≡ u.station.terms → MaySession m (Deny t.0) (session_in u.station u.unseen) = λ m terms. denies u.station u.unseen shows.seen shows.stands m t.0 terms in
@@ -147,6 +148,6 @@ last_through : (steps : List Step) (b : BookState) → (book_through steps b).la
 last_through [] b = refl
 last_through (step ∷ steps) b = last_through steps (book_after step b) ∙ last_after step b
 
-module _ {W : Type 0} (honest : W → Bool) (far : W → Far) (silence : W → ℕ) where
-  pub turn_gives_none : (s next : StationState W) (b mid after : BookState) (steps : List Step) → BeginsNext honest far silence s b next mid → after ≡ book_through steps mid → after.last ≡ b.last
+module _ {W : Type 0} (facts : WireFacts W) where
+  pub turn_gives_none : (s next : StationState W) (b mid after : BookState) (steps : List Step) → BeginsNext facts s b next mid → after ≡ book_through steps mid → after.last ≡ b.last
   turn_gives_none s next b mid after steps given given2 = grind (arith, common_steps, last_through)

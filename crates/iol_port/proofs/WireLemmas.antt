@@ -6,6 +6,7 @@ use Rattle.std.specs.Result.{result_map_both}
 use Rattle.arrayvec.specs.ArrayVec.{ArrayVec}
 use Rattle.iol_far.specs.Far.{Far}
 use Rattle.iol_link.specs.declared.wire.Rate.{Rate}
+use Rattle.iol_link.specs.WireFacts.{WireFacts}
 use Rattle.iol_book.specs.declared.entries.Entry.{Entry}
 use Rattle.iol_app.specs.declared.asked.Asked.{Asked}
 use Rattle.iol_app.specs.StationState.{wire_of}
@@ -28,12 +29,14 @@ archived_reply : {X : Type 0} (items : X → List Entry) (result : Result X Port
     → archive_reply (result_map_both items (λ why. why) result) ≡ reply_of (λ x. answered.Archived (length (items x))) result
 archived_reply items result = grind (arith, common_steps)
 
-module _ {W : Type 0} (honest : W → Bool) (far : W → Far) (silence : W → ℕ) (wakes : W → Option Rate → W → Type 0) (gives : W → List ℕ → Option (ArrayVec ℕ) → W → Type 0) where
+module _ {W : Type 0} (facts : WireFacts W) where
+  open facts use {tells}
+
   abbrev Called : Parts W → Call → Answered → Parts W → Type 0
-  Called p c reply next = CallGives honest far silence wakes gives p c reply next
+  Called p c reply next = CallGives facts p c reply next
 
   abbrev Ran : Parts W → List Call → List Answered → Parts W → Type 0
-  Ran p calls replies next = RunGives honest far silence wakes gives p calls replies next
+  Ran p calls replies next = RunGives facts p calls replies next
 
   -- a run goes on by one call
   pub run_none : (p : Parts W) → Ran p [] [] p
@@ -49,71 +52,69 @@ module _ {W : Type 0} (honest : W → Bool) (far : W → Far) (silence : W → �
   run_more p mid next calls i d replies reply below run one =
       rw (take_more calls i d below) (run_snoc p mid next (take i calls) replies (get_or calls i d) reply run one)
 
-  module _ (tells : W → W → Type 0) where
-    abbrev Comes : W → Parts W → Type 0
-    Comes first p = ComesFrom wakes gives tells first (wire_of p.station.link)
+  abbrev Comes : W → Parts W → Type 0
+  Comes first p = ComesFrom facts first (wire_of p.station.link)
 
-    -- one change of the wire more
-    changes_snoc : (first old new : W) (changes : List (Option Asked)) (change : Option Asked) → AreChanges wakes gives tells changes first old → IsChange wakes gives tells change old new
-        → AreChanges wakes gives tells (changes ++ change ∷ []) first new
-    changes_snoc first old new [] change is one = (new, subst (λ (w : W). IsChange wakes gives tells change w new) is one, refl)
-    changes_snoc first old new (c ∷ changes) change (mid, this, rest) one = (mid, this, changes_snoc mid old new changes change rest one)
+  -- one change of the wire more
+  changes_snoc : (first old new : W) (changes : List (Option Asked)) (change : Option Asked) → AreChanges facts changes first old → IsChange facts change old new
+      → AreChanges facts (changes ++ change ∷ []) first new
+  changes_snoc first old new [] change is one = (new, subst (λ (w : W). IsChange facts change w new) is one, refl)
+  changes_snoc first old new (c ∷ changes) change (mid, this, rest) one = (mid, this, changes_snoc mid old new changes change rest one)
 
-    comes_more : (first old new : W) (change : Option Asked) → IsChange wakes gives tells change old new → ComesFrom wakes gives tells first old → ComesFrom wakes gives tells first new
-    comes_more first old new change one (changes, are) = (changes ++ change ∷ [], changes_snoc first old new changes change are one)
+  comes_more : (first old new : W) (change : Option Asked) → IsChange facts change old new → ComesFrom facts first old → ComesFrom facts first new
+  comes_more first old new change one (changes, are) = (changes ++ change ∷ [], changes_snoc first old new changes change are one)
 
-    same_wire : (first : W) (p next : Parts W) → wire_of next.station.link ≡ wire_of p.station.link → Comes first p → Comes first next
-    same_wire first p next same comes = subst (λ (w : W). ComesFrom wakes gives tells first w) (sym same) comes
+  same_wire : (first : W) (p next : Parts W) → wire_of next.station.link ≡ wire_of p.station.link → Comes first p → Comes first next
+  same_wire first p next same comes = subst (λ (w : W). ComesFrom facts first w) (sym same) comes
 
-    -- no call but a turn touches the wire, and a turn makes one call of it
-    wire_kept : (first : W) (p next : Parts W) (c : Call) (reply : Answered) → Called p c reply next → Comes first p → Comes first next
-    wire_kept first p next call.Turn reply (_, _, one) comes = comes_more first _ _ (Some (asks_of p)) one comes
-    wire_kept first p next c reply given comes = same_wire first p next (grind (arith, common_steps)) comes
+  -- no call but a turn touches the wire, and a turn makes one call of it
+  wire_kept : (first : W) (p next : Parts W) (c : Call) (reply : Answered) → Called p c reply next → Comes first p → Comes first next
+  wire_kept first p next call.Turn reply (_, _, one) comes = comes_more first _ _ (Some (asks_of p)) one comes
+  wire_kept first p next c reply given comes = same_wire first p next (grind (arith, common_steps)) comes
 
-    wire_kept_by : (first : W) (p next : Parts W) (calls : List Call) (replies : List Answered) → Ran p calls replies next → Comes first p → Comes first next
-    wire_kept_by first p next [] [] run comes = subst (λ (q : Parts W). Comes first q) (sym run) comes
-    wire_kept_by first p next (c ∷ calls) (r ∷ replies) (mid, one, rest) comes =
-        wire_kept_by first mid next calls replies rest (wire_kept first p mid c r one comes)
-    wire_kept_by first p next _ _ run comes = absurd run
+  wire_kept_by : (first : W) (p next : Parts W) (calls : List Call) (replies : List Answered) → Ran p calls replies next → Comes first p → Comes first next
+  wire_kept_by first p next [] [] run comes = subst (λ (q : Parts W). Comes first q) (sym run) comes
+  wire_kept_by first p next (c ∷ calls) (r ∷ replies) (mid, one, rest) comes =
+      wire_kept_by first mid next calls replies rest (wire_kept first p mid c r one comes)
+  wire_kept_by first p next _ _ run comes = absurd run
 
-  module _ {tells : W → W → Type 0} where
-    -- each call keeps what a port keeps, and so does each run
-    pub port_kept : (o : Opening W) (p next : Parts W) (c : Call) (reply : Answered) → IsPort honest far silence wakes gives tells o p → Does honest far silence p c reply next → Called p c reply next
-        → IsPort honest far silence wakes gives tells o next
-    port_kept o p next c reply is does one = record {
-      run = run_kept honest far silence o p next c reply is.run does;
-      wire = wire_kept tells o.wire p next c reply one is.wire;
-    }
+  -- each call keeps what a port keeps, and so does each run
+  pub port_kept : (o : Opening W) (p next : Parts W) (c : Call) (reply : Answered) → IsPort facts o p → Does facts p c reply next → Called p c reply next
+      → IsPort facts o next
+  port_kept o p next c reply is does one = record {
+    run = run_kept facts o p next c reply is.run does;
+    wire = wire_kept o.wire p next c reply one is.wire;
+  }
 
-    port_kept_by : (o : Opening W) (p next : Parts W) (calls : List Call) (replies : List Answered) → IsPort honest far silence wakes gives tells o p → Runs honest far silence p calls replies next
-        → Ran p calls replies next → IsPort honest far silence wakes gives tells o next
-    port_kept_by o p next calls replies is runs run = record {
-      run = run_kept_by honest far silence o p next calls replies is.run runs;
-      wire = wire_kept_by tells o.wire p next calls replies run is.wire;
-    }
+  port_kept_by : (o : Opening W) (p next : Parts W) (calls : List Call) (replies : List Answered) → IsPort facts o p → Runs facts p calls replies next
+      → Ran p calls replies next → IsPort facts o next
+  port_kept_by o p next calls replies is runs run = record {
+    run = run_kept_by facts o p next calls replies is.run runs;
+    wire = wire_kept_by o.wire p next calls replies run is.wire;
+  }
 
-    pub port_archived : {X : Type 0} (items : X → List Entry) (o : Opening W) (p next : Parts W) (result : Result X PortFault) → IsPort honest far silence wakes gives tells o p
-        → Does honest far silence p call.Archive (reply_of (λ x. answered.Archived (length (items x))) result) next
-        → Called p call.Archive (archive_reply (result_map_both items (λ why. why) result)) next → IsPort honest far silence wakes gives tells o next
-    port_archived items o p next result is does one =
-        port_kept o p next call.Archive _ is does (subst (λ (reply : Answered). Called p call.Archive reply next) (archived_reply items result) one)
+  pub port_archived : {X : Type 0} (items : X → List Entry) (o : Opening W) (p next : Parts W) (result : Result X PortFault) → IsPort facts o p
+      → Does facts p call.Archive (reply_of (λ x. answered.Archived (length (items x))) result) next
+      → Called p call.Archive (archive_reply (result_map_both items (λ why. why) result)) next → IsPort facts o next
+  port_archived items o p next result is does one =
+      port_kept o p next call.Archive _ is does (subst (λ (reply : Answered). Called p call.Archive reply next) (archived_reply items result) one)
 
-    pub port_ran : {X : Type 0} (items : X → List Answered) (o : Opening W) (p next : Parts W) (calls : List Call) (result : Result X PortFault) → IsPort honest far silence wakes gives tells o p
-        → IfOk result (λ x. Runs honest far silence p calls (items x) next) → IfOk result (λ x. Ran p calls (items x) next) → IfErr result (λ _. next ≡ p)
-        → IsPort honest far silence wakes gives tells o next
-    port_ran items o p next calls (Ok x) is runs run same = port_kept_by o p next calls (items x) is runs run
-    port_ran items o p next calls (Err why) is runs run same = subst (λ (q : Parts W). IsPort honest far silence wakes gives tells o q) (sym same) is
+  pub port_ran : {X : Type 0} (items : X → List Answered) (o : Opening W) (p next : Parts W) (calls : List Call) (result : Result X PortFault) → IsPort facts o p
+      → IfOk result (λ x. Runs facts p calls (items x) next) → IfOk result (λ x. Ran p calls (items x) next) → IfErr result (λ _. next ≡ p)
+      → IsPort facts o next
+  port_ran items o p next calls (Ok x) is runs run same = port_kept_by o p next calls (items x) is runs run
+  port_ran items o p next calls (Err why) is runs run same = subst (λ (q : Parts W). IsPort facts o q) (sym same) is
 
-    -- a new port
-    pub port_new : (o : Opening W) (p : Parts W) → (OpensWell o → StandsFor honest far silence p (opened o.limits o.far o.silence)) → wire_of p.station.link ≡ o.wire
-        → IsPort honest far silence wakes gives tells o p
-    port_new o p stands same = record { run = run_new honest far silence o p stands; wire = ([], same) }
+  -- a new port
+  pub port_new : (o : Opening W) (p : Parts W) → (OpensWell o → StandsFor facts p (opened o.limits o.far o.silence)) → wire_of p.station.link ≡ o.wire
+      → IsPort facts o p
+  port_new o p stands same = record { run = run_new facts o p stands; wire = ([], same) }
 
-    -- a port whose wire is told goes on
-    pub port_told : (o : Opening W) (p next : Parts W) → IsPort honest far silence wakes gives tells o p → StandsStill honest far silence p next
-        → tells (wire_of p.station.link) (wire_of next.station.link) → IsPort honest far silence wakes gives tells o next
-    unfolding IsRun StandsStill
-    port_told o p next is still told = record {
-      run = λ well. let r = is.run well in (r.0, r.1, r.2, r.3, still r.2 r.4);
-      wire = comes_more tells o.wire _ _ None told is.wire;
-    }
+  -- a port whose wire is told goes on
+  pub port_told : (o : Opening W) (p next : Parts W) → IsPort facts o p → StandsStill facts p next
+      → tells (wire_of p.station.link) (wire_of next.station.link) → IsPort facts o next
+  unfolding IsRun StandsStill
+  port_told o p next is still told = record {
+    run = λ well. let r = is.run well in (r.0, r.1, r.2, r.3, still r.2 r.4);
+    wire = comes_more o.wire _ _ None told is.wire;
+  }

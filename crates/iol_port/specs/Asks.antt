@@ -4,7 +4,7 @@ use Rattle.std.specs.Option.{option_map}
 use Rattle.arrayvec.specs.ArrayVec.{ArrayVec}
 use Rattle.iol_isdu.specs.declared.values.Request.{Request}
 use Rattle.iol_event.specs.declared.event.Event.{Event}
-use Rattle.iol_link.specs.declared.wire.Rate.{Rate}
+use Rattle.iol_link.specs.WireFacts.{WireFacts}
 use Rattle.iol_book.specs.declared.entries.Ticket.{Ticket}
 use Rattle.iol_book.specs.BookModel.{next_taken}
 use Rattle.iol_app.specs.declared.asked.Asked.{Asked}
@@ -38,7 +38,6 @@ module _ {W : Type 0} where
 
   -- a turn makes the call of the wire that was asked, and no other call of the port
   -- touches the wire
-  abbrev pub IsWireCall : (W → Option Rate → W → Type 0)
-      → (W → List ℕ → Option (ArrayVec ℕ) → W → Type 0) → Call → Asked → W → W → Type 0
-  IsWireCall wakes gives Turn asked old new = IsCall wakes gives asked old new
-  IsWireCall wakes gives other asked old new = new ≡ old
+  abbrev pub IsWireCall : WireFacts W → Call → Asked → W → W → Type 0
+  IsWireCall facts Turn asked old new = IsCall facts asked old new
+  IsWireCall facts other asked old new = new ≡ old

@@ -21,6 +21,7 @@ use Rattle.iol_far.specs.Laws.{RepliesAreRead, InputStaysSized, ModesHaveLayouts
 use Rattle.iol_far.specs.SegmentLaws.{SegmentLaws}
 use Rattle.iol_mode.specs.Stands.{operate_link, IsOperating}
 use Rattle.iol_link.specs.Honest.{CleanExchange}
+use Rattle.iol_link.specs.WireFacts.{WireFacts}
 use Rattle.iol_book.specs.declared.entries.Ticket.{Ticket}
 use Rattle.iol_book.specs.declared.entries.Outcome.TheVariants.{Done}
 use Rattle.iol_book.specs.BookModel.{BookState, next_taken, took, posted}
@@ -34,12 +35,12 @@ use Rattle.iol_port.specs.Turns.{Stage, Ended, turns_needed, turns_at, StageFits
 use Rattle.iol_port.specs.View.{Parts}
 
 -- each exchange of a clean wire is one, and leaves it clean
-abbrev pub ExchangesCleanly : {W : Type 0} → (W → Bool) → (W → Far)
-    → (W → List ℕ → Option (ArrayVec ℕ) → W → Type 0) → Type 0
-ExchangesCleanly {W} clean far gives =
-    (old : W) (sent : List ℕ) (answer : Option (ArrayVec ℕ)) (new : W) → IsTrue (clean old)
-    → gives old sent answer new
-    → CleanExchange (far old) sent (octets_in answer) (far new) × IsTrue (clean new)
+abbrev pub ExchangesCleanly : {W : Type 0} → WireFacts W → Type 0
+ExchangesCleanly {W} facts =
+    (old : W) (sent : List ℕ) (answer : Option (ArrayVec ℕ)) (new : W)
+    → IsTrue (facts.clean old) → facts.exchange_gives old sent answer new
+    → CleanExchange (facts.far old) sent (octets_in answer) (facts.far new)
+    × IsTrue (facts.clean new)
 
 -- what the number of turns rests on: laws of the definitions
 pub record CleanLaws : Type 0 where
@@ -78,20 +79,23 @@ book_at book ticket request (Ended answer) = posted (took book (ticket, request)
 book_at book ticket request stage = took book (ticket, request)
 
 -- what the device of a port carried out
-abbrev pub record_of : {W : Type 0} → (W → Far) → Parts W → List Carried
-record_of far p = (far (wire_of p.station.link)).carried
+abbrev pub record_of : {W : Type 0} → WireFacts W → Parts W → List Carried
+record_of facts p = (facts.far (wire_of p.station.link)).carried
 
 -- between requests, with no message out in OPERATE, both ends are level and the device is awake
-abbrev pub IsLevelBetween : {W : Type 0} → (W → Far) → Parts W → Type 0
-IsLevelBetween {W} far p =
+abbrev pub IsLevelBetween : {W : Type 0} → WireFacts W → Parts W → Type 0
+IsLevelBetween {W} facts p =
     (wire : W) (layouts : Layouts)
     → p.station.link
     ≡ InOperate (record { wire = wire; state = record { out = None; layouts = layouts } })
     → p.station.session.current ≡ None
     → (link : Link) × IsOperating layouts link
-    × IsBefore (far wire).page layouts.run.od (far wire).carried link Quiet (far wire)
+    × IsBefore (facts.far wire).page layouts.run.od (facts.far wire).carried link Quiet
+    (facts.far wire)
 
-module _ {W : Type 0} (honest : W → Bool) (far : W → Far) (clean : W → Bool) where
+module _ {W : Type 0} (facts : WireFacts W) where
+  open facts use {honest, far, clean}
+
   -- in OPERATE over a clean wire, with no message out; the device is awake, in that link, has
   -- ISDU, as the port was told, and has no events
   pub record Stood (layouts : Layouts) (link : Link) (station : StationState W)
@@ -154,16 +158,16 @@ module _ {W : Type 0} (honest : W → Bool) (far : W → Far) (clean : W → Boo
   abbrev pub IsOnTime : Layouts → Ticket → Request → Parts W → ℕ → Parts W → Type 0
   IsOnTime layouts ticket request old n new =
       ((n ≤ segments layouts.run.od (request_text request) + 1)
-      × (record_of far new ≡ record_of far old)
+      × (record_of facts new ≡ record_of facts old)
       × (new.book.state ≡ took old.book.state (ticket, request)))
-      ⊎ ((answer : Answer) × (record_of far new ≡ grown_by (record_of far old) request answer)
+      ⊎ ((answer : Answer) × (record_of facts new ≡ grown_by (record_of facts old) request answer)
       × (n < turns_needed layouts.run.od request answer)
       × (new.book.state ≡ took old.book.state (ticket, request)))
-      ⊎ ((answer : Answer) × (record_of far new ≡ grown_by (record_of far old) request answer)
+      ⊎ ((answer : Answer) × (record_of facts new ≡ grown_by (record_of facts old) request answer)
       × (n ≡ turns_needed layouts.run.od request answer)
       × (new.book.state ≡ posted (took old.book.state (ticket, request)) (Done answer)))
       ⊎ ((answer : Answer) × (more : List Carried)
-      × (record_of far new ≡ grown_by (record_of far old) request answer ++ more)
+      × (record_of facts new ≡ grown_by (record_of facts old) request answer ++ more)
       × (turns_needed layouts.run.od request answer < n))
 
   -- From here requests that wait take the sum of their turns: the first may start, they wait in
@@ -174,7 +178,7 @@ module _ {W : Type 0} (honest : W → Bool) (far : W → Far) (clean : W → Boo
     pub others : List (Ticket × Request)
     pub in_order : p.book.state.standing.urgent ++ p.book.state.standing.waiting
         ≡ first ∷ (rest ++ others)
-    pub room : IsTrue (takes_all (far (wire_of p.station.link)).room (record_of far p)
+    pub room : IsTrue (takes_all (far (wire_of p.station.link)).room (record_of facts p)
         (suc (length rest)))
 
   -- how a request stands that is taken and not done after so many turns, the record having been
@@ -183,9 +187,9 @@ module _ {W : Type 0} (honest : W → Bool) (far : W → Far) (clean : W → Boo
       Layouts → ℕ → Ticket × Request → List Carried → BookState → Parts W → Type 0
   IsOnItsWay layouts n next base book new =
       (new.book.state ≡ took book next)
-      × (((n ≤ segments layouts.run.od (request_text next.1) + 1) × (record_of far new ≡ base))
+      × (((n ≤ segments layouts.run.od (request_text next.1) + 1) × (record_of facts new ≡ base))
       ⊎ ((answer : Answer) × (n < turns_needed layouts.run.od next.1 answer)
-      × (record_of far new ≡ grown_by base next.1 answer)))
+      × (record_of facts new ≡ grown_by base next.1 answer)))
 
   -- How requests that wait stand after so many turns. Before the first turn none is taken. Then
   -- the first of them is on its way; or it is done with an answer, after as many turns as are
@@ -194,9 +198,9 @@ module _ {W : Type 0} (honest : W → Bool) (far : W → Far) (clean : W → Boo
   abbrev pub AreServed :
       Layouts → ℕ → List (Ticket × Request) → List Carried → BookState → Parts W → Type 0
   AreServed layouts zero requests base book new =
-      (record_of far new ≡ base) × (new.book.state ≡ book)
+      (record_of facts new ≡ base) × (new.book.state ≡ book)
   AreServed layouts (suc n) [] base book new =
-      (more : List Carried) × (record_of far new ≡ base ++ more)
+      (more : List Carried) × (record_of facts new ≡ base ++ more)
   AreServed layouts (suc n) (next ∷ rest) base book new =
       IsOnItsWay layouts (suc n) next base book new
       ⊎ ((answer : Answer)
@@ -216,7 +220,7 @@ module _ {W : Type 0} (honest : W → Bool) (far : W → Far) (clean : W → Boo
   pub record CleanTurn (p next : Parts W) : Type 0 where
     pub starts : (layouts : Layouts) (ticket : Ticket) (request : Request)
         → MayStart layouts ticket request p
-        → IsAfter layouts ticket request (record_of far p) p.book.state 1 next
+        → IsAfter layouts ticket request (record_of facts p) p.book.state 1 next
     pub goes_on : (layouts : Layouts) (ticket : Ticket) (request : Request) (base : List Carried)
         (book : BookState) (stage : Stage)
         → IsAt layouts ticket request base book stage p
@@ -225,7 +229,7 @@ module _ {W : Type 0} (honest : W → Bool) (far : W → Far) (clean : W → Boo
         (suc (turns_at layouts.run.od request stage)) next
     pub honesty : honest (wire_of next.station.link) ≡ honest (wire_of p.station.link)
     pub grows : IsTrue (honest (wire_of p.station.link))
-        → (more : List Carried) × (record_of far next ≡ record_of far p ++ more)
+        → (more : List Carried) × (record_of facts next ≡ record_of facts p ++ more)
     pub room : IsTrue (honest (wire_of p.station.link))
         → (far (wire_of next.station.link)).room ≡ (far (wire_of p.station.link)).room
 
@@ -242,4 +246,4 @@ module _ {W : Type 0} (honest : W → Bool) (far : W → Far) (clean : W → Boo
   CleanServes p calls next =
       (n : ℕ) → calls ≡ replicate n call.Turn → (layouts : Layouts) (first : Ticket × Request)
       (rest : List (Ticket × Request)) → MayServe layouts first rest p
-      → AreServed layouts n (first ∷ rest) (record_of far p) p.book.state next
+      → AreServed layouts n (first ∷ rest) (record_of facts p) p.book.state next

@@ -10,6 +10,7 @@ use Rattle.iol_isdu.specs.declared.values.Cause.TheVariants.{Cancelled}
 use Rattle.iol_event.specs.declared.event.Event.{Event}
 use Rattle.iol_far.specs.Far.{Far}
 use Rattle.iol_link.specs.declared.wire.Rate.{Rate}
+use Rattle.iol_link.specs.WireFacts.{WireFacts}
 use Rattle.iol_book.specs.declared.entries.Entry.{Entry}
 use Rattle.iol_book.specs.declared.entries.Outcome.{Outcome}
 use Rattle.iol_book.specs.declared.entries.Ticket.{Ticket}
@@ -24,7 +25,7 @@ use Rattle.iol_steps.specs.Kinds.{restart_steps}
 use Rattle.iol_app.specs.State as session
 use Rattle.iol_app.specs.Due.{is_ready}
 use Rattle.iol_app.specs.Asking.{prepared, IsCall}
-use Rattle.iol_app.specs.AskedCalls.{AskedWakes, AskedGives}
+use Rattle.iol_app.specs.AskedCalls.{asked_facts}
 use Rattle.iol_app.specs.StationState.{StationState, wire_of, mode_of, why_of, is_operating, IsTurn}
 use Rattle.iol_port.specs.declared.fault.PortFault.{PortFault}
 use Rattle.iol_port.specs.declared.fault.PortFault.TheVariants as fault
@@ -164,17 +165,17 @@ module _ {W : Type 0} where
     pub free : old.book.state.standing.taken ≡ None
     pub book : new.book.state ≡ denied old.book.state ticket
 
-  module _ (honest : W → Bool) (far : W → Far) (silence : W → ℕ)
-      (wakes : W → Option Rate → W → Type 0)
-      (gives : W → List ℕ → Option (ArrayVec ℕ) → W → Type 0) where
+  module _ (facts : WireFacts W) where
+    open facts use {wake_gives as wakes, exchange_gives as gives}
+
     -- A turn: the next request is begun or denied; the station makes its own one, with room
     -- for events where at most 58 are kept, and what that says goes to the book and to the
     -- kept events; a wake that had success ends what a request that was cut off may still do
     pub record TurnGives (old new : Parts W) : Type 0 where
       pub said : Said
       -- its one call of the wire is the one that the port asks for
-      pub turn : IsTurn honest far silence (AskedWakes wakes (asks_of old))
-          (AskedGives gives (asks_of old)) (has_room old.kept) (station_begun old) said new.station
+      pub turn : IsTurn (asked_facts facts (asks_of old)) (has_room old.kept)
+          (station_begun old) said new.station
       pub book : new.book.state
           ≡ book_through
           (woke_up (mode_of old.station.link) (mode_of new.station.link) ++ book_said said)
@@ -218,7 +219,7 @@ module _ {W : Type 0} where
         × ArchiveGives old result new
     CallGives old call.Turn reply new =
         (reply ≡ answered.Nothing) × TurnGives old new
-        × IsCall wakes gives (asks_of old) (wire_of old.station.link) (wire_of new.station.link)
+        × IsCall facts (asks_of old) (wire_of old.station.link) (wire_of new.station.link)
 
     -- a run: each call in order, once, with its answer
     abbrev pub RunGives : Parts W → List Call → List Answered → Parts W → Type 0

@@ -1,6 +1,7 @@
 -- A port that goes on over another wire.
 use Rattle.std.specs.Prelude.{ℕ, Bool}
 use Rattle.iol_far.specs.Far.{Far}
+use Rattle.iol_link.specs.WireFacts.{WireFacts}
 use Rattle.iol_app.specs.Rewire.{rewired}
 use Rattle.iol_port.specs.Run.{PortState}
 use Rattle.iol_port.specs.View.{Parts, StandsFor}
@@ -12,7 +13,7 @@ module _ {W : Type 0} where
       record p { station = record p.station { link = rewired wire p.station.link } }
 
   -- each abstract port that it stood for, it stands for
-  module _ (honest : W → Bool) (far : W → Far) (silence : W → ℕ) where
+  module _ (facts : WireFacts W) where
     unfoldable pub StandsStill : Parts W → Parts W → Type 0
-    StandsStill p next = (a : PortState) → StandsFor honest far silence p a
-        → StandsFor honest far silence next a
+    StandsStill p next = (a : PortState) → StandsFor facts p a
+        → StandsFor facts next a

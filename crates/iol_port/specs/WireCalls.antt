@@ -2,16 +2,18 @@
 use Rattle.std.specs.Prelude.{◌≡◌, ℕ, List, [], ◌∷◌, Option, Some, None}
 use Rattle.arrayvec.specs.ArrayVec.{ArrayVec}
 use Rattle.iol_link.specs.declared.wire.Rate.{Rate}
+use Rattle.iol_link.specs.WireFacts.{WireFacts}
 use Rattle.iol_app.specs.declared.asked.Asked.{Asked}
 use Rattle.iol_app.specs.Asking.{IsCall}
 
-module _ {W : Type 0} (wakes : W → Option Rate → W → Type 0)
-    (gives : W → List ℕ → Option (ArrayVec ℕ) → W → Type 0) (tells : W → W → Type 0) where
+module _ {W : Type 0} (facts : WireFacts W) where
+  open facts use {tells}
+
   -- one call; or, between two calls, the wire is told from outside what comes,
   -- where it is one that may be told
   abbrev pub IsChange : Option Asked → W → W → Type 0
   IsChange None old new = tells old new
-  IsChange (Some asked) old new = IsCall wakes gives asked old new
+  IsChange (Some asked) old new = IsCall facts asked old new
 
   -- these, in order
   abbrev pub AreChanges : List (Option Asked) → W → W → Type 0

@@ -57,10 +57,9 @@ impl<W: Wire, A: Allocator + Copy> Parts<W, A> {
     pub(crate) fn with_book(book: Book<A>, wire: W, limits: &Limits) -> Parts<W, A>
         requires limits { AreLimits limits.now }
         requires book { book.state ≡ opened_book limits.now }
-        ensures parts { IsOpened (opening_of W.honest W.far W.silence limits.now wire) result }
-        ensures stands { OpensWell (opening_of W.honest W.far W.silence limits.now wire)
-            → StandsFor W.honest W.far W.silence result
-            (opened limits.now (W.far wire) (W.silence wire)) }
+        ensures parts { IsOpened (opening_of W.facts limits.now wire) result }
+        ensures stands { OpensWell (opening_of W.facts limits.now wire) → StandsFor W.facts result
+            (opened limits.now (W.facts.far wire) (W.facts.silence wire)) }
     {
         Parts {
             station: Station::new(wire, limits.busy),
@@ -70,54 +69,51 @@ impl<W: Wire, A: Allocator + Copy> Parts<W, A> {
     }
 
     pub(crate) fn submit(&mut self, request: Request) -> Result<Ticket, PortFault>
-        ensures does { Does W.honest W.far W.silence self.old (call.Submit request)
-            (ticket_reply result) self.new }
+        ensures does { Does W.facts self.old (call.Submit request) (ticket_reply result) self.new }
         ensures lacks { IfErr result (λ e. e ≡ fault.Book OutOfMemory → self.old.book.room ≡ 0) }
         ensures gives { SubmitGives self.old (submitted self.old.book.state request) result
             self.new }
-        ensures called { CallGives W.honest W.far W.silence W.wake_gives W.exchange_gives
+        ensures called { CallGives W.facts
             self.old (call.Submit request) (ticket_reply result) self.new }
     {
         by_book(self.book.submit(request))
     }
 
     pub(crate) fn submit_urgent(&mut self, request: Request) -> Result<Ticket, PortFault>
-        ensures does { Does W.honest W.far W.silence
+        ensures does { Does W.facts
             self.old (call.SubmitUrgent request) (ticket_reply result) self.new }
         ensures lacks { IfErr result (λ e. e ≡ fault.Book OutOfMemory → self.old.book.room ≡ 0) }
         ensures gives { SubmitGives self.old (submitted_urgent self.old.book.state request) result
             self.new }
-        ensures called { CallGives W.honest W.far W.silence W.wake_gives W.exchange_gives
+        ensures called { CallGives W.facts
             self.old (call.SubmitUrgent request) (ticket_reply result) self.new }
     {
         by_book(self.book.submit_urgent(request))
     }
 
     pub(crate) fn collect(&mut self, ticket: Ticket) -> Result<Outcome, PortFault>
-        ensures does { Does W.honest W.far W.silence self.old (call.Collect ticket)
-            (outcome_reply result) self.new }
+        ensures does { Does W.facts self.old (call.Collect ticket) (outcome_reply result) self.new }
         ensures gives { CollectGives self.old ticket result self.new }
-        ensures called { CallGives W.honest W.far W.silence W.wake_gives W.exchange_gives
+        ensures called { CallGives W.facts
             self.old (call.Collect ticket) (outcome_reply result) self.new }
     {
         by_book(self.book.collect(ticket))
     }
 
     pub(crate) fn withdraw(&mut self, ticket: Ticket) -> Result<(), PortFault>
-        ensures does { Does W.honest W.far W.silence self.old (call.Withdraw ticket)
+        ensures does { Does W.facts self.old (call.Withdraw ticket)
             (nothing_reply result) self.new }
         ensures gives { WithdrawGives self.old ticket result self.new }
-        ensures called { CallGives W.honest W.far W.silence W.wake_gives W.exchange_gives
+        ensures called { CallGives W.facts
             self.old (call.Withdraw ticket) (nothing_reply result) self.new }
     {
         by_book(self.book.withdraw(ticket))
     }
 
     pub(crate) fn cancel(&mut self, ticket: Ticket) -> Result<(), PortFault>
-        ensures does { Does W.honest W.far W.silence self.old (call.Cancel ticket)
-            (nothing_reply result) self.new }
+        ensures does { Does W.facts self.old (call.Cancel ticket) (nothing_reply result) self.new }
         ensures gives { CancelGives self.old ticket result self.new }
-        ensures called { CallGives W.honest W.far W.silence W.wake_gives W.exchange_gives
+        ensures called { CallGives W.facts
             self.old (call.Cancel ticket) (nothing_reply result) self.new }
     {
         match self.book.in_flight(ticket) {
@@ -130,11 +126,9 @@ impl<W: Wire, A: Allocator + Copy> Parts<W, A> {
     }
 
     pub(crate) fn restart(&mut self)
-        ensures does { Does W.honest W.far W.silence self.old call.Restart answered.Nothing
-            self.new }
+        ensures does { Does W.facts self.old call.Restart answered.Nothing self.new }
         ensures gives { RestartGives self.old self.new }
-        ensures called { CallGives W.honest W.far W.silence W.wake_gives W.exchange_gives
-            self.old call.Restart answered.Nothing self.new }
+        ensures called { CallGives W.facts self.old call.Restart answered.Nothing self.new }
     {
         if self.station.restart() {
             self.book.post(Outcome::Unknown(Cause::Restarted));
@@ -142,27 +136,25 @@ impl<W: Wire, A: Allocator + Copy> Parts<W, A> {
     }
 
     pub(crate) fn set_output(&mut self, image: &Image) -> Result<(), PortFault>
-        ensures does { Does W.honest W.far W.silence
+        ensures does { Does W.facts
             self.old (call.SetOutput image.now) (nothing_reply result) self.new }
         ensures gives { SetOutputGives self.old image.now result self.new }
-        ensures called { CallGives W.honest W.far W.silence W.wake_gives W.exchange_gives
+        ensures called { CallGives W.facts
             self.old (call.SetOutput image.now) (nothing_reply result) self.new }
     {
         by_output(self.station.set_output(image))
     }
 
     pub(crate) fn clear_output(&mut self)
-        ensures does { Does W.honest W.far W.silence self.old call.ClearOutput answered.Nothing
-            self.new }
+        ensures does { Does W.facts self.old call.ClearOutput answered.Nothing self.new }
         ensures gives { ClearOutputGives self.old self.new }
-        ensures called { CallGives W.honest W.far W.silence W.wake_gives W.exchange_gives
-            self.old call.ClearOutput answered.Nothing self.new }
+        ensures called { CallGives W.facts self.old call.ClearOutput answered.Nothing self.new }
     {
         self.station.clear_output();
     }
 
     pub(crate) fn image(&self) -> Option<&Image>
-        ensures does { Does W.honest W.far W.silence
+        ensures does { Does W.facts
             self.now call.Look (answered.Image (option_copied result)) self.now }
         ensures value { option_copied result ≡ self.now.station.session.image }
     {
@@ -170,30 +162,27 @@ impl<W: Wire, A: Allocator + Copy> Parts<W, A> {
     }
 
     pub(crate) fn take_event(&mut self) -> Result<Event, PortFault>
-        ensures does { Does W.honest W.far W.silence self.old call.TakeEvent (event_reply result)
-            self.new }
+        ensures does { Does W.facts self.old call.TakeEvent (event_reply result) self.new }
         ensures gives { TakeEventGives self.old result self.new }
-        ensures called { CallGives W.honest W.far W.silence W.wake_gives W.exchange_gives
-            self.old call.TakeEvent (event_reply result) self.new }
+        ensures called { CallGives W.facts self.old call.TakeEvent (event_reply result) self.new }
     {
         self.kept.pop_at(0).ok_or(PortFault::NoEvent)
     }
 
     pub(crate) fn status(&self) -> Status
-        ensures does { Does W.honest W.far W.silence self.now call.Status (answered.Status result)
-            self.now }
+        ensures does { Does W.facts self.now call.Status (answered.Status result) self.now }
         ensures value { result ≡ status_of self.now.station }
     {
         self.station.status()
     }
 
     pub(crate) fn archive(&mut self) -> Result<Vec<Entry, A>, PortFault>
-        ensures does { Does W.honest W.far W.silence self.old call.Archive
+        ensures does { Does W.facts self.old call.Archive
             (reply_of (λ entries. answered.Archived (length entries.items)) result) self.new }
         ensures within { IfOk result (λ entries. length entries.items ≤ 1000000) }
         ensures gives { ArchiveGives self.old
             (result_map_both (λ entries. entries.items) (λ why. why) result) self.new }
-        ensures called { CallGives W.honest W.far W.silence W.wake_gives W.exchange_gives self.old
+        ensures called { CallGives W.facts self.old
             call.Archive
             (archive_reply (result_map_both (λ entries. entries.items) (λ why. why) result))
             self.new }
@@ -220,14 +209,12 @@ impl<W: Wire, A: Allocator + Copy> Parts<W, A> {
     }
 
     pub(crate) fn turn(&mut self)
-        ensures does { Does W.honest W.far W.silence self.old call.Turn answered.Nothing self.new }
-        ensures asked { IsCall W.wake_gives W.exchange_gives (asks_of self.old)
+        ensures does { Does W.facts self.old call.Turn answered.Nothing self.new }
+        ensures asked { IsCall W.facts (asks_of self.old)
             (wire_of self.old.station.link) (wire_of self.new.station.link) }
-        ensures clean { CleanTurn W.honest W.far W.clean self.old self.new }
-        ensures gives { TurnGives W.honest W.far W.silence W.wake_gives W.exchange_gives self.old
-            self.new }
-        ensures called { CallGives W.honest W.far W.silence W.wake_gives W.exchange_gives
-            self.old call.Turn answered.Nothing self.new }
+        ensures clean { CleanTurn W.facts self.old self.new }
+        ensures gives { TurnGives W.facts self.old self.new }
+        ensures called { CallGives W.facts self.old call.Turn answered.Nothing self.new }
     {
         clean_laws();
         let room = self.has_room();
@@ -241,12 +228,11 @@ impl<W: Wire, A: Allocator + Copy> Parts<W, A> {
 
     /// One call, with the answer that a list of calls has for it.
     pub(crate) fn answer(&mut self, asked: &Call) -> Answered
-        ensures does { Does W.honest W.far W.silence self.old asked.now result self.new }
-        ensures called { CallGives W.honest W.far W.silence W.wake_gives W.exchange_gives
-            self.old asked.now result self.new }
-        ensures wire { IsWireCall W.wake_gives W.exchange_gives asked.now (asks_of self.old)
+        ensures does { Does W.facts self.old asked.now result self.new }
+        ensures called { CallGives W.facts self.old asked.now result self.new }
+        ensures wire { IsWireCall W.facts asked.now (asks_of self.old)
             (wire_of self.old.station.link) (wire_of self.new.station.link) }
-        ensures clean { asked.now ≡ call.Turn → CleanTurn W.honest W.far W.clean self.old self.new }
+        ensures clean { asked.now ≡ call.Turn → CleanTurn W.facts self.old self.new }
     {
         match asked {
             Call::Submit(request) => ticket_or(self.submit(copy_of_request(request))),
@@ -290,15 +276,12 @@ impl<W: Wire, A: Allocator + Copy> Parts<W, A> {
         alloc: B,
         calls: &[Call],
     ) -> Result<Vec<Answered, B>, PortFault>
-        ensures run { IfOk result (λ replies. Runs W.honest W.far W.silence
+        ensures run { IfOk result (λ replies. Runs W.facts
             self.old calls.now replies.items self.new) }
-        ensures gives { IfOk result
-            (λ replies. RunGives W.honest W.far W.silence W.wake_gives W.exchange_gives
+        ensures gives { IfOk result (λ replies. RunGives W.facts
             self.old calls.now replies.items self.new) }
-        ensures clean { IfOk result (λ _. CleanRuns W.honest W.far W.clean self.old calls.now
-            self.new) }
-        ensures served { IfOk result (λ _. CleanServes W.honest W.far W.clean self.old calls.now
-            self.new) }
+        ensures clean { IfOk result (λ _. CleanRuns W.facts self.old calls.now self.new) }
+        ensures served { IfOk result (λ _. CleanServes W.facts self.old calls.now self.new) }
         ensures refused { IfErr result (λ e. e ≡ fault.Book OutOfMemory) }
         ensures unchanged { IfErr result (λ _. self.new ≡ self.old) }
     {
@@ -340,14 +323,14 @@ impl<W: Wire, A: Allocator + Copy> Parts<W, A> {
     }
 
     pub(crate) fn rewire(&mut self, wire: W) -> W
-        requires honest { W.honest wire ≡ W.honest (wire_of self.old.station.link) }
-        requires far { W.far wire ≡ W.far (wire_of self.old.station.link) }
-        requires silence { W.silence wire ≡ W.silence (wire_of self.old.station.link) }
+        requires honest { W.facts.honest wire ≡ W.facts.honest (wire_of self.old.station.link) }
+        requires far { W.facts.far wire ≡ W.facts.far (wire_of self.old.station.link) }
+        requires silence { W.facts.silence wire ≡ W.facts.silence (wire_of self.old.station.link) }
         ensures parts { self.new ≡ rewired_parts wire self.old }
         ensures before { result ≡ wire_of self.old.station.link }
         ensures wire { wire_of self.new.station.link ≡ wire }
         ensures asks { asks_of self.new ≡ asks_of self.old }
-        ensures stands { StandsStill W.honest W.far W.silence self.old self.new }
+        ensures stands { StandsStill W.facts self.old self.new }
     {
         self.station.rewire(wire)
     }

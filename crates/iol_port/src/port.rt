@@ -60,12 +60,12 @@ impl<W: Wire, A: Handle> Model for Port<W, A> {
 
     ghost view = { λ p. record {
       parts = p.parts;
-      opening = opening_of W.honest W.far W.silence p.limits.value p.wire_then.value;
+      opening = opening_of W.facts p.limits.value p.wire_then.value;
       writer = p.writer;
     } };
 
-    ghost invariant = { λ p. IsPort W.honest W.far W.silence W.wake_gives W.exchange_gives W.tells
-        (opening_of W.honest W.far W.silence p.limits.value p.wire_then.value) p.parts };
+    ghost invariant = { λ p. IsPort W.facts
+        (opening_of W.facts p.limits.value p.wire_then.value) p.parts };
 }
 
 impl<W: Wire, A: Handle> Port<W, A> {
@@ -74,12 +74,10 @@ impl<W: Wire, A: Handle> Port<W, A> {
     /// Refused by 24 where there is no memory for its book; the wire is handed back.
     pub fn open(alloc: A, wire: W, limits: &Limits) -> Result<Port<W, A>, (PortFault, W)>
         requires limits { AreLimits limits.now }
-        ensures opening { IfOk result (λ p. p.opening
-            ≡ opening_of W.honest W.far W.silence limits.now wire) }
+        ensures opening { IfOk result (λ p. p.opening ≡ opening_of W.facts limits.now wire) }
         ensures parts { IfOk result (λ p. IsOpened p.opening p.parts) }
-        ensures stands { IfOk result (λ p. OpensWell p.opening
-            → StandsFor W.honest W.far W.silence p.parts
-            (opened limits.now (W.far wire) (W.silence wire))) }
+        ensures stands { IfOk result (λ p. OpensWell p.opening → StandsFor W.facts p.parts
+            (opened limits.now (W.facts.far wire) (W.facts.silence wire))) }
         ensures writer { IfOk result (λ p. p.writer ≡ None) }
         ensures refused { IfErr result (λ e. e.0 ≡ fault.Book OutOfMemory) }
         ensures back { IfErr result (λ e. e.1 ≡ wire) }
@@ -103,7 +101,7 @@ impl<W: Wire, A: Handle> Port<W, A> {
     /// outstanding, 22 where the journal has no room for the request's entries, 23
     /// where the last ticket was 2^64 - 1, and 24 where a growth was refused.
     pub fn submit(&mut self, request: Request) -> Result<Ticket, PortFault>
-        ensures does { Does W.honest W.far W.silence
+        ensures does { Does W.facts
             self.old.parts (call.Submit request) (ticket_reply result) self.new.parts }
         ensures lacks { IfErr result (λ e. e ≡ fault.Book OutOfMemory → self.old.parts.book.room
             ≡ 0) }
@@ -119,7 +117,7 @@ impl<W: Wire, A: Handle> Port<W, A> {
     ///
     /// Refused, with nothing changed, as `submit` is: 21, 22 and 23 count both kinds.
     pub fn submit_urgent(&mut self, request: Request) -> Result<Ticket, PortFault>
-        ensures does { Does W.honest W.far W.silence
+        ensures does { Does W.facts
             self.old.parts (call.SubmitUrgent request) (ticket_reply result) self.new.parts }
         ensures lacks { IfErr result (λ e. e ≡ fault.Book OutOfMemory → self.old.parts.book.room
             ≡ 0) }
@@ -136,7 +134,7 @@ impl<W: Wire, A: Handle> Port<W, A> {
     /// Refused, with nothing changed, by 25 where no such ticket is outstanding,
     /// and by 26 where it has no outcome yet.
     pub fn collect(&mut self, ticket: Ticket) -> Result<Outcome, PortFault>
-        ensures does { Does W.honest W.far W.silence
+        ensures does { Does W.facts
             self.old.parts (call.Collect ticket) (outcome_reply result) self.new.parts }
         ensures gives { CollectGives self.old.parts ticket result self.new.parts }
         ensures rest { self.new ≡ record self.old { parts = self.new.parts } }
@@ -149,7 +147,7 @@ impl<W: Wire, A: Handle> Port<W, A> {
     /// Refused, with nothing changed, by 25 where no such ticket is outstanding,
     /// and by 27 where it waits no longer.
     pub fn withdraw(&mut self, ticket: Ticket) -> Result<(), PortFault>
-        ensures does { Does W.honest W.far W.silence
+        ensures does { Does W.facts
             self.old.parts (call.Withdraw ticket) (nothing_reply result) self.new.parts }
         ensures gives { WithdrawGives self.old.parts ticket result self.new.parts }
         ensures rest { self.new ≡ record self.old { parts = self.new.parts } }
@@ -167,7 +165,7 @@ impl<W: Wire, A: Handle> Port<W, A> {
     /// Refused, with nothing changed, by 25 where no such ticket is outstanding,
     /// and by 36 where it waits, or has an outcome.
     pub fn cancel(&mut self, ticket: Ticket) -> Result<(), PortFault>
-        ensures does { Does W.honest W.far W.silence
+        ensures does { Does W.facts
             self.old.parts (call.Cancel ticket) (nothing_reply result) self.new.parts }
         ensures gives { CancelGives self.old.parts ticket result self.new.parts }
         ensures rest { self.new ≡ record self.old { parts = self.new.parts } }
@@ -180,8 +178,7 @@ impl<W: Wire, A: Handle> Port<W, A> {
     /// What waits goes on waiting. The device may still carry the request that was
     /// cut off out, once, until a wake succeeds.
     pub fn restart(&mut self)
-        ensures does { Does W.honest W.far W.silence self.old.parts call.Restart answered.Nothing
-            self.new.parts }
+        ensures does { Does W.facts self.old.parts call.Restart answered.Nothing self.new.parts }
         ensures gives { RestartGives self.old.parts self.new.parts }
         ensures rest { self.new ≡ record self.old { parts = self.new.parts } }
     {
@@ -193,7 +190,7 @@ impl<W: Wire, A: Handle> Port<W, A> {
     /// Refused, with nothing changed, by the first of 34 where no start-up has told the lengths
     /// of the process data yet, and 29 where the image has not the length that was told last.
     pub fn set_output(&mut self, image: &Image) -> Result<(), PortFault>
-        ensures does { Does W.honest W.far W.silence
+        ensures does { Does W.facts
             self.old.parts (call.SetOutput image.now) (nothing_reply result) self.new.parts }
         ensures gives { SetOutputGives self.old.parts image.now result self.new.parts }
         ensures rest { self.new ≡ record self.old { parts = self.new.parts } }
@@ -203,7 +200,7 @@ impl<W: Wire, A: Handle> Port<W, A> {
 
     /// Wants no output of the device.
     pub fn clear_output(&mut self)
-        ensures does { Does W.honest W.far W.silence self.old.parts call.ClearOutput
+        ensures does { Does W.facts self.old.parts call.ClearOutput
             answered.Nothing self.new.parts }
         ensures gives { ClearOutputGives self.old.parts self.new.parts }
         ensures rest { self.new ≡ record self.old { parts = self.new.parts } }
@@ -214,7 +211,7 @@ impl<W: Wire, A: Handle> Port<W, A> {
     /// The device's input by the last good reply in OPERATE: one whole image, or
     /// none where it was not valid. None in every other mode.
     pub fn image(&self) -> Option<&Image>
-        ensures does { Does W.honest W.far W.silence
+        ensures does { Does W.facts
             self.now.parts call.Look (answered.Image (option_copied result)) self.now.parts }
         ensures value { option_copied result ≡ self.now.parts.station.session.image }
     {
@@ -223,7 +220,7 @@ impl<W: Wire, A: Handle> Port<W, A> {
 
     /// Hands out the event that was kept longest. Refused by 30 where none is kept.
     pub fn take_event(&mut self) -> Result<Event, PortFault>
-        ensures does { Does W.honest W.far W.silence
+        ensures does { Does W.facts
             self.old.parts call.TakeEvent (event_reply result) self.new.parts }
         ensures gives { TakeEventGives self.old.parts result self.new.parts }
         ensures rest { self.new ≡ record self.old { parts = self.new.parts } }
@@ -233,7 +230,7 @@ impl<W: Wire, A: Handle> Port<W, A> {
 
     /// The mode of the link, and why it is down.
     pub fn status(&self) -> Status
-        ensures does { Does W.honest W.far W.silence
+        ensures does { Does W.facts
             self.now.parts call.Status (answered.Status result) self.now.parts }
         ensures value { result ≡ status_of self.now.parts.station }
     {
@@ -246,7 +243,7 @@ impl<W: Wire, A: Handle> Port<W, A> {
     /// a request was cut off by a lost link or a restart and no wake succeeded
     /// since, as the device may still carry that request out.
     pub fn archive(&mut self) -> Result<Vec<Entry, A>, PortFault>
-        ensures does { Does W.honest W.far W.silence self.old.parts call.Archive
+        ensures does { Does W.facts self.old.parts call.Archive
             (reply_of (λ entries. answered.Archived (length entries.items)) result) self.new.parts }
         ensures within { IfOk result (λ entries. length entries.items ≤ 1000000) }
         ensures gives { ArchiveGives self.old.parts
@@ -272,13 +269,11 @@ impl<W: Wire, A: Handle> Port<W, A> {
     /// in this turn; where the device has no ISDU it is denied, never taken, and IDLE 1 goes out.
     /// At most 64 events are kept, and a list of events is read only where there is room for it.
     pub fn turn(&mut self)
-        ensures does { Does W.honest W.far W.silence self.old.parts call.Turn answered.Nothing
-            self.new.parts }
-        ensures clean { CleanTurn W.honest W.far W.clean self.old.parts self.new.parts }
-        ensures gives { TurnGives W.honest W.far W.silence W.wake_gives W.exchange_gives
-            self.old.parts self.new.parts }
+        ensures does { Does W.facts self.old.parts call.Turn answered.Nothing self.new.parts }
+        ensures clean { CleanTurn W.facts self.old.parts self.new.parts }
+        ensures gives { TurnGives W.facts self.old.parts self.new.parts }
         ensures rest { self.new ≡ record self.old { parts = self.new.parts } }
-        ensures asked { IsCall W.wake_gives W.exchange_gives (asks_of self.old.parts)
+        ensures asked { IsCall W.facts (asks_of self.old.parts)
             (wire_of self.old.parts.station.link) (wire_of self.new.parts.station.link) }
     {
         self.parts.turn();
@@ -289,14 +284,11 @@ impl<W: Wire, A: Handle> Port<W, A> {
     /// A turn makes the one call of the wire that the port `asks` for, and no other
     /// call touches the wire.
     pub fn call(&mut self, asked: &Call) -> Answered
-        ensures does { Does W.honest W.far W.silence self.old.parts asked.now result
-            self.new.parts }
-        ensures gives { CallGives W.honest W.far W.silence W.wake_gives W.exchange_gives
-            self.old.parts asked.now result self.new.parts }
-        ensures wire { IsWireCall W.wake_gives W.exchange_gives asked.now (asks_of self.old.parts)
+        ensures does { Does W.facts self.old.parts asked.now result self.new.parts }
+        ensures gives { CallGives W.facts self.old.parts asked.now result self.new.parts }
+        ensures wire { IsWireCall W.facts asked.now (asks_of self.old.parts)
             (wire_of self.old.parts.station.link) (wire_of self.new.parts.station.link) }
-        ensures clean { asked.now ≡ call.Turn
-            → CleanTurn W.honest W.far W.clean self.old.parts self.new.parts }
+        ensures clean { asked.now ≡ call.Turn → CleanTurn W.facts self.old.parts self.new.parts }
         ensures rest { self.new ≡ record self.old { parts = self.new.parts } }
     {
         self.parts.answer(asked)
@@ -312,15 +304,13 @@ impl<W: Wire, A: Handle> Port<W, A> {
         alloc: B,
         calls: &[Call],
     ) -> Result<Vec<Answered, B>, PortFault>
-        ensures run { IfOk result (λ replies. Runs W.honest W.far W.silence
+        ensures run { IfOk result (λ replies. Runs W.facts
             self.old.parts calls.now replies.items self.new.parts) }
-        ensures gives { IfOk result
-            (λ replies. RunGives W.honest W.far W.silence W.wake_gives W.exchange_gives
+        ensures gives { IfOk result (λ replies. RunGives W.facts
             self.old.parts calls.now replies.items self.new.parts) }
-        ensures clean { IfOk result (λ _. CleanRuns W.honest W.far W.clean self.old.parts calls.now
+        ensures clean { IfOk result (λ _. CleanRuns W.facts self.old.parts calls.now
             self.new.parts) }
-        ensures served { IfOk result
-            (λ _. CleanServes W.honest W.far W.clean self.old.parts calls.now
+        ensures served { IfOk result (λ _. CleanServes W.facts self.old.parts calls.now
             self.new.parts) }
         ensures rest { self.new ≡ record self.old { parts = self.new.parts } }
         ensures refused { IfErr result (λ e. e ≡ fault.Book OutOfMemory) }
@@ -339,13 +329,11 @@ impl<W: Wire, A: Handle> Port<W, A> {
 
     /// A turn, after which the image is published, once, where a writer was given.
     pub fn turn_shown<R: Wait>(&mut self, rt: &R)
-        ensures does { Does W.honest W.far W.silence self.old.parts call.Turn answered.Nothing
-            self.new.parts }
-        ensures clean { CleanTurn W.honest W.far W.clean self.old.parts self.new.parts }
-        ensures asked { IsCall W.wake_gives W.exchange_gives (asks_of self.old.parts)
+        ensures does { Does W.facts self.old.parts call.Turn answered.Nothing self.new.parts }
+        ensures clean { CleanTurn W.facts self.old.parts self.new.parts }
+        ensures asked { IsCall W.facts (asks_of self.old.parts)
             (wire_of self.old.parts.station.link) (wire_of self.new.parts.station.link) }
-        ensures gives { TurnGives W.honest W.far W.silence W.wake_gives W.exchange_gives
-            self.old.parts self.new.parts }
+        ensures gives { TurnGives W.facts self.old.parts self.new.parts }
         ensures opening { self.new.opening ≡ self.old.opening }
         ensures shown { self.new.writer
             ≡ shown_in self.new.parts.station.session.image self.old.writer }
@@ -357,8 +345,7 @@ impl<W: Wire, A: Handle> Port<W, A> {
     /// A restart, after which the image, which is none, is published, once, where a
     /// writer was given.
     pub fn restart_shown<R: Wait>(&mut self, rt: &R)
-        ensures does { Does W.honest W.far W.silence self.old.parts call.Restart answered.Nothing
-            self.new.parts }
+        ensures does { Does W.facts self.old.parts call.Restart answered.Nothing self.new.parts }
         ensures gives { RestartGives self.old.parts self.new.parts }
         ensures opening { self.new.opening ≡ self.old.opening }
         ensures shown { self.new.writer
@@ -405,12 +392,11 @@ impl<W: Wire, A: Handle> Port<W, A> {
     /// was honest and the device had been handed no request when the port was opened.
     pub fn keeps_record(&self)
         ensures replayed { IsReplayed self.now.parts.book.state }
-        ensures run { IsRun W.honest W.far W.silence self.now.opening self.now.parts }
-        ensures wire { ComesFrom W.wake_gives W.exchange_gives W.tells
+        ensures run { IsRun W.facts self.now.opening self.now.parts }
+        ensures wire { ComesFrom W.facts
             self.now.opening.wire (wire_of self.now.parts.station.link) }
-        ensures record_fits { OpensWell self.now.opening
-            → KeepsRecord W.honest W.far W.silence self.now.parts }
-        ensures level { OpensWell self.now.opening → IsLevelBetween W.far self.now.parts }
+        ensures record_fits { OpensWell self.now.opening → KeepsRecord W.facts self.now.parts }
+        ensures level { OpensWell self.now.opening → IsLevelBetween W.facts self.now.parts }
     {
         record_fits_journal();
         ends_stay_level();
@@ -424,16 +410,18 @@ impl<W: Wire, A: Handle> Port<W, A> {
     /// It is no call of the abstract port: the port stands for the same ones as
     /// before, and asks for the same.
     pub fn rewire(&mut self, wire: W) -> W
-        requires told { W.tells (wire_of self.old.parts.station.link) wire }
-        requires honest { W.honest wire ≡ W.honest (wire_of self.old.parts.station.link) }
-        requires far { W.far wire ≡ W.far (wire_of self.old.parts.station.link) }
-        requires silence { W.silence wire ≡ W.silence (wire_of self.old.parts.station.link) }
+        requires told { W.facts.tells (wire_of self.old.parts.station.link) wire }
+        requires honest { W.facts.honest wire
+            ≡ W.facts.honest (wire_of self.old.parts.station.link) }
+        requires far { W.facts.far wire ≡ W.facts.far (wire_of self.old.parts.station.link) }
+        requires silence { W.facts.silence wire
+            ≡ W.facts.silence (wire_of self.old.parts.station.link) }
         ensures parts { self.new.parts ≡ rewired_parts wire self.old.parts }
         ensures rest { self.new ≡ record self.old { parts = self.new.parts } }
         ensures before { result ≡ wire_of self.old.parts.station.link }
         ensures wire { wire_of self.new.parts.station.link ≡ wire }
         ensures asks { asks_of self.new.parts ≡ asks_of self.old.parts }
-        ensures stands { StandsStill W.honest W.far W.silence self.old.parts self.new.parts }
+        ensures stands { StandsStill W.facts self.old.parts self.new.parts }
     {
         self.parts.rewire(wire)
     }

@@ -83,16 +83,14 @@ pub(crate) fn begin_next<W: Wire, A: Allocator + Copy>(
     book: &mut Book<A>,
     room: bool,
 )
-    ensures next { BeginsNext W.honest W.far W.silence station.old book.old.state station.new
-        book.new.state }
+    ensures next { BeginsNext W.facts station.old book.old.state station.new book.new.state }
     ensures exact { station.new ≡ prepared
         (to_begin (lacks_isdu station.old.session.isdu) (next_taken book.old.state.standing))
         station.old room }
     ensures taken { book.new.state ≡ taken_where
         (is_operating station.old.link && is_ready station.old.session room)
         (lacks_isdu station.old.session.isdu) (next_taken book.old.state.standing) book.old.state }
-    ensures takes { TakesNext W.honest W.far W.silence room station.old book.old.state station.new
-        book.new.state }
+    ensures takes { TakesNext W.facts room station.old book.old.state station.new book.new.state }
 {
     if !station.ready(room) {
         return;
@@ -118,7 +116,7 @@ fn take_next<W: Wire, A: Allocator + Copy>(station: &mut Station<W>, book: &mut 
     ensures book { IfSome (next_taken book.old.state.standing) (λ next. book.new.state
         ≡ took book.old.state next) }
     ensures steps { IfSome (next_taken book.old.state.standing) (λ next.
-        BeginSteps W.honest W.far W.silence next.1 station.old station.new) }
+        BeginSteps W.facts next.1 station.old station.new) }
     ensures request { IfSome (next_taken book.old.state.standing) (λ next. IsRequest next.1) }
 {
     let (_, request) = book.take().unwrap();

@@ -8,6 +8,7 @@ use Rattle.iol_far.specs.Far.{Far, Heard, hear}
 use Rattle.iol_far.specs.Local.{woken}
 use Rattle.iol_device.specs.App.{Gives}
 use Rattle.iol_link.specs.Honest.{silence_after}
+use Rattle.iol_link.specs.WireFacts.{WireFacts}
 use Rattle.iol_link.specs.declared.wire.Rate.{Rate}
 use Rattle.iol_link.specs.declared.wire.Rate.TheVariants.{Com2}
 use Rattle.iol_sim.specs.declared.script.Fate.{Fate}
@@ -118,3 +119,15 @@ pub record IsExchange {P : Type 0} (gives : Gives P) (old : Simulated P) (sent :
       }
   pub answer_is : octets_in answer ≡ (exchanged (fate_now old) ready.far sent).reply
   pub first : new.device.first ≡ old.device.first
+
+-- what it is to a contract, by what the calls of its application give; it is told nothing
+abbrev pub sim_facts : {P : Type 0} → Gives P → WireFacts (Simulated P)
+sim_facts gives = record {
+  honest = λ sim. true;
+  far = λ sim. sim.device.far;
+  silence = λ sim. sim.silence;
+  clean = is_clean;
+  wake_gives = IsWake gives;
+  exchange_gives = IsExchange gives;
+  tells = λ sim next. ⊥;
+}

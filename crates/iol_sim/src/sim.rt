@@ -327,20 +327,10 @@ fn are_octets(octets: &[u8])
 }
 
 impl<P: App, A: Allocator + Copy> Wire for Sim<P, A> {
-    ghost use Rattle.iol_sim.specs.Sim.{IsWake, IsExchange, is_clean};
+    ghost use Rattle.iol_sim.specs.Sim.{sim_facts};
     ghost use Rattle.iol_sim.specs.CleanCalls.{exchanges_cleanly, wakes_cleanly};
 
-    ghost far = { λ sim. sim.device.far };
-
-    ghost honest = { λ sim. true };
-
-    ghost silence = { λ sim. sim.silence };
-
-    ghost clean = { is_clean };
-
-    ghost wake_gives = { IsWake P.carry_out_gives };
-
-    ghost exchange_gives = { IsExchange P.carry_out_gives };
+    ghost facts = { sim_facts P.carry_out_gives };
 
     ghost clean_exchanges = { exchanges_cleanly P.carry_out_gives };
 

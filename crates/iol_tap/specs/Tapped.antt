@@ -2,6 +2,7 @@
 use Rattle.std.specs.Prelude.{◌≡◌, ℕ, List, take, Option, Some}
 use Rattle.arrayvec.specs.ArrayVec.{ArrayVec}
 use Rattle.iol_link.specs.declared.wire.Rate.{Rate}
+use Rattle.iol_link.specs.WireFacts.{WireFacts}
 use Rattle.iol_tap.specs.declared.tap.Passed.{Passed}
 use Rattle.iol_tap.specs.declared.tap.Passed.TheVariants.{Wake, Exchange}
 
@@ -22,19 +23,33 @@ wake_noted answer = Wake answer
 abbrev pub exchange_noted : List ℕ → Option (ArrayVec ℕ) → Passed
 exchange_noted sent answer = Exchange (record { items = take 66 sent }) answer
 
-module _ {W : Type 0} (wakes : W → Option Rate → W → Type 0)
-    (gives : W → List ℕ → Option (ArrayVec ℕ) → W → Type 0) where
+module _ {W : Type 0} (facts : WireFacts W) where
+  open facts use {wake_gives, exchange_gives}
+
   -- a wake of the tap: one of the wire within, and its note
   abbrev pub TapWakes : Tapped W → Option Rate → Tapped W → Type 0
-  TapWakes old answer new = wakes old.wire answer new.wire × (new.last ≡ Some (wake_noted answer))
+  TapWakes old answer new = wake_gives old.wire answer new.wire
+      × (new.last ≡ Some (wake_noted answer))
 
   -- an exchange of the tap: one of the wire within, and its note
   abbrev pub TapGives : Tapped W → List ℕ → Option (ArrayVec ℕ) → Tapped W → Type 0
-  TapGives old sent answer new = gives old.wire sent answer new.wire
+  TapGives old sent answer new = exchange_gives old.wire sent answer new.wire
       × (new.last ≡ Some (exchange_noted sent answer))
+
+  -- what the tap is to a contract: it claims what the wire within claims, and is told nothing
+  abbrev pub tap_facts : WireFacts (Tapped W)
+  tap_facts = record {
+    honest = through facts.honest;
+    far = through facts.far;
+    silence = through facts.silence;
+    clean = through facts.clean;
+    wake_gives = TapWakes;
+    exchange_gives = TapGives;
+    tells = λ tap next. ⊥;
+  }
 
   -- a note is of one call of a wire, which led from the one state of it to the other
   abbrev pub IsNoteOf : Passed → W → W → Type 0
-  IsNoteOf (Wake answer) old new = wakes old answer new
+  IsNoteOf (Wake answer) old new = wake_gives old answer new
   IsNoteOf (Exchange first answer) old new = (sent : List ℕ) × (first.items ≡ take 66 sent)
-      × gives old sent answer new
+      × exchange_gives old sent answer new

@@ -68,24 +68,15 @@ impl<W: Wire> Tap<W> {
 }
 
 impl<W: Wire> Wire for Tap<W> {
-    ghost use Rattle.iol_tap.specs.Tapped.{through, TapWakes, TapGives};
+    ghost use Rattle.iol_tap.specs.Tapped.{tap_facts};
 
-    ghost far = { through W.far };
-
-    ghost honest = { through W.honest };
-
-    ghost silence = { through W.silence };
-
-    ghost clean = { through W.clean };
-
-    ghost wake_gives = { TapWakes W.wake_gives W.exchange_gives };
-
-    ghost exchange_gives = { TapGives W.wake_gives W.exchange_gives };
+    ghost facts = { tap_facts W.facts };
 
     ghost clean_exchanges = { λ old sent answer new clean gives.
         W.clean_exchanges old.wire sent answer new.wire clean gives.0 };
 
-    ghost clean_wakes = { λ old answer new clean gives. W.clean_wakes old.wire answer new.wire clean gives.0 };
+    ghost clean_wakes = { λ old answer new clean gives.
+        W.clean_wakes old.wire answer new.wire clean gives.0 };
 
     fn wake(&mut self) -> Option<Rate> {
         let answer = self.wire.wake();

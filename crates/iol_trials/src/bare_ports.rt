@@ -1,8 +1,7 @@
 //! Ports over a wire that answers no message: memory refused in turn, refusals, and
 //! calls by their names.
 ghost use Rattle.std.proofs.Common.{rules};
-ghost use Rattle.std.specs.Prelude.{[], false, ⊤, None};
-ghost use Rattle.iol_far.specs.Far.{opened};
+ghost use Rattle.iol_link.specs.WireFacts.{unknown};
 
 use iol_app::{Asked, Mode, OutputFault};
 use iol_book::{BookFault, Entry, Limits, Outcome, Ticket};
@@ -34,17 +33,7 @@ struct Bare {
 }
 
 impl Wire for Bare {
-    ghost far = { λ w. opened [] None };
-
-    ghost honest = { λ w. false };
-
-    ghost silence = { λ w. 0 };
-
-    ghost clean = { λ w. false };
-
-    ghost wake_gives = { λ w answer v. ⊤ };
-
-    ghost exchange_gives = { λ w sent answer v. ⊤ };
+    ghost facts = { unknown };
 
     ghost clean_exchanges = { λ old sent answer new never. Prim.search rules };
 

@@ -1,7 +1,7 @@
 //! Desks and memory of a master run out, and what a submit counts, urgent or not.
 ghost use Rattle.std.proofs.Common.{rules};
-ghost use Rattle.std.specs.Prelude.{◌≡◌, [], false, ⊤, None, All, IfOk, vec_len};
-ghost use Rattle.iol_far.specs.Far.{opened};
+ghost use Rattle.std.specs.Prelude.{◌≡◌, All, IfOk, vec_len};
+ghost use Rattle.iol_link.specs.WireFacts.{unknown};
 ghost use Rattle.iol_master.specs.Tickets.{HasGiven};
 
 use iol_book::{BookFault, Limits, Ticket};
@@ -25,17 +25,7 @@ use std::thread::Threads;
 struct Bare;
 
 impl Wire for Bare {
-    ghost far = { λ w. opened [] None };
-
-    ghost honest = { λ w. false };
-
-    ghost silence = { λ w. 0 };
-
-    ghost clean = { λ w. false };
-
-    ghost wake_gives = { λ w answer v. ⊤ };
-
-    ghost exchange_gives = { λ w sent answer v. ⊤ };
+    ghost facts = { unknown };
 
     ghost clean_exchanges = { λ old sent answer new never. Prim.search rules };
 

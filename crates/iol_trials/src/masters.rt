@@ -128,7 +128,7 @@ fn through<W: Wire, K: Ledger>(
     guard: &mut MutexGuard<'_, Held<W, K>>,
     ticket: Ticket,
 ) -> Result<Outcome, PortFault>
-    ensures { Does W.honest W.far W.silence (mutex_guard_value guard.old).parts
+    ensures { Does W.facts (mutex_guard_value guard.old).parts
         (call.Collect ticket) (outcome_reply result) (mutex_guard_value guard.new).parts }
 {
     guard.collect(ticket)

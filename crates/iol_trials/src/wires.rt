@@ -1,7 +1,6 @@
 //! Wires of which nothing is promised.
 ghost use Rattle.std.proofs.Common.{rules};
-ghost use Rattle.std.specs.Prelude.{[], false, ⊤, None};
-ghost use Rattle.iol_far.specs.Far.{opened};
+ghost use Rattle.iol_link.specs.WireFacts.{unknown};
 
 use iol_link::{Rate, Wire};
 use iol_mseq::Message;
@@ -18,17 +17,7 @@ pub trait Peer {
 pub struct AnyWire<P: Peer>(pub P);
 
 impl<P: Peer> Wire for AnyWire<P> {
-    ghost far = { λ w. opened [] None };
-
-    ghost honest = { λ w. false };
-
-    ghost silence = { λ w. 0 };
-
-    ghost clean = { λ w. false };
-
-    ghost wake_gives = { λ w answer v. ⊤ };
-
-    ghost exchange_gives = { λ w sent answer v. ⊤ };
+    ghost facts = { unknown };
 
     ghost clean_exchanges = { λ old sent answer new never. Prim.search rules };
 

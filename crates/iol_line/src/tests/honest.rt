@@ -9,7 +9,7 @@ ghost use Rattle.iol_port.specs.declared.call.Answered.TheVariants as answered;
 ghost use Rattle.iol_port.specs.View.{Does, IsOpened};
 ghost use Rattle.iol_port.specs.Asks.{asks_of};
 ghost use Rattle.iol_line.specs.Standing.{Standing};
-ghost use Rattle.iol_line.specs.HonestTold.{is_honest, far_of, silence_of, standing, ExchangePremise};
+ghost use Rattle.iol_line.specs.HonestTold.{honest_facts, standing, ExchangePremise};
 ghost use Rattle.iol_line.specs.Driving.{line_of};
 
 use crate::tests::store::{Fate, Store, opened_device};
@@ -87,8 +87,7 @@ fn exchange(device: &mut Device<Store>, sent: &[u8], fate: Fate) -> Option<Messa
 /// One turn of a port with this device at the far end of its line.
 fn meet(port: &mut Port<HonestLine>, device: &mut Device<Store>, fate: Fate)
     requires { (line_of port.old).at.far ≡ device.old.far }
-    ensures does { Does is_honest far_of silence_of
-        port.old.parts call.Turn answered.Nothing port.new.parts }
+    ensures does { Does honest_facts port.old.parts call.Turn answered.Nothing port.new.parts }
     ensures far { (line_of port.new).at.far ≡ device.new.far }
 {
     match port.asks() {
@@ -107,8 +106,7 @@ fn meet(port: &mut Port<HonestLine>, device: &mut Device<Store>, fate: Fate)
 fn woken_by(port: &mut Port<HonestLine>, device: &Device<Store>)
     requires asked { asks_of port.old.parts ≡ Asked.Wake }
     requires premise { HonestWake (line_of port.old).at.far true device.now.far }
-    ensures does { Does is_honest far_of silence_of
-        port.old.parts call.Turn answered.Nothing port.new.parts }
+    ensures does { Does honest_facts port.old.parts call.Turn answered.Nothing port.new.parts }
     ensures far { (line_of port.new).at.far ≡ device.now.far }
 {
     honest_turn_woken(port, Some(Rate::Com2), device);
@@ -126,8 +124,7 @@ fn answered_by(
       far = device.now.far;
       silence = silence_after (line_of port.old).at.silence (octets_in came);
     }) }
-    ensures does { Does is_honest far_of silence_of
-        port.old.parts call.Turn answered.Nothing port.new.parts }
+    ensures does { Does honest_facts port.old.parts call.Turn answered.Nothing port.new.parts }
     ensures far { (line_of port.new).at.far ≡ device.now.far }
 {
     honest_turn_answered(port, sent, came, device);

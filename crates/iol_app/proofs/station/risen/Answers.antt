@@ -9,19 +9,19 @@ use Rattle.iol_app.proofs.station.risen.Goals as goal
 
 pub settled-requires-clause-fits : goal.settled-requires-clause-fits
 settled-requires-clause-fits g c =
-    let wire = g.W.Wire in
+    let facts = g.W.Wire.facts in
     let rise = c.rise-attempt in
     subst (λ (t : State). NextFits (outcome_with rise.result t) c.args.session.now) (sym c.state.ensures.state)
-    (rise_next wire.honest wire.far wire.silence wire.wake_gives wire.exchange_gives c.args.link.now.wire rise.new.self.wire c.args.link.now.state _ c.args.session.now rise.ensures.turn c.requires.fits)
+    (rise_next facts c.args.link.now.wire rise.new.self.wire c.args.link.now.state _ c.args.session.now rise.ensures.turn c.requires.fits)
 
 pub returns-clause-fits : goal.returns-clause-fits
 returns-clause-fits g c =
-    let wire = g.W.Wire in
+    let facts = g.W.Wire.facts in
     let s = c.args.session.now in
     let rise = c.rise-attempt in
     let outcome : Outcome = outcome_with rise.result rise.new.self.state in
     let next : NextFits outcome s =
-    rise_next wire.honest wire.far wire.silence wire.wake_gives wire.exchange_gives c.args.link.now.wire rise.new.self.wire c.args.link.now.state outcome s rise.ensures.turn c.requires.fits in
+    rise_next facts c.args.link.now.wire rise.new.self.wire c.args.link.now.state outcome s rise.ensures.turn c.requires.fits in
     let session : c.settled.new.session ≡ settled_session outcome s =
     c.settled.ensures.session ∙ ap (λ (t : State). settled_session (outcome_with rise.result t) s) c.state.ensures.state in
     subst (λ (t : SessionState). StateFits rise.new.self.state t) (sym session)
@@ -29,7 +29,7 @@ returns-clause-fits g c =
 
 pub returns-clause-turn : goal.returns-clause-turn
 returns-clause-turn g c room =
-    let wire = g.W.Wire in
+    let facts = g.W.Wire.facts in
     let s = c.args.session.now in
     let said = c.settled.new.said in
     let rise = c.rise-attempt in
@@ -38,5 +38,5 @@ returns-clause-turn g c room =
     let session : c.settled.new.session ≡ settled_session outcome s =
     c.settled.ensures.session ∙ ap (λ (t : State). settled_session (outcome_with rise.result t) s) c.state.ensures.state in
     let said_is : IsSettledSaid outcome s said = subst (λ (t : State). IsSettledSaid (outcome_with rise.result t) s said) c.state.ensures.state c.settled.ensures.said in
-    rise_turn wire.honest wire.far wire.silence wire.wake_gives wire.exchange_gives c.args.link.now.wire c.args.link.now.state outcome s room said new rise.ensures.turn
+    rise_turn facts c.args.link.now.wire c.args.link.now.state outcome s room said new rise.ensures.turn
     (sym (outcome_state rise.result rise.new.self.state)) session said_is

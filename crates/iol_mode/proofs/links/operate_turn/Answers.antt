@@ -35,7 +35,7 @@ returns-clause-ends g c =
 
 pub returns-clause-turn : goal.returns-clause-turn
 returns-clause-turn g c =
-    let wire = g.W.Wire in
+    let facts = g.W.Wire.facts in
     let s = c.in-Operate.operate in
     let m = c.args.message.now in
     let old = c.args.wire.now in
@@ -44,7 +44,7 @@ returns-clause-turn g c =
     let next = c.operate_done.new.state in
     let was : OperateFits s = subst StateFits c.in-Operate.is c.requires.fits in
     let takes : Takes (AtOperate s) m = subst (λ (t : State). Takes t m) c.in-Operate.is c.requires.takes in
-    let stood : IsTrue (wire.honest old) → OperateStands s (wire.silence old) (wire.far old) = λ honest. subst (λ (t : State). StateStands t (wire.silence old) (wire.far old)) c.in-Operate.is (c.requires.stands honest) in
+    let stood : IsTrue (facts.honest old) → OperateStands s (facts.silence old) (facts.far old) = λ honest. subst (λ (t : State). StateStands t (facts.silence old) (facts.far old)) c.in-Operate.is (c.requires.stands honest) in
     let few = c.send-attempt.ensures.few in
     let called = c.send-attempt.ensures.called in
     let reply = good_reply s.layouts.run (sending_of s.out m).message (octets_in called.0) in
@@ -54,7 +54,7 @@ returns-clause-turn g c =
     ∙ ap (λ (o : Option Sending). outcome_with attempt (kept_up attempt (AtOperate (record { out = o; layouts = s.layouts })))) called.4
     ∙ operate_is attempt count s.layouts in
     let is : outcome_with attempt next ≡ operate_turned s m reply = by ∙ ap (λ (a : Attempt). operate_by count s.layouts a) called.3 in
-    subst (λ (t : State). IsOperateTurn wire.honest wire.far wire.silence wire.exchange_gives old t m (outcome_with attempt next) new) (sym c.in-Operate.is) (record {
+    subst (λ (t : State). IsOperateTurn facts old t m (outcome_with attempt next) new) (sym c.in-Operate.is) (record {
       exchange = record {
         answer = called.0;
         called = called.1;
@@ -64,11 +64,11 @@ returns-clause-turn g c =
         fits = subst OutcomeFits (sym by) (operate_fits attempt count s.layouts (sending_fits s.layouts.run s.out m was.out takes c.requires.stays) was.layouts);
       };
       both = λ honest.
-          subst (λ (o : Outcome). IsMet o (wire.silence new) (wire.far new)) (sym is)
-          (operate_both c.laws.ensures s m (wire.silence old) (wire.silence new) (wire.far old) (wire.far new) (octets_in called.0) was takes c.requires.stays few (stood honest) (called.2 honest) reply refl);
+          subst (λ (o : Outcome). IsMet o (facts.silence new) (facts.far new)) (sym is)
+          (operate_both c.laws.ensures s m (facts.silence old) (facts.silence new) (facts.far old) (facts.far new) (octets_in called.0) was takes c.requires.stays few (stood honest) (called.2 honest) reply refl);
       fits = was;
       stood = stood;
       few = few;
       accepted = λ honest link operating.
-          operate_accepted c.laws.ensures s m (wire.silence old) (wire.silence new) (wire.far old) (wire.far new) (octets_in called.0) was takes c.requires.stays few (stood honest) (called.2 honest) link operating;
+          operate_accepted c.laws.ensures s m (facts.silence old) (facts.silence new) (facts.far old) (facts.far new) (octets_in called.0) was takes c.requires.stays few (stood honest) (called.2 honest) link operating;
     })

@@ -20,7 +20,7 @@ startup_done-requires g c =
 
 pub returns : goal.returns
 returns g c =
-    let wire = g.W.Wire in
+    let facts = g.W.Wire.facts in
     let s = c.in-Startup.field-0 in
     let old = c.args.wire.now in
     let new = c.attempt-attempt.new.wire in
@@ -30,7 +30,7 @@ returns g c =
     let called = rw c.startup.ensures.value at c.attempt-attempt.ensures.called in
     let reply = good_reply startup_shape s.sent.message (octets_in called.0) in
     let is = ap (outcome_with attempt) c.startup_done.ensures.is ∙ startup_is startup_shape s (octets_in called.0) attempt c.attempt-attempt.new.self called.3 in
-    subst (λ (t : State). IsStartTurn wire.honest wire.far wire.silence wire.exchange_gives old t (outcome_with attempt next) new) (sym c.in-Startup.is) (record {
+    subst (λ (t : State). IsStartTurn facts old t (outcome_with attempt next) new) (sym c.in-Startup.is) (record {
       exchange = record {
         answer = called.0;
         called = called.1;
@@ -40,7 +40,7 @@ returns g c =
         fits = subst StateFits (sym (outcome_state attempt next)) c.startup_done.ensures.fits;
       };
       risen = λ honest.
-          subst (λ (o : Outcome). IsRisen o (wire.silence new) (wire.far old) (wire.far new)) (sym is)
-          (startup_risen c.laws.ensures s (wire.silence old) (wire.silence new) (wire.far old) (wire.far new) (octets_in called.0) was c.attempt-attempt.ensures.few
-          (subst (λ (t : State). StateStands t (wire.silence old) (wire.far old)) c.in-Startup.is (c.requires.stands honest)) (called.2 honest) reply refl);
+          subst (λ (o : Outcome). IsRisen o (facts.silence new) (facts.far old) (facts.far new)) (sym is)
+          (startup_risen c.laws.ensures s (facts.silence old) (facts.silence new) (facts.far old) (facts.far new) (octets_in called.0) was c.attempt-attempt.ensures.few
+          (subst (λ (t : State). StateStands t (facts.silence old) (facts.far old)) c.in-Startup.is (c.requires.stands honest)) (called.2 honest) reply refl);
     })

@@ -6,6 +6,6 @@ use Rattle.iol_app.proofs.station.Station.new.Goals as goal
 
 pub returns-clause-steps : goal.returns-clause-steps
 returns-clause-steps g c =
-    let wire = g.W.Wire in
+    let facts = g.W.Wire.facts in
     let down = c.open.ensures.state in
-    new_steps wire.honest wire.far wire.silence c.new_station_stands.ensures c.args.busy (record { link = c.open.result; session = c.new.result }) (ap mode_in down) (ap why_in down) c.new.ensures
+    new_steps facts c.new_station_stands.ensures c.args.busy (record { link = c.open.result; session = c.new.result }) (ap mode_in down) (ap why_in down) c.new.ensures

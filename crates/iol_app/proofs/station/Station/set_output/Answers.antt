@@ -13,12 +13,12 @@ both_ok P Q R (Err fault) h p q = tt
 
 pub returns-clause-steps : goal.returns-clause-steps
 returns-clause-steps g c =
-    let wire = g.W.Wire in
+    let facts = g.W.Wire.facts in
     let i = c.self.inside in
     let old : StationState _ = record { link = i.link; session = i.session } in
     let new : StationState _ = record { link = i.link; session = c.set_output.new.self } in
-    subst (λ (t : StationState _). OnOk c.set_output.result (WantSteps wire.honest wire.far wire.silence (Some c.args.image.now) t new)) c.self.view_is
+    subst (λ (t : StationState _). OnOk c.set_output.result (WantSteps facts (Some c.args.image.now) t new)) c.self.view_is
     (both_ok _ _ _ c.set_output.result
-    (λ e image. want_steps wire.honest wire.far wire.silence c.wanted_output_stands.ensures (Some c.args.image.now) old new image
+    (λ e image. want_steps facts c.wanted_output_stands.ensures (Some c.args.image.now) old new image
     (ap (λ (t : SessionState). let x : StationState _ = record { link = i.link; session = t } in x) e))
     c.set_output.ensures.ok c.set_output.ensures.image)

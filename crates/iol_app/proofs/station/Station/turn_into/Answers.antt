@@ -8,28 +8,28 @@ use Rattle.iol_app.proofs.station.Station.turn_into.Goals as goal
 
 pub returns-clause-steps : goal.returns-clause-steps
 returns-clause-steps g c =
-    let wire = g.W.Wire in
+    let facts = g.W.Wire.facts in
     let turned = c.turned.ensures in
-    turn_steps wire.honest wire.far wire.silence wire.wake_gives wire.exchange_gives c.station_laws.ensures c.args.room c.args.self.now c.turned.new.said c.turned.new.self
+    turn_steps facts c.station_laws.ensures c.args.room c.args.self.now c.turned.new.said c.turned.new.self
     turned.valid turned.fits turned.turn
 
 pub returns-clause-reading : goal.returns-clause-reading
 returns-clause-reading g c =
-    let wire = g.W.Wire in
+    let facts = g.W.Wire.facts in
     let turned = c.turned.ensures in
-    turn_reading wire.honest wire.far wire.silence wire.wake_gives wire.exchange_gives c.args.room c.args.self.now c.turned.new.said c.turned.new.self turned.valid turned.fits turned.turn
+    turn_reading facts c.args.room c.args.self.now c.turned.new.said c.turned.new.self turned.valid turned.fits turned.turn
 
 pub returns-clause-ends : goal.returns-clause-ends
 returns-clause-ends g c =
-    let wire = g.W.Wire in
-    turn_ends wire.honest wire.far wire.silence wire.wake_gives wire.exchange_gives c.args.room c.args.self.now c.turned.new.said c.turned.new.self c.turned.ensures.turn
+    let facts = g.W.Wire.facts in
+    turn_ends facts c.args.room c.args.self.now c.turned.new.said c.turned.new.self c.turned.ensures.turn
 
 pub returns-clause-asked : goal.returns-clause-asked
 returns-clause-asked g c =
-    let wire = g.W.Wire in
-    turn_call wire.honest wire.far wire.silence wire.wake_gives wire.exchange_gives c.args.self.now c.args.room c.turned.new.said c.turned.new.self c.turned.ensures.fits c.turned.ensures.turn
+    let facts = g.W.Wire.facts in
+    turn_call facts c.args.self.now c.args.room c.turned.new.said c.turned.new.self c.turned.ensures.fits c.turned.ensures.turn
 
 pub returns-clause-exact : goal.returns-clause-exact
 returns-clause-exact g c =
-    let wire = g.W.Wire in
-    turn_asked wire.honest wire.far wire.silence wire.wake_gives wire.exchange_gives c.args.self.now c.args.room c.turned.new.said c.turned.new.self c.turned.ensures.fits c.turned.ensures.turn
+    let facts = g.W.Wire.facts in
+    turn_asked facts c.args.self.now c.args.room c.turned.new.said c.turned.new.self c.turned.ensures.fits c.turned.ensures.turn

@@ -8,7 +8,7 @@ pub returns-in-Ok-clause-does : goal.returns-in-Ok-clause-does
 returns-in-Ok-clause-does g c =
     rw (← c.self.view_is)
     (record {
-      follows = cancel_does g.W.Wire.honest g.W.Wire.far g.W.Wire.silence (record { station = c.self.inside.station; book = c.self.inside.book; kept = c.self.inside.kept.items })
+      follows = cancel_does g.W.Wire.facts (record { station = c.self.inside.station; book = c.self.inside.book; kept = c.self.inside.kept.items })
           c.args.ticket c.abort.new.self (sym c.in_flight.ensures.answer ∙ ap (λ r. result_err r) c.in-Ok.is) c.abort.ensures.cancel;
       book = refl;
     })
@@ -17,7 +17,7 @@ pub returns-in-Err-clause-does : goal.returns-in-Err-clause-does
 returns-in-Err-clause-does g c =
     rw (← c.self.view_is)
     (record {
-      follows = cancel_refused g.W.Wire.honest g.W.Wire.far g.W.Wire.silence (record { station = c.self.inside.station; book = c.self.inside.book; kept = c.self.inside.kept.items })
+      follows = cancel_refused g.W.Wire.facts (record { station = c.self.inside.station; book = c.self.inside.book; kept = c.self.inside.kept.items })
           c.args.ticket c.in-Err.fault (sym c.in_flight.ensures.answer ∙ ap (λ r. result_err r) c.in-Err.is);
       book = refl;
     })

@@ -5,4 +5,4 @@ use Rattle.iol_port.proofs.parts.Parts.clear_output.Goals as goal
 pub returns-clause-does : goal.returns-clause-does
 returns-clause-does g c =
     rw (← c.self.view_is)
-    (record { follows = clear_output_does g.W.Wire.honest g.W.Wire.far g.W.Wire.silence (record { station = c.self.inside.station; book = c.self.inside.book; kept = c.self.inside.kept.items }) c.clear_output.new.self c.clear_output.ensures.steps; book = refl })
+    (record { follows = clear_output_does g.W.Wire.facts (record { station = c.self.inside.station; book = c.self.inside.book; kept = c.self.inside.kept.items }) c.clear_output.new.self c.clear_output.ensures.steps; book = refl })

@@ -5,4 +5,4 @@ use Rattle.iol_port.proofs.parts.Parts.image.Goals as goal
 pub returns-clause-does : goal.returns-clause-does
 returns-clause-does g c =
     rw (← c.self.view_is)
-    (record { follows = look_does g.W.Wire.honest g.W.Wire.far g.W.Wire.silence (record { station = c.self.inside.station; book = c.self.inside.book; kept = c.self.inside.kept.items }) _ c.image.ensures; book = refl })
+    (record { follows = look_does g.W.Wire.facts (record { station = c.self.inside.station; book = c.self.inside.book; kept = c.self.inside.kept.items }) _ c.image.ensures; book = refl })

@@ -6,7 +6,7 @@ pub returns-then-restart-clause-does : goal.returns-then-restart-clause-does
 returns-then-restart-clause-does g c =
     rw (← c.self.view_is)
     (record {
-      follows = restart_does g.W.Wire.honest g.W.Wire.far g.W.Wire.silence (record { station = c.self.inside.station; book = c.self.inside.book; kept = c.self.inside.kept.items }) c.restart.new.self c.post.new.self
+      follows = restart_does g.W.Wire.facts (record { station = c.self.inside.station; book = c.self.inside.book; kept = c.self.inside.kept.items }) c.restart.new.self c.post.new.self
           (restart_cuts _ _ _ (some_request _ ∙ sym c.restart.ensures.cut ∙ c.if-restart.true) c.post.ensures.state) c.restart.ensures.steps;
       book = restart_book _ _ _ _ c.self.invariant.same (restart_cuts _ _ _ (some_request _ ∙ sym c.restart.ensures.cut ∙ c.if-restart.true) c.post.ensures.state);
     })
@@ -15,7 +15,7 @@ pub returns-else-restart-clause-does : goal.returns-else-restart-clause-does
 returns-else-restart-clause-does g c =
     rw (← c.self.view_is)
     (record {
-      follows = restart_does g.W.Wire.honest g.W.Wire.far g.W.Wire.silence (record { station = c.self.inside.station; book = c.self.inside.book; kept = c.self.inside.kept.items }) c.restart.new.self c.self.inside.book
+      follows = restart_does g.W.Wire.facts (record { station = c.self.inside.station; book = c.self.inside.book; kept = c.self.inside.kept.items }) c.restart.new.self c.self.inside.book
           (restart_quiet _ _ (some_request _ ∙ sym c.restart.ensures.cut ∙ c.if-restart.false)) c.restart.ensures.steps;
       book = restart_book _ _ _ _ c.self.invariant.same (restart_quiet _ _ (some_request _ ∙ sym c.restart.ensures.cut ∙ c.if-restart.false));
     })

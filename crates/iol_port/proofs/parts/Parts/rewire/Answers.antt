@@ -3,4 +3,4 @@ use Rattle.iol_port.proofs.RunLemmas.{rewire_stands}
 use Rattle.iol_port.proofs.parts.Parts.rewire.Goals as goal
 
 pub returns-clause-stands : goal.returns-clause-stands
-returns-clause-stands g c = rewire_stands g.W.Wire.honest g.W.Wire.far g.W.Wire.silence _ _ (rw (← c.self.view_is) c.rewire.ensures.steps) (rw (← c.self.view_is) refl) (rw (← c.self.view_is) refl)
+returns-clause-stands g c = rewire_stands g.W.Wire.facts _ _ (rw (← c.self.view_is) c.rewire.ensures.steps) (rw (← c.self.view_is) refl) (rw (← c.self.view_is) refl)

@@ -6,5 +6,5 @@ use Rattle.iol_port.proofs.port.Port.rewire.Goals as goal
 
 pub invariant_of-self : goal.invariant_of-self
 invariant_of-self g c =
-    port_told g.W.Wire.honest g.W.Wire.far g.W.Wire.silence g.W.Wire.wake_gives g.W.Wire.exchange_gives _ _ _ c.self.invariant c.rewire.ensures.stands
+    port_told g.W.Wire.facts _ _ _ c.self.invariant c.rewire.ensures.stands
     (rw (c.rewire.ensures.wire, ap (λ (p : Port g.row.W.Denot). wire_of p.parts.station.link) c.self.view_is) c.requires.told)

@@ -3,4 +3,4 @@ use Rattle.iol_port.proofs.port.Port.submit.Goals as goal
 
 pub invariant_of-self : goal.invariant_of-self
 invariant_of-self g c =
-    port_kept g.W.Wire.honest g.W.Wire.far g.W.Wire.silence g.W.Wire.wake_gives g.W.Wire.exchange_gives _ _ _ _ _ c.self.invariant c.submit.ensures.does c.submit.ensures.called
+    port_kept g.W.Wire.facts _ _ _ _ _ c.self.invariant c.submit.ensures.does c.submit.ensures.called
