@@ -4,7 +4,7 @@ use Rattle.arrayvec.specs.ArrayVec.{ArrayVec}
 use Rattle.iol_link.specs.declared.wire.Rate.{Rate}
 use Rattle.iol_link.specs.declared.wire.Rate.TheVariants.{Com1, Com2, Com3}
 use Rattle.iol_line.specs.declared.given.Given.{Given}
-use Rattle.iol_line.specs.Told.{is_honest, far_of, silence_of}
+use Rattle.iol_line.specs.Told.{line_facts}
 use Rattle.iol_port.specs.declared.call.Call.{Call}
 use Rattle.iol_port.specs.declared.call.Answered.{Answered}
 use Rattle.iol_port.specs.declared.fault.PortFault.{PortFault}
@@ -31,7 +31,7 @@ Stays old new =
 -- the call of C is this call of the abstract port, with this answer
 abbrev pub CallDoes : IolPort → Call → Answered → IolPort → Type 0
 CallDoes old call answered new =
-    Does is_honest far_of silence_of (parts_of old) call answered (parts_of new)
+    Does line_facts (parts_of old) call answered (parts_of new)
 
 -- the number of an answer: that of its refusal, or 0
 abbrev pub number_of : {X : Type 0} → Result X PortFault → ℕ

@@ -4,7 +4,7 @@ ghost use Rattle.iol_app.specs.declared.asked.Asked.{Asked};
 ghost use Rattle.iol_port.specs.declared.call.Call.TheVariants as call;
 ghost use Rattle.iol_port.specs.declared.call.Answered.TheVariants as answered;
 ghost use Rattle.iol_port.specs.Asks.{asks_of};
-ghost use Rattle.iol_line.specs.Told.{is_honest, far_of, silence_of};
+ghost use Rattle.iol_line.specs.Told.{line_facts};
 ghost use Rattle.iol_line.specs.Driving.{TurnWoken, TurnAnswered};
 ghost use Rattle.iolink_port_c.specs.Calls.{parts_of, IsRefused, Stays, CallDoes};
 ghost use Rattle.iolink_port_c.specs.Calls.{rate_of, answer_of};
@@ -75,7 +75,7 @@ pub extern "C" fn iol_port_turn_woken(alloc: Global, handle: &mut IolPort, rate:
         (result ≡ 255) × (parts_of handle.new ≡ parts_of handle.old) }
     ensures turn { IsTrue handle.old.is_open → rate ≤ 3 →
         asks_of (parts_of handle.old) ≡ Asked.Wake →
-        (result ≡ 0) × TurnWoken is_honest far_of silence_of
+        (result ≡ 0) × TurnWoken line_facts
         (rate_of rate) None (parts_of handle.old) (parts_of handle.new) }
     ensures does { IsTrue handle.old.is_open → rate ≤ 3 →
         asks_of (parts_of handle.old) ≡ Asked.Wake →
@@ -129,7 +129,7 @@ pub extern "C" fn iol_port_turn_answered(alloc: Global, handle: &mut IolPort, oc
         (result ≡ 255) × (parts_of handle.new ≡ parts_of handle.old) }
     ensures turn { IsTrue handle.old.is_open → length octets.now ≤ 66 →
         (sent : _) → asks_of (parts_of handle.old) ≡ Asked.Exchange sent →
-        (result ≡ 0) × TurnAnswered is_honest far_of silence_of
+        (result ≡ 0) × TurnAnswered line_facts
         sent (answer_of octets.now) None (parts_of handle.old) (parts_of handle.new) }
     ensures does { IsTrue handle.old.is_open → length octets.now ≤ 66 →
         (sent : _) → asks_of (parts_of handle.old) ≡ Asked.Exchange sent →

@@ -2,7 +2,7 @@
 ghost use Rattle.std.specs.Prelude.{◌≡◌, true, false, None, IsTrue, IsFalse};
 ghost use Rattle.iol_book.specs.BookModel.{AreLimits};
 ghost use Rattle.iol_port.specs.View.{IsOpened, opening_of};
-ghost use Rattle.iol_line.specs.Told.{is_honest, far_of, silence_of};
+ghost use Rattle.iol_line.specs.Told.{line_facts};
 ghost use Rattle.iolink_port_c.specs.Calls.{parts_of, IsRefused};
 ghost use Rattle.iolink_port_c.specs.JournalCalls.{KeepsNone};
 
@@ -43,7 +43,7 @@ pub extern "C" fn iol_port_open(
     ensures refused { ¬ (result ≡ 0) → handle.new ≡ handle.old }
     ensures opened { result ≡ 0 → handle.new.is_open ≡ true }
     ensures opening { result ≡ 0 → handle.new.held.value.port.opening
-        ≡ opening_of is_honest far_of silence_of
+        ≡ opening_of line_facts
         (record { journal = journal; busy = busy; given = given }) None }
     ensures parts { result ≡ 0 → IsOpened handle.new.held.value.port.opening (parts_of handle.new) }
     ensures writer { result ≡ 0 → handle.new.held.value.port.writer ≡ None }
