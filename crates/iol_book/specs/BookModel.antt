@@ -56,10 +56,6 @@ abbrev pub entered : BookState → Entry → BookState
 entered book entry =
     record book { journal = book.journal ++ entry ∷ []; standing = step book.standing entry }
 
-abbrev pub entered_if : BookState → Option Entry → BookState
-entered_if book None = book
-entered_if book (Some entry) = entered book entry
-
 -- how many requests are taken: one or none
 abbrev pub taken_count : Standing → ℕ
 taken_count standing = if is_some standing.taken then 1 else 0

@@ -1,5 +1,5 @@
 //! What a device is without its application.
-ghost use Rattle.std.specs.Prelude.{◌≡◌, ℕ, ◌+◌, ◌-◌, ◌<◌, ◌≤◌, ◌↔◌, ◌∷◌, ◌==◌, replicate, ◌++◌, length, slice_index, List, Option, Some, None, MatchOption, IsTrue, IsErr, IfErr, OnErr, option_copied, IfOk, bytes_eq, option_map, IfNone, OnSome, false, is_some, IsOk, unwrap_or, [], if◌then◌else◌};
+ghost use Rattle.std.specs.Prelude.{◌≡◌, ℕ, ◌+◌, ◌-◌, ◌<◌, ◌≤◌, ◌↔◌, ◌∷◌, ◌==◌, replicate, ◌++◌, length, slice_index, List, Option, Some, None, MatchOption, IsTrue, IsErr, IfErr, OnErr, option_copied, IfOk, bytes_eq, option_map, IfNone, OnSome, false, is_some, IsOk, unwrap_or, []};
 
 use crate::app::App;
 use crate::commands::{Waiting, command_in, is_confirm, mode_asked};
@@ -73,7 +73,7 @@ impl<R: Record> FarEnd<R> {
     ghost use Rattle.iol_far.specs.Local.{local, woken, is_input, takes_answer, LocalStep};
     ghost use Rattle.iol_device.specs.App.{IsCarriedOut};
     ghost use Rattle.iol_device.specs.Inside.{new_mode};
-    ghost use Rattle.iol_far.specs.Octets.{octets_in};
+    ghost use Rattle.iol_far.specs.Octets.{octets_in, buffered};
     ghost use Rattle.iol_far.specs.Laws.{IsRegular};
     ghost use Rattle.iol_device.specs.declared.fault.DeviceFault.{DeviceFault};
 
@@ -159,8 +159,7 @@ impl<R: Record> FarEnd<R> {
     pub fn hear(&mut self, octets: &[u8], reply: &mut Message) -> bool
         requires { reply.old.items ≡ [] }
         ensures far { self.new ≡ (far.hear self.old octets.now).far }
-        ensures reply { (if result then Some reply.new.items else None)
-            ≡ (far.hear self.old octets.now).reply }
+        ensures reply { buffered result reply.new ≡ (far.hear self.old octets.now).reply }
         ensures answers { result ≡ is_some (far.accepted self.old octets.now) }
         ensures silent { result ≡ false → self.new ≡ self.old }
     {

@@ -91,21 +91,6 @@ receiving_again t c octets = grind (arith, nat_tests, common_steps)
 received_again : (z : Stage) (t : List ℕ) (c : ℕ) (octets : List ℕ) → isdu_written (received_at z t (Some c)) (Count c) octets ≡ received_at z t (Some c)
 received_again z t c octets = grind (arith, common_steps)
 
-counted_again : (last next : Bool) (t : List ℕ) (l : Option ℕ) (c : ℕ) (octets : List ℕ) → is_last l c ≡ last →
-    isdu_written (if last then Receiving t l else if next then received (t ++ octets) (Some c) else Empty) (Count c) octets
-    ≡ (if last then Receiving t l else if next then received (t ++ octets) (Some c) else Empty)
-counted_again last next t l c octets given = grind (arith, common_steps)
-
-pub written_again : (s : IsduState) (f : Flow) (octets : List ℕ) → isdu_written (isdu_written s f octets) f octets ≡ isdu_written s f octets
-written_again s Start octets = refl
-written_again Empty f octets = refl
-written_again (Handed r) f octets = refl
-written_again (Answered r a l) f octets = refl
-written_again (Whole r l) (Count c) octets = grind (arith, nat_tests, common_steps)
-written_again (Whole r l) f octets = refl
-written_again (Receiving t l) (Count c) octets = counted_again (is_last l c) (c == next_count l) t l c octets refl
-written_again (Receiving t l) f octets = refl
-
 -- The whole far end
 
 pub isdu_again : (known : Bool) (size : ℕ) (s : IsduState) (c : Channel) (r : Bool) (f : Flow) (octets : List ℕ) →
@@ -162,11 +147,6 @@ not_handed t l r h = not_handed_at (stage t) t l r h
 pub carry_again : (known : Bool) (size : ℕ) (r : Request) (a : Answer) (c : Channel) (read : Bool) (f : Flow) (octets : List ℕ) → is_start_read c read f ≡ false →
     isdu_after known size (Handed r) c read f octets ≡ Handed r → isdu_after known size (Answered r a None) c read f octets ≡ Answered r a None
 carry_again known size r a c read f octets given given2 = grind (arith, common_steps)
-
--- whether a step is no carrying out
-abbrev pub keeps_isdu : LocalStep → Bool
-keeps_isdu (Carry a) = false
-keeps_isdu step = true
 
 settled_carry : (o : List ℕ) (m : MasterMsg) (g : Far) (a : Answer) (s : IsduState) → g.isdu ≡ s → is_start_read m.mc.channel m.mc.read (flow_of m.mc.address) ≡ false →
     Settled o m g → Settled o m (carried_by s g a)

@@ -13,10 +13,6 @@ pub behind-more : (read : List ℕ) (first : Option ℕ) (octet : ℕ) (left : O
 behind-more read first octet (Some left) is = ap (λ (o : Option ℕ). behind read (before o (Some left))) is ∙ ap Some (sym (append_assoc read (octet ∷ []) left))
 behind-more read first octet None is = ap (λ (o : Option ℕ). behind read (before o None)) is
 
--- a word is no octet
-pub behind-bad : (read : List ℕ) (first : Option ℕ) (left : Option (List ℕ)) → first ≡ None → behind read (before first left) ≡ None
-behind-bad read first left is = ap (λ (o : Option ℕ). behind read (before o left)) is
-
 beyond : (most : ℕ) (octets : List ℕ) → most ≤ length octets → (octet : ℕ) (later : List ℕ) → within 0 most (octets ++ octet ∷ later) ≡ None
 beyond most octets long octet later =
     let size = length-append octets (octet ∷ later) in

@@ -18,12 +18,6 @@ stays_bad : (bad : ℕ) (lines : List (ℕ × List ℕ)) → fold draft_after (E
 stays_bad bad [] = refl
 stays_bad bad (line ∷ lines) = stays_bad bad lines
 
--- one more line is read
-pub read-more : (all : Result Draft ℕ) (draft next : Draft) (lines rest : List (ℕ × List ℕ)) (number : ℕ) (line : List ℕ)
-    → all ≡ fold draft_after (Ok draft) lines → lines ≡ (number, line) ∷ rest → draft_after (Ok draft) (number, line) ≡ Ok next → all ≡ fold draft_after (Ok next) rest
-read-more all draft next lines rest number line is these good =
-    is ∙ ap (fold draft_after (Ok draft)) these ∙ ap (λ (r : Result Draft ℕ). fold draft_after r rest) good
-
 -- a line is bad
 pub read-bad : (all : Result Draft ℕ) (draft : Draft) (lines rest : List (ℕ × List ℕ)) (number : ℕ) (line : List ℕ) (bad : ℕ)
     → all ≡ fold draft_after (Ok draft) lines → lines ≡ (number, line) ∷ rest → draft_after (Ok draft) (number, line) ≡ Err bad → result_err all ≡ Some bad

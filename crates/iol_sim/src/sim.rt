@@ -3,7 +3,7 @@ ghost use Rattle.std.specs.Prelude.{◌≡◌, ℕ, [], true, None, Option, fals
 ghost use Rattle.arrayvec.specs.ArrayVec.{ArrayVec};
 ghost use Rattle.std.specs.Vec.Iter.{into_iter_items};
 ghost use Rattle.iol_octets.specs.Checksum.{has_checksum, AreOctets};
-ghost use Rattle.iol_far.specs.Octets.{octets_in};
+ghost use Rattle.iol_far.specs.Octets.{octets_in, buffered};
 ghost use Rattle.iol_link.specs.Honest.{HonestExchange, HonestWake};
 ghost use Rattle.iol_sim.specs.Sim.{damaged};
 
@@ -226,7 +226,7 @@ impl<P: App, A: Allocator + Copy> Sim<P, A> {
 
     /// The octets are sent. Answers whether a reply comes back; it is put into the buffer.
     fn pass(&mut self, fate: Fate, sent: &[u8], reply: &mut Message) -> bool
-        ensures answer { (if result then Some reply.new.items else None)
+        ensures answer { buffered result reply.new
             ≡ (exchanged fate self.old.device.far sent.now).reply }
         ensures device { self.new
             ≡ record self.old {
@@ -258,7 +258,7 @@ impl<P: App, A: Allocator + Copy> Sim<P, A> {
     /// The octets are sent, and come damaged.
     fn pass_damaged(&mut self, sent: &[u8], reply: &mut Message) -> bool
         requires { length sent.now ≤ LONGEST }
-        ensures answer { (if result then Some reply.new.items else None)
+        ensures answer { buffered result reply.new
             ≡ (hear self.old.device.far (damaged sent.now)).reply }
         ensures device { self.new
             ≡ record self.old {
