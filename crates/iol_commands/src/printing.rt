@@ -65,7 +65,7 @@ fn print_type<A: Allocator>(output: &mut String<A>, layout: &Layout) -> Result<(
     ensures { OnOk result (string_bytes output.new
         ≡ string_bytes output.old ++ type_text layout.now) }
 {
-    print_number(output, "layout type ", layout.kind())?;
+    print_number(output, "layout type ", layout.kind().bits())?;
     print_number(output, " od ", layout.od())
 }
 

@@ -1,33 +1,50 @@
 //! Layouts: the sizes of a message's parts in each mode (IEC 61131-9, A.2).
 ghost use Rattle.std.specs.Prelude.{◌≡◌, ◌≤◌, Ok, IsTrue};
+ghost use Rattle.iol_octets.specs.CheckOctets.{type_bits};
 ghost use Rattle.iol_mseq.specs.Shape.{IsLayout, is_size, shape, startup_shape, preoperate_shape, operate_shape};
 
 use crate::fault::MseqFault;
+use iol_octets::SequenceType;
 use std::marker::Model;
 
 /// Of which M-sequence type the messages of a mode are, and how many octets each
 /// part has (IEC 61131-9, A.2).
 ///
-/// On-request data has 1, 2, 8 or 32 octets, process data 0 to 32 each way. The type is 0
-/// with one octet of on-request data alone, 1 with more of them alone, 2 with process data.
+/// On-request data has 1, 2, 8 or 32 octets, process data 0 to 32 each way. They say the type.
 #[derive(Clone, Copy, Debug, PartialEq, Eq)]
 pub struct Layout {
-    kind: u8,
+    kind: SequenceType,
     od: u8,
     pd_in: u8,
     pd_out: u8,
 }
 
 impl Model for Layout {
+    ghost use Rattle.iol_octets.specs.CheckOctets.{type_bits, type_of};
     ghost use Rattle.iol_mseq.specs.Shape.{Shape, IsLayout};
 
     ghost Value = { Shape };
 
-    ghost view = { λ l. record { kind = l.kind; od = l.od; pd_in = l.pd_in; pd_out = l.pd_out } };
+    ghost view = { λ l. record {
+      kind = type_bits l.kind;
+      od = l.od;
+      pd_in = l.pd_in;
+      pd_out = l.pd_out;
+    } };
 
-    ghost invariant = { λ l. IsLayout (record { kind = l.kind; od = l.od; pd_in = l.pd_in; pd_out = l.pd_out }) };
+    ghost invariant = { λ l. IsLayout (record {
+      kind = type_bits l.kind;
+      od = l.od;
+      pd_in = l.pd_in;
+      pd_out = l.pd_out;
+    }) };
 
-    ghost inverse = { λ s. record { kind = s.kind; od = s.od; pd_in = s.pd_in; pd_out = s.pd_out } };
+    ghost inverse = { λ s. record {
+      kind = type_of s.kind;
+      od = s.od;
+      pd_in = s.pd_in;
+      pd_out = s.pd_out;
+    } };
 }
 
 impl Layout {
@@ -86,9 +103,9 @@ impl Layout {
         ensures valid { IsLayout result }
     {
         let kind = match (pd_in, pd_out) {
-            (0, 0) if od == 1 => 0,
-            (0, 0) => 1,
-            _ => 2,
+            (0, 0) if od == 1 => SequenceType::Type0,
+            (0, 0) => SequenceType::Type1,
+            _ => SequenceType::Type2,
         };
         Layout {
             kind,
@@ -98,9 +115,9 @@ impl Layout {
         }
     }
 
-    /// The M-sequence type: 0, 1 or 2.
-    pub fn kind(&self) -> u8
-        ensures value { result ≡ self.now.kind }
+    /// The M-sequence type.
+    pub fn kind(&self) -> SequenceType
+        ensures value { type_bits result ≡ self.now.kind }
         ensures valid { IsLayout self.now }
     {
         self.kind

@@ -128,7 +128,7 @@ pub fn write_master(layout: &Layout, message: &MasterMsg, octets: &mut Message)
     ensures text { octets.new.items ≡ master_text layout.now message.now }
 {
     octets.push(message.mc.octet());
-    octets.push(layout.kind() << 6);
+    octets.push(layout.kind().bits() << 6);
     append(octets, &message.out);
     append(octets, &message.od);
     seal(octets, 1);
@@ -145,7 +145,7 @@ fn fault_of(layout: &Layout, octets: &[u8]) -> Option<MseqFault>
     if octets.len() != 2 + layout.pd_out() as usize + od as usize {
         return Some(MseqFault::WrongLength);
     }
-    if octets[1] >> 6 != layout.kind() {
+    if octets[1] >> 6 != layout.kind().bits() {
         return Some(MseqFault::WrongType);
     }
     if !has_checksum6(octets, 1) {

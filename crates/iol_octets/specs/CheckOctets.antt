@@ -1,11 +1,25 @@
 -- The octets that hold a checksum.
-use Rattle.std.specs.Prelude.{Bool, ℕ, ◌+◌, ◌*◌, if◌then◌else◌}
+use Rattle.std.specs.Prelude.{Bool, ℕ, ◌+◌, ◌*◌, zero, suc, if◌then◌else◌}
+use Rattle.iol_octets.specs.declared.check_octets.SequenceType.{SequenceType}
+use Rattle.iol_octets.specs.declared.check_octets.SequenceType.TheVariants.{Type0, Type1, Type2}
 use Rattle.iol_octets.specs.declared.check_octets.Ckt.{Ckt}
 use Rattle.iol_octets.specs.declared.check_octets.Cks.{Cks}
 
+-- the two bits of an M-sequence type
+abbrev pub type_bits : SequenceType → ℕ
+type_bits Type0 = 0
+type_bits Type1 = 1
+type_bits Type2 = 2
+
+-- the M-sequence type of two bits, which are not 3
+abbrev pub type_of : ℕ → SequenceType
+type_of zero = Type0
+type_of (suc zero) = Type1
+type_of (suc (suc n)) = Type2
+
 -- checksum / M-sequence type: bits 7 and 6 are the type, bits 5 to 0 the checksum
 abbrev pub type_octet : Ckt → ℕ
-type_octet ckt = 64 * ckt.kind + ckt.sum
+type_octet ckt = 64 * type_bits ckt.kind + ckt.sum
 
 -- bit 7 is the Event flag, bit 6 the process data status
 abbrev pub status_bits : Bool → Bool → ℕ

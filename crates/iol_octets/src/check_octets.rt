@@ -3,16 +3,37 @@ ghost use Rattle.std.specs.Prelude.{◌≡◌, ◌<◌, ◌≤◌, ◌↔◌, If
 
 use crate::fault::OctetFault;
 
+/// The M-sequence type, bits 7 and 6 of CKT (IEC 61131-9, A.1.3).
+#[derive(Clone, Copy, Debug, PartialEq, Eq)]
+pub enum SequenceType {
+    /// TYPE_0: one octet of on-request data alone.
+    Type0,
+    /// TYPE_1: more octets of on-request data alone.
+    Type1,
+    /// TYPE_2: process data, and on-request data.
+    Type2,
+}
+
+impl SequenceType {
+    ghost use Rattle.iol_octets.specs.CheckOctets.{type_bits};
+
+    /// The two bits: 0, 1 or 2.
+    pub fn bits(self) -> u8
+        ensures { result ≡ type_bits self }
+    {
+        self as u8
+    }
+}
+
 /// The checksum / M-sequence type octet, the second of a master message (IEC 61131-9, A.1.3).
 ///
 /// Bits 7 and 6 are the M-sequence type, bits 5 to 0 the checksum of the message.
 #[derive(Clone, Copy, Debug, PartialEq, Eq)]
 pub struct Ckt {
-    /// The M-sequence type: 0, 1 or 2.
-    pub kind: u8,
+    /// The M-sequence type.
+    pub kind: SequenceType,
     /// The checksum, 0 to 63.
     pub sum: u8,
-    pub ghost kind_in_range: { kind ≤ 2 },
     pub ghost sum_in_range: { sum ≤ 63 },
 }
 
@@ -24,11 +45,14 @@ impl Ckt {
         ensures reserved { IsErrOf result OctetFault.ReservedType ↔ (192 ≤ octet) }
         ensures value { IfOk result (λ ckt. type_octet ckt ≡ octet) }
     {
-        if octet >= 0xC0 {
-            return Err(OctetFault::ReservedType);
-        }
+        let kind = match octet >> 6 {
+            0 => SequenceType::Type0,
+            1 => SequenceType::Type1,
+            2 => SequenceType::Type2,
+            _ => return Err(OctetFault::ReservedType),
+        };
         Ok(Ckt {
-            kind: octet >> 6,
+            kind,
             sum: octet & 63,
         })
     }

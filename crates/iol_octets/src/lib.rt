@@ -13,7 +13,7 @@ mod fault;
 mod flow_control;
 mod laws;
 
-pub use check_octets::{Cks, Ckt};
+pub use check_octets::{Cks, Ckt, SequenceType};
 pub use checksum::{checksum6, has_checksum6};
 pub use control::{Channel, Mc};
 pub use fault::OctetFault;

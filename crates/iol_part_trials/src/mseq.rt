@@ -152,7 +152,7 @@ const LAYOUTS: [(u8, u8, u8, u8, u8); 12] = [
 fn layouts(rt: HostRuntime) -> Result<(), Fail> {
     for (code, pd_in, pd_out, kind, od) in LAYOUTS {
         let layout = Layout::operate(code, pd_in, pd_out)?;
-        assert_eq!(rt; layout.kind(), kind);
+        assert_eq!(rt; layout.kind().bits(), kind);
         assert_eq!(rt; layout.od(), od);
         assert_eq!(rt; layout.pd_in(), pd_in);
         assert_eq!(rt; layout.pd_out(), pd_out);

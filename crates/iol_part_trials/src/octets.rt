@@ -1,5 +1,5 @@
 //! Tests of octets and checksums.
-use iol_octets::{Channel, Cks, Ckt, Flow, Mc, checksum6, has_checksum6};
+use iol_octets::{Channel, Cks, Ckt, Flow, Mc, SequenceType, checksum6, has_checksum6};
 use std::test::Fail;
 
 /// Octets whose six checksum bits are 0, and the checksum.
@@ -45,7 +45,7 @@ fn control_octets(rt: HostRuntime) {
 #[test]
 fn check_octets(rt: HostRuntime) -> Result<(), Fail> {
     let ckt = Ckt::from_octet(0x94)?;
-    assert_eq!(rt; ckt.kind, 2);
+    assert_eq!(rt; ckt.kind, SequenceType::Type2);
     assert_eq!(rt; ckt.sum, 0x14);
     let fault = Ckt::from_octet(0xC0).err().ok_or("type 3")?;
     assert_eq!(rt; fault.code(), 1);

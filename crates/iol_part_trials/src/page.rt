@@ -10,7 +10,7 @@ const PLAIN: [u8; 10] = [0x17, 0x2D, 0x11, 0x00, 0x00, 0x12, 0x34, 0x00, 0x01, 0
 const PROCESS: [u8; 10] = [0x17, 0x01, 0x11, 0x10, 0x08, 0x12, 0x34, 0x00, 0x01, 0x07];
 
 fn sizes(layout: &Layout) -> (u8, u8, u8, u8) {
-    (layout.kind(), layout.od(), layout.pd_in(), layout.pd_out())
+    (layout.kind().bits(), layout.od(), layout.pd_in(), layout.pd_out())
 }
 
 /// The first page with other octets at the addresses 0x03 to 0x05.
