@@ -1,16 +1,16 @@
 //! Tests of pages: commands, lengths, layouts, and the first of each page's faults.
 use iol_mseq::Layout;
 use iol_page::{Capability, MasterCommand, Page, PageFault, PdLength};
+use iol_vectors::{PLAIN, PROCESS_DATA};
 use std::test::Fail;
 
-/// No process data, eight octets of on-request data.
-const PLAIN: [u8; 10] = [0x17, 0x2D, 0x11, 0x00, 0x00, 0x12, 0x34, 0x00, 0x01, 0x07];
-
-/// Two octets of process data in, one out, one octet of on-request data.
-const PROCESS: [u8; 10] = [0x17, 0x01, 0x11, 0x10, 0x08, 0x12, 0x34, 0x00, 0x01, 0x07];
-
 fn sizes(layout: &Layout) -> (u8, u8, u8, u8) {
-    (layout.kind().bits(), layout.od(), layout.pd_in(), layout.pd_out())
+    (
+        layout.kind().bits(),
+        layout.od(),
+        layout.pd_in(),
+        layout.pd_out(),
+    )
 }
 
 /// The first page with other octets at the addresses 0x03 to 0x05.
@@ -34,7 +34,7 @@ fn layouts_of_pages(rt: HostRuntime) -> Result<(), Fail> {
     let plain = Page::from_octets(&PLAIN).layouts()?;
     assert_eq!(rt; plain.pre.map(|l| sizes(&l)), Some((1, 8, 0, 0)));
     assert_eq!(rt; sizes(&plain.run), (1, 8, 0, 0));
-    let process = Page::from_octets(&PROCESS).layouts()?;
+    let process = Page::from_octets(&PROCESS_DATA).layouts()?;
     assert_eq!(rt; process.pre.map(|l| sizes(&l)), Some((0, 1, 0, 0)));
     assert_eq!(rt; sizes(&process.run), (2, 1, 2, 1));
     let two = changed(0x23, 0x11, 0x00).layouts()?;

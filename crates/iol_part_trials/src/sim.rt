@@ -13,14 +13,12 @@ use iol_link::{Attempt, Handler, Rate, Wire};
 use iol_mseq::{Layout, MasterMsg, Message, MseqFault, Part, Reply, read_master};
 use iol_page::Page;
 use iol_sim::{Fate, Params, Raw, Sim, SimFault, Step};
+use iol_vectors::PLAIN;
 use named::{Asked, Replied};
 use scarce::{Refusal, Scarce};
 use std::alloc::{Allocator, Global};
 use std::ops::Range;
 use std::test::Fail;
-
-/// Type 1 with 8 octets of on-request data, no process data.
-const PAGE: [u8; 10] = [0x17, 0x2D, 0x11, 0, 0, 0x12, 0x34, 0, 0x01, 0x07];
 
 /// Reads page address 0x02 in STARTUP.
 const PAGE_READ: [u8; 2] = [0xA2, 0x00];
@@ -112,7 +110,7 @@ fn revision() -> Attempt {
 }
 
 fn opened<A: Allocator + Copy>(alloc: A) -> Result<Device<Params, Kept<A>>, Fail> {
-    let page = Page::from_octets(&PAGE);
+    let page = Page::from_octets(&PLAIN);
     Device::open(alloc, params()?, page, 2).map_err(|(fault, _)| Fail::from(fault))
 }
 

@@ -1,14 +1,13 @@
 //! Tests of a tap: what it notes, and that it changes nothing.
-ghost use Rattle.std.proofs.Common.{rules};
-ghost use Rattle.iol_link.specs.WireFacts.{unknown};
 
 use iol_link::{Rate, Wire};
 use iol_mseq::Message;
 use iol_tap::{Passed, Tap};
+use iol_vectors::{AnyWire, Peer};
 use std::test::Fail;
 
-/// A wire that answers each message by its octets but the first, and no message of
-/// one octet. It isn't honest.
+/// A peer that answers each message by its octets but the first, and no message of
+/// one octet.
 ///
 /// Its first wake fails.
 #[derive(Drop)]
@@ -16,13 +15,7 @@ struct Echo {
     awake: bool,
 }
 
-impl Wire for Echo {
-    ghost facts = { unknown };
-
-    ghost clean_exchanges = { λ old sent answer new never. Prim.search rules };
-
-    ghost clean_wakes = { λ old answer new never. Prim.search rules };
-
+impl Peer for Echo {
     fn wake(&mut self) -> Option<Rate> {
         let answer = self.awake.then_some(Rate::Com3);
         self.awake = true;
@@ -45,7 +38,7 @@ fn message(octets: &[u8]) -> Option<Message> {
 
 #[test]
 fn notes_each_call(rt: HostRuntime) -> Result<(), Fail> {
-    let mut tap = Tap::new(Echo { awake: false });
+    let mut tap = Tap::new(AnyWire(Echo { awake: false }));
     assert_eq!(rt; tap.last(), None);
     assert_eq!(rt; tap.wake(), None);
     assert_eq!(rt; tap.last(), Some(&Passed::Wake(None)));
@@ -58,14 +51,14 @@ fn notes_each_call(rt: HostRuntime) -> Result<(), Fail> {
     let alone = message(&[0x2D]).ok_or("a message")?;
     assert_eq!(rt; tap.exchange(alone.as_slice()), None);
     assert_eq!(rt; tap.last(), Some(&Passed::Exchange(alone, None)));
-    assert!(rt; tap.wire().awake);
-    assert!(rt; tap.into_wire().awake);
+    assert!(rt; tap.wire().0.awake);
+    assert!(rt; tap.into_wire().0.awake);
     Ok(())
 }
 
 #[test]
 fn notes_66_octets(rt: HostRuntime) -> Result<(), Fail> {
-    let mut tap = Tap::new(Echo { awake: true });
+    let mut tap = Tap::new(AnyWire(Echo { awake: true }));
     let long = [0x5A; 68];
     let noted = message(&long[..66]).ok_or("a message")?;
     let answer = message(&long[..66]);

@@ -5,7 +5,6 @@ ghost use Rattle.iol_app.specs.StationState.{wire_of};
 ghost use Rattle.iol_sim.specs.Params.{AnsweredBy};
 
 use crate::play::ROOM;
-use crate::rows::NO_DATA;
 use crate::{first_app_follows_record, record_is_answered_by_the_first_params};
 use iol_book::Limits;
 use iol_device::Device;
@@ -13,6 +12,7 @@ use iol_isdu::{Answer, Octets, Place, Request};
 use iol_page::Page;
 use iol_port::{Call, Port};
 use iol_sim::{Fate, Params, Sim, Step};
+use iol_vectors::PLAIN;
 use std::alloc::Global;
 use std::test::Fail;
 
@@ -39,7 +39,7 @@ fn played(
         (wire_of port.parts.station.link).device.far.carried
         (wire_of port.parts.station.link).device.app) }
 {
-    let page = Page::from_octets(NO_DATA);
+    let page = Page::from_octets(&PLAIN);
     if page.layouts().is_err() {
         return Err("a page without layouts")?;
     }

@@ -1,18 +1,17 @@
 //! Ports over a wire that answers no message: memory refused in turn, refusals, and
 //! calls by their names.
-ghost use Rattle.std.proofs.Common.{rules};
-ghost use Rattle.iol_link.specs.WireFacts.{unknown};
 
 use iol_app::{Asked, Mode, OutputFault};
 use iol_book::{BookFault, Entry, Limits, Outcome, Ticket};
 use iol_isdu::{Place, Request};
-use iol_link::{Rate, Wire};
+use iol_link::Rate;
 use iol_mode::Why;
 use iol_mseq::Message;
 use iol_port::{
     Answered, Call, Port, PortFault, cancelled_requests_were_asked, denied_requests_stay_out,
     each_done_has_its_pair, late_requests_end, record_fits_journal, runs_join, turns_rule_out,
 };
+use iol_vectors::{AnyWire, Peer};
 use scarce::{Refusal, Scarce};
 use std::process::Abort;
 use std::test::Fail;
@@ -26,19 +25,13 @@ const LIMITS: Limits = Limits {
 /// The number of a wire whose wake is answered.
 const AWAKE: u8 = 9;
 
-/// A wire that answers no message, and a wake where its number says so.
+/// A peer that answers no message, and a wake where its number says so.
 #[derive(Debug, PartialEq, Eq, Drop)]
 struct Bare {
     number: u8,
 }
 
-impl Wire for Bare {
-    ghost facts = { unknown };
-
-    ghost clean_exchanges = { λ old sent answer new never. Prim.search rules };
-
-    ghost clean_wakes = { λ old answer new never. Prim.search rules };
-
+impl Peer for Bare {
     fn wake(&mut self) -> Option<Rate> {
         (self.number == AWAKE).then_some(Rate::Com2)
     }
@@ -48,12 +41,17 @@ impl Wire for Bare {
     }
 }
 
+/// A wire to that peer.
+fn bare_wire(number: u8) -> AnyWire<Bare> {
+    AnyWire(Bare { number })
+}
+
 fn read() -> Request {
     Request::read(Place { index: 16, sub: 0 })
 }
 
-fn opened_port(scarce: &Scarce) -> Result<Port<Bare, &Scarce>, Fail> {
-    match Port::open(scarce, Bare { number: 7 }, &LIMITS) {
+fn opened_port(scarce: &Scarce) -> Result<Port<AnyWire<Bare>, &Scarce>, Fail> {
+    match Port::open(scarce, bare_wire(7), &LIMITS) {
         Ok(port) => Ok(port),
         Err((fault, _)) => Err(Fail::from(fault)),
     }
@@ -93,19 +91,19 @@ fn a_port_opens_or_hands_its_wire_back(rt: HostRuntime) -> Result<(), Fail> {
     for number in 0..64 {
         for refusal in [Refusal::From(number), Refusal::Only(number)] {
             scarce.order(refusal);
-            match Port::open(&scarce, Bare { number: 7 }, &LIMITS) {
+            match Port::open(&scarce, bare_wire(7), &LIMITS) {
                 Ok(port) => {
                     assert!(rt; !scarce.has_refused());
                     assert!(rt; number > 0);
                     assert_eq!(rt; port.status().mode, Mode::Down);
                     port.keeps_record();
-                    assert_eq!(rt; port.into_wire(), Bare { number: 7 });
+                    assert_eq!(rt; port.into_wire(), bare_wire(7));
                     return Ok(());
                 }
                 Err((fault, wire)) => {
                     assert!(rt; scarce.has_refused());
                     assert_eq!(rt; fault, PortFault::Book(BookFault::OutOfMemory));
-                    assert_eq!(rt; wire, Bare { number: 7 });
+                    assert_eq!(rt; wire, bare_wire(7));
                 }
             }
         }
@@ -120,7 +118,7 @@ enum Urgency {
 }
 
 impl Urgency {
-    fn submit(self, port: &mut Port<Bare, &Scarce>) -> Result<Ticket, PortFault> {
+    fn submit(self, port: &mut Port<AnyWire<Bare>, &Scarce>) -> Result<Ticket, PortFault> {
         match self {
             Urgency::Ordinary => port.submit(read()),
             Urgency::Urgent => port.submit_urgent(read()),
@@ -138,7 +136,7 @@ enum Submitted {
     Refused(Result<Ticket, PortFault>, bool, Result<Ticket, PortFault>),
 }
 
-fn has_empty_journal(port: &mut Port<Bare, &Scarce>) -> bool {
+fn has_empty_journal(port: &mut Port<AnyWire<Bare>, &Scarce>) -> bool {
     match port.archive() {
         Ok(entries) => entries.is_empty(),
         Err(_) => false,
@@ -195,7 +193,7 @@ const UNKNOWN_TICKET: Answered = Answered::Refused(PortFault::Book(BookFault::Un
 const WITHDRAWN: Answered = Answered::Outcome(Outcome::Withdrawn);
 
 /// Makes the calls of the rows in turn, each of which has to answer what stands beside it.
-fn says(rt: &impl Abort, port: &mut Port<Bare, &Scarce>, rows: &[(Call, Answered)]) {
+fn says(rt: &impl Abort, port: &mut Port<AnyWire<Bare>, &Scarce>, rows: &[(Call, Answered)]) {
     for (row, (call, answered)) in rows.iter().enumerate() {
         assert_eq!(rt; port.call(call), *answered, "at row {row}");
     }
@@ -257,7 +255,7 @@ fn calls_by_name_submit_urgent_requests_and_cancel(rt: HostRuntime) -> Result<()
 }
 
 /// Whether an archive hands out just these entries.
-fn archives(port: &mut Port<Bare, &Scarce>, expected: &[Entry]) -> bool {
+fn archives(port: &mut Port<AnyWire<Bare>, &Scarce>, expected: &[Entry]) -> bool {
     match port.archive() {
         Ok(entries) => entries.as_slice() == expected,
         Err(_) => false,
@@ -313,7 +311,7 @@ fn a_refused_run_makes_no_call(rt: HostRuntime) -> Result<(), Fail> {
 
 #[test]
 fn a_port_asks_for_what_its_next_turn_sends(rt: HostRuntime) -> Result<(), Fail> {
-    let Ok(mut port) = Port::open(rt.alloc(), Bare { number: AWAKE }, &LIMITS) else {
+    let Ok(mut port) = Port::open(rt.alloc(), bare_wire(AWAKE), &LIMITS) else {
         return Err(Fail::from(PortFault::Book(BookFault::OutOfMemory)));
     };
     assert_eq!(rt; port.asks(), Asked::Wake);

@@ -3,11 +3,11 @@ ghost use Rattle.std.specs.Prelude.{◌≡◌, IsSome, IsTrue};
 
 use crate::far::Line;
 use crate::rows::{Ask, Call};
-use crate::wires::AnyWire;
 use iol_app::{Said, Station};
 use iol_image::Image;
 use iol_isdu::Cause;
 use iol_sim::{Params, Sim};
+use iol_vectors::AnyWire;
 use std::process::Abort;
 use std::test::Fail;
 

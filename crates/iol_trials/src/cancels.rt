@@ -6,13 +6,11 @@ use iol_book::{BookFault, Limits, Outcome, Ticket};
 use iol_isdu::{Answer, Cause, Octets, Place};
 use iol_port::{Answered, Call, Port, PortFault};
 use iol_sim::{Fate, Params, Sim, Step};
+use iol_vectors::ONE_OCTET;
 use scarce::{Refusal, Scarce};
 use std::alloc::Global;
 use std::process::Abort;
 use std::test::Fail;
-
-/// A page of which each message has one octet of on-request data: a read takes eight turns.
-const PAGE: [u8; 10] = [0x17, 0x01, 0x11, 0, 0, 0x12, 0x34, 0, 0x01, 0x07];
 
 const VALUE: [u8; 2] = [0x41, 0x42];
 
@@ -95,7 +93,7 @@ impl Trial {
         let mut params = Params::new();
         params.add(Place { index: 16, sub: 0 }, false, &VALUE)?;
         let steps = self.script(alloc)?;
-        opened(alloc, device_of(alloc, params, &PAGE, &steps)?, 0)
+        opened(alloc, device_of(alloc, params, &ONE_OCTET, &steps)?, 0)
     }
 
     fn run(&self, alloc: Global) -> Result<Seen, Fail> {
@@ -211,7 +209,7 @@ const LIMITS: Limits = Limits {
 fn scarce_port(alloc: Global, scarce: &Scarce) -> Result<Port<Sim<Params>, &Scarce>, Fail> {
     let mut params = Params::new();
     params.add(Place { index: 16, sub: 0 }, false, &VALUE)?;
-    let wire = device_of(alloc, params, &PAGE, &[])?;
+    let wire = device_of(alloc, params, &ONE_OCTET, &[])?;
     Port::open(scarce, wire, &LIMITS).map_err(|(fault, _)| Fail::from(fault))
 }
 

@@ -1,7 +1,5 @@
 //! Desks and memory of a master run out, and what a submit counts, urgent or not.
-ghost use Rattle.std.proofs.Common.{rules};
 ghost use Rattle.std.specs.Prelude.{◌≡◌, All, IfOk, vec_len};
-ghost use Rattle.iol_link.specs.WireFacts.{unknown};
 ghost use Rattle.iol_master.specs.Tickets.{HasGiven};
 
 use iol_book::{BookFault, Limits, Ticket};
@@ -11,6 +9,7 @@ use iol_link::{Rate, Wire};
 use iol_master::{Desk, Gate, Master, MasterFault, Settled, Tally};
 use iol_mseq::Message;
 use iol_port::{Port, PortFault};
+use iol_vectors::{AnyWire, Peer};
 use scarce::{Refusal, Scarce};
 use std::alloc::Global;
 use std::marker::Brand;
@@ -20,17 +19,11 @@ use std::sync::ledger::{Blank, Ledger};
 use std::test::Fail;
 use std::thread::Threads;
 
-/// A wire at whose far end is nothing.
+/// A peer that answers nothing.
 #[derive(Debug, PartialEq, Eq, Drop)]
-struct Bare;
+struct Nobody;
 
-impl Wire for Bare {
-    ghost facts = { unknown };
-
-    ghost clean_exchanges = { λ old sent answer new never. Prim.search rules };
-
-    ghost clean_wakes = { λ old answer new never. Prim.search rules };
-
+impl Peer for Nobody {
     fn wake(&mut self) -> Option<Rate> {
         None
     }
@@ -49,7 +42,7 @@ impl Gate for Open {
     }
 }
 
-fn opened_port<A: Handle>(alloc: A) -> Result<Port<Bare, A>, Fail>
+fn opened_port<A: Handle>(alloc: A) -> Result<Port<AnyWire<Nobody>, A>, Fail>
     ensures { IfOk result (λ p. HasGiven p 0) }
 {
     let limits = Limits {
@@ -57,13 +50,13 @@ fn opened_port<A: Handle>(alloc: A) -> Result<Port<Bare, A>, Fail>
         busy: 100,
         given: 7,
     };
-    match Port::open(alloc, Bare, &limits) {
+    match Port::open(alloc, AnyWire(Nobody), &limits) {
         Ok(port) => Ok(port),
         Err((fault, _)) => Err(Fail::from(fault)),
     }
 }
 
-fn one_port<A: Handle>(alloc: A) -> Result<Vec<Port<Bare, A>, A>, Fail>
+fn one_port<A: Handle>(alloc: A) -> Result<Vec<Port<AnyWire<Nobody>, A>, A>, Fail>
     ensures { IfOk result (λ v. (vec_len v ≡ 1) × All (λ p. HasGiven p 0) v.items) }
 {
     let mut ports = Vec::with_capacity(alloc, 1)?;
@@ -81,7 +74,7 @@ fn run_out<L: Ledger, K: Ledger + Sync, R: Threads + Wait + Abort + Sync>(
     requires clients { (clients.name ≡ L.name) × (clients.parts ≡ L.parts) × (clients.parts ≡ 1025) }
     requires tickets { (tickets.name ≡ K.name) × (tickets.parts ≡ K.parts) × (tickets.parts ≡ 1) }
 {
-    let opened: Result<Master<Bare, L, K>, _> = Master::open(
+    let opened: Result<Master<AnyWire<Nobody>, L, K>, _> = Master::open(
         alloc,
         one_port(alloc)?,
         clients,
@@ -121,7 +114,7 @@ fn open_is_refused<A: Handle, L: Ledger, K: Ledger, R: Abort>(
     scarce.order(Refusal::Never);
     let ports = one_port(alloc)?;
     scarce.order(refusal);
-    match Master::<Bare, L, K, A>::open(alloc, ports, clients, tickets) {
+    match Master::<AnyWire<Nobody>, L, K, A>::open(alloc, ports, clients, tickets) {
         Ok(_master) => {
             assert!(rt; !scarce.has_refused());
             Ok(false)
@@ -172,7 +165,7 @@ fn submit_refusing<L: Ledger, K: Ledger, R: Wait + Abort>(
     rt: &R,
     scarce: &Scarce,
     refusal: Refusal,
-    master: &Master<Bare, L, K, &Scarce>,
+    master: &Master<AnyWire<Nobody>, L, K, &Scarce>,
     desk: &mut Desk<L>,
     kind: Kind,
 ) -> bool {
@@ -201,7 +194,7 @@ fn submit_is_refused<L: Ledger, K: Ledger, R: Wait + Abort>(
     requires tickets { (tickets.name ≡ K.name) × (tickets.parts ≡ K.parts) × (tickets.parts ≡ 1) }
 {
     scarce.order(Refusal::Never);
-    let opened: Result<Master<Bare, L, K, &Scarce>, _> = Master::open(
+    let opened: Result<Master<AnyWire<Nobody>, L, K, &Scarce>, _> = Master::open(
         scarce,
         one_port(scarce)?,
         clients,
@@ -274,7 +267,7 @@ fn both_count<L: Ledger, K: Ledger, R: Wait + Abort>(
     requires clients { (clients.name ≡ L.name) × (clients.parts ≡ L.parts) × (clients.parts ≡ 1025) }
     requires tickets { (tickets.name ≡ K.name) × (tickets.parts ≡ K.parts) × (tickets.parts ≡ 1) }
 {
-    let opened: Result<Master<Bare, L, K>, _> = Master::open(
+    let opened: Result<Master<AnyWire<Nobody>, L, K>, _> = Master::open(
         alloc,
         one_port(alloc)?,
         clients,

@@ -1,8 +1,8 @@
 //! A peer that hands on other octets than a device says.
-use crate::wires::Peer;
 use iol_link::{Rate, Wire};
 use iol_mseq::Message;
 use iol_sim::{Params, Sim};
+use iol_vectors::Peer;
 
 /// What comes in the place of a reply.
 #[derive(Clone, Copy)]

@@ -54,5 +54,3 @@ mod tests;
 mod timing;
 #[cfg(test)]
 mod watched;
-#[cfg(test)]
-mod wires;

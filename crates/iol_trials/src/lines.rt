@@ -11,13 +11,11 @@ use iol_script::{
     Words, decimal_number, hexadecimal_octet,
 };
 use iol_sim::{Fate, Params, Step};
+use iol_vectors::{PLAIN, PROCESS_DATA};
 use scarce::{Refusal, Scarce};
 use std::alloc::{Allocator, Global};
 use std::process::Abort;
 use std::test::Fail;
-
-/// Page Y: one octet of on-request data, two octets in, one out.
-const PAGE: [u8; 10] = [0x17, 0x01, 0x11, 0x10, 0x08, 0x12, 0x34, 0x00, 0x01, 0x07];
 
 const PLACE: Place = Place { index: 16, sub: 0 };
 
@@ -107,7 +105,7 @@ fn reads_the_lines_of_check(rt: HostRuntime) -> Result<(), Fail> {
 
 #[test]
 fn reads_settings(rt: HostRuntime) -> Result<(), Fail> {
-    let page = Page::from_octets(&PAGE);
+    let page = Page::from_octets(&PROCESS_DATA);
     let line = RunLine::parse(b"page 17 01 11 10 08 12 34 00 01 07");
     assert_eq!(rt; line, Some(RunLine::Setting(Setting::Page(page))));
     for (line, busy, journal) in [
@@ -327,7 +325,7 @@ fn is_right<A: Allocator>(script: &Script<A>) -> Result<bool, Fail> {
         Step::Fate(Fate::Silent),
     ];
     Ok(
-        script.page == Page::from_octets(&PAGE)
+        script.page == Page::from_octets(&PROCESS_DATA)
             && script.params == params
             && script.limits == limits
             && script.steps.as_slice() == steps.as_slice(),
@@ -338,7 +336,7 @@ fn is_right<A: Allocator>(script: &Script<A>) -> Result<bool, Fail> {
 fn reads_scripts(rt: HostRuntime) -> Result<(), Fail> {
     assert!(rt; is_right(&Script::read(rt.alloc(), INPUT)?)?);
     let script = Script::read(rt.alloc(), b"")?;
-    let page = [0x17, 0x2D, 0x11, 0x00, 0x00, 0x12, 0x34, 0x00, 0x01, 0x07];
+    let page = PLAIN;
     let limits = Limits {
         journal: 1000,
         busy: 100,

@@ -14,6 +14,7 @@ use iol_master::{Desk, Gate, Held, Master, MasterFault, Settled, Tally};
 use iol_page::Page;
 use iol_port::{Port, PortFault};
 use iol_sim::{Params, Sim};
+use iol_vectors::PLAIN;
 use std::alloc::Global;
 use std::marker::Brand;
 use std::process::Abort;
@@ -81,7 +82,7 @@ fn opened(alloc: Global, value: &[u8]) -> Result<Port<Sim<Params>>, Fail>
 {
     let mut params = Params::new();
     params.add(Place { index: 16, sub: 0 }, false, value)?;
-    let page = Page::from_octets(&[0x17, 0x2D, 0x11, 0, 0, 0x12, 0x34, 0, 0x01, 0x07]);
+    let page = Page::from_octets(&PLAIN);
     if page.layouts().is_err() {
         return Err("a page without layouts")?;
     }

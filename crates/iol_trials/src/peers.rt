@@ -1,16 +1,15 @@
 //! Ports whose peers say what no device says, and which get on once these are good again.
 use crate::liar::{Liar, Lie};
 use crate::play::device;
-use crate::rows::NO_DATA;
 use crate::stretches::{DOWN, EVENT_FORM, End, LOST, OPERATE, Stretch, play};
 use crate::watched::START_UP;
-use crate::wires::AnyWire;
 use iol_app::Status;
 use iol_event::Event;
 use iol_isdu::Cause;
 use iol_mode::Why;
 use iol_mseq::Message;
 use iol_sim::{Fate, Raw, Step};
+use iol_vectors::{AnyWire, PLAIN};
 use std::alloc::Global;
 use std::process::Abort;
 use std::test::Fail;
@@ -141,7 +140,7 @@ fn lied(
     (truths, lies): (u32, u32),
     stretches: &[Stretch],
 ) -> Result<(), Fail> {
-    let liar = Liar::new(device(alloc, NO_DATA, &[])?, lie, truths, lies);
+    let liar = Liar::new(device(alloc, &PLAIN, &[])?, lie, truths, lies);
     play(rt, alloc, AnyWire(liar), stretches, (truths, lies))
 }
 
@@ -234,7 +233,7 @@ fn a_device_may_be_busy_for_ever(rt: HostRuntime) -> Result<(), Fail> {
         ..OPERATE
     };
     let first = Stretch { turns: 117, ..cut };
-    let wire = device(rt.alloc(), NO_DATA, &steps)?;
+    let wire = device(rt.alloc(), &PLAIN, &steps)?;
     play(&rt, rt.alloc(), wire, &[first, cut, NEXT], (0, 0))
 }
 

@@ -1,6 +1,6 @@
 //! Ports over the simulated wire.
 use crate::play::device;
-use crate::rows::{Ask, DATA, NO_DATA};
+use crate::rows::Ask;
 use iol_book::{Limits, Outcome, Ticket};
 use iol_cell::{Handle, image_cell};
 use iol_image::Image;
@@ -8,6 +8,7 @@ use iol_isdu::{Cause, Place, Request};
 use iol_link::Wire;
 use iol_port::{Port, PortFault};
 use iol_sim::{Fate, Params, Sim, Step};
+use iol_vectors::{PLAIN, PROCESS_DATA};
 use std::alloc::Global;
 use std::process::Abort;
 use std::test::Fail;
@@ -76,7 +77,7 @@ fn fallen_silent(rt: &impl Abort, alloc: Global) -> Result<Sim<Params>, Fail> {
         steps.push(Step::Fate(Fate::Clean))?;
     }
     steps.push(Step::Fate(Fate::Silent))?;
-    let mut port = opened(alloc, device(alloc, NO_DATA, &steps)?, 0)?;
+    let mut port = opened(alloc, device(alloc, &PLAIN, &steps)?, 0)?;
     comes_to(rt, &mut port, 30, Outcome::Unknown(Cause::LinkLost))?;
     Ok(port.into_wire())
 }
@@ -154,7 +155,7 @@ fn a_seat_reads_what_the_port_shows(rt: HostRuntime) -> Result<(), Fail> {
         return Err("no seat")?;
     };
     let steps = changing_input(rt.alloc())?;
-    let mut port = opened(rt.alloc(), device(rt.alloc(), DATA, &steps)?, 0)?;
+    let mut port = opened(rt.alloc(), device(rt.alloc(), &PROCESS_DATA, &steps)?, 0)?;
     turn(&mut port, 15);
     assert_eq!(rt; seat.read(&rt), None);
     port.publish_to(writer);

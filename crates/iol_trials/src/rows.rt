@@ -5,6 +5,7 @@ use iol_isdu::{Answer, Cause, IsduFault, Octets, Place, Request};
 use iol_mode::Why;
 use iol_sim::Fate;
 use iol_steps::{Mode, Said};
+use iol_vectors::{ONE_OCTET, PLAIN, PROCESS_DATA};
 use std::test::Fail;
 
 /// What the device is asked, and its answer.
@@ -119,16 +120,10 @@ pub fn at<T: Copy>(table: &[(usize, T)], turn: usize) -> Option<T> {
         .map(|(_, value)| *value)
 }
 
-pub const NO_DATA: &[u8; 10] = &[0x17, 0x2D, 0x11, 0, 0, 0x12, 0x34, 0, 0x01, 0x07];
-
-pub const DATA: &[u8; 10] = &[0x17, 0x01, 0x11, 0x10, 0x08, 0x12, 0x34, 0, 0x01, 0x07];
-
-const ONE_OCTET: &[u8; 10] = &[0x17, 0x01, 0x11, 0, 0, 0x12, 0x34, 0, 0x01, 0x07];
-
 /// A clean run of a start-up.
 const START: Run = Run {
     name: "start-up",
-    opposite: Opposite::Device(NO_DATA),
+    opposite: Opposite::Device(&PLAIN),
     busy: 100,
     room: true,
     turns: 15,
@@ -310,7 +305,7 @@ pub static BUSY_LIMIT: Run = Run {
 
 pub static IMAGES: Run = Run {
     name: "images",
-    opposite: Opposite::Device(DATA),
+    opposite: Opposite::Device(&PROCESS_DATA),
     turns: 22,
     deeds: &[
         (0, Deed::Input(&[0x12, 0x34])),
@@ -338,7 +333,7 @@ pub static IMAGES: Run = Run {
 
 pub static OUTPUTS: Run = Run {
     name: "outputs",
-    opposite: Opposite::Device(DATA),
+    opposite: Opposite::Device(&PROCESS_DATA),
     turns: 17,
     calls: &[
         (0, Call::Output(&[0x5A], Some(34))),
@@ -426,7 +421,7 @@ pub static PROTOCOL: Run = Run {
 /// 238 segments of one octet, in turns 15 to 252.
 pub static LONG_WRITE: Run = Run {
     name: "long write",
-    opposite: Opposite::Device(ONE_OCTET),
+    opposite: Opposite::Device(&ONE_OCTET),
     turns: 256,
     calls: &[(15, Call::Begin(Ask::Write))],
     said: &[(255, Want::Answered(Ask::Write))],

@@ -4,11 +4,9 @@ use iol_link::Wire;
 use iol_mode::{Link, Next, Why};
 use iol_page::Page;
 use iol_sim::{Fate, Params, Sim, Step};
+use iol_vectors::PLAIN;
 use std::alloc::{AllocError, Global};
 use std::test::Fail;
-
-/// Type 1 with 8 octets of on-request data, no process data.
-const PAGE: [u8; 10] = [0x17, 0x2D, 0x11, 0, 0, 0x12, 0x34, 0, 0x01, 0x07];
 
 /// Where a link stands.
 #[derive(Clone, Copy, Debug, PartialEq, Eq)]
@@ -74,7 +72,7 @@ pub fn script(alloc: Global, clean: u32, step: Step) -> Result<Vec<Step>, AllocE
 
 /// A device with no parameter, behind a wire of this script.
 pub fn wired(alloc: Global, steps: &[Step]) -> Result<Sim<Params>, Fail> {
-    let page = Page::from_octets(&PAGE);
+    let page = Page::from_octets(&PLAIN);
     let device = match Device::open(alloc, Params::new(), page, 2) {
         Ok(device) => device,
         Err((fault, _)) => return Err(Fail::from(fault)),

@@ -3,7 +3,6 @@ ghost use Rattle.std.specs.Prelude.{◌≡◌, All, IfOk, vec_len};
 ghost use Rattle.iol_master.specs.Tickets.{HasGiven};
 
 use crate::masters::{LIMITS, LOOKS};
-use crate::wires::{AnyWire, Peer};
 use iol_cell::{ImageSeat, image_cell};
 use iol_device::Device;
 use iol_image::Image;
@@ -13,6 +12,7 @@ use iol_mseq::Message;
 use iol_page::Page;
 use iol_port::Port;
 use iol_sim::{Params, Sim};
+use iol_vectors::{AnyWire, PROCESS_DATA, Peer};
 use std::alloc::Global;
 use std::marker::Brand;
 use std::process::Abort;
@@ -73,7 +73,7 @@ fn is_set(flag: &AtomicBool) -> bool {
 
 /// A wire to a device with two octets of process data in.
 fn sending(alloc: Global) -> Result<Sim<Params>, Fail> {
-    let page = Page::from_octets(&[0x17, 0x01, 0x11, 0x10, 0x08, 0x12, 0x34, 0x00, 0x01, 0x07]);
+    let page = Page::from_octets(&PROCESS_DATA);
     if page.layouts().is_err() {
         return Err("a page without layouts")?;
     }

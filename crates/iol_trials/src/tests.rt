@@ -1,11 +1,11 @@
 //! Links over the simulated wire, in whole runs.
 use crate::runs::{At, after, linked, place_of, script, wire_of, wired};
 use crate::watched::{Row, START_UP, Watched};
-use crate::wires::AnyWire;
 use iol_link::Wire;
 use iol_mode::{Link, Next, Why};
 use iol_mseq::Message;
 use iol_sim::{Fate, Raw, Step};
+use iol_vectors::AnyWire;
 use std::alloc::Global;
 use std::process::Abort;
 use std::test::Fail;

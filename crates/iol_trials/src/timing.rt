@@ -6,6 +6,7 @@ use iol_book::{BookFault, Outcome, Ticket};
 use iol_isdu::{Answer, IsduFault, Octets, Place, Request};
 use iol_port::{Port, PortFault};
 use iol_sim::{Params, Sim, SimFault};
+use iol_vectors::{ONE_OCTET, PLAIN, PROCESS_DATA};
 use std::alloc::Global;
 use std::process::Abort;
 use std::test::Fail;
@@ -23,11 +24,11 @@ struct Layout {
 static LAYOUTS: [Layout; 8] = [
     Layout {
         od: 1,
-        page: [0x17, 0x01, 0x11, 0x00, 0x00, 0x12, 0x34, 0, 0x01, 0x07],
+        page: ONE_OCTET,
     },
     Layout {
         od: 1,
-        page: [0x17, 0x01, 0x11, 0x10, 0x08, 0x12, 0x34, 0, 0x01, 0x07],
+        page: PROCESS_DATA,
     },
     Layout {
         od: 2,
@@ -37,10 +38,7 @@ static LAYOUTS: [Layout; 8] = [
         od: 2,
         page: [0x17, 0x0B, 0x11, 0x10, 0x08, 0x12, 0x34, 0, 0x01, 0x07],
     },
-    Layout {
-        od: 8,
-        page: [0x17, 0x2D, 0x11, 0x00, 0x00, 0x12, 0x34, 0, 0x01, 0x07],
-    },
+    Layout { od: 8, page: PLAIN },
     Layout {
         od: 8,
         page: [0x17, 0x0D, 0x11, 0x10, 0x00, 0x12, 0x34, 0, 0x01, 0x07],

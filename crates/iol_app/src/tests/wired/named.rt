@@ -1,5 +1,5 @@
 //! Calls of a station by their names, and what they say.
-use super::{Script, parameter, turns};
+use super::{parameter, turns};
 use crate::asked::Asked;
 use crate::station::{Station, Status};
 use iol_isdu::{Answer, Cause, Octets};
@@ -7,6 +7,7 @@ use iol_link::Wire;
 use iol_mode::Why;
 use iol_mseq::Message;
 use iol_steps::{Mode, Said};
+use iol_vectors::{AnyWire, Table};
 use std::process::Abort;
 
 /// A call of a station.
@@ -104,7 +105,7 @@ fn may_deny<W: Wire>(station: &Station<W>) -> Told {
     Told::Nothing
 }
 
-fn reply_to(station: &mut Station<Script<'_>>, call: Call) -> Told {
+fn reply_to(station: &mut Station<AnyWire<Table<'_>>>, call: Call) -> Told {
     match call {
         Call::Turns(times) => Told::Turn(turns(station, times)),
         Call::Status => Told::Status(station.status()),
@@ -115,12 +116,12 @@ fn reply_to(station: &mut Station<Script<'_>>, call: Call) -> Told {
         Call::MayDeny => may_deny(station),
         Call::Restart => Told::Is(station.restart()),
         Call::HasImage => Told::Is(station.image().is_some()),
-        Call::Followed => Told::Followed(station.wire().followed),
+        Call::Followed => Told::Followed(station.wire().0.followed),
     }
 }
 
 /// Makes the calls of the rows in turn, each of which has to say what stands beside it.
-pub fn says(rt: &impl Abort, station: &mut Station<Script<'_>>, rows: &[(Call, Told)]) {
+pub fn says(rt: &impl Abort, station: &mut Station<AnyWire<Table<'_>>>, rows: &[(Call, Told)]) {
     for (row, (call, told)) in rows.iter().enumerate() {
         assert_eq!(rt; reply_to(station, *call), *told, "at row {row}");
     }
