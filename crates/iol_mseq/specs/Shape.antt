@@ -4,7 +4,7 @@ use Rattle.std.specs.Prelude.{◌≡◌, ℕ, ◌+◌, ◌≤◌, Bool, ◌==◌
 use Rattle.iol_mseq.specs.declared.fault.MseqFault.{MseqFault}
 use Rattle.iol_mseq.specs.declared.fault.MseqFault.TheVariants.{UnsupportedCode, BadLength}
 
--- a layout: the M-sequence type, and how many octets each part has
+-- a layout: the two bits of the M-sequence type, and how many octets each part has
 pub record Shape : Type 0 where
   pub kind : ℕ
   pub od : ℕ
