@@ -1,21 +1,19 @@
 -- The handle of C, as what the lemmas on such structs take.
-use Rattle.std.proofs.Common.{refl}
+pub use Rattle.iolink_handle.proofs.Handles.{of_loose, take}
 use Rattle.iolink_handle.proofs.Handles.{Handle}
+use Rattle.std.proofs.Common.{refl}
 use Rattle.iolink_device_c.specs.contracts.held.Sensor as inner
 use Rattle.iolink_device_c.specs.contracts.held.Held as handle
+use Rattle.iolink_device_c.proofs.held.Held.TheLaws as laws
 
 abbrev pub held : Handle inner.the_row
 held = record {
-  one = tt;
+  row = handle.the_row;
   name = handle.struct.name;
-  D = handle.struct.D;
-  at = λ h. h.at;
-  is_held = λ h. h.is_held;
-  value = λ h. h.value;
-  make = λ p o x. record { at = p; is_held = o; value = x };
-  eta = λ h. refl;
-  at_is = λ p o x. refl;
-  held_is = λ p o x. refl;
-  value_is = λ p o x. refl;
-  codes = λ p. handle.the_codes (p, tt);
+  fields = λ h. (h.at, (h.is_held, h.value));
+  make = λ f. record { at = f.0; is_held = f.1.0; value = f.1.1 };
+  made = λ f. refl;
+  owns = λ h vs. refl;
+  tells = laws.lowers.val_is;
+  ends = λ h w. tt;
 }

@@ -58,8 +58,7 @@ pub extern "C" fn iol_device_close(alloc: Global, handle: &mut IolDevice) -> u8
         return CLOSED;
     }
     replace_with(handle, alloc, |handle, alloc| {
-        let sensor = handle.into_box(alloc);
-        let closed = IolDevice::closed(&sensor);
+        let (closed, sensor) = handle.take(alloc);
         drop(sensor);
         (closed, ())
     });

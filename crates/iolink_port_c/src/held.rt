@@ -36,30 +36,28 @@ impl Model for Held {
 }
 
 impl Held {
-    fn of_loose(loose: Loose<Master, Global>) -> Held
+    fn of_loose(loose: Loose<Master>) -> Held
         ensures value { result.value ≡ loose.value }
         ensures holds { result.is_held ≡ true }
     {
-        let Loose { at, alloc: _ } = loose;
+        let Loose { at } = loose;
         Held { at: at as *mut () }
     }
 
-    fn closed(last: &Master) -> Held
-        ensures value { result.value ≡ last.now }
-        ensures holds { result.is_held ≡ false }
-    {
-        Held { at: null_mut() }
-    }
-
-    fn into_loose(self, alloc: Global) -> Loose<Master, Global>
+    /// The box, beside the pointer to nothing that is left.
+    fn take(self) -> (Held, Loose<Master>)
         requires { self.is_held ≡ true }
-        ensures { result.value ≡ self.value }
+        ensures last { result.0.value ≡ self.value }
+        ensures shut { result.0.is_held ≡ false }
+        ensures value { result.1.value ≡ self.value }
     {
         let Held { at } = self;
-        Loose {
-            at: at as *mut Master,
-            alloc,
-        }
+        (
+            Held { at: null_mut() },
+            Loose {
+                at: at as *mut Master,
+            },
+        )
     }
 }
 
@@ -83,22 +81,27 @@ impl IolPort {
         }
     }
 
-    /// The closed handle that is left of this one.
-    pub(crate) fn closed(last: &Master) -> IolPort
-        ensures value { result.held.value ≡ last.now }
-        ensures shut { result.is_open ≡ false }
+    /// The box, beside the closed handle that is left.
+    pub(crate) fn take(self, alloc: Global) -> (IolPort, Box<Master>)
+        requires { self.is_open ≡ true }
+        ensures last { result.0.held.value ≡ self.held.value }
+        ensures shut { result.0.is_open ≡ false }
+        ensures value { result.1.value ≡ self.held.value }
     {
-        IolPort {
-            held: Held::closed(last),
+        let IolPort { held, is_open: _ } = self;
+        let (held, loose) = held.take();
+        let closed = IolPort {
+            held,
             is_open: false,
-        }
+        };
+        (closed, loose.into_box(alloc))
     }
 
     pub(crate) fn into_box(self, alloc: Global) -> Box<Master>
         requires { self.is_open ≡ true }
         ensures { result.value ≡ self.held.value }
     {
-        let IolPort { held, is_open: _ } = self;
-        held.into_loose(alloc).into_box()
+        let (_, master) = self.take(alloc);
+        master
     }
 }

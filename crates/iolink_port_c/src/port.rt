@@ -89,8 +89,7 @@ pub extern "C" fn iol_port_close(alloc: Global, handle: &mut IolPort) -> u8
         return CLOSED;
     }
     replace_with(handle, alloc, |handle, alloc| {
-        let master = handle.into_box(alloc);
-        let closed = IolPort::closed(&master);
+        let (closed, master) = handle.take(alloc);
         drop(master);
         (closed, ())
     });

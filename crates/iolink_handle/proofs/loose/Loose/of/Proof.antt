@@ -1,66 +1,149 @@
--- `of` takes the box apart.
-use Rattle.std.proofs.Common.{◌≡◌, List, [], ◌∷◌, ◌++◌, refl, sym, ap, ◌∙◌, subst}
-use mir.Syntax.{a_type, dcons, dnil}
-use mir.Raw.{raw as bare}
-use mir.Val.{Val, vptr, vstruct, of_list}
-use mir.MapTy.{inst_fn}
-use base.Logic.{SProp, ent, emp, never, id⊢, fst∗}
-use base.Fml.{ftrue, fsep, flft}
-use prog.Wp.{WpFn}
-use types.Logic.{sem}
-use types.Kit.{‵, raw, ◌⊛◌, some, later, ◌$◌, ◌∵◌, !, qed, by, move, keep, drop, split, split3, join, fsplit, fjoin, fpick, pick, suffices, use0, use1, await, rewrite, feq_l}
-use types.Run.{stop, fld, of_opd, no_more, and_then, returns, enter}
-use types.ByLocal.{alloc_all, pass_all, free_all, look_at, get, get_in, sets, lands_as}
-use types.Part.{agg, sub, whole}
-use contract.Monad.{fact, fact_i}
-use contract.Running.{tables}
-use denote.Exit.{no}
-use denote.RattleType.{RattleType, owns}
-use denote.Signature.{types_at, plain}
-use denote.Builtin.{RawPtr}
-use denote.RawPtr.{Ptr, block_ptr, null_ptr, ptr_val, in_a_block}
-use denote.Steps.{nothing, only, heard}
-use denote.Param.{param, layout, bounded}
-use denote.Param.Laws.{param_laws}
-use denote.Struct.Tuple.{Tuple}
-use denote.Triple.Spec.{triple_of}
-use denote.Triple.Call.{calls_at}
-use denote.Triple.Walked.{Stays, stay_dropped, walk_of}
-use Rattle.core.proofs.alloc.Calls.{Goes-blank, handle_tells}
-use Rattle.core.proofs.atomic.Steps.{fm}
-use Rattle.std_alloc.specs.Box.Ownership.{box_owns}
-use Rattle.std_alloc.proofs.BoxSteps.Form as box
-use Rattle.std_alloc.proofs.BoxSteps.Steps.{box_out, box_in}
-use Rattle.std.proofs.raw_atomic.Walks.{proved_at, leaves}
-use Rattle.iolink_handle.proofs.Values.{both, loose_good, loose_in}
-use Rattle.std_alloc.specs.contracts.boxed.Box.into_raw_with_allocator as callee
-use Rattle.std_alloc.proofs.boxed.Box.into_raw_with_allocator.Met.{met}
+-- `of` keeps the pointer alone: the allocator is the C library's, and any of its handles frees.
+use Rattle.iolink_handle.proofs.Handles.Steps.{
+  List,
+  [],
+  ◌∷◌,
+  ◌++◌,
+  refl,
+  sym,
+  ap,
+  subst,
+  a_type,
+  dcons,
+  dnil,
+  Val,
+  inst_fn,
+  full_share,
+  ent,
+  id⊢,
+  ftrue,
+  flft,
+  fsep,
+  WpFn,
+  ‵,
+  raw,
+  ◌⊛◌,
+  some,
+  later,
+  ◌$◌,
+  ◌∵◌,
+  !,
+  qed,
+  by,
+  move,
+  keep,
+  drop,
+  split,
+  split3,
+  join,
+  fjoin,
+  pick,
+  use1,
+  await,
+  feq_l,
+  agg,
+  of_opd,
+  no_more,
+  and_then,
+  returns,
+  enter,
+  alloc_all,
+  pass_all,
+  free_all,
+  look_at,
+  get,
+  sets,
+  lands_as,
+  fact,
+  fact_i,
+  emp,
+  ◌⊑◌,
+  ⊑_refl,
+  tables,
+  no,
+  plain,
+  Ptr,
+  RawPtr,
+  param,
+  layout,
+  bounded,
+  param_laws,
+  glues,
+  only,
+  nothing,
+  triple_of,
+  calls_at,
+  Stays,
+  stay_dropped,
+  walk_of,
+  Goes-blank,
+  fm,
+  one,
+  ghosts,
+  dict,
+  passed,
+  box_owns,
+  proved_at,
+  leaves,
+  block,
+  Heap,
+  heap_laws,
+  undropped,
+  word,
+  ptr_fits,
+  word_fits,
+  inside,
+  known,
+  also,
+  ◌≡◌,
+}
+use Rattle.std.specs.contracts.alloc.Global as global
+use Rattle.std.proofs.alloc.Global.TheLaws as global_laws
+use Rattle.std_alloc.specs.contracts.boxed.Box as box
+use Rattle.std_alloc.proofs.boxed.Box.TheLaws as box_laws
+use Rattle.std_alloc.specs.contracts.boxed.Box.into_raw as callee
+use Rattle.std_alloc.proofs.boxed.Box.into_raw.Met.{met}
+use Rattle.iolink_handle.proofs.Destruct++none.drop.Code as no_drop
 use Rattle.iolink_handle.specs.contracts.loose.Loose.of.{ended, clauses}
 use Rattle.iolink_handle.specs.contracts.loose.Loose.of.Key.{name as #self}
 use Rattle.iolink_handle.proofs.loose.Loose.of.Statement.{statement}
 use Rattle.iolink_handle.proofs.loose.Loose.of.Code as code
 
 pub of_spec : {M : Type 1} → statement M
-of_spec 𝓤 𝓛 𝓜 𝓡 wired T A L LA g d dx dd allocator glue glued =
-    let H = 𝓛.H in let 𝓣 = tables 𝓤 H 𝓜 𝓡 𝓡.env in let R : RattleType = param 0 T in let Z : RattleType = param 1 A in let LZ = param_laws 1 A LA in let En = ended T A g d dx dd in let c = clauses T A g d dx dd 𝓛 𝓜.mem 𝓡.returns in
-    let E : box.Bx = record { row = T; laws = L; al = record { row = A; laws = LA; g = g; d = d; drops = dd } } in let fn = inst_fn (bounded (a_type ∷ a_type ∷ []) (T, (A, tt)) (dcons d (dcons dx (dcons dd dnil)))) code.function in
-    let hs : Stays En.signature.params En.kept = (stay_dropped (plain (λ _. box.B E)) no, tt) in
-    proved_at 𝓛 En hs c 𝓜 𝓡 (Goes-blank 𝓛 2 (plain (λ _. box.B E)) no (λ κs x f. tt), tt) (#self (bounded (a_type ∷ a_type ∷ []) (T, (A, tt)) (dcons d (dcons dx (dcons dd dnil))))) fn (code.unfolded 𝓤 H 𝓜 𝓡 wired (T, (A, tt)) d dx dd) (λ z are.
-    let κs = z.0.0 in let qs = z.0.1 in let v = z.0.3.0 in let a = v.alloc in let Post : Val → SProp 𝓤 = (walk_of 𝓛 En hs c).post z in let Run : List Val → SProp 𝓤 = λ ws. WpFn 𝓤 H 𝓣.C 𝓣.Λ fn ws Post in
-    let toks = ‵ (flft κs.0 qs.0) ⊛ ‵ (flft κs.1.0 qs.1.0) ⊛ ‵ ftrue in let asked = raw ((c κs z.0.3).requires z.1) in
-    qed 𝓛 ((toks ⊛ ‵ (owns (types_at En.signature.params κs) z.0.3 z.0.4)) ∷ asked ∷ []) ∵ split ! $ move ! (1 ∷ []) $ fsplit ! $ box_out E ! v z.0.4.0 (λ b o h e ws fits. box_in E ! v b o v.value e refl $
-    let w : Val = box.word E h b o in let typed = loose_good R Z LZ g b o h fits in let k = triple_of 𝓛 (callee.signature T A g d dd dx) (callee.spec T A g d dd dx 𝓛 𝓜.mem 𝓡.returns) in
-    let y : k.Ghost = ((κs, qs, tt, (v, tt), (w ∷ [], tt)), tt) in let Pair = Tuple (RawPtr ∷ Z ∷ []) in
-    fjoin ! $ move ! (1 ∷ 0 ∷ []) $ join ! $ join ! $ use1 𝓛 (raw (k.pre y)) (id⊢ 𝓤 _) $
-    suffices ! (Run (w ∷ [])) (subst (λ (us : List Val). ent 𝓤 (Run (w ∷ [])) (Run us)) (sym (λ i. ws i ++ [])) (id⊢ 𝓤 (Run (w ∷ [])))) $
-    enter ! 𝓣.C 𝓣.Λ fn (w ∷ []) Post $ alloc_all ! (λ l. pass_all ! refl (typed, tt) $ sets ! (of_opd ! (get ! refl)) refl typed $
-    calls_at ! (fm 𝓛 𝓜 𝓡) k (met 𝓤 𝓛 𝓜 𝓡 (code.calls-std_alloc::boxed::Box::into_raw_with_allocator 𝓡.env wired) T A L LA g d dd dx allocator glued glue) y (and_then ! (get ! refl) (no_more !)) (λ u.
-    use1 𝓛 (later (some (λ (r : Ptr × A.Denot). (toks ⊛ ‵ (Pair.own_val r (u ∷ []))) ⊛ some (λ (_ : (Unit {0} × (Unit {0} × Unit {0})) × Unit {0}). ‵ (fsep (fsep ftrue (fsep ftrue ftrue)) ftrue) ⊛ (raw (fact 𝓤 (r.1 ≡ a)) ⊛ ‵ (box_owns (g.dealloc_token a) R r.0 v.value)))))) (id⊢ 𝓤 _) $
-    await ! tt $ pick ! (λ r. split ! $ move ! (1 ∷ []) $ pick ! (λ _. split3 ! $ drop ! $ heard ! (r.1 ≡ a) (λ ea.
-    in_a_block ! r.0 (λ p. box_owns (g.dealloc_token a) R p v.value) (fst∗ 𝓤 (never 𝓤) (sem 𝓛 (g.dealloc_token a (bare (layout T)) null_ptr))) (λ b' o' e'.
-    move ! (1 ∷ []) $ split ! $ move ! (1 ∷ []) $ fpick ! (λ vss. fsplit ! $ feq_l ! (λ eu. fsplit ! $ feq_l ! (λ ep. fsplit ! $ rewrite ! 0 (λ (s : A.Denot). ‵ (A.own_val s vss.1.0)) ea refl $ handle_tells E.al ! a vss.1.0 (λ h' eh fits'.
-    let made = loose_good R Z LZ g b' o' h' fits' in
-    lands_as ! (ap only (eu ∙ (λ j. vstruct (of_list ((ep ∙ ap (λ (p : Ptr). ptr_val p ∷ []) e') j ++ (eh j ++ []))) ∷ []))) refl made $ sets ! (of_opd ! (get_in ! (fld ! refl (stop !)) (sub ! 0 refl (whole !)))) refl (tt, tt) $ sets ! (of_opd ! (get_in ! (fld ! refl (stop !)) (sub ! 1 refl (whole !)))) refl fits' $
-    sets ! (of_opd ! (get ! refl)) refl fits' $ sets ! (agg ! (and_then ! (get ! refl) (and_then ! (get ! refl) (no_more !)))) refl made $ move ! (3 ∷ 0 ∷ []) $ loose_in R Z LZ g ! b' o' h' a v.value $
-    use0 𝓛 (raw (fact 𝓤 (v.value ≡ v.value))) (fact_i 𝓤 (v.value ≡ v.value) (emp 𝓤) refl) $ nothing ! $ nothing ! $ fjoin ! $
-    returns ! (look_at ! 0 refl) $ free_all ! refl $ keep ! (4 ∷ 0 ∷ 2 ∷ 1 ∷ []) $ by ! (leaves 𝓛 En hs c z (both (vptr b' o') h') (record { at = block_ptr b' o'; alloc = a; value = v.value }) ((tt, (tt, tt)), tt) (tt, tt))))))))))))))
+unfolding no_drop.code
+of_spec {M} 𝓤 𝓛 𝓜 𝓡 wired T L dx glue =
+    let H = 𝓛.H in let 𝓣 = tables 𝓤 H 𝓜 𝓡 𝓡.env in let B = box.the_row (param 0 T) global.the_row ghosts in
+    let LB = box_laws.the_row_laws (param 0 T) global.the_row ghosts (param_laws 0 T L) global_laws.the_row_laws in
+    let En = ended T dx in let c = clauses T dx 𝓛 𝓜.mem 𝓡.returns in
+    let args = bounded (a_type ∷ []) (T, tt) (dcons dx dnil) in let fn = inst_fn args code.function in
+    let hs : Stays En.signature.params En.kept = (stay_dropped (plain (λ _. B)) no, tt) in let W = walk_of 𝓛 En hs c in
+    let k = triple_of 𝓛 (callee.signature T Heap ghosts dict undropped dx)
+    (callee.spec T Heap ghosts dict undropped dx 𝓛 𝓜.mem 𝓡.returns) in
+    let k_met = met 𝓤 𝓛 𝓜 𝓡 (code.calls-std_alloc::boxed::Box::into_raw 𝓡.env wired) T Heap L heap_laws ghosts dict
+    undropped dx (passed 𝓡.env (code.calls-std_heap::GlobalAllocator::allocate 𝓡.env wired)
+    (code.calls-std_heap::GlobalAllocator::deallocate 𝓡.env wired)
+    (code.calls-std_heap::GlobalAllocator::grow 𝓡.env wired)
+    (code.calls-std_heap::GlobalAllocator::shrink 𝓡.env wired) M 𝓤 𝓛 𝓜 𝓡)
+    (glues _ 𝓡.env (code.calls-iolink_handle::Destruct++none::drop 𝓡.env wired) Heap heap_laws M 𝓤 𝓛 𝓜 𝓡) glue in
+    proved_at 𝓛 En hs c 𝓜 𝓡 (Goes-blank 𝓛 1 (plain (λ _. B)) no (λ κs v w. tt), tt) (#self args) fn
+    (code.unfolded 𝓤 H 𝓜 𝓡 wired (T, tt) dx) (λ z are.
+    let κ = z.0.0.0 in let q = z.0.1.0 in let v = z.0.3.0 in
+    let w = one (layout B) z.0.4.0 ((LB.lawful 𝓛).typed v z.0.4.0 are.0) in
+    let y : List Val → W.Ghost = λ us. ((z.0.0, z.0.1, z.0.2, z.0.3, (us, tt)), tt) in
+    let x : k.Ghost = (((κ, ([], tt)), (q, (full_share, tt)), tt, z.0.3, (w.0 ∷ [], tt)), tt) in
+    subst (λ (us : List Val). ent 𝓤 (W.pre (y us)) (WpFn 𝓤 H 𝓣.C 𝓣.Λ fn (us ++ []) (W.post (y us)))) (sym w.1) (
+    qed 𝓛 (((‵ (flft κ q) ⊛ ‵ ftrue) ⊛ ‵ (fsep (B.own_val v (w.0 ∷ [])) ftrue)) ∷ (raw (fact 𝓤 (κ ⊑ T.lives)) ⊛ ‵ ftrue)
+    ∷ []) ∵ split ! $ also ! (‵ (flft [] full_share)) (𝓛.lfts.lft-nil full_share) $ join ! $ move ! (1 ∷ []) $
+    also ! (raw (fact 𝓤 ([] ⊑ Heap.lives))) (fact_i 𝓤 ([] ⊑ Heap.lives) (emp 𝓤) (⊑_refl [])) $
+    move ! (1 ∷ 0 ∷ []) $ join ! $ use1 𝓛 (raw (k.pre x)) (id⊢ 𝓤 _) $
+    enter ! 𝓣.C 𝓣.Λ fn (w.0 ∷ []) _ $ alloc_all ! (λ l. pass_all ! refl (w.2, tt) $
+    sets ! (of_opd ! (get ! refl)) refl w.2 $ calls_at ! (fm 𝓛 𝓜 𝓡) k k_met x (and_then ! (get ! refl) (no_more !)) (λ u.
+    use1 𝓛 (later (some (λ (r : Ptr). ((‵ (flft κ q) ⊛ ‵ (flft [] full_share) ⊛ ‵ ftrue) ⊛ ‵ (RawPtr.own_val r (u ∷ []))) ⊛
+    some (λ (_ : (Unit {0} × (Unit {0} × Unit {0})) × Unit {0}). ‵ (fsep (fsep ftrue (fsep ftrue ftrue)) ftrue) ⊛
+    ‵ (box_owns block (param 0 T) r v.value))))) (id⊢ 𝓤 _) $
+    await ! tt $ pick ! (λ r. split ! $ split ! $ move ! (1 ∷ []) $ feq_l ! (λ e. split3 ! $ move ! (3 ∷ []) $
+    pick ! (λ _. split ! $ drop ! $ lands_as ! (ap only e) refl (ptr_fits r) $
+    sets ! (agg ! (and_then ! (get ! refl) (no_more !))) refl (word_fits r) $
+    returns ! (look_at ! 0 refl) $ free_all ! refl $ inside ! r $ fjoin ! $ move ! (1 ∷ 3 ∷ []) $ join ! $
+    known ! (v.value ≡ v.value) refl $ nothing ! $ nothing ! $ fjoin ! $ keep ! (2 ∷ 0 ∷ 3 ∷ 1 ∷ []) $
+    by ! (leaves 𝓛 En hs c (y (w.0 ∷ [])) (word r) (record { at = r; value = v.value }) (tt, tt) (tt, tt)))))))))
