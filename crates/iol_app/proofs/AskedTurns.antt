@@ -1,12 +1,9 @@
 -- The one call of an exact turn is the one that the station before it asked for.
 use Rattle.std.proofs.Common.{◌≡◌, ℕ, Bool, List, refl, sym, ap, Option}
-use Rattle.arrayvec.specs.ArrayVec.{ArrayVec}
 use Rattle.iol_mseq.specs.Shape.{Shape}
 use Rattle.iol_mseq.specs.Texts.{master_text}
 use Rattle.iol_mseq.specs.declared.master.MasterMsg.{MasterMsg}
 use Rattle.iol_mseq.specs.declared.reply.Reply.{Reply}
-use Rattle.iol_far.specs.Far.{Far}
-use Rattle.iol_link.specs.declared.wire.Rate.{Rate}
 use Rattle.iol_link.specs.WireFacts.{WireFacts}
 use Rattle.iol_mode.specs.States.{Outcome}
 use Rattle.iol_steps.specs.declared.said.Said.{Said}

@@ -4,8 +4,6 @@ use Rattle.arrayvec.specs.ArrayVec.{ArrayVec}
 use Rattle.iol_mseq.specs.Shape.{Shape}
 use Rattle.iol_mseq.specs.Texts.{master_text}
 use Rattle.iol_mseq.specs.declared.master.MasterMsg.{MasterMsg}
-use Rattle.iol_far.specs.Far.{Far}
-use Rattle.iol_link.specs.declared.wire.Rate.{Rate}
 use Rattle.iol_link.specs.Attempts.{Sending}
 use Rattle.iol_mode.specs.Next.{message_out}
 use Rattle.iol_mode.specs.States.{sending_of}

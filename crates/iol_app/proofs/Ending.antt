@@ -1,11 +1,8 @@
 -- Only a request that is under way is answered or cut off.
 use Rattle.std.proofs.Common.{◌≡◌, ℕ, Bool, true, false, List, refl, sym, ap, ◌∙◌, subst, Option, Some, None}
 use Rattle.std.specs.Prelude.{MatchOption, is_some}
-use Rattle.arrayvec.specs.ArrayVec.{ArrayVec}
 use Rattle.iol_isdu.specs.declared.values.Request.{Request}
 use Rattle.iol_event.specs.declared.event.Event.{Event}
-use Rattle.iol_far.specs.Far.{Far}
-use Rattle.iol_link.specs.declared.wire.Rate.{Rate}
 use Rattle.iol_link.specs.WireFacts.{WireFacts}
 use Rattle.iol_mode.specs.States.{Outcome}
 use Rattle.iol_mode.specs.States.{InDown as OutDown, InStartup as OutStartup, InPreoperate as OutPreoperate, InOperate as OutOperate}

@@ -1,5 +1,5 @@
 -- A station over another wire that stands to the same device is seen as before.
-use Rattle.std.proofs.Common.{◌≡◌, ◌∙◌, sym, subst, ℕ, Bool}
+use Rattle.std.proofs.Common.{◌≡◌, ◌∙◌, sym, subst, ℕ}
 use Rattle.iol_far.specs.Far.{Far}
 use Rattle.iol_link.specs.WireFacts.{WireFacts}
 use Rattle.iol_steps.specs.Station.{Station}

@@ -46,11 +46,9 @@ use Rattle.iol_app.proofs.OperateMessages.{exchange_confirms, exchange_reads, ex
 use Rattle.iol_app.proofs.Telling.{told_layout}
 use Rattle.std.proofs.lemmas.Bool.Decides.{nat_tests}
 use Rattle.std.proofs.Math.Numerals.{add-one}
-use Rattle.arrayvec.specs.ArrayVec.{ArrayVec}
 use Rattle.iol_mseq.specs.declared.reply.Reply.{Reply}
 use Rattle.iol_far.specs.Octets.{octets_in}
 use Rattle.iol_link.specs.declared.handler.Attempt.TheVariants.{Again, Lost}
-use Rattle.iol_link.specs.declared.wire.Rate.{Rate}
 use Rattle.iol_link.specs.Attempts.{Sending as Sent, good_reply}
 use Rattle.iol_link.specs.Honest.{HonestExchange}
 use Rattle.iol_link.specs.WireFacts.{WireFacts}

@@ -1,6 +1,4 @@
 -- A station that goes on over another wire.
-use Rattle.std.specs.Prelude.{ℕ, Bool}
-use Rattle.iol_far.specs.Far.{Far}
 use Rattle.iol_link.specs.WireFacts.{WireFacts}
 use Rattle.iol_steps.specs.Station.{Station}
 use Rattle.iol_mode.specs.Next.{AnyLink}

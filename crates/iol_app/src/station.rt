@@ -1,10 +1,10 @@
 //! A station: the link in its mode, and the session over it.
-ghost use Rattle.std.specs.Prelude.{◌≡◌, None, Some, Bool, true, false, is_some, IsSome, IfSome, IsTrue, OnOk, OnErr, ◌&&◌, ◌≢◌};
+ghost use Rattle.std.specs.Prelude.{◌≡◌, None, Some, Bool, true, false, is_some, IsSome, IsTrue, OnOk, OnErr, ◌&&◌, ◌≢◌};
 ghost use Rattle.std.specs.Result.{result_err};
 ghost use Rattle.std.specs.Option.{option_copied};
 ghost use Rattle.iol_mode.specs.States.{waked, is_starting, outcome_with};
 ghost use Rattle.iol_app.specs.EventReading.{is_refused};
-ghost use Rattle.iol_app.specs.State.{opened, aborted_in, begun_in, wanting, output_refusal, left, IsSession, IsHearable};
+ghost use Rattle.iol_app.specs.State.{opened, aborted_in, begun_in, wanting, output_refusal, left, IsSession};
 ghost use Rattle.iol_app.specs.Requests.{request_in, request_after, EndsRequest};
 ghost use Rattle.iol_app.specs.Due.{is_ready};
 ghost use Rattle.iol_app.specs.Reports.{is_reading, ReadingAfter};

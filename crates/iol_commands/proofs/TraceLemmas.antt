@@ -1,13 +1,10 @@
 -- Calls that are traced one after the other.
-use Rattle.std.proofs.Common.{◌≡◌, ℕ, ◌+◌, ◌<◌, ◌≤◌, Bool, true, false, IsOkAnd, IsSomeAnd, IfSome, Some, None, Option, Result, Ok, Err, OnOk, List, [], ◌∷◌, ◌++◌, length, replicate, refl, sym, ap, subst, ◌∙◌, arith, append_assoc, append-nil, length-append}
+use Rattle.std.proofs.Common.{◌≡◌, ℕ, ◌+◌, ◌<◌, ◌≤◌, false, IsOkAnd, IsSomeAnd, IfSome, Some, None, Option, Result, Ok, Err, OnOk, List, [], ◌∷◌, ◌++◌, length, replicate, refl, sym, ap, subst, ◌∙◌, arith, append_assoc, append-nil, length-append}
 use Rattle.std.proofs.lemmas.List.{length-replicate}
 use Rattle.std.proofs.KnownBytes.{Appends-nil, Appends-trans}
 use Rattle.std.specs.Io.KnownBytes.{Appends}
-use Rattle.arrayvec.specs.ArrayVec.{ArrayVec}
 use Rattle.iol_mseq.specs.Shape.{Shape}
 use Rattle.iol_page.specs.declared.page.Layouts.{Layouts}
-use Rattle.iol_far.specs.Far.{Far}
-use Rattle.iol_link.specs.declared.wire.Rate.{Rate}
 use Rattle.iol_tap.specs.Tapped.{Tapped, wake_noted, exchange_noted, tap_facts, IsNoteOf}
 use Rattle.iol_tap.specs.declared.tap.Passed.{Passed}
 use Rattle.iol_tap.specs.declared.tap.Passed.TheVariants as passed
@@ -22,10 +19,9 @@ use Rattle.iol_port.specs.declared.call.Call.TheVariants as call
 use Rattle.iol_port.specs.declared.call.Answered.{Answered}
 use Rattle.iol_port.specs.declared.call.Answered.TheVariants as answered
 use Rattle.iol_port.specs.Asks.{IsWireCall}
-use Rattle.iol_port.specs.Run.{PortState, CallOf}
+use Rattle.iol_port.specs.Run.{PortState}
 use Rattle.iol_port.specs.View.{Parts, Opening, Follows, StandsFor, IsOpened, opening_of}
 use Rattle.iol_port.specs.EveryWire.{CallGives}
-use Rattle.iol_commands.specs.Passing.{PrintsPassed}
 use Rattle.iol_far.specs.declared.carried.Carried.{Carried}
 use Rattle.iol_sim.specs.Params.{Stores}
 use Rattle.iol_sim.specs.Sim.{Simulated, sim_facts}

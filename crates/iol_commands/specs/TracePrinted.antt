@@ -1,12 +1,9 @@
 -- What `trace` carries out, and what it prints of it.
-use Rattle.std.specs.Prelude.{◌≡◌, ℕ, ◌+◌, Bool, true, false, Option, Some, None, List, [], ◌∷◌, ◌++◌, IsSomeAnd, IsOkAnd, unwrap_or}
+use Rattle.std.specs.Prelude.{◌≡◌, ℕ, ◌+◌, false, Option, Some, None, List, [], ◌∷◌, ◌++◌, IsSomeAnd, IsOkAnd, unwrap_or}
 use Rattle.std.specs.Io.KnownBytes.{Appends}
-use Rattle.arrayvec.specs.ArrayVec.{ArrayVec}
 use Rattle.iol_mseq.specs.Shape.{Shape, startup_shape}
 use Rattle.iol_page.specs.Page.{layouts_of}
 use Rattle.iol_page.specs.declared.page.Layouts.{Layouts}
-use Rattle.iol_far.specs.Far.{Far}
-use Rattle.iol_link.specs.declared.wire.Rate.{Rate}
 use Rattle.iol_link.specs.WireFacts.{WireFacts}
 use Rattle.iol_tap.specs.Tapped.{Tapped, tap_facts, IsNoteOf}
 use Rattle.iol_tap.specs.declared.tap.Passed.{Passed}

@@ -1,5 +1,5 @@
 //! What a device is without its application.
-ghost use Rattle.std.specs.Prelude.{◌≡◌, ℕ, ◌+◌, ◌-◌, ◌<◌, ◌≤◌, ◌↔◌, ◌∷◌, ◌==◌, replicate, ◌++◌, length, slice_index, List, Option, Some, None, MatchOption, IsTrue, IsErr, IfErr, OnErr, option_copied, IfOk, bytes_eq, option_map, IfNone, OnSome, false, is_some, IsOk, unwrap_or, []};
+ghost use Rattle.std.specs.Prelude.{◌≡◌, ◌+◌, ◌-◌, ◌<◌, ◌≤◌, ◌↔◌, ◌==◌, ◌++◌, length, slice_index, Option, Some, None, IsTrue, IsErr, IfErr, OnErr, option_copied, option_map, IfNone, OnSome, false, is_some, IsOk, unwrap_or, []};
 
 use crate::app::App;
 use crate::commands::{Waiting, command_in, is_confirm, mode_asked};
@@ -63,7 +63,6 @@ impl<R: Record> Model for FarEnd<R> {
 }
 
 impl<R: Record> FarEnd<R> {
-    ghost use Rattle.iol_mseq.specs.Shape.{IsLayout};
     ghost use Rattle.iol_page.specs.Page.{layouts_of, knows_isdu};
     ghost use Rattle.iol_event.specs.Memory.{is_full};
     ghost use Rattle.iol_far.specs.Codec.{layout_in, flow_of};
@@ -73,7 +72,7 @@ impl<R: Record> FarEnd<R> {
     ghost use Rattle.iol_far.specs.Local.{local, woken, is_input, takes_answer, LocalStep};
     ghost use Rattle.iol_device.specs.App.{IsCarriedOut};
     ghost use Rattle.iol_device.specs.Inside.{new_mode};
-    ghost use Rattle.iol_far.specs.Octets.{octets_in, buffered};
+    ghost use Rattle.iol_far.specs.Octets.{buffered};
     ghost use Rattle.iol_far.specs.Laws.{IsRegular};
     ghost use Rattle.iol_device.specs.declared.fault.DeviceFault.{DeviceFault};
 

@@ -7,14 +7,14 @@ use Rattle.std.proofs.lemmas.Slice.Eq.{bytes_eq-Decides}
 use Rattle.iol_octets.specs.declared.control.Channel.{Channel}
 use Rattle.iol_far.specs.declared.mode.Mode.{Mode}
 use Rattle.iol_octets.specs.declared.flow_control.Flow.{Flow}
-use Rattle.iol_octets.specs.declared.flow_control.Flow.TheVariants.{Start, Count}
+use Rattle.iol_octets.specs.declared.flow_control.Flow.TheVariants.{Count}
 use Rattle.iol_page.specs.declared.master_command.MasterCommand.{MasterCommand}
 use Rattle.iol_page.specs.Page.{knows_isdu}
 use Rattle.iol_mseq.specs.declared.master.MasterMsg.{MasterMsg}
 use Rattle.iol_event.specs.declared.event.Event.{Event}
 use Rattle.iol_isdu.specs.declared.values.Request.{Request}
 use Rattle.iol_isdu.specs.declared.values.Answer.{Answer}
-use Rattle.iol_segment.specs.Join.{Stage, stage, is_last, next_count}
+use Rattle.iol_segment.specs.Join.{Stage, stage}
 use Rattle.iol_far.specs.Codec.{layout_in, message_in, flow_of}
 use Rattle.iol_far.specs.Isdu.{IsduState, Empty, Receiving, Whole, Handed, Answered, completed, received_at, received, isdu_written, isdu_read, fits}
 use Rattle.iol_event.specs.Memory.{Events, is_empty, raised}

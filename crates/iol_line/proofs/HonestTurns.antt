@@ -11,7 +11,7 @@ use Rattle.iol_port.specs.EveryWire.{TurnGives}
 use Rattle.iol_port.specs.Rewire.{rewired_parts}
 use Rattle.iol_line.specs.declared.given.Given.TheVariants.{Wake, Exchange}
 use Rattle.iol_line.specs.Standing.{Standing, unheard}
-use Rattle.iol_line.specs.HonestTold.{HonestState, honest_facts, Wakes, Gives, standing, at_heard}
+use Rattle.iol_line.specs.HonestTold.{HonestState, honest_facts, standing, at_heard}
 use Rattle.iol_line.specs.Driving.{Woken, Answered, NoWake, NoExchange, TurnWoken, TurnAnswered}
 use Rattle.iol_line.proofs.ToldTurns.{Brings, told_turn}
 use Rattle.iol_line.proofs.PlainTurns.{no_exchange, no_wake, octets_are, answer_is, bytes_same}

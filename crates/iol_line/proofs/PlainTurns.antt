@@ -15,7 +15,7 @@ use Rattle.iol_port.specs.EveryWire.{TurnGives}
 use Rattle.iol_port.specs.Rewire.{rewired_parts}
 use Rattle.iol_line.specs.declared.given.Given.{Given}
 use Rattle.iol_line.specs.declared.given.Given.TheVariants.{Wake, Exchange}
-use Rattle.iol_line.specs.Told.{line_facts, Wakes, Gives, answer_told}
+use Rattle.iol_line.specs.Told.{line_facts, answer_told}
 use Rattle.iol_line.specs.Driving.{Woken, Answered, NoWake, NoExchange, TurnWoken, TurnAnswered}
 use Rattle.iol_line.proofs.ToldTurns.{Brings, told_turn}
 

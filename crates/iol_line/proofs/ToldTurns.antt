@@ -1,6 +1,5 @@
 -- The exact turn of a port over a line that was told is the exact turn over a line that brings just that.
 use Rattle.std.proofs.Common.{◌≡◌, ◌∙◌, sym, subst, ℕ, Bool, List, Option, is_some, IsTrue, ⊎_elim, inl, inr}
-use Rattle.std.specs.Prelude.{◌&&◌}
 use Rattle.arrayvec.specs.ArrayVec.{ArrayVec}
 use Rattle.iol_event.specs.declared.event.Event.{Event}
 use Rattle.iol_mseq.specs.Shape.{Shape}

@@ -1,5 +1,5 @@
 -- A port whose line is told from outside.
-use Rattle.std.specs.Prelude.{◌≡◌, ℕ, Bool, List, Option}
+use Rattle.std.specs.Prelude.{◌≡◌, ℕ, List, Option}
 use Rattle.arrayvec.specs.ArrayVec.{ArrayVec}
 use Rattle.iol_link.specs.declared.wire.Rate.{Rate}
 use Rattle.iol_link.specs.WireFacts.{WireFacts}

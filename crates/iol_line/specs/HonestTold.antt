@@ -3,7 +3,6 @@ use Rattle.std.specs.Prelude.{◌≡◌, ℕ, true, false, if◌then◌else◌, 
 use Rattle.arrayvec.specs.ArrayVec.{ArrayVec}
 use Rattle.std.specs.Option.{option_map}
 use Rattle.iol_far.specs.Octets.{octets_in}
-use Rattle.iol_far.specs.Far.{Far}
 use Rattle.iol_far.specs.Laws.{IsRegular}
 use Rattle.iol_link.specs.WireFacts.{WireFacts}
 use Rattle.iol_link.specs.declared.wire.Rate.{Rate}

@@ -1,5 +1,5 @@
 -- A line that is told from outside what its next call brings: what each call of it gives.
-use Rattle.std.specs.Prelude.{◌≡◌, ℕ, Bool, true, false, if◌then◌else◌, List, [], Option, Some, None, bytes_eq, ⊤}
+use Rattle.std.specs.Prelude.{◌≡◌, ℕ, Bool, true, false, if◌then◌else◌, List, Option, Some, None, bytes_eq, ⊤}
 use Rattle.arrayvec.specs.ArrayVec.{ArrayVec}
 use Rattle.iol_link.specs.WireFacts.{WireFacts, unknown}
 use Rattle.iol_link.specs.declared.wire.Rate.{Rate}

@@ -1,11 +1,9 @@
 //! A wire whose answers come from outside, and that claims to be honest.
-ghost use Rattle.std.specs.Prelude.{◌≡◌, ℕ, false, Some, IsTrue, List, Option, is_some};
-ghost use Rattle.arrayvec.specs.ArrayVec.{ArrayVec};
-ghost use Rattle.iol_octets.specs.Checksum.{has_checksum};
+ghost use Rattle.std.specs.Prelude.{◌≡◌, Some, Option, is_some};
 ghost use Rattle.iol_far.specs.Octets.{octets_in};
 ghost use Rattle.iol_far.specs.Laws.{IsRegular};
 ghost use Rattle.iol_far.specs.Far.{Far};
-ghost use Rattle.iol_link.specs.Honest.{HonestExchange, HonestWake};
+ghost use Rattle.iol_link.specs.Honest.{HonestWake};
 ghost use Rattle.iol_line.specs.Standing.{Standing, unheard, woken_to};
 
 use crate::given::Given;

@@ -1,6 +1,5 @@
 //! A wire whose answers come from outside, and that claims nothing.
-ghost use Rattle.std.specs.Prelude.{◌≡◌, ℕ, Option, Some, None, bytes_eq};
-ghost use Rattle.arrayvec.specs.ArrayVec.{ArrayVec};
+ghost use Rattle.std.specs.Prelude.{◌≡◌, Option, Some, None};
 
 use crate::given::Given;
 use iol_link::{Rate, Wire};

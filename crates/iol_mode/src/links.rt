@@ -10,10 +10,9 @@ ghost use Rattle.iol_link.specs.declared.wire.Rate.{Rate};
 ghost use Rattle.iol_link.specs.Attempts.{good_reply, attempt_of};
 ghost use Rattle.iol_link.specs.WireFacts.{Wakes, Passes};
 ghost use Rattle.iol_mode.specs.Messages.{stays};
-ghost use Rattle.iol_mode.specs.States.{OperateFits, OutcomeFits, StateFits, IsDown, IsStartup, IsPreoperate, Takes, is_starting, waked, state_of, outcome_with, startup_turned, preoperate_turned, operate_turned, sending_of, counted, left_by};
-ghost use Rattle.iol_far.specs.Level.{Link as FarLink};
-ghost use Rattle.iol_mode.specs.Stands.{OperateStands, OutcomeStands, StateStands, IsTold, IsOperating, IsAccepted};
-ghost use Rattle.iol_mode.specs.Next.{wire_of, outcome_of, told_by, message_out, MetFits, LostFits, FaultFits, EnteredFits};
+ghost use Rattle.iol_mode.specs.States.{StateFits, IsDown, IsStartup, IsPreoperate, Takes, is_starting, waked, state_of, outcome_with, startup_turned, preoperate_turned, sending_of, counted, left_by};
+ghost use Rattle.iol_mode.specs.Stands.{OutcomeStands, StateStands, IsTold};
+ghost use Rattle.iol_mode.specs.Next.{wire_of, outcome_of, told_by, message_out};
 ghost use Rattle.iol_mode.specs.Turns.{IsStartTurn, IsOperateTurn, IsRise, IsCycle, IsEnd};
 ghost use Rattle.iol_mode.specs.Laws.{Laws};
 

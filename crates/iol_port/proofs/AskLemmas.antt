@@ -1,9 +1,6 @@
 -- A port asks what its station asks, and a turn is its station's turn.
-use Rattle.std.proofs.Common.{◌≡◌, ◌∷◌, [], ◌++◌, ℕ, Bool, cond, not, ◌&&◌, List, subst, ap, ◌∙◌, Option}
-use Rattle.arrayvec.specs.ArrayVec.{ArrayVec}
+use Rattle.std.proofs.Common.{◌≡◌, ◌∷◌, [], ◌++◌, Bool, cond, not, ◌&&◌, subst, ap, ◌∙◌, Option}
 use Rattle.iol_isdu.specs.declared.values.Request.{Request}
-use Rattle.iol_far.specs.Far.{Far}
-use Rattle.iol_link.specs.declared.wire.Rate.{Rate}
 use Rattle.iol_link.specs.WireFacts.{WireFacts}
 use Rattle.iol_book.specs.BookModel.{BookState}
 use Rattle.iol_steps.specs.declared.mode.Mode.{Mode}

@@ -27,14 +27,12 @@ use Rattle.iol_app.specs.Requests.{sent_on, GoesOn, HasText, joined as joined_wi
 use Rattle.iol_steps.specs.declared.said.Said.{Said}
 use Rattle.iol_steps.specs.declared.said.Said.TheVariants.{Answered as SaidAnswered, Busy as SaidBusy}
 use Rattle.iol_port.specs.Turns.{cutting, Stage, Written, Waiting, Reading, Ended, turns_at, StageFits}
-use Rattle.arrayvec.specs.ArrayVec.{ArrayVec}
 use Rattle.iol_page.specs.declared.page.Layouts.{Layouts}
 use Rattle.iol_far.specs.declared.carried.Carried.{Carried}
 use Rattle.iol_far.specs.Far.{Far, isdu_moved}
 use Rattle.iol_far.specs.Record.{takes_more}
 use Rattle.iol_far.specs.Local.{Carry, local, carried_by, has_room, IsWorkedOff}
 use Rattle.iol_far.specs.Level.{Link, link_of, grown_by}
-use Rattle.iol_link.specs.declared.wire.Rate.{Rate}
 use Rattle.iol_link.specs.WireFacts.{WireFacts}
 use Rattle.iol_mode.specs.Stands.{operate_link}
 use Rattle.iol_app.specs.Messages.{Head, progress_head, progress_data}

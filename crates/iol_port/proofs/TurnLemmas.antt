@@ -1,5 +1,5 @@
 -- the three pieces of a turn make one turn of the abstract port
-use Rattle.std.proofs.Common.{◌≡◌, ◌≢◌, ◌∷◌, ◌++◌, [], List, Bool, ℕ, Some, None, refl, ap, sym, ◌∙◌, subst, inl, inr, arith}
+use Rattle.std.proofs.Common.{◌≡◌, ◌≢◌, ◌∷◌, ◌++◌, [], List, ℕ, Some, None, refl, ap, sym, ◌∙◌, subst, inl, inr, arith}
 use Rattle.std.proofs.lemmas.Grind.{common_steps}
 use Rattle.iol_isdu.specs.declared.values.Request.{Request}
 use Rattle.iol_book.specs.declared.entries.Ticket.{Ticket}
@@ -9,7 +9,6 @@ use Rattle.iol_steps.specs.declared.mode.Mode.TheVariants.{Down, Operate}
 use Rattle.iol_steps.specs.declared.said.Said.{Said}
 use Rattle.iol_steps.specs.Step.{Step, Take, Deny, Moment, woke_up, book_said, reports_said}
 use Rattle.iol_steps.specs.Session.{MaySession, MaySessionAll, session_after, session_through}
-use Rattle.iol_far.specs.Far.{Far}
 use Rattle.iol_event.specs.declared.event.Event.{Event}
 use Rattle.iol_link.specs.WireFacts.{WireFacts}
 use Rattle.iol_steps.specs.Station.{Station, Unseen, Stands, session_in, job_of}

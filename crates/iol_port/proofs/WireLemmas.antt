@@ -1,11 +1,8 @@
 -- on every wire a run is its calls, one after another, and its wire comes from the first by calls and by what it was told alone
-use Rattle.std.proofs.Common.{◌<◌, ◌+◌, ◌∷◌, ◌++◌, [], List, ℕ, Option, Some, None, Bool, Result, Ok, Err, IfOk, IfErr, ◌≡◌, sym, length, take, get_or, refl, subst, arith}
+use Rattle.std.proofs.Common.{◌<◌, ◌+◌, ◌∷◌, ◌++◌, [], List, ℕ, Option, Some, None, Result, Ok, Err, IfOk, IfErr, ◌≡◌, sym, length, take, get_or, refl, subst, arith}
 use Rattle.std.proofs.lemmas.Grind.{common_steps}
 use Rattle.std.proofs.lemmas.List.{take_more}
 use Rattle.std.specs.Result.{result_map_both}
-use Rattle.arrayvec.specs.ArrayVec.{ArrayVec}
-use Rattle.iol_far.specs.Far.{Far}
-use Rattle.iol_link.specs.declared.wire.Rate.{Rate}
 use Rattle.iol_link.specs.WireFacts.{WireFacts}
 use Rattle.iol_book.specs.declared.entries.Entry.{Entry}
 use Rattle.iol_app.specs.declared.asked.Asked.{Asked}

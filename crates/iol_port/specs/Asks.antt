@@ -1,7 +1,6 @@
 -- What the next turn of a port asks of its wire, and which of its calls makes a call of the wire.
-use Rattle.std.specs.Prelude.{◌≡◌, ℕ, Bool, false, not, nat_le, if◌then◌else◌, List, length, Option, Some, None}
+use Rattle.std.specs.Prelude.{◌≡◌, Bool, false, not, nat_le, if◌then◌else◌, List, length, Option, Some, None}
 use Rattle.std.specs.Option.{option_map}
-use Rattle.arrayvec.specs.ArrayVec.{ArrayVec}
 use Rattle.iol_isdu.specs.declared.values.Request.{Request}
 use Rattle.iol_event.specs.declared.event.Event.{Event}
 use Rattle.iol_link.specs.WireFacts.{WireFacts}

@@ -1,15 +1,12 @@
 -- What each call of a port answers and leaves on every wire, honest or not, from
 -- the port's own parts.
-use Rattle.std.specs.Prelude.{◌≡◌, ℕ, Bool, ◌&&◌, if◌then◌else◌, List, [], ◌∷◌, ◌++◌, drop, Option, Some, None, Result, is_ok, IfOk, IfErr, OnOk, OnErr, slice_get, ◌⊎◌, false, IsTrue}
+use Rattle.std.specs.Prelude.{◌≡◌, Bool, ◌&&◌, if◌then◌else◌, List, [], ◌∷◌, ◌++◌, drop, Option, Some, None, Result, is_ok, IfOk, IfErr, OnOk, OnErr, slice_get, ◌⊎◌, false, IsTrue}
 use Rattle.std.specs.Option.{ok_or, option_map}
 use Rattle.std.specs.Result.{result_err}
 use Rattle.std.specs.Map.{lookup}
-use Rattle.arrayvec.specs.ArrayVec.{ArrayVec}
 use Rattle.iol_isdu.specs.declared.values.Request.{Request}
 use Rattle.iol_isdu.specs.declared.values.Cause.TheVariants.{Cancelled}
 use Rattle.iol_event.specs.declared.event.Event.{Event}
-use Rattle.iol_far.specs.Far.{Far}
-use Rattle.iol_link.specs.declared.wire.Rate.{Rate}
 use Rattle.iol_link.specs.WireFacts.{WireFacts}
 use Rattle.iol_book.specs.declared.entries.Entry.{Entry}
 use Rattle.iol_book.specs.declared.entries.Outcome.{Outcome}
@@ -166,8 +163,6 @@ module _ {W : Type 0} where
     pub book : new.book.state ≡ denied old.book.state ticket
 
   module _ (facts : WireFacts W) where
-    open facts use {wake_gives as wakes, exchange_gives as gives}
-
     -- A turn: the next request is begun or denied; the station makes its own one, with room
     -- for events where at most 58 are kept, and what that says goes to the book and to the
     -- kept events; a wake that had success ends what a request that was cut off may still do

@@ -1,6 +1,4 @@
 -- A port that goes on over another wire.
-use Rattle.std.specs.Prelude.{ℕ, Bool}
-use Rattle.iol_far.specs.Far.{Far}
 use Rattle.iol_link.specs.WireFacts.{WireFacts}
 use Rattle.iol_app.specs.Rewire.{rewired}
 use Rattle.iol_port.specs.Run.{PortState}

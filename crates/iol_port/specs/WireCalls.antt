@@ -1,7 +1,5 @@
 -- What a wire becomes by calls, one after another, and by what it is told between them.
-use Rattle.std.specs.Prelude.{◌≡◌, ℕ, List, [], ◌∷◌, Option, Some, None}
-use Rattle.arrayvec.specs.ArrayVec.{ArrayVec}
-use Rattle.iol_link.specs.declared.wire.Rate.{Rate}
+use Rattle.std.specs.Prelude.{◌≡◌, List, [], ◌∷◌, Option, Some, None}
 use Rattle.iol_link.specs.WireFacts.{WireFacts}
 use Rattle.iol_app.specs.declared.asked.Asked.{Asked}
 use Rattle.iol_app.specs.Asking.{IsCall}

@@ -1,10 +1,8 @@
 //! A simulated wire, with a device at its far end.
-ghost use Rattle.std.specs.Prelude.{◌≡◌, ℕ, [], true, None, Option, false, List, Some, IfOk, IfErr, IfSome, IsTrue, MatchBool, is_some, length, min, ◌+◌, ◌≤◌, if◌then◌else◌, ◌∷◌};
-ghost use Rattle.arrayvec.specs.ArrayVec.{ArrayVec};
+ghost use Rattle.std.specs.Prelude.{◌≡◌, ℕ, [], true, None, Option, false, List, Some, IfOk, IfErr, IfSome, MatchBool, length, min, ◌+◌, ◌≤◌, if◌then◌else◌, ◌∷◌};
 ghost use Rattle.std.specs.Vec.Iter.{into_iter_items};
-ghost use Rattle.iol_octets.specs.Checksum.{has_checksum, AreOctets};
+ghost use Rattle.iol_octets.specs.Checksum.{AreOctets};
 ghost use Rattle.iol_far.specs.Octets.{octets_in, buffered};
-ghost use Rattle.iol_link.specs.Honest.{HonestExchange, HonestWake};
 ghost use Rattle.iol_sim.specs.Sim.{damaged};
 
 use crate::fault::SimFault;

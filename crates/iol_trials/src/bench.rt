@@ -1,5 +1,5 @@
 //! A station that is turned, and asked, by a table.
-ghost use Rattle.std.specs.Prelude.{◌≡◌, IsSome, IsTrue};
+ghost use Rattle.std.specs.Prelude.{IsSome, IsTrue};
 
 use crate::far::Line;
 use crate::rows::{Ask, Call};

@@ -6,9 +6,8 @@ ghost use Rattle.iol_far.specs.Octets.{octets_in};
 ghost use Rattle.iol_link.specs.Honest.{HonestExchange, HonestWake, silence_after};
 ghost use Rattle.iol_port.specs.declared.call.Call.TheVariants as call;
 ghost use Rattle.iol_port.specs.declared.call.Answered.TheVariants as answered;
-ghost use Rattle.iol_port.specs.View.{Does, IsOpened};
+ghost use Rattle.iol_port.specs.View.{Does};
 ghost use Rattle.iol_port.specs.Asks.{asks_of};
-ghost use Rattle.iol_line.specs.Standing.{Standing};
 ghost use Rattle.iol_line.specs.HonestTold.{honest_facts, standing, ExchangePremise};
 ghost use Rattle.iol_line.specs.Driving.{line_of};
 

@@ -1,4 +1,4 @@
-use Rattle.std.proofs.Common.{◌≡◌, ◌^◌, List, [], ◌++◌, length, refl, sym, ap, ◌∙◌, append_assoc, length-append, rules, arith}
+use Rattle.std.proofs.Common.{◌≡◌, ◌^◌, List, [], ◌++◌, refl, sym, ap, ◌∙◌, append_assoc, length-append, rules, arith}
 use Rattle.std.specs.String.{string_bytes}
 use Rattle.iol_port.specs.declared.call.Call.{Call}
 use Rattle.iol_script.specs.Script.{calls_in, line_calls}
