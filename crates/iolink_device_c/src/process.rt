@@ -8,7 +8,7 @@ ghost use Rattle.iolink_device_c.specs.Calls.{far_of, IsRefused};
 use crate::held::IolDevice;
 use core::mem::replace_with;
 use iol_image::Image;
-use iolink_handle::{CLOSED, put};
+use iolink_handle::{CLOSED, IolImage, show_image};
 use std::alloc::Global;
 
 /// The process data in from now on: 0, or 252 where the handle is closed, and then 29, with
@@ -63,13 +63,6 @@ pub extern "C" fn iol_device_clear_input(alloc: Global, handle: &mut IolDevice) 
     0
 }
 
-/// Process data: `length` octets, none where that is 0.
-#[repr(C)]
-pub struct IolImage {
-    pub length: u8,
-    pub octets: [u8; 32],
-}
-
 /// The process data out, none while none is valid: 0, or 252 where the handle is
 /// closed, with `out` as it was.
 #[unsafe(no_mangle)]
@@ -94,12 +87,6 @@ pub extern "C" fn iol_device_output(alloc: Global, handle: &mut IolDevice, out: 
         };
         (IolDevice::of(sensor), image)
     });
-    match image {
-        Some(image) => {
-            out.length = image.octets().len() as u8;
-            put(image.octets(), &mut out.octets);
-        }
-        None => out.length = 0,
-    }
+    show_image(image, out);
     0
 }

@@ -1,5 +1,5 @@
 //! Requests: the one that is handed over, and its answer.
-ghost use Rattle.std.specs.Prelude.{◌≡◌, ◌≤◌, ◌<◌, length, IsTrue, IsFalse, Some};
+ghost use Rattle.std.specs.Prelude.{◌≡◌, ◌≤◌, ◌<◌, length, IsTrue, IsFalse};
 ghost use Rattle.iol_far.specs.Isdu.{handed};
 ghost use Rattle.iol_isdu.specs.declared.values.Answer.TheVariants as answer;
 ghost use Rattle.iolink_device_c.specs.Calls.{far_of, IsRefused, Answers, read_of};
@@ -7,28 +7,13 @@ ghost use Rattle.iolink_device_c.specs.Shown.{IsShown};
 
 use crate::held::IolDevice;
 use core::mem::replace_with;
-use iol_isdu::{Answer, Octets, Place, Request};
-use iolink_handle::{CLOSED, NOT_ASKED, put};
+use iol_isdu::{Answer, Octets};
+use iolink_handle::{CLOSED, IolRequest, NOT_ASKED, show_request};
 use std::alloc::Global;
 
 const NONE: u8 = 0;
 
-const READ: u8 = 1;
-
-const WRITE: u8 = 2;
-
 const DATA_TOO_LONG: u8 = 9;
-
-/// A request: a read, or a write of `length` octets.
-#[repr(C)]
-pub struct IolRequest {
-    /// 1 read, 2 write; 0 where there is none.
-    pub kind: u8,
-    pub sub: u8,
-    pub index: u16,
-    pub length: u8,
-    pub octets: [u8; 232],
-}
 
 /// The request that is handed over and has no answer yet, of kind 0 where there is none:
 /// 0, or 252 where the handle is closed, with `out` as it was. It changes nothing.
@@ -61,31 +46,6 @@ pub extern "C" fn iol_device_handed(
         None => out.kind = NONE,
     }
     0
-}
-
-fn show_request(request: &Request, out: &mut IolRequest)
-    ensures { IsShown (Some request.now) out.new }
-{
-    match request {
-        Request::Read(place) => {
-            out.kind = READ;
-            show_place(*place, out);
-            out.length = 0;
-        }
-        Request::Write(place, octets) => {
-            out.kind = WRITE;
-            show_place(*place, out);
-            out.length = octets.len() as u8;
-            put(octets.as_slice(), &mut out.octets);
-        }
-    }
-}
-
-fn show_place(place: Place, out: &mut IolRequest)
-    ensures { out.new ≡ record out.old { index = place.index; sub = place.sub } }
-{
-    out.index = place.index;
-    out.sub = place.sub;
 }
 
 fn answered(alloc: Global, handle: &mut IolDevice, answer: Answer) -> u8

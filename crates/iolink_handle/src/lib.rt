@@ -1,14 +1,18 @@
-//! What the libraries for C have in common: the box behind a handle, octets that go
-//! out, and the refusals of their own.
+//! What the libraries for C have in common: the box behind a handle, what C is shown of
+//! octets, a request and process data, and the refusals of their own.
 //!
 //! A handle of C is a `#[repr(C)]` struct of the library that it belongs to, with one pointer. Such
 //! a struct can have no type parameter, so each library has its own, and makes it of a [`Loose`].
 #![tactic(auto)]
 
+mod image;
 mod loose;
 mod octets;
 mod refusal;
+mod request;
 
+pub use image::{IolImage, show_image};
 pub use loose::Loose;
 pub use octets::put;
 pub use refusal::{CLOSED, IS_OPEN, NOT_ASKED, OUT_OF_MEMORY, OUT_OF_RANGE};
+pub use request::{IolRequest, show_request};

@@ -1,8 +1,5 @@
 -- What C is shown of a status, an outcome and an entry of a journal, as numbers.
-use Rattle.std.specs.Prelude.{◌≡◌, ℕ, List, [], ◌∷◌, length, take, Option, Some, None}
-use Rattle.iol_isdu.specs.declared.values.Place.{Place}
-use Rattle.iol_isdu.specs.declared.values.Request.{Request}
-use Rattle.iol_isdu.specs.declared.values.Request.TheVariants as request
+use Rattle.std.specs.Prelude.{◌≡◌, ℕ, List, [], ◌∷◌, Option, Some, None}
 use Rattle.iol_isdu.specs.declared.values.Answer.{Answer}
 use Rattle.iol_isdu.specs.declared.values.Answer.TheVariants.{Read, Written, Refused}
 use Rattle.iol_isdu.specs.declared.values.Cause.{Cause}
@@ -16,9 +13,9 @@ use Rattle.iol_mode.specs.Why.{why_number}
 use Rattle.iol_steps.specs.declared.mode.Mode.{Mode}
 use Rattle.iol_steps.specs.declared.mode.Mode.TheVariants.{Down, Startup, Preoperate, Operate}
 use Rattle.iol_app.specs.declared.station.Status.{Status}
+use Rattle.iolink_handle.specs.Shown.{AreShown, IsRequest}
 use Rattle.iolink_port_c.specs.declared.state.IolStatus.{IolStatus}
 use Rattle.iolink_port_c.specs.declared.outcome.IolOutcome.{IolOutcome}
-use Rattle.iolink_port_c.specs.declared.archive.IolRequest.{IolRequest}
 use Rattle.iolink_port_c.specs.declared.archive.IolEntry.{IolEntry}
 
 -- a mode's number
@@ -76,25 +73,11 @@ abbrev pub outcome_octets : Outcome → List ℕ
 outcome_octets (Done answer) = answer_octets answer
 outcome_octets other = []
 
--- octets as C is shown them: how many, at the front of their room
-abbrev pub AreShown : List ℕ → ℕ → List ℕ → Type 0
-AreShown octets count room = (count ≡ length octets) × (take count room ≡ octets)
-
 -- an outcome as C is shown it
 abbrev pub IsOutcome : Outcome → IolOutcome → Type 0
 IsOutcome outcome out =
     (out.kind ≡ outcome_kind outcome) × (out.cause ≡ outcome_cause outcome)
     × AreShown (outcome_octets outcome) out.length out.octets
-
--- the place of a request
-abbrev pub IsAt : Place → IolRequest → Type 0
-IsAt place out = (out.index ≡ place.index) × (out.sub ≡ place.sub)
-
--- a request as C is shown it
-abbrev pub IsRequest : Request → IolRequest → Type 0
-IsRequest (request.Read place) out = (out.kind ≡ 1) × IsAt place out × (out.length ≡ 0)
-IsRequest (request.Write place octets) out = (out.kind ≡ 2) × IsAt place out
-    × AreShown octets.items out.length out.octets
 
 -- whether a request or an outcome is shown: their kinds are 0 where none is
 abbrev pub HasNoRequest : IolEntry → Type 0

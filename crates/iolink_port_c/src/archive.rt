@@ -4,14 +4,13 @@ ghost use Rattle.iol_book.specs.BookModel.{may_archive, archived};
 ghost use Rattle.iol_port.specs.EveryWire.{IsBookCall};
 ghost use Rattle.iolink_port_c.specs.Calls.{parts_of, IsRefused};
 ghost use Rattle.iolink_port_c.specs.JournalCalls.{Archives, RefusesArchive, KeepsNone};
-ghost use Rattle.iolink_port_c.specs.Shown.{IsRequest, IsEntry, IsNext, HasNoRequest, HasNoOutcome};
+ghost use Rattle.iolink_port_c.specs.Shown.{IsEntry, IsNext, HasNoRequest, HasNoOutcome};
 
 use crate::held::{IolPort, Master};
 use crate::outcome::{IolOutcome, show_outcome};
 use core::mem::replace_with;
 use iol_book::{Entry, Ticket};
-use iol_isdu::{Place, Request};
-use iolink_handle::{CLOSED, put};
+use iolink_handle::{CLOSED, IolRequest, show_request};
 use std::alloc::Global;
 
 /// The request was entered, among those that aren't urgent.
@@ -26,21 +25,6 @@ const ANSWERED: u8 = 9;
 const WITHDRAWN: u8 = 12;
 /// Its outcome was handed out.
 const COLLECTED: u8 = 16;
-
-const READ: u8 = 1;
-
-const WRITE: u8 = 2;
-
-/// A request: a read, or a write of `length` octets.
-#[repr(C)]
-pub struct IolRequest {
-    /// 1 read, 2 write; 0 where there is none.
-    pub kind: u8,
-    pub sub: u8,
-    pub index: u16,
-    pub length: u8,
-    pub octets: [u8; 232],
-}
 
 /// An entry of a journal.
 #[repr(C)]
@@ -186,29 +170,4 @@ fn show_entry(entry: &Entry, out: &mut IolEntry)
     };
     out.kind = kind;
     out.ticket = ticket;
-}
-
-fn show_request(request: &Request, out: &mut IolRequest)
-    ensures { IsRequest request.now out.new }
-{
-    match request {
-        Request::Read(place) => {
-            out.kind = READ;
-            show_place(*place, out);
-            out.length = 0;
-        }
-        Request::Write(place, octets) => {
-            out.kind = WRITE;
-            show_place(*place, out);
-            out.length = octets.len() as u8;
-            put(octets.as_slice(), &mut out.octets);
-        }
-    }
-}
-
-fn show_place(place: Place, out: &mut IolRequest)
-    ensures { out.new ≡ record out.old { index = place.index; sub = place.sub } }
-{
-    out.index = place.index;
-    out.sub = place.sub;
 }

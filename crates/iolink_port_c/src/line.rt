@@ -8,7 +8,7 @@ ghost use Rattle.iol_line.specs.Told.{line_facts};
 ghost use Rattle.iol_line.specs.Driving.{TurnWoken, TurnAnswered};
 ghost use Rattle.iolink_port_c.specs.Calls.{parts_of, IsRefused, Stays, CallDoes};
 ghost use Rattle.iolink_port_c.specs.Calls.{rate_of, answer_of};
-ghost use Rattle.iolink_port_c.specs.Shown.{AreShown};
+ghost use Rattle.iolink_handle.specs.Shown.{AreShown};
 
 use crate::held::IolPort;
 use core::mem::replace_with;

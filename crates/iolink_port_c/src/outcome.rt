@@ -1,6 +1,7 @@
 //! How a request ended, as C sees it.
 ghost use Rattle.std.specs.Prelude.{◌≡◌};
-ghost use Rattle.iolink_port_c.specs.Shown.{IsOutcome, AreShown, answer_kind, answer_octets, cause_number};
+ghost use Rattle.iolink_handle.specs.Shown.{AreShown};
+ghost use Rattle.iolink_port_c.specs.Shown.{IsOutcome, answer_kind, answer_octets, cause_number};
 
 use iol_book::Outcome;
 use iol_isdu::{Answer, Cause};

@@ -4,7 +4,8 @@ ghost use Rattle.iol_port.specs.declared.call.Call.TheVariants as call;
 ghost use Rattle.iol_port.specs.declared.call.Answered.TheVariants as answered;
 ghost use Rattle.iol_image.specs.Image.{IsImage};
 ghost use Rattle.iol_port.specs.View.{status_of};
-ghost use Rattle.iolink_port_c.specs.Shown.{IsShown, AreShown};
+ghost use Rattle.iolink_handle.specs.Shown.{AreShown};
+ghost use Rattle.iolink_port_c.specs.Shown.{IsShown};
 ghost use Rattle.iolink_port_c.specs.Calls.{parts_of, IsRefused, Stays, CallDoes};
 ghost use Rattle.iolink_port_c.specs.StateCalls.{Restarts, SetsOutput, ClearsOutput, TakesEvent};
 
@@ -12,7 +13,7 @@ use crate::held::IolPort;
 use core::mem::replace_with;
 use iol_app::{Mode, Status};
 use iol_image::Image;
-use iolink_handle::{CLOSED, put};
+use iolink_handle::{CLOSED, IolImage, show_image};
 use std::alloc::Global;
 
 /// Cuts off the request under way, if any, and leaves the link in down: 0, or 252
@@ -83,13 +84,6 @@ pub extern "C" fn iol_port_clear_output(alloc: Global, handle: &mut IolPort) -> 
     0
 }
 
-/// Process data: `length` octets, none where that is 0.
-#[repr(C)]
-pub struct IolImage {
-    pub length: u8,
-    pub octets: [u8; 32],
-}
-
 /// The device's input: 0, or 252 where the handle is closed, which leaves `out` as it is.
 #[unsafe(no_mangle)]
 pub extern "C" fn iol_port_image(alloc: Global, handle: &mut IolPort, out: &mut IolImage) -> u8
@@ -114,13 +108,7 @@ pub extern "C" fn iol_port_image(alloc: Global, handle: &mut IolPort, out: &mut 
         };
         (IolPort::of(master), image)
     });
-    match image {
-        Some(image) => {
-            out.length = image.octets().len() as u8;
-            put(image.octets(), &mut out.octets);
-        }
-        None => out.length = 0,
-    }
+    show_image(image, out);
     0
 }
 

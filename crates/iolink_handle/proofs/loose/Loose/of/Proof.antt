@@ -1,5 +1,12 @@
 -- `of` keeps the pointer alone: the allocator is the C library's, and any of its handles frees.
-use Rattle.iolink_handle.proofs.Handles.Steps.{List, [], ◌∷◌, ◌++◌, refl, sym, ap, subst, a_type, dcons, dnil, Val, inst_fn, full_share, ent, id⊢, ftrue, flft, fsep, WpFn, ‵, raw, ◌⊛◌, some, later, ◌$◌, ◌∵◌, !, qed, by, move, keep, drop, split, split3, join, fjoin, pick, use1, await, feq_l, agg, of_opd, no_more, and_then, returns, enter, alloc_all, pass_all, free_all, look_at, get, sets, lands_as, fact, fact_i, emp, ◌⊑◌, ⊑_refl, tables, no, plain, Ptr, RawPtr, param, layout, bounded, param_laws, glues, only, nothing, triple_of, calls_at, Stays, stay_dropped, walk_of, Goes-blank, fm, one, ghosts, dict, passed, box_owns, proved_at, leaves, block, Heap, heap_laws, undropped, word, ptr_fits, word_fits, inside, known, also, ◌≡◌}
+use Rattle.iolink_handle.proofs.Handles.Steps as steps
+use steps.{List, [], ◌∷◌, ◌++◌, refl, sym, ap, subst, a_type, dcons, dnil, Val, inst_fn, full_share, ent, id⊢, ftrue}
+use steps.{flft, fsep, WpFn, ‵, raw, ◌⊛◌, some, later, ◌$◌, ◌∵◌, !, qed, by, move, keep, drop, split, split3, join}
+use steps.{fjoin, pick, use1, await, feq_l, agg, of_opd, no_more, and_then, returns, enter, alloc_all, pass_all}
+use steps.{free_all, look_at, get, sets, lands_as, fact, fact_i, emp, ◌⊑◌, ⊑_refl, tables, no, plain, Ptr, RawPtr}
+use steps.{param, layout, bounded, param_laws, glues, only, nothing, triple_of, calls_at, Stays, stay_dropped}
+use steps.{walk_of, Goes-blank, fm, one, ghosts, dict, passed, box_owns, proved_at, leaves, block, Heap, heap_laws}
+use steps.{undropped, Lasts, lasts, word, ptr_fits, word_fits, inside, known, also, ◌≡◌}
 use Rattle.std.specs.contracts.alloc.Global as global
 use Rattle.std.proofs.alloc.Global.TheLaws as global_laws
 use Rattle.std_alloc.specs.contracts.boxed.Box as box
@@ -40,9 +47,11 @@ of_spec {M} 𝓤 𝓛 𝓜 𝓡 wired T L dx glue =
     also ! (raw (fact 𝓤 ([] ⊑ Heap.lives))) (fact_i 𝓤 ([] ⊑ Heap.lives) (emp 𝓤) (⊑_refl [])) $
     move ! (1 ∷ 0 ∷ []) $ join ! $ use1 𝓛 (raw (k.pre x)) (id⊢ 𝓤 _) $
     enter ! 𝓣.C 𝓣.Λ fn (w.0 ∷ []) _ $ alloc_all ! (λ l. pass_all ! refl (w.2, tt) $
-    sets ! (of_opd ! (get ! refl)) refl w.2 $ calls_at ! (fm 𝓛 𝓜 𝓡) k k_met x (and_then ! (get ! refl) (no_more !)) (λ u.
-    use1 𝓛 (later (some (λ (r : Ptr). ((‵ (flft κ q) ⊛ ‵ (flft [] full_share) ⊛ ‵ ftrue) ⊛ ‵ (RawPtr.own_val r (u ∷ []))) ⊛
-    some (λ (_ : (Unit {0} × (Unit {0} × Unit {0})) × Unit {0}). ‵ (fsep (fsep ftrue (fsep ftrue ftrue)) ftrue) ⊛
+    sets ! (of_opd ! (get ! refl)) refl w.2 $
+    calls_at ! (fm 𝓛 𝓜 𝓡) k k_met x (and_then ! (get ! refl) (no_more !)) (λ u.
+    let end = callee.ended T Heap ghosts dict undropped dx in use1 𝓛 (later (some (λ (r : Ptr).
+    ((‵ (flft κ q) ⊛ ‵ (flft [] full_share) ⊛ ‵ ftrue) ⊛ ‵ (RawPtr.own_val r (u ∷ []))) ⊛
+    some (λ (ls : Lasts end x.0.0 x.0.3). ‵ (lasts end x.0.0 x.0.3 ls) ⊛
     ‵ (box_owns block (param 0 T) r v.value))))) (id⊢ 𝓤 _) $
     await ! tt $ pick ! (λ r. split ! $ split ! $ move ! (1 ∷ []) $ feq_l ! (λ e. split3 ! $ move ! (3 ∷ []) $
     pick ! (λ _. split ! $ drop ! $ lands_as ! (ap only e) refl (ptr_fits r) $
