@@ -1,5 +1,6 @@
 //! The master: its clients, its workers, and the reader of process data.
 ghost use Rattle.std.specs.Prelude.{◌≡◌};
+ghost use Rattle.iol_master.specs.Ledgers.{IsBlankFor};
 
 use crate::ports::{PLACE, open_port};
 use anyhow::{Result, bail};
@@ -78,8 +79,8 @@ pub fn serve<L: Ledger + Sync, K: Ledger + Sync, R: Print + Threads + Wait + Syn
     clients: Blank,
     tickets: Blank,
 ) -> Result<()>
-    requires clients { (clients.name ≡ L.name) × (clients.parts ≡ L.parts) × (clients.parts ≡ 1025) }
-    requires tickets { (tickets.name ≡ K.name) × (tickets.parts ≡ K.parts) × (tickets.parts ≡ 2) }
+    requires clients { IsBlankFor clients L.name L.parts 1025 }
+    requires tickets { IsBlankFor tickets K.name K.parts 2 }
 {
     let (writer, seats) = image_cell(rt, alloc, 1)?;
     let mut first = open_port(alloc, 215)?;

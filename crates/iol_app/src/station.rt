@@ -2,6 +2,7 @@
 ghost use Rattle.std.specs.Prelude.{◌≡◌, None, Some, Bool, true, false, is_some, IsSome, IsTrue, OnOk, OnErr, ◌&&◌, ◌≢◌};
 ghost use Rattle.std.specs.Result.{result_err};
 ghost use Rattle.std.specs.Option.{option_copied};
+ghost use Rattle.iol_link.specs.WireFacts.{Replaces};
 ghost use Rattle.iol_mode.specs.States.{waked, is_starting, outcome_with};
 ghost use Rattle.iol_app.specs.EventReading.{is_refused};
 ghost use Rattle.iol_app.specs.State.{opened, aborted_in, begun_in, wanting, output_refusal, left, IsSession};
@@ -301,9 +302,7 @@ impl<W: Wire> Station<W> {
     /// Goes on over this wire, which stands to the same device as the one before;
     /// that one is handed back.
     pub fn rewire(&mut self, wire: W) -> W
-        requires honest { W.facts.honest wire ≡ W.facts.honest (wire_of self.old.link) }
-        requires far { W.facts.far wire ≡ W.facts.far (wire_of self.old.link) }
-        requires silence { W.facts.silence wire ≡ W.facts.silence (wire_of self.old.link) }
+        requires { Replaces W.facts (wire_of self.old.link) wire }
         ensures station { self.new ≡ record self.old { link = rewired wire self.old.link } }
         ensures before { result ≡ wire_of self.old.link }
         ensures steps { RewireSteps W.facts self.old self.new }

@@ -1,6 +1,7 @@
 //! Several ports, each served by a worker of its own.
 ghost use Rattle.std.specs.Prelude.{◌≡◌, ◌≤◌, ◌<◌, All, IfOk, vec_len};
 ghost use Rattle.iol_master.specs.Tickets.{HasGiven};
+ghost use Rattle.iol_master.specs.Ledgers.{IsBlankFor};
 
 use crate::check_word::CheckWord;
 use crate::devices::{PLAIN, STARTUP, opened};
@@ -49,10 +50,8 @@ fn with_ledgers<L: Ledger + Sync, K: Ledger + Sync, R: Threads + Wait + Sync>(
     tickets: Blank,
 ) -> Result<CheckWord, BenchFault>
     requires count { (1 ≤ ports) × (ports ≤ 32) }
-    requires clients { (clients.name ≡ L.name) × (clients.parts ≡ L.parts)
-        × (clients.parts ≡ 1025) }
-    requires tickets { (tickets.name ≡ K.name) × (tickets.parts ≡ K.parts)
-        × (tickets.parts ≡ ports) }
+    requires clients { IsBlankFor clients L.name L.parts 1025 }
+    requires tickets { IsBlankFor tickets K.name K.parts ports }
 {
     let opened = opened_ports(alloc, ports)?;
     let master: Result<Master<Sim<Params>, L, K>, _> = Master::open(

@@ -2,14 +2,13 @@
 ghost use Rattle.std.specs.Prelude.{◌≡◌, ◌+◌, ◌*◌, ◌≤◌, vec_len};
 
 use crate::counts::Counted;
-use crate::fault::ClientsFault;
 use crate::ports::PLACE;
 use iol_book::{BookFault, Ticket};
 use iol_isdu::Request;
 use iol_link::Wire;
 use iol_master::{Desk, Held, Master, MasterFault, Settled};
 use iol_port::PortFault;
-use std::alloc::Global;
+use std::alloc::{AllocError, Global};
 use std::sync::Wait;
 use std::sync::ledger::Ledger;
 
@@ -26,15 +25,20 @@ pub(crate) struct Client<L: Ledger> {
 }
 
 impl<L: Ledger> Client<L> {
+    ghost use Rattle.std.specs.Result.{result_map_both};
+    ghost use Rattle.iol_master.specs.Master.{Desks};
     ghost use Rattle.iol_clients.specs.Counts.{AddsUp, accepted_at};
 
-    /// A client at a new desk of a port.
+    /// A client at a new desk of a port. Refused as the master refuses a desk.
     pub(crate) fn open<W: Wire, K: Ledger, R: Wait>(
         rt: &R,
         alloc: Global,
         master: &Master<W, L, K>,
         port: u32,
-    ) -> Result<Client<L>, MasterFault> {
+    ) -> Result<Client<L>, MasterFault>
+        ensures { Desks master.now port
+            (result_map_both (λ client. client.desk) (λ why. why) result) }
+    {
         let desk = master.desk(rt, port)?;
         Ok(Client {
             desk,
@@ -42,13 +46,13 @@ impl<L: Ledger> Client<L> {
         })
     }
 
-    /// Submits so many reads.
+    /// Submits so many reads. Refused where a request for memory is.
     pub(crate) fn submit<W: Wire, K: Ledger, R: Wait>(
         self,
         rt: &R,
         master: &Master<W, L, K>,
         each: u32,
-    ) -> Result<Client<L>, ClientsFault> {
+    ) -> Result<Client<L>, AllocError> {
         let mut client = self;
         for _ in 0..each {
             client.submit_one(rt, master)?;
@@ -56,12 +60,13 @@ impl<L: Ledger> Client<L> {
         Ok(client)
     }
 
-    /// Submits a read, and keeps its ticket. Where it is refused, there is none.
+    /// Submits a read, and keeps its ticket. Where it is refused, there is none, and
+    /// want of memory is told.
     fn submit_one<W: Wire, K: Ledger, R: Wait>(
         &mut self,
         rt: &R,
         master: &Master<W, L, K>,
-    ) -> Result<(), ClientsFault> {
+    ) -> Result<(), AllocError> {
         if self.tickets.len() >= MOST_TICKETS {
             return Ok(());
         }
@@ -69,7 +74,7 @@ impl<L: Ledger> Client<L> {
         match master.submit(rt, &mut self.desk, Request::read(PLACE)) {
             Ok(ticket) => self.tickets.push_reserved(ticket),
             Err(MasterFault::Port(PortFault::Book(BookFault::OutOfMemory))) => {
-                return Err(ClientsFault::OutOfMemory);
+                return Err(AllocError);
             }
             Err(_) => {}
         }

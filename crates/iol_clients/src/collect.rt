@@ -5,10 +5,9 @@ ghost use Rattle.iol_clients.specs.Counts.{AddsUp, accepted_at};
 
 use crate::client::Client;
 use crate::counts::Counted;
-use crate::fault::ClientsFault;
 use iol_link::Wire;
 use iol_master::{Master, Settled};
-use std::alloc::Global;
+use std::alloc::{AllocError, Global};
 use std::sync::Wait;
 use std::sync::ledger::Ledger;
 
@@ -41,7 +40,7 @@ pub(crate) fn count_ports<W: Wire, L: Ledger, K: Ledger, R: Wait>(
     master: &Master<W, L, K>,
     ports: u32,
     clients: &[Client<L>],
-) -> Result<Vec<Counted>, ClientsFault>
+) -> Result<Vec<Counted>, AllocError>
     requires ports { ports ≡ master.now }
     requires few { length clients.now ≤ 512 }
     ensures count { IfOk result (λ counts. vec_len counts ≡ ports) }

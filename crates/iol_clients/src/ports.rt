@@ -2,14 +2,13 @@
 ghost use Rattle.std.specs.Prelude.{◌≡◌, All, IfOk, vec_len};
 ghost use Rattle.iol_master.specs.Tickets.{HasGiven};
 
-use crate::fault::ClientsFault;
 use iol_book::Limits;
 use iol_device::Device;
 use iol_isdu::Place;
 use iol_page::Page;
 use iol_port::Port;
 use iol_sim::{Params, Sim};
-use std::alloc::Global;
+use std::alloc::{AllocError, Global};
 
 /// The one parameter of each device.
 pub(crate) const PLACE: Place = Place { index: 16, sub: 0 };
@@ -31,7 +30,7 @@ const LIMITS: Limits = Limits {
 };
 
 /// A port over a clean wire, in operation after 15 turns.
-fn open_port(alloc: Global) -> Result<Port<Sim<Params>>, ClientsFault>
+fn open_port(alloc: Global) -> Result<Port<Sim<Params>>, AllocError>
     ensures { IfOk result (λ p. HasGiven p 0) }
 {
     let mut params = Params::new();
@@ -39,16 +38,16 @@ fn open_port(alloc: Global) -> Result<Port<Sim<Params>>, ClientsFault>
     let _ = params.add(PLACE, false, &VALUE);
     let page = Page::from_octets(&PAGE);
     let Ok(device) = Device::open(alloc, params, page, ROOM) else {
-        return Err(ClientsFault::OutOfMemory);
+        return Err(AllocError);
     };
     let Ok(wire) = Sim::new(alloc, device, Vec::new(alloc)) else {
-        return Err(ClientsFault::OutOfMemory);
+        return Err(AllocError);
     };
-    Port::open(alloc, wire, &LIMITS).map_err(|_| ClientsFault::OutOfMemory)
+    Port::open(alloc, wire, &LIMITS).map_err(|_| AllocError)
 }
 
 /// So many ports, which gave no ticket yet.
-pub(crate) fn open_ports(alloc: Global, count: u32) -> Result<Vec<Port<Sim<Params>>>, ClientsFault>
+pub(crate) fn open_ports(alloc: Global, count: u32) -> Result<Vec<Port<Sim<Params>>>, AllocError>
     ensures count { IfOk result (λ v. vec_len v ≡ count) }
     ensures fresh { IfOk result (λ v. All (λ p. HasGiven p 0) v.items) }
 {

@@ -1,12 +1,13 @@
 //! Clients and workers in threads: who submits while turns are made.
-ghost use Rattle.std.specs.Prelude.{◌≤◌, IfOk, vec_len};
+ghost use Rattle.std.specs.Prelude.{◌≡◌, ◌≤◌, IfErr, IfOk, vec_len};
+ghost use Rattle.iol_clients.specs.declared.fault.ClientsFault.TheVariants.{NoThread};
 
 use crate::client::Client;
 use crate::fault::ClientsFault;
 use iol_link::Wire;
 use iol_master::{Gate, Master};
 use iol_script::Plan;
-use std::alloc::Global;
+use std::alloc::{AllocError, Global};
 use std::sync::Wait;
 use std::sync::ledger::Ledger;
 use std::thread;
@@ -22,7 +23,7 @@ impl Gate for Open {
 }
 
 /// A client in a thread of its own.
-type ClientThread<L> = JoinHandle<Result<Client<L>, ClientsFault>>;
+type ClientThread<L> = JoinHandle<Result<Client<L>, AllocError>>;
 
 /// Starts the thread of a client, which submits its requests.
 fn start<'s, E, W: Wire + Send, L: Ledger + Sync, K: Ledger + Sync, R: Wait + Sync>(
@@ -31,7 +32,9 @@ fn start<'s, E, W: Wire + Send, L: Ledger + Sync, K: Ledger + Sync, R: Wait + Sy
     master: &'s Master<W, L, K>,
     client: Client<L>,
     each: u32,
-) -> Result<ClientThread<L>, ClientsFault> {
+) -> Result<ClientThread<L>, ClientsFault>
+    ensures { IfErr result (λ e. e ≡ NoThread) }
+{
     scope
         .spawn(move || client.submit(rt, master, each))
         .map_err(|_| ClientsFault::NoThread)
@@ -66,7 +69,7 @@ fn join_all<L: Ledger, R: Threads>(
     rt: &R,
     alloc: Global,
     threads: Vec<ClientThread<L>>,
-) -> Result<Vec<Client<L>>, ClientsFault>
+) -> Result<Vec<Client<L>>, AllocError>
     requires { vec_len threads ≤ 512 }
     ensures { IfOk result (λ clients. vec_len clients ≤ 512) }
 {
@@ -96,7 +99,7 @@ fn submit_beside<
 {
     let threads = start_all(scope, rt, alloc, master, plan)?;
     make_turns(rt, master, plan)?;
-    join_all(rt, alloc, threads)
+    Ok(join_all(rt, alloc, threads)?)
 }
 
 /// The workers make their turns.
@@ -104,7 +107,9 @@ pub(crate) fn make_turns<W: Wire + Send, L: Ledger, K: Ledger + Sync, R: Threads
     rt: &R,
     master: &Master<W, L, K>,
     plan: Plan,
-) -> Result<(), ClientsFault> {
+) -> Result<(), ClientsFault>
+    ensures { IfErr result (λ e. e ≡ NoThread) }
+{
     master
         .serve(rt, &Open, u64::from(plan.turns))
         .map_err(|_| ClientsFault::NoThread)

@@ -1,6 +1,7 @@
 //! A plan from its ports to its counts.
 ghost use Rattle.std.specs.Prelude.{◌≡◌, All, IfOk, vec_len};
 ghost use Rattle.iol_clients.specs.Counts.{AddsUp};
+ghost use Rattle.iol_master.specs.Ledgers.{IsBlankFor};
 
 use crate::collect::{count_ports, settle_all};
 use crate::counts::Counts;
@@ -46,10 +47,8 @@ fn with_ledgers<L: Ledger + Sync, K: Ledger + Sync, R: Threads + Wait + Sync>(
     clients: Blank,
     tickets: Blank,
 ) -> Result<Counts, ClientsFault>
-    requires clients { (clients.name ≡ L.name) × (clients.parts ≡ L.parts)
-        × (clients.parts ≡ 1025) }
-    requires tickets { (tickets.name ≡ K.name) × (tickets.parts ≡ K.parts)
-        × (tickets.parts ≡ plan.now.ports) }
+    requires clients { IsBlankFor clients L.name L.parts 1025 }
+    requires tickets { IsBlankFor tickets K.name K.parts plan.now.ports }
     ensures ports { IfOk result (λ counts. vec_len counts.ports ≡ plan.now.ports) }
     ensures up { IfOk result (λ counts. All AddsUp counts.ports.items) }
 {

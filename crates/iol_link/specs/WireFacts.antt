@@ -1,5 +1,5 @@
 -- What a wire is to a contract.
-use Rattle.std.specs.Prelude.{ℕ, Bool, false, List, [], Option, None, is_some, IsTrue, ⊤}
+use Rattle.std.specs.Prelude.{◌≡◌, ℕ, Bool, false, List, [], Option, None, is_some, IsTrue, ⊤}
 use Rattle.arrayvec.specs.ArrayVec.{ArrayVec}
 use Rattle.iol_far.specs.Octets.{octets_in}
 use Rattle.iol_far.specs.Far.{Far, opened}
@@ -47,3 +47,9 @@ module _ {W : Type 0} (facts : WireFacts W) where
   abbrev pub Passes : W → List ℕ → Option (ArrayVec ℕ) → W → Type 0
   Passes old sent answer new = IsTrue (honest old)
       → HonestExchange (far old) (silence old) sent (octets_in answer) (far new) (silence new)
+
+  -- another wire that may be put in the place of this one: as honest, to the same device, and
+  -- silent for as long
+  abbrev pub Replaces : W → W → Type 0
+  Replaces old new =
+      (honest new ≡ honest old) × (far new ≡ far old) × (silence new ≡ silence old)

@@ -6,6 +6,7 @@
 //! ever were is the sum over all ports.
 ghost use Rattle.std.specs.Prelude.{◌≡◌, ◌+◌, ◌<◌, ◌^◌, true, false};
 ghost use Rattle.iol_master.specs.Counts.{Opens, Settles, IsClosed};
+ghost use Rattle.iol_master.specs.Ledgers.{IsBlankFor};
 
 use std::marker::Model;
 use std::sync::ledger::{Blank, Book, Ledger, Share};
@@ -103,8 +104,7 @@ impl<L: Ledger, K: Ledger> Model for Accounts<L, K> {
 impl<L: Ledger, K: Ledger> Accounts<L, K> {
     /// Both ledgers anew, and the share of all ports.
     pub(crate) fn open(clients: Blank, ports: Blank) -> (Accounts<L, K>, Share<K>)
-        requires clients { (clients.name ≡ L.name) × (clients.parts ≡ L.parts)
-            × (clients.parts ≡ 1025) }
+        requires clients { IsBlankFor clients L.name L.parts 1025 }
         requires ports { (ports.name ≡ K.name) × (ports.parts ≡ K.parts) }
         ensures empty { result.0 ≡ record { desks = 0; settled = 0; total = 0 } }
         ensures share { (result.1.parts ≡ K.parts) × (result.1.amount ≡ 0) }

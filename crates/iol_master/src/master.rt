@@ -4,6 +4,7 @@ ghost use Rattle.iol_master.specs.declared.fault.MasterFault.TheVariants as faul
 ghost use Rattle.iol_master.specs.Tickets.{HasGiven};
 ghost use Rattle.iol_master.specs.Master.{IsPort, Desks, Submitted, SettledAs};
 ghost use Rattle.iol_master.specs.Counts.{IsClosed};
+ghost use Rattle.iol_master.specs.Ledgers.{IsBlankFor};
 
 use crate::accounts::{Accounts, Desk, Settled, Tally};
 use crate::fault::MasterFault;
@@ -67,10 +68,8 @@ impl<W: Wire, L: Ledger, K: Ledger, A: Handle> Master<W, L, K, A> {
     ) -> Result<Master<W, L, K, A>, (MasterFault, Vec<Port<W, A>, A>)>
     where
         W: Drop,
-        requires clients { (clients.name ≡ L.name) × (clients.parts ≡ L.parts)
-            × (clients.parts ≡ 1025) }
-        requires tickets { (tickets.name ≡ K.name) × (tickets.parts ≡ K.parts)
-            × (tickets.parts ≡ vec_len ports) }
+        requires clients { IsBlankFor clients L.name L.parts 1025 }
+        requires tickets { IsBlankFor tickets K.name K.parts (vec_len ports) }
         requires count { (1 ≤ vec_len ports) × (vec_len ports ≤ 32) }
         requires fresh { All (λ p. HasGiven p 0) ports.items }
         ensures { MatchResult result (λ m. m ≡ vec_len ports)

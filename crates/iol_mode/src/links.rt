@@ -8,7 +8,7 @@ ghost use Rattle.iol_mseq.specs.Texts.{master_text};
 ghost use Rattle.iol_far.specs.Octets.{octets_in};
 ghost use Rattle.iol_link.specs.declared.wire.Rate.{Rate};
 ghost use Rattle.iol_link.specs.Attempts.{good_reply, attempt_of};
-ghost use Rattle.iol_link.specs.WireFacts.{Wakes, Passes};
+ghost use Rattle.iol_link.specs.WireFacts.{Wakes, Passes, Replaces};
 ghost use Rattle.iol_mode.specs.Messages.{stays};
 ghost use Rattle.iol_mode.specs.States.{StateFits, IsDown, IsStartup, IsPreoperate, Takes, is_starting, waked, state_of, outcome_with, startup_turned, preoperate_turned, sending_of, counted, left_by};
 ghost use Rattle.iol_mode.specs.Stands.{OutcomeStands, StateStands, IsTold};
@@ -309,9 +309,7 @@ impl<W: Wire, S: Mode> Link<W, S> {
     /// Goes on over this wire, which stands to the same device as the one before;
     /// that one is handed back.
     pub fn rewire(&mut self, wire: W) -> W
-        requires honest { W.facts.honest wire ≡ W.facts.honest self.old.wire }
-        requires far { W.facts.far wire ≡ W.facts.far self.old.wire }
-        requires silence { W.facts.silence wire ≡ W.facts.silence self.old.wire }
+        requires { Replaces W.facts self.old.wire wire }
         ensures link { self.new ≡ record self.old { wire = wire } }
         ensures before { result ≡ self.old.wire }
     {

@@ -1,5 +1,5 @@
-//! Tests of single parts, from the octets of a message up to a book and the
-//! simulated wire, each by its public calls alone.
+//! Tests of single parts, from the octets of a message up to a book, each by its
+//! public calls alone.
 //!
 //! They stand here, and not beside the code that they call, since a crate with
 //! tests of its own is proved twice.
@@ -10,17 +10,11 @@ mod book;
 #[cfg(test)]
 mod cell;
 #[cfg(test)]
-mod device;
-#[cfg(test)]
 mod event;
 #[cfg(test)]
 mod image;
 #[cfg(test)]
 mod isdu;
-#[cfg(test)]
-mod link;
-#[cfg(test)]
-mod mode;
 #[cfg(test)]
 mod mseq;
 #[cfg(test)]
@@ -29,9 +23,3 @@ mod octets;
 mod page;
 #[cfg(test)]
 mod segment;
-#[cfg(test)]
-mod sim;
-#[cfg(test)]
-mod steps;
-#[cfg(test)]
-mod tap;

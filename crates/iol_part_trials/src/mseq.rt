@@ -5,27 +5,14 @@ use iol_mseq::{
     zeros,
 };
 use iol_octets::Channel;
+use iol_vectors::{Exchange, STARTUP};
 use std::test::Fail;
 
-/// The start-up of a device, then OPERATE with eight octets of on-request data and no process data.
-const STARTUP: [(&[u8], &[u8]); 12] = [
-    (&[0xA2, 0x00], &[0x17, 0x1B]),
-    (&[0xA3, 0x11], &[0x2D, 0x28]),
-    (&[0xA4, 0x33], &[0x11, 0x28]),
-    (&[0xA5, 0x22], &[0x00, 0x2D]),
-    (&[0xA6, 0x12], &[0x00, 0x2D]),
-    (&[0xA7, 0x03], &[0x12, 0x18]),
-    (&[0xA8, 0x03], &[0x34, 0x0F]),
-    (&[0xA9, 0x12], &[0x00, 0x2D]),
-    (&[0xAA, 0x22], &[0x01, 0x3C]),
-    (&[0xAB, 0x33], &[0x07, 0x0F]),
-    (&[0x20, 0x36, 0x95], &[0x2D]),
-    (&[0x20, 0x36, 0x9A], &[0x2D]),
-];
+/// How many messages of a start-up are in STARTUP's layout.
+const IN_STARTUP: usize = 12;
 
-const EIGHT_OCTETS: [(&[u8], &[u8]); 13] = [
-    (&[0x21, 0x76, 0x17, 0, 0, 0, 0, 0, 0, 0], &[0x2D]),
-    (&[0x20, 0x5E, 0x99, 0, 0, 0, 0, 0, 0, 0], &[0x2D]),
+/// Eight octets of on-request data and no process data.
+const EIGHT_OCTETS: [Exchange; 11] = [
     (&[0xF1, 0x64], &[0, 0, 0, 0, 0, 0, 0, 0, 0x2D]),
     (&[0x70, 0x5D, 0x93, 0x10, 0x83, 0, 0, 0, 0, 0], &[0x2D]),
     (&[0xF0, 0x75], &[0x01, 0, 0, 0, 0, 0, 0, 0, 0x3C]),
@@ -40,14 +27,14 @@ const EIGHT_OCTETS: [(&[u8], &[u8]); 13] = [
 ];
 
 /// OPERATE with two octets of process data in and one out.
-const PROCESS_DATA: [(&[u8], &[u8]); 4] = [
+const PROCESS_DATA: [Exchange; 4] = [
     (&[0xF1, 0x94, 0x00], &[0x00, 0x12, 0x34, 0x3A]),
     (&[0xF1, 0x94, 0x00], &[0x00, 0x00, 0x00, 0x75]),
     (&[0x20, 0xB0, 0x5A, 0x98], &[0x12, 0x34, 0x3A]),
     (&[0x20, 0xA1, 0x5A, 0x99], &[0x12, 0x34, 0x3A]),
 ];
 
-/// Reads a message and its reply, and writes both again.
+/// Whether a message and its reply are read, and what is read is written as it was.
 fn there_and_back(layout: &Layout, message: &[u8], reply: &[u8]) -> Result<bool, MseqFault> {
     let spoken = read_master(layout, message)?;
     let answered = read_reply(layout, spoken.mc.read, reply)?;
@@ -57,18 +44,24 @@ fn there_and_back(layout: &Layout, message: &[u8], reply: &[u8]) -> Result<bool,
     )
 }
 
+/// Whether this is so of each.
+fn all_there_and_back(layout: &Layout, exchanges: &[Exchange]) -> Result<bool, MseqFault> {
+    for (message, reply) in exchanges {
+        if !there_and_back(layout, message, reply)? {
+            return Ok(false);
+        }
+    }
+    Ok(true)
+}
+
 #[test]
 fn vectors(rt: HostRuntime) -> Result<(), Fail> {
-    for (message, reply) in STARTUP {
-        assert!(rt; there_and_back(&Layout::startup(), message, reply)?);
+    assert!(rt; all_there_and_back(&Layout::startup(), &STARTUP[..IN_STARTUP])?);
+    for layout in [Layout::preoperate(2)?, Layout::operate(6, 0, 0)?] {
+        assert!(rt; all_there_and_back(&layout, &STARTUP[IN_STARTUP..])?);
+        assert!(rt; all_there_and_back(&layout, &EIGHT_OCTETS)?);
     }
-    for (message, reply) in EIGHT_OCTETS {
-        assert!(rt; there_and_back(&Layout::preoperate(2)?, message, reply)?);
-        assert!(rt; there_and_back(&Layout::operate(6, 0, 0)?, message, reply)?);
-    }
-    for (message, reply) in PROCESS_DATA {
-        assert!(rt; there_and_back(&Layout::operate(0, 2, 1)?, message, reply)?);
-    }
+    assert!(rt; all_there_and_back(&Layout::operate(0, 2, 1)?, &PROCESS_DATA)?);
     Ok(())
 }
 

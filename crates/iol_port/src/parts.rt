@@ -4,6 +4,7 @@ ghost use Rattle.std.specs.Option.{option_copied};
 ghost use Rattle.std.specs.Result.{result_map_both};
 ghost use Rattle.iol_book.specs.declared.fault.BookFault.TheVariants.{OutOfMemory};
 ghost use Rattle.iol_book.specs.BookModel.{AreLimits, IsReplayed, opened as opened_book, submitted, submitted_urgent};
+ghost use Rattle.iol_link.specs.WireFacts.{Replaces};
 ghost use Rattle.iol_app.specs.StationState.{wire_of};
 ghost use Rattle.iol_port.specs.declared.fault.PortFault.TheVariants as fault;
 ghost use Rattle.iol_port.specs.declared.call.Call.TheVariants as call;
@@ -323,9 +324,7 @@ impl<W: Wire, A: Allocator + Copy> Parts<W, A> {
     }
 
     pub(crate) fn rewire(&mut self, wire: W) -> W
-        requires honest { W.facts.honest wire ≡ W.facts.honest (wire_of self.old.station.link) }
-        requires far { W.facts.far wire ≡ W.facts.far (wire_of self.old.station.link) }
-        requires silence { W.facts.silence wire ≡ W.facts.silence (wire_of self.old.station.link) }
+        requires { Replaces W.facts (wire_of self.old.station.link) wire }
         ensures parts { self.new ≡ rewired_parts wire self.old }
         ensures before { result ≡ wire_of self.old.station.link }
         ensures wire { wire_of self.new.station.link ≡ wire }

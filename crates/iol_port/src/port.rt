@@ -8,6 +8,7 @@ ghost use Rattle.iol_port.specs.declared.fault.PortFault.TheVariants as fault;
 ghost use Rattle.iol_port.specs.declared.call.Call.TheVariants as call;
 ghost use Rattle.iol_port.specs.declared.call.Answered.TheVariants as answered;
 ghost use Rattle.iol_port.specs.Run.{opened};
+ghost use Rattle.iol_link.specs.WireFacts.{Replaces};
 ghost use Rattle.iol_app.specs.StationState.{wire_of};
 ghost use Rattle.iol_app.specs.Asking.{IsCall};
 ghost use Rattle.iol_port.specs.Asks.{asks_of, IsWireCall};
@@ -411,11 +412,7 @@ impl<W: Wire, A: Handle> Port<W, A> {
     /// before, and asks for the same.
     pub fn rewire(&mut self, wire: W) -> W
         requires told { W.facts.tells (wire_of self.old.parts.station.link) wire }
-        requires honest { W.facts.honest wire
-            ≡ W.facts.honest (wire_of self.old.parts.station.link) }
-        requires far { W.facts.far wire ≡ W.facts.far (wire_of self.old.parts.station.link) }
-        requires silence { W.facts.silence wire
-            ≡ W.facts.silence (wire_of self.old.parts.station.link) }
+        requires like { Replaces W.facts (wire_of self.old.parts.station.link) wire }
         ensures parts { self.new.parts ≡ rewired_parts wire self.old.parts }
         ensures rest { self.new ≡ record self.old { parts = self.new.parts } }
         ensures before { result ≡ wire_of self.old.parts.station.link }

@@ -1,3 +1,4 @@
 pub mod Scripts
 pub mod Calls
 pub mod Entries
+pub mod Crosses

@@ -1,5 +1,4 @@
-//! Links, stations, ports, masters and their clients over the simulated wire: whole
-//! runs, one after another.
+//! Links, stations and ports over the simulated wire: whole runs, one after another.
 //!
 //! What a link, a station, a port and a wire do at each call is proved in their own
 //! crates. Beside the tests this crate has the laws of a port over a simulated wire
@@ -19,19 +18,9 @@ mod bench;
 #[cfg(test)]
 mod cancels;
 #[cfg(test)]
-mod clients;
-#[cfg(test)]
-mod commands;
-#[cfg(test)]
-mod desks;
-#[cfg(test)]
 mod far;
 #[cfg(test)]
 mod liar;
-#[cfg(test)]
-mod lines;
-#[cfg(test)]
-mod masters;
 #[cfg(test)]
 mod peers;
 #[cfg(test)]
@@ -42,8 +31,6 @@ mod ports;
 mod rows;
 #[cfg(test)]
 mod runs;
-#[cfg(test)]
-mod seats;
 #[cfg(test)]
 mod sessions;
 #[cfg(test)]

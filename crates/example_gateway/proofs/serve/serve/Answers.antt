@@ -1,7 +1,7 @@
 use denote.Param.Send.{sendable}
 use Rattle.std.proofs.Crossing.{crosses}
 use Rattle.iol_master.specs.Tickets.{HasGiven}
-use Rattle.example_gateway.proofs.Crosses.{sim_send}
+use Rattle.iol_sim.proofs.Crosses.{sim_send}
 use Rattle.example_gateway.proofs.Pairs.{both}
 use Rattle.example_gateway.proofs.serve.serve.Goals as goal
 

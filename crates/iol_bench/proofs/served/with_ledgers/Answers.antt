@@ -1,6 +1,6 @@
 use denote.Param.Send.{sendable}
 use Rattle.std.proofs.Crossing.{crosses}
-use Rattle.iol_bench.proofs.Crosses.{sim_send}
+use Rattle.iol_sim.proofs.Crosses.{sim_send}
 use Rattle.iol_bench.proofs.served.with_ledgers.Goals as goal
 
 pub serve-requires-send-W : goal.serve-requires-send-W

@@ -1,6 +1,6 @@
 use denote.Param.Send.{sendable}
 use Rattle.std.proofs.Crossing.{crosses}
-use Rattle.iol_clients.proofs.Crosses.{sim_send}
+use Rattle.iol_sim.proofs.Crosses.{sim_send}
 use Rattle.iol_clients.proofs.serve.with_ledgers.Goals as goal
 
 pub submit_all-requires-send-W : goal.submit_all-requires-send-W

@@ -13,6 +13,6 @@ returns-clause-steps g c =
     let is = c.self.view_is in
     subst (λ (t : StationState _). RewireSteps facts t new) is
     (rewire_steps facts c.args.wire old new
-    (c.requires.honest ∙ sym (ap (λ (t : StationState _). facts.honest t.link.wire) is)) (c.requires.far ∙ sym (ap (λ (t : StationState _). facts.far t.link.wire) is))
-    (c.requires.silence ∙ sym (ap (λ (t : StationState _). facts.silence t.link.wire) is))
+    (c.requires.0 ∙ sym (ap (λ (t : StationState _). facts.honest t.link.wire) is)) (c.requires.1 ∙ sym (ap (λ (t : StationState _). facts.far t.link.wire) is))
+    (c.requires.2 ∙ sym (ap (λ (t : StationState _). facts.silence t.link.wire) is))
     (ap (λ l. let n : StationState _ = record { link = l; session = i.session } in n) c.rewire.ensures.link))

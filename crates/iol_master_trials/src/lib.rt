@@ -1,0 +1,10 @@
+//! Masters with their ports, desks and seats, over the simulated wire and over wires
+//! of which nothing is promised: threads of clients and workers, as tests.
+#![tactic(auto)]
+
+#[cfg(test)]
+mod desks;
+#[cfg(test)]
+mod masters;
+#[cfg(test)]
+mod seats;
