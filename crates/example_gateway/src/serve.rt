@@ -1,5 +1,4 @@
 //! The master: its clients, its workers, and the reader of process data.
-ghost use Rattle.std.specs.Prelude.{◌≡◌};
 ghost use Rattle.iol_master.specs.Ledgers.{IsBlankFor};
 
 use crate::ports::{PLACE, open_port};
