@@ -2,7 +2,6 @@
 ghost use Rattle.std.specs.Prelude.{◌≡◌, None, Some, Bool, true, false, is_some, IsSome, IsTrue, OnOk, OnErr, ◌&&◌, ◌≢◌};
 ghost use Rattle.std.specs.Result.{result_err};
 ghost use Rattle.std.specs.Option.{option_copied};
-ghost use Rattle.iol_link.specs.WireFacts.{Replaces};
 ghost use Rattle.iol_mode.specs.States.{waked, is_starting, outcome_with};
 ghost use Rattle.iol_app.specs.EventReading.{is_refused};
 ghost use Rattle.iol_app.specs.State.{opened, aborted_in, begun_in, wanting, output_refusal, left, IsSession};
@@ -13,6 +12,7 @@ ghost use Rattle.iol_app.specs.Seen.{TurnSteps, NewSteps, BeginSteps, AbortSteps
 ghost use Rattle.iol_app.specs.Asking.{asked_of, prepared, IsCall};
 ghost use Rattle.iol_app.specs.AskedCalls.{asked_facts};
 ghost use Rattle.iol_app.specs.Rewire.{rewired, RewireSteps};
+ghost use Rattle.iol_link.specs.WireFacts.{Replaces};
 ghost use Rattle.iol_app.specs.StationState.{wire_of, mode_of, why_of, is_operating, waked_session, settled_session, attempt_session, IsAttemptSaid, IsReplyHearable, LinkFits, NextFits, IsSettledSaid, IsTurn};
 
 use crate::asked::Asked;
