@@ -264,9 +264,9 @@ fn refused_memory_changes_nothing(rt: HostRuntime) -> Result<(), Fail> {
     Ok(())
 }
 
-/// The limits of a port at which so many submits are taken, and at which the next one is
-/// refused for this, and for all that comes behind it: an outstanding ticket that waits
-/// takes 4 entries of the journal, which are above the limit where 4 more are.
+/// The limits of a port, and how many submits it takes until the next one is refused for
+/// this and for all that comes behind it. A request that waits takes 4 entries of the
+/// journal, one now and three that are owed, and one more needs room for 4 besides.
 fn limits_for(fault: BookFault) -> (Limits, u32)
     ensures { AreLimits result.0 }
 {
