@@ -5,6 +5,7 @@ ghost use Rattle.iol_book.specs.BookModel.{AreLimits};
 ghost use Rattle.iol_master.specs.Tickets.{HasGiven};
 ghost use Rattle.iol_master.specs.Ledgers.{IsBlankFor};
 
+use crate::opening::open_master;
 use iol_book::{BookFault, Limits, Ticket};
 use iol_cell::Handle;
 use iol_isdu::{Place, Request};
@@ -81,13 +82,8 @@ fn run_out<L: Ledger, K: Ledger + Sync, R: Threads + Wait + Abort + Sync>(
     requires clients { IsBlankFor clients L.name L.parts 1025 }
     requires tickets { IsBlankFor tickets K.name K.parts 1 }
 {
-    let opened: Result<Master<AnyWire<Nobody>, L, K>, _> = Master::open(
-        alloc,
-        one_port(alloc, &LIMITS)?,
-        clients,
-        tickets,
-    );
-    let master = opened.ok().expect(rt, "memory");
+    let ports = one_port(alloc, &LIMITS)?;
+    let master: Master<AnyWire<Nobody>, L, K> = open_master(rt, alloc, ports, clients, tickets);
     let mut desks = Vec::with_capacity(alloc, 1024)?;
     for _ in 0..1024u32 {
         let desk = master.desk(rt, 1)?;
@@ -201,13 +197,10 @@ fn submit_is_refused<L: Ledger, K: Ledger, R: Wait + Abort>(
     requires tickets { IsBlankFor tickets K.name K.parts 1 }
 {
     scarce.order(Refusal::Never);
-    let opened: Result<Master<AnyWire<Nobody>, L, K, &Scarce>, _> = Master::open(
-        scarce,
-        one_port(scarce, &LIMITS)?,
-        clients,
-        tickets,
+    let ports = one_port(scarce, &LIMITS)?;
+    let master: Master<AnyWire<Nobody>, L, K, &Scarce> = open_master(
+        rt, scarce, ports, clients, tickets,
     );
-    let master = opened.ok().expect(rt, "memory");
     scarce.order(Refusal::Only(0));
     let mut desk = master.desk(rt, 1)?;
     assert!(rt; submit_refusing(rt, scarce, Refusal::Only(0), &master, &mut desk, kind));
@@ -299,13 +292,10 @@ fn refused_first<L: Ledger, K: Ledger, R: Wait + Abort>(
 {
     let (limits, taken) = limits_for(fault);
     scarce.order(Refusal::Never);
-    let opened: Result<Master<AnyWire<Nobody>, L, K, &Scarce>, _> = Master::open(
-        scarce,
-        one_port(scarce, &limits)?,
-        clients,
-        tickets,
+    let ports = one_port(scarce, &limits)?;
+    let master: Master<AnyWire<Nobody>, L, K, &Scarce> = open_master(
+        rt, scarce, ports, clients, tickets,
     );
-    let master = opened.ok().expect(rt, "memory");
     let mut desk = master.desk(rt, 1)?;
     for _ in 0..taken {
         assert!(rt; submit(rt, &master, &mut desk, kind).is_ok());
@@ -350,13 +340,8 @@ fn both_count<L: Ledger, K: Ledger, R: Wait + Abort>(
     requires clients { IsBlankFor clients L.name L.parts 1025 }
     requires tickets { IsBlankFor tickets K.name K.parts 1 }
 {
-    let opened: Result<Master<AnyWire<Nobody>, L, K>, _> = Master::open(
-        alloc,
-        one_port(alloc, &LIMITS)?,
-        clients,
-        tickets,
-    );
-    let master = opened.ok().expect(rt, "memory");
+    let ports = one_port(alloc, &LIMITS)?;
+    let master: Master<AnyWire<Nobody>, L, K> = open_master(rt, alloc, ports, clients, tickets);
     let mut one = master.desk(rt, 1)?;
     let mut two = master.desk(rt, 1)?;
     assert!(rt; submit(rt, &master, &mut one, Kind::Ordinary) == Ok(Ticket(8)));

@@ -7,4 +7,6 @@ mod desks;
 #[cfg(test)]
 mod masters;
 #[cfg(test)]
+mod opening;
+#[cfg(test)]
 mod seats;

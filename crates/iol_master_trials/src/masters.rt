@@ -7,6 +7,7 @@ ghost use Rattle.iol_port.specs.Replies.{outcome_reply};
 ghost use Rattle.iol_master.specs.Tickets.{HasGiven};
 ghost use Rattle.iol_master.specs.Ledgers.{IsBlankFor};
 
+use crate::opening::open_master;
 use iol_book::{BookFault, Limits, Outcome, Ticket};
 use iol_device::Device;
 use iol_isdu::{Answer, Cause, Octets, Place, Request};
@@ -222,8 +223,7 @@ fn cancel_row<L: Ledger, K: Ledger, R: Wait + Abort>(
     requires tickets { IsBlankFor tickets K.name K.parts 2 }
 {
     let ports = two_ports(alloc)?;
-    let opened: Result<Master<Sim<Params>, L, K>, _> = Master::open(alloc, ports, clients, tickets);
-    let master = opened.ok().expect(rt, "memory");
+    let master: Master<Sim<Params>, L, K> = open_master(rt, alloc, ports, clients, tickets);
     let mut one = master.desk(rt, SECOND)?;
     let mut two = master.desk(rt, SECOND)?;
     assert!(rt; master.submit(rt, &mut one, read()) == Ok(Ticket(1)));
@@ -252,8 +252,7 @@ fn row<L: Ledger + Sync, K: Ledger + Sync, R: Threads + Wait + Abort + Sync>(
     requires tickets { IsBlankFor tickets K.name K.parts 2 }
 {
     let ports = two_ports(alloc)?;
-    let opened: Result<Master<Sim<Params>, L, K>, _> = Master::open(alloc, ports, clients, tickets);
-    let master = opened.ok().expect(rt, "memory");
+    let master: Master<Sim<Params>, L, K> = open_master(rt, alloc, ports, clients, tickets);
     assert!(rt; master.desk(rt, 0).err() == Some(MasterFault::NoSuchPort));
     assert!(rt; master.desk(rt, 3).err() == Some(MasterFault::NoSuchPort));
     let one = master.desk(rt, 1)?;

@@ -4,6 +4,7 @@ ghost use Rattle.iol_master.specs.Tickets.{HasGiven};
 ghost use Rattle.iol_master.specs.Ledgers.{IsBlankFor};
 
 use crate::masters::{LIMITS, LOOKS};
+use crate::opening::open_master;
 use iol_cell::{ImageSeat, image_cell};
 use iol_device::Device;
 use iol_image::Image;
@@ -152,8 +153,7 @@ fn image_row<L: Ledger, K: Ledger, R: Wait + Abort>(
     requires tickets { IsBlankFor tickets K.name K.parts 1 }
 {
     let (ports, mut seat) = shown(rt, alloc, sending(alloc)?)?;
-    let opened: Result<Master<Sim<Params>, L, K>, _> = Master::open(alloc, ports, clients, tickets);
-    let master = opened.ok().expect(rt, "memory");
+    let master: Master<Sim<Params>, L, K> = open_master(rt, alloc, ports, clients, tickets);
     turns(rt, &master, 15);
     assert!(rt; seat.read(rt).is_none());
     turns(rt, &master, 1);
@@ -240,10 +240,7 @@ fn held_row<L: Ledger, K: Ledger, R: Threads + Wait + Abort + Sync>(
         flags: Arc::try_clone(&flags)?,
     });
     let (ports, seat) = shown(rt, alloc, wire)?;
-    let opened: Result<Master<AnyWire<Looking>, L, K>, _> = Master::open(
-        alloc, ports, clients, tickets,
-    );
-    let master = opened.ok().expect(rt, "memory");
+    let master: Master<AnyWire<Looking>, L, K> = open_master(rt, alloc, ports, clients, tickets);
     turns(rt, &master, 16);
     assert!(rt; beside(rt, &master, seat, &flags));
     assert!(rt; flags.seen.load(Ordering::SeqCst));

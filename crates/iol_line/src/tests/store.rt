@@ -7,12 +7,9 @@ use iol_device::{App, Device};
 use iol_isdu::{Answer, Octets, Place, Request};
 use iol_mseq::Message;
 use iol_page::Page;
+use iol_vectors::PLAIN;
 use std::alloc::Global;
 use std::test::Fail;
-
-/// The direct parameter page of the device, from address 0x02 on: V1.1, with ISDU,
-/// without process data.
-const PAGE: [u8; 10] = [0x17, 0x2D, 0x11, 0, 0, 0x12, 0x34, 0, 0x01, 0x07];
 
 /// The application of the device: a parameter at index 16.
 #[derive(Drop)]
@@ -100,7 +97,7 @@ fn damaged(message: Message) -> Message {
 
 pub(crate) fn opened_device(alloc: Global) -> Result<Device<Store>, Fail> {
     let octets = Octets::try_from([0x0A].as_slice()).map_err(|_| Fail::from("too long"))?;
-    match Device::open(alloc, Store { octets }, Page::from_octets(&PAGE), 10) {
+    match Device::open(alloc, Store { octets }, Page::from_octets(&PLAIN), 10) {
         Ok(device) => Ok(device),
         Err(_) => Err(Fail::from("no memory")),
     }
