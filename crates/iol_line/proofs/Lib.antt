@@ -3,4 +3,3 @@ pub mod ToldTurns
 pub mod DriveLemmas
 pub mod PlainTurns
 pub mod HonestTurns
-pub mod MeetLemmas

@@ -26,6 +26,3 @@ pub use given::Given;
 pub use honest_drive::{honest_turn_answered, honest_turn_woken};
 pub use honest_line::HonestLine;
 pub use line::Line;
-
-#[cfg(test)]
-mod tests;

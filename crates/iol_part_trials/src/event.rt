@@ -86,19 +86,23 @@ fn memory_full(rt: HostRuntime) {
 #[test]
 fn one_event_is_read(rt: HostRuntime) -> Result<(), Fail> {
     let mut reader = EventReader::new();
-    assert_eq!(rt; reader.address(), 0);
-    assert_eq!(rt; reader.take(0x81)?, None);
-    assert_eq!(rt; reader.address(), 1);
-    assert_eq!(rt; reader.take(0xF4)?, None);
-    assert_eq!(rt; reader.address(), 2);
-    assert_eq!(rt; reader.take(0x42)?, None);
+    for (address, octet) in [(0, 0x81), (1, 0xF4), (2, 0x42)] {
+        assert_eq!(rt; reader.address(), address);
+        assert_eq!(rt; reader.take(octet)?, None);
+    }
     assert_eq!(rt; reader.address(), 3);
     let events = reader.take(0x10)?.ok_or("no list")?;
-    assert_eq!(rt; events.len(), 1);
     assert_eq!(rt; events.as_slice(), [ALARM].as_slice());
+    assert_eq!(rt; reader, EventReader::new());
+    Ok(())
+}
+
+#[test]
+fn a_list_is_read_and_cloned(rt: HostRuntime) -> Result<(), Fail> {
+    let events = read(&[0x81, 0xF4, 0x42, 0x10])?.ok_or("no list")?;
+    assert_eq!(rt; events.len(), 1);
     assert_eq!(rt; events.clone()?, events);
     assert_eq!(rt; events.iter().copied().last(), Some(ALARM));
-    assert_eq!(rt; reader, EventReader::new());
     Ok(())
 }
 

@@ -1,1 +1,2 @@
 mod FirstApp
+mod MeetLemmas

@@ -1,4 +1,5 @@
-//! Links, stations and ports over the simulated wire: whole runs, one after another.
+//! Links, stations and ports over the simulated wire, and ports over told lines: whole
+//! runs, one after another.
 //!
 //! What a link, a station, a port and a wire do at each call is proved in their own
 //! crates. Beside the tests this crate has the laws of a port over a simulated wire
@@ -21,6 +22,8 @@ mod cancels;
 mod far;
 #[cfg(test)]
 mod liar;
+#[cfg(test)]
+mod lines;
 #[cfg(test)]
 mod peers;
 #[cfg(test)]

@@ -9,8 +9,6 @@ mod command;
 mod ending;
 mod help;
 mod performing;
-#[cfg(test)]
-mod tests;
 
 use crate::command::mode_of;
 use crate::ending::{Ending, exit_of};

@@ -11,13 +11,13 @@ ghost use Rattle.iol_port.specs.Asks.{asks_of};
 ghost use Rattle.iol_line.specs.HonestTold.{honest_facts, standing, ExchangePremise};
 ghost use Rattle.iol_line.specs.Driving.{line_of};
 
-use crate::tests::store::{Fate, Store, opened_device};
-use crate::tests::{LIMITS, PARAMETER};
-use crate::{HonestLine, honest_turn_answered, honest_turn_woken};
+use super::store::{Fate, Store, opened_device};
+use super::{LIMITS, PARAMETER};
 use iol_app::{Asked, Mode};
 use iol_book::{Outcome, Ticket};
 use iol_device::Device;
 use iol_isdu::{Answer, Octets, Request};
+use iol_line::{HonestLine, honest_turn_answered, honest_turn_woken};
 use iol_link::Rate;
 use iol_mseq::Message;
 use iol_port::Port;

@@ -1,11 +1,11 @@
 //! Calls of a port with a device at the far end of its line by their names, and what they say.
 use super::store::Store;
 use super::{PARAMETER, fate_at, turn};
-use crate::{Line, turn_answered};
 use iol_app::{Asked, Mode};
 use iol_book::{Outcome, Ticket};
 use iol_device::Device;
 use iol_isdu::Request;
+use iol_line::{Line, turn_answered};
 use iol_mode::Why;
 use iol_mseq::Message;
 use iol_port::{Port, PortFault};

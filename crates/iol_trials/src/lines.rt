@@ -4,11 +4,11 @@ mod named;
 mod store;
 mod told;
 
-use super::*;
 use iol_app::{Asked, Mode};
 use iol_book::{Limits, Outcome, Ticket};
 use iol_device::Device;
 use iol_isdu::{Answer, Cause, Octets, Place, Request};
+use iol_line::{Line, turn_answered, turn_woken};
 use iol_link::Rate;
 use iol_mode::Why;
 use iol_mseq::Message;

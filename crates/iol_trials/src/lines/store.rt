@@ -2,7 +2,7 @@
 ghost use Rattle.std.specs.Prelude.{true, false, ⊤};
 ghost use Rattle.iol_isdu.specs.Answers.{AnswersKind};
 
-use crate::tests::PARAMETER;
+use super::PARAMETER;
 use iol_device::{App, Device};
 use iol_isdu::{Answer, Octets, Place, Request};
 use iol_mseq::Message;

@@ -1,5 +1,5 @@
 //! Calls of a line by their names, and what they bring.
-use crate::Line;
+use iol_line::Line;
 use iol_link::{Rate, Wire};
 use iol_mseq::Message;
 

@@ -1,5 +1,5 @@
 use Rattle.iol_line.specs.Driving.{line_of}
-use Rattle.iol_line.proofs.tests.honest.meet.Goals as goal
+use Rattle.iol_trials.proofs.lines.honest.meet.Goals as goal
 
 pub answered_by-requires-clause-premise : goal.answered_by-requires-clause-premise
 answered_by-requires-clause-premise c =
