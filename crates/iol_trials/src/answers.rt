@@ -8,7 +8,7 @@ use crate::play::ROOM;
 use crate::{first_app_follows_record, record_is_answered_by_the_first_params};
 use iol_book::Limits;
 use iol_device::{Carried, Device};
-use iol_isdu::{Answer, Place, Request};
+use iol_isdu::{Answer, Octets, Place, Request};
 use iol_page::Page;
 use iol_port::{Call, Port};
 use iol_sim::{Fate, Params, Sim, Step};
@@ -80,13 +80,19 @@ fn written_and_read_back(alloc: Global) -> Result<Vec<Call>, Fail> {
     Ok(calls)
 }
 
+fn is_written(octets: &Octets) -> bool {
+    octets.as_slice() == WRITTEN.as_slice()
+}
+
 /// Whether the device has carried out just these two: that write, and a read of what it wrote.
 fn has_written_and_read(record: &[Carried]) -> bool {
-    let [written, read] = record else {
+    let [first, second] = record else {
         return false;
     };
-    written.answer == Answer::Written
-        && matches!(&read.answer, Answer::Read(octets) if octets.as_slice() == WRITTEN.as_slice())
+    matches!(&first.request, Request::Write(place, octets) if *place == PLACE && is_written(octets))
+        && first.answer == Answer::Written
+        && second.request == Request::read(PLACE)
+        && matches!(&second.answer, Answer::Read(octets) if is_written(octets))
 }
 
 /// A place is written, with a reply lost, and read back after a restart.
