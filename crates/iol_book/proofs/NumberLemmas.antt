@@ -9,7 +9,8 @@ use Rattle.iol_book.specs.declared.entries.Outcome.{Outcome}
 use Rattle.iol_book.specs.declared.entries.Outcome.TheVariants as outcome
 use Rattle.iol_book.specs.declared.entries.Entry.TheVariants.{Submitted, Withdrawn, Collected, Urgent}
 use Rattle.iol_book.specs.Replay.{Standing, step, same_ticket, waiting_after, is_among}
-use Rattle.iol_book.specs.BookModel.{waits, next_taken, others_behind}
+use Rattle.std.specs.Option.{option_map_or}
+use Rattle.iol_book.specs.BookModel.{waits, is_taken, next_taken, others_behind}
 use Rattle.iol_book.specs.Numbers.{times_in, IsNumbered}
 
 abbrev pub standing : List (Ticket × Request) → List (Ticket × Request) → Option (Ticket × Request) → List (Ticket × Outcome) → Standing
@@ -39,6 +40,11 @@ module _ {X : Type 0} (n : ℕ) (t : Ticket) where
   pub remove_entry-none : (ws : List (Ticket × X)) → times_in t.0 ws ≡ 0 → remove_entry (same_ticket t) ws ≡ ws
   remove_entry-none [] none = refl
   remove_entry-none (w ∷ ws) none = grind (arith, common_steps, remove_entry-none ws)
+
+  -- and no value to find
+  pub lookup-none : (ws : List (Ticket × X)) → times_in t.0 ws ≡ 0 → lookup (same_ticket t) ws ≡ None
+  lookup-none [] none = refl
+  lookup-none (w ∷ ws) none = grind (arith, common_steps, lookup-none ws)
 
 -- what each call leaves, by the parts of a standing
 module _ (last : ℕ) (us ws : List (Ticket × Request)) (os : List (Ticket × Outcome)) where
@@ -124,6 +130,17 @@ module _ (last : ℕ) (s next : Standing) where
   taken-waits p (outcome.Done a) e h = refl
   taken-waits p (outcome.Unknown c) e h = refl
   taken-waits p outcome.Withdrawn e h = refl
+
+  -- and has no outcome
+  pub taken-unanswered : (t : Ticket) → is_taken s t ≡ true → IsNumbered last s → lookup (same_ticket t) s.outcomes ≡ None
+  taken-unanswered t taken h = by s.taken refl
+    where
+      by : (r : Option (Ticket × Request)) → s.taken ≡ r → lookup (same_ticket t) s.outcomes ≡ None
+      by None e = let f : false ≡ true = subst (λ (r : Option (Ticket × Request)). option_map_or (λ p. same_ticket t p.0) r false ≡ true) e taken in grind (arith, common_steps)
+      by (Some p) e =
+          let k : IsNumbered last (standing s.urgent s.waiting (Some p) s.outcomes) = subst (λ taken. IsNumbered last (standing s.urgent s.waiting taken s.outcomes)) e h in
+          let same : nat_eq t.0 p.0.0 ≡ true = subst (λ (r : Option (Ticket × Request)). option_map_or (λ p. same_ticket t p.0) r false ≡ true) e taken in
+          lookup-none t.0 t s.outcomes (grind (arith, common_steps, k.once t.0))
 
   pub entered-post : (p : Ticket × Request) (o : Outcome) → s.taken ≡ Some p → next ≡ record s { taken = None; outcomes = insert_entry same_ticket s.outcomes p.0 o } → IsNumbered last s → IsNumbered last next
   entered-post p o e is h =

@@ -3,6 +3,7 @@ ghost use Rattle.std.specs.Prelude.{◌≡◌, ◌<◌, ◌↔◌, IsErr, IfErr,
 
 use crate::fault::IsduFault;
 use arrayvec::ArrayVec;
+use std::alloc::AllocError;
 
 /// The octets of a parameter: at most 232, so that they fit into one ISDU
 /// beside the longest form of a place (IEC 61131-9, A.5.3 and A.5.4).
@@ -22,7 +23,7 @@ pub struct Place {
 }
 
 /// What the master asks of the device by one ISDU (IEC 61131-9, A.5.2).
-#[derive(Clone, Debug, PartialEq, Eq, Drop)]
+#[derive(Debug, PartialEq, Eq, Drop)]
 pub enum Request {
     /// Read the parameter at this place.
     Read(Place),
@@ -31,7 +32,7 @@ pub enum Request {
 }
 
 /// What the device answers to one request (IEC 61131-9, A.5.2).
-#[derive(Clone, Debug, PartialEq, Eq, Drop)]
+#[derive(Debug, PartialEq, Eq, Drop)]
 pub enum Answer {
     /// Read response (+): the octets of the parameter that was read.
     Read(Octets),
@@ -79,5 +80,45 @@ impl Request {
     {
         let octets = Octets::try_from(octets).map_err(|_| IsduFault::DataTooLong)?;
         Ok(Request::Write(place, octets))
+    }
+}
+
+/// The octets once more, all of them in one step.
+fn octets_again(octets: &Octets) -> Octets
+    ensures { result ≡ octets.now }
+{
+    let mut again = Octets::new();
+    again.try_extend_from_slice(octets).unwrap();
+    again
+}
+
+impl Clone for Request {
+    ghost use Rattle.std.specs.Prelude.{◌≡◌, ⊤};
+
+    ghost is_clone = { λ request copy. copy ≡ request };
+
+    ghost is_infallible = { λ _. ⊤ };
+
+    fn clone(&self) -> Result<Request, AllocError> {
+        Ok(match self {
+            Request::Read(place) => Request::Read(*place),
+            Request::Write(place, octets) => Request::Write(*place, octets_again(octets)),
+        })
+    }
+}
+
+impl Clone for Answer {
+    ghost use Rattle.std.specs.Prelude.{◌≡◌, ⊤};
+
+    ghost is_clone = { λ answer copy. copy ≡ answer };
+
+    ghost is_infallible = { λ _. ⊤ };
+
+    fn clone(&self) -> Result<Answer, AllocError> {
+        Ok(match self {
+            Answer::Read(octets) => Answer::Read(octets_again(octets)),
+            Answer::Written => Answer::Written,
+            Answer::Refused(error, additional) => Answer::Refused(*error, *additional),
+        })
     }
 }

@@ -14,6 +14,9 @@ pub type Message = ArrayVec<u8, 66>;
 /// The octets of one part of a message: on-request data, or process data in or out.
 pub type Part = ArrayVec<u8, 32>;
 
+/// As many zeros as the longest message has octets.
+const ZEROS: [u8; 66] = [0; 66];
+
 /// A part with these octets, at most 32.
 pub fn part_of(octets: &[u8]) -> Part
     requires { length octets.now ≤ 32 }
@@ -41,11 +44,7 @@ pub fn zeros(size: u8) -> Part
     requires { size ≤ 32 }
     ensures { result.items ≡ replicate size 0 }
 {
-    let mut part = Part::new();
-    for _i in 0..size {
-        part.push(0);
-    }
-    part
+    part_of(&ZEROS[..size as usize])
 }
 
 /// The on-request data of the page and diagnosis channels, 1 to 32 octets: the
@@ -86,9 +85,7 @@ pub fn append_zeros(message: &mut Message, size: u8)
     requires { array_vec_len message.old + size ≤ 66 }
     ensures { message.new.items ≡ message.old.items ++ replicate size 0 }
 {
-    for _i in 0..size {
-        message.push(0);
-    }
+    append(message, &ZEROS[..size as usize]);
 }
 
 /// Puts the on-request data of the page and diagnosis channels at the end: the

@@ -92,13 +92,14 @@ pub(crate) fn begin_next<W: Wire, A: Allocator + Copy>(
         (lacks_isdu station.old.session.isdu) (next_taken book.old.state.standing) book.old.state }
     ensures takes { TakesNext W.facts room station.old book.old.state station.new book.new.state }
 {
-    if !station.ready(room) {
+    // Most turns find no request that waits.
+    if book.next().is_none() || !station.ready(room) {
         return;
     }
     if lacks_isdu(station.isdu()) {
         station.may_deny();
         let _denied = book.deny();
-    } else if book.next().is_some() {
+    } else {
         take_next(station, book);
     }
 }
