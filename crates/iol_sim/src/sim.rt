@@ -299,11 +299,13 @@ impl<A: Allocator + Copy> Sim<Params, A> {
     }
 }
 
-/// What a wire answers.
-fn answer_of(answered: bool, reply: Message) -> Option<Message>
-    ensures { octets_in result ≡ (if answered then Some reply.items else None) }
+/// Gives an answer up that doesn't come.
+fn keep_if(answered: bool, answer: &mut Option<Message>)
+    ensures { octets_in answer.new ≡ (if answered then octets_in answer.old else None) }
 {
-    if answered { Some(reply) } else { None }
+    if !answered {
+        *answer = None;
+    }
 }
 
 /// Flips bit 0 of the last octet of a message.
@@ -344,10 +346,14 @@ impl<P: App, A: Allocator + Copy> Wire for Sim<P, A> {
         damaged_replies_are_unread();
         one_flip_is_seen();
         self.device.parts_are_regular();
-        let mut reply = Message::new();
         let fate = self.prepare();
-        let answered = self.pass(fate, sent, &mut reply);
+        let mut answer = Some(Message::new());
+        let Some(reply) = &mut answer else {
+            unreachable!()
+        };
+        let answered = self.pass(fate, sent, reply);
         self.count(fate, answered);
-        answer_of(answered, reply)
+        keep_if(answered, &mut answer);
+        answer
     }
 }
