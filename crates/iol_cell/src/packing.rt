@@ -77,5 +77,5 @@ pub fn image_in(words: &[u64; 5]) -> Option<Image>
 {
     let mut octets = octets_in(words);
     octets.truncate(words[0].min(32) as usize);
-    Image::new(octets.as_slice()).ok()
+    Image::of(octets).ok()
 }

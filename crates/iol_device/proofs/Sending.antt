@@ -1,5 +1,5 @@
 -- The flows of the segments of an answer.
-use Rattle.std.proofs.Common.{◌≡◌, ℕ, zero, suc, ◌%◌, true, false, arith}
+use Rattle.std.proofs.Common.{ℕ, zero, suc, ◌%◌, true, false, arith}
 use Rattle.std.specs.Prelude.{IfSome, if◌then◌else◌, ◌==◌}
 use Rattle.iol_octets.specs.declared.flow_control.Flow.TheVariants.{Start, Count}
 use Rattle.iol_octets.specs.Flow.{IsFlow}

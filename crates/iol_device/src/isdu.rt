@@ -10,7 +10,7 @@ ghost use Rattle.iol_device.specs.Inside.{IsduValue, IsKept, IsReceiving, GoesOn
 
 use crate::app::App;
 use iol_isdu::{Answer, Place, Request};
-use iol_mseq::{Message, append, append_first, append_zeros};
+use iol_mseq::{Message, append_first, append_zeros};
 use iol_octets::Flow;
 use iol_segment::{Cutter, Joiner, Reaction, cut_is_whole};
 use std::marker::Model;
@@ -96,10 +96,11 @@ impl IsduSide {
         cut_is_whole();
         match &self.stage {
             Stage::Handed(_) => append_first(octets, self.size, 1),
-            Stage::Answered(cutter) => match cutter.again() {
-                Some((_, segment)) => append(octets, &segment),
-                None => append_zeros(octets, self.size),
-            },
+            Stage::Answered(cutter) => {
+                if !cutter.append_again(octets) {
+                    append_zeros(octets, self.size);
+                }
+            }
             _ => append_zeros(octets, self.size),
         }
     }
@@ -264,7 +265,7 @@ fn read_start(stage: &mut Stage, size: u8)
         Stage::Handed(_) => {}
         Stage::Answered(cutter) => {
             cutter.restart();
-            cutter.next();
+            cutter.advance();
         }
         _ => empty(stage),
     }
@@ -302,7 +303,7 @@ fn read_count(stage: &mut Stage, size: u8, count: u8)
         return;
     };
     let sent = sent_flow(cutter);
-    if is_sent(sent, count) || (is_next(sent, count) && cutter.next().is_some()) {
+    if is_sent(sent, count) || (is_next(sent, count) && cutter.advance()) {
         return;
     }
     *stage = Stage::Empty;

@@ -43,6 +43,20 @@ impl Image {
         Ok(Image { octets: image })
     }
 
+    /// The image of these octets, which are not copied.
+    ///
+    /// 29 WrongImageLength: there is no octet.
+    pub fn of(octets: ArrayVec<u8, 32>) -> Result<Image, ImageFault>
+        ensures octets { IfOk result (λ image. image ≡ octets.items) }
+        ensures length { IsOk result ↔ IsImage octets.items }
+        ensures fault { IfErr result (λ fault. fault ≡ WrongImageLength) }
+    {
+        if octets.is_empty() {
+            return Err(ImageFault::WrongImageLength);
+        }
+        Ok(Image { octets })
+    }
+
     /// Its octets, 1 to 32.
     pub fn octets(&self) -> &[u8]
         ensures octets { result.now ≡ self.now }

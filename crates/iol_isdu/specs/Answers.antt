@@ -32,6 +32,12 @@ answer_body (answer.Read octets) = octets.items
 answer_body answer.Written = []
 answer_body (answer.Refused error additional) = error ∷ additional ∷ []
 
+-- the octets of the parameter in it
+abbrev pub answer_data : Answer → List ℕ
+answer_data (answer.Read octets) = octets.items
+answer_data answer.Written = []
+answer_data (answer.Refused error additional) = []
+
 -- the service and the body of an answer to a read (or to a write)
 pub record IsAnswerBody (read : Bool) (a : Answer) (service : ℕ) (body : List ℕ) : Type 0 where
   pub kind : AnswersKind read a

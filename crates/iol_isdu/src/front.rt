@@ -3,7 +3,8 @@
 ghost use Rattle.std.specs.Prelude.{◌≡◌, ◌≤◌, ◌<◌, ◌+◌, ◌++◌, length, slice_index};
 ghost use Rattle.iol_isdu.specs.Services.{service_number};
 ghost use Rattle.iol_isdu.specs.Frame.{head, xor_of};
-ghost use Rattle.iol_isdu.specs.Answers.{is_read, answer_body};
+ghost use Rattle.iol_isdu.specs.Answers.{is_read, answer_body, answer_data};
+ghost use Rattle.iol_isdu.specs.Requests.{written};
 ghost use Rattle.iol_isdu.specs.Texts.{sealed, front_of, IsRequest, request_front, answer_front};
 
 use crate::frame::{EXTENDED, LONGEST_PLAIN, xor_of, xor_on};
@@ -46,7 +47,7 @@ impl Front<'_> {
     pub fn chkpdu(&self) -> u8
         ensures { result ≡ xor_of (self.now.head.items ++ self.now.octets.now) }
     {
-        xor_on(xor_of(&self.head), self.octets)
+        chkpdu_of(&self.head, self.octets)
     }
 
     /// The text, of at most 238 octets.
@@ -62,12 +63,20 @@ impl Front<'_> {
     }
 }
 
+/// The CHKPDU that ends a text whose octets before it are these, in two pieces (IEC 61131-9, A.5.6).
+pub fn chkpdu_of(head: &[u8], octets: &[u8]) -> u8
+    ensures { result ≡ xor_of (head.now ++ octets.now) }
+{
+    xor_on(xor_of(head), octets)
+}
+
 /// The text of a request but its CHKPDU, its place in the shortest form that says it
 /// (IEC 61131-9, A.5.1 to A.5.5).
 #[tactic(auto, unfolding(crate::specs::Texts::request_front))]
 pub fn request_front(request: &Request) -> Front<'_>
     ensures valid { IsRequest request.now }
     ensures octets { result.head.items ++ result.octets.now ≡ request_front request.now }
+    ensures body { result.octets.now ≡ written request.now }
     ensures fits { length result.head.items + length result.octets.now ≤ 237 }
 {
     match request {
@@ -88,6 +97,7 @@ pub fn answer_front<'a>(request: &Request, answer: &'a Answer) -> Front<'a>
     ensures valid { length (answer_body answer.now) ≤ 232 }
     ensures octets { result.head.items ++ result.octets.now
         ≡ answer_front (is_read request.now) answer.now }
+    ensures body { result.octets.now ≡ answer_data answer.now }
     ensures fits { length result.head.items + length result.octets.now ≤ 237 }
 {
     match (answer, request) {
@@ -108,6 +118,7 @@ fn front_of<'a>(service: Service, part: &[u8], octets: &'a [u8]) -> Front<'a>
     requires octets { length octets.now ≤ 232 }
     ensures octets { result.head.items ++ result.octets.now
         ≡ front_of (service_number service) (part.now ++ octets.now) }
+    ensures body { result.octets.now ≡ octets.now }
     ensures fits { length result.head.items + length result.octets.now ≤ 237 }
 {
     Front {

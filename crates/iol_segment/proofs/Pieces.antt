@@ -31,11 +31,17 @@ take-fill n m xs h = fill n m n xs h (omega arith)
     fill (suc n) (suc m) (suc k) [] h g = ap (λ zs. 0 ∷ zs) (fill n m k [] (omega arith) (omega arith))
     fill (suc n) m k (x ∷ xs) h g = ap (λ zs. x ∷ zs) (fill n m k xs (omega arith) (omega arith))
 
--- the segment of a front in two pieces
-pub piece-front : (size from : ℕ) (head octets one two : List ℕ) → one ≡ take size (drop from head) → two ≡ take size (one ++ drop (from - length head) octets)
-    → two ≡ take size (drop from (head ++ octets))
-piece-front size from head octets one two first second =
-    second ∙ ap (λ xs. take size (xs ++ drop (from - length head) octets)) first ∙ take-take size (drop from head) _ ∙ ap (take size) (sym (drop-append from head octets))
+-- behind other octets, the piece of a front that is in two pieces
+pub piece-behind : (size from : ℕ) (old head octets one two : List ℕ) → one ≡ take size (old ++ drop from head) → two ≡ take size (one ++ drop (from - length head) octets)
+    → two ≡ take size (old ++ drop from (head ++ octets))
+piece-behind size from old head octets one two first second =
+    second ∙ ap (λ xs. take size (xs ++ drop (from - length head) octets)) first ∙ take-take size (old ++ drop from head) _
+    ∙ ap (take size) (append_assoc old (drop from head) (drop (from - length head) octets)) ∙ ap (λ xs. take size (old ++ xs)) (sym (drop-append from head octets))
+
+-- so many octets behind others
+pub take-behind : (n : ℕ) (old xs : List ℕ) → take (length old + n) (old ++ xs) ≡ old ++ take n xs
+take-behind n [] xs = let none : length {A = ℕ} [] + n ≡ n = omega arith in ap (λ k. take k xs) none
+take-behind n (x ∷ old) xs = let more : suc (length old) + n ≡ suc (length old + n) = omega arith in ap (λ k. take k (x ∷ old ++ xs)) more ∙ ap (λ ys. x ∷ ys) (take-behind n old xs)
 
 -- it is full, or the CHKPDU and zeros follow
 pub piece-full : (size i : ℕ) (front : List ℕ) → i * size ≤ length front → size ≤ length (take size (drop (i * size) front)) → take size (drop (i * size) front) ≡ segment size (sealed front) i
@@ -53,6 +59,26 @@ piece-last size most i front enough fits short =
     ap (λ xs. take size ((xs ++ xor_of front ∷ []) ++ replicate most 0)) (take_all size rest (omega (arith, less)))
     ∙ take-fill size most (rest ++ xor_of front ∷ []) enough
     ∙ sym (segment-is size (sealed front) i ∙ ap (λ xs. take size (xs ++ replicate size 0)) (drop-append-le (i * size) front _ fits))
+
+-- the same behind other octets
+pub behind-full : (size i : ℕ) (old front piece : List ℕ) → i * size ≤ length front → piece ≡ take (length old + size) (old ++ drop (i * size) front)
+    → length old + size ≤ length piece → piece ≡ old ++ segment size (sealed front) i
+behind-full size i old front piece fits is full =
+    let parts : piece ≡ old ++ take size (drop (i * size) front) = is ∙ take-behind size old (drop (i * size) front) in
+    let room : size ≤ length (take size (drop (i * size) front)) = omega (arith, full, ap length parts, length-append old (take size (drop (i * size) front))) in
+    parts ∙ ap (λ xs. old ++ xs) (piece-full size i front fits room)
+
+pub behind-last : (size most i : ℕ) (old front piece : List ℕ) → size ≤ most → i * size ≤ length front → piece ≡ take (length old + size) (old ++ drop (i * size) front)
+    → length piece < length old + size → take (length old + size) ((piece ++ xor_of front ∷ []) ++ replicate most 0) ≡ old ++ segment size (sealed front) i
+behind-last size most i old front piece enough fits is short =
+    let one = take size (drop (i * size) front) in
+    let parts : piece ≡ old ++ one = is ∙ take-behind size old (drop (i * size) front) in
+    let less : length one < size = omega (arith, short, ap length parts, length-append old one) in
+    ap (λ xs. take (length old + size) ((xs ++ xor_of front ∷ []) ++ replicate most 0)) parts
+    ∙ ap (λ xs. take (length old + size) (xs ++ replicate most 0)) (append_assoc old one (xor_of front ∷ []))
+    ∙ ap (take (length old + size)) (append_assoc old (one ++ xor_of front ∷ []) (replicate most 0))
+    ∙ take-behind size old ((one ++ xor_of front ∷ []) ++ replicate most 0)
+    ∙ ap (λ xs. old ++ xs) (piece-last size most i front enough fits less)
 
 -- a place in the two pieces of a front, or right behind them, is within the text
 pub sealed-within : (from : ℕ) (head octets front : List ℕ) → head ++ octets ≡ front → from ≤ length head + length octets → from < length (sealed front)

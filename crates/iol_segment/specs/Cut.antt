@@ -1,5 +1,5 @@
 -- A text cut into segments (IEC 61131-9, 7.3.6).
-use Rattle.std.specs.Prelude.{◌≡◌, ◌≤◌, ◌<◌, ℕ, zero, suc, ◌+◌, ◌-◌, ◌*◌, ◌/◌, ◌%◌, ◌==◌, nat_lt, if◌then◌else◌, List, [], ◌∷◌, ◌++◌, length, take, drop, replicate, Option, Some, None, slice_get}
+use Rattle.std.specs.Prelude.{Bool, true, false, ◌≡◌, ◌≤◌, ◌<◌, ℕ, zero, suc, ◌+◌, ◌-◌, ◌*◌, ◌/◌, ◌%◌, ◌==◌, nat_lt, if◌then◌else◌, List, [], ◌∷◌, ◌++◌, length, take, drop, replicate, Option, Some, None, slice_get}
 use Rattle.arrayvec.specs.ArrayVec.{ArrayVec}
 use Rattle.iol_octets.specs.declared.flow_control.Flow.{Flow}
 use Rattle.iol_octets.specs.declared.flow_control.Flow.TheVariants.{Start, Count}
@@ -62,3 +62,8 @@ after_next size text i = if nat_lt (i * size) (length text) then i + 1 else i
 abbrev pub last_given : ℕ → List ℕ → ℕ → Option (Flow × ArrayVec ℕ)
 last_given size text zero = None
 last_given size text (suc i) = pair_at size text i
+
+-- the segment of a pair is put at the end of octets, which stay where there is none
+abbrev pub IsAppended : Option (Flow × ArrayVec ℕ) → List ℕ → Bool → List ℕ → Type 0
+IsAppended None old result new = (result ≡ false) × (new ≡ old)
+IsAppended (Some p) old result new = (result ≡ true) × (new ≡ old ++ p.1.items)

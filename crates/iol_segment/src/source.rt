@@ -11,10 +11,18 @@ pub trait Source {
     /// The octets of the text before its CHKPDU.
     ghost octets: { Self → List ℕ };
 
+    /// The second piece of them.
+    ghost body: { Self → List ℕ };
+
     /// The text before its CHKPDU, in two pieces of at most 237 octets together.
     fn front(&self) -> Front<'_>
         ensures octets { result.head.items ++ result.octets.now ≡ octets self.now }
+        ensures body { result.octets.now ≡ body self.now }
         ensures fits { length result.head.items + length result.octets.now ≤ 237 };
+
+    /// The second piece.
+    fn body(&self) -> &[u8]
+        ensures { result.now ≡ body self.now };
 
     /// How many octets the text has before its CHKPDU: at most 237.
     fn len(&self) -> usize
@@ -45,11 +53,21 @@ pub struct Reaction {
 /// A request's text is the one that `iol_isdu::encode_request` writes.
 impl Source for Request {
     ghost use Rattle.iol_isdu.specs.Texts.{request_front};
+    ghost use Rattle.iol_isdu.specs.Requests.{written};
 
     ghost octets = { request_front };
 
+    ghost body = { written };
+
     fn front(&self) -> Front<'_> {
         request_front(self)
+    }
+
+    fn body(&self) -> &[u8] {
+        match self {
+            Request::Read(_) => &[],
+            Request::Write(_, octets) => octets,
+        }
     }
 }
 
@@ -57,10 +75,20 @@ impl Source for Request {
 impl Source for Reaction {
     ghost use Rattle.iol_isdu.specs.Texts.{answer_front};
     ghost use Rattle.iol_isdu.specs.Answers.{is_read};
+    ghost use Rattle.iol_isdu.specs.Answers.{answer_data};
 
     ghost octets = { λ r. answer_front (is_read r.request) r.answer };
 
+    ghost body = { λ r. answer_data r.answer };
+
     fn front(&self) -> Front<'_> {
         answer_front(&self.request, &self.answer)
+    }
+
+    fn body(&self) -> &[u8] {
+        match &self.answer {
+            Answer::Read(octets) => octets,
+            Answer::Written | Answer::Refused(_, _) => &[],
+        }
     }
 }
