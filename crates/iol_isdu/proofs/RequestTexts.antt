@@ -1,5 +1,5 @@
 -- Requests and their texts.
-use Rattle.std.proofs.Common.{◌≡◌, ℕ, ◌+◌, ◌/◌, ◌%◌, ◌<◌, ◌≤◌, true, List, [], ◌∷◌, ◌++◌, ◌-◌, length, get_or, take, drop, refl, sym, ap, subst, subst₂, ◌∙◌, arith, Ok, Err, Option, Some, None, Result, IfOk, IfSome, is_some, nat_le}
+use Rattle.std.proofs.Common.{◌≡◌, ℕ, ◌+◌, ◌/◌, ◌%◌, ◌<◌, ◌≤◌, true, List, [], ◌∷◌, ◌++◌, ◌-◌, length, get_or, take, drop, refl, sym, ap, subst, subst₂, ◌∙◌, arith, Ok, Err, Option, Some, None, Result, IfOk, OnOk, OnSome, IsOk, rules, IfSome, is_some, nat_le}
 use Rattle.std.specs.Result.{result_err}
 use Rattle.std.proofs.Math.Seq.{take-length}
 use Rattle.std.proofs.lemmas.Bool.Decides.{nat_tests}
@@ -89,6 +89,21 @@ pub begins_with : (octets : List ℕ) (result : Result Request IsduFault) → If
 begins_with octets (Err fault) found = found
 begins_with octets (Ok r) found = record { text = text_at octets; rest = drop (length (text_at octets)) octets; spells = found; whole = text_at-rest octets }
 
+-- the same of a request that is put in place
+pub only_put : {T : Type 0} (octets : List ℕ) (result : Result T IsduFault) (now : Request) → result_err result ≡ isdu_fault request_accepts octets → OnOk result (IsRequestText now (text_at octets))
+    → (r : Request) (text rest : List ℕ) → IsRequestText r text → octets ≡ text ++ rest → IsOk result × (now ≡ r)
+only_put octets (Err fault) now refused found r text rest t e =
+    let none : isdu_fault request_accepts (text ++ rest) ≡ None = isdu_fault-frame request_accepts t.1.service t.1.body text rest t.1.frame (body_fits t.0 r t.1.service t.1.body t.1.means) (accepts_size t.0 r t.1.service t.1.body t.1.means) in
+    let some : Some fault ≡ isdu_fault request_accepts (text ++ rest) = refused ∙ ap (isdu_fault request_accepts) e in
+    absurd cc
+only_put octets (Ok u) now refused found r text rest t e =
+    let same : text_at octets ≡ text = ap text_at e ∙ text_at-frame t.1.service t.1.body text rest t.1.frame (body_fits t.0 r t.1.service t.1.body t.1.means) in
+    (search rules, one_request_text now r text (rw same at found) t)
+
+pub begins_with_put : {T : Type 0} (octets : List ℕ) (result : Result T IsduFault) (now : Request) → OnOk result (IsRequestText now (text_at octets)) → OnOk result (BeginsWithRequest octets now)
+begins_with_put octets (Err fault) now found = found
+begins_with_put octets (Ok u) now found = record { text = text_at octets; rest = drop (length (text_at octets)) octets; spells = found; whole = text_at-rest octets }
+
 -- a write whose body is the index part of a place in a form, and the octets
 pub written_body : (form : Form) (place : Place) (service : ℕ) (octets body : List ℕ) (request : Option Request)
     → IfSome request (λ r. r ≡ Write place (record { items = octets })) → is_some request ≡ nat_le (length octets) 232
@@ -105,3 +120,10 @@ three_octets (x ∷ y ∷ []) h = absurd (omega (arith, h))
 three_octets (x ∷ y ∷ z ∷ xs) h =
     let size : length (x ∷ y ∷ z ∷ xs) - 3 ≡ length xs = omega arith in
     ap (λ ys. x ∷ y ∷ z ∷ ys) (sym (ap (λ n. take n xs) size ∙ take-length xs))
+
+pub written_put : {T : Type 0} (form : Form) (place : Place) (service : ℕ) (octets body : List ℕ) (result : Option T) (now : Request)
+    → OnSome result (now ≡ Write place (record { items = octets })) → is_some result ≡ nat_le (length octets) 232
+    → service ≡ 1 + form_number form → Holds form place → body ≡ index_part form place ++ octets → OnSome result (IsRequestBody now service body)
+written_put form place service octets body None now value fits code holds parts = value
+written_put form place service octets body (Some u) now value fits code holds parts =
+    subst (λ r. IsRequestBody r service body) (sym value) (form, record { holds = holds; fits = (grind (arith, nat_tests)); code = code; parts = parts })

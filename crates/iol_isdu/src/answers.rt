@@ -1,5 +1,5 @@
 //! Texts of answers, written and read (IEC 61131-9, A.5.2 to A.5.6).
-ghost use Rattle.std.specs.Prelude.{◌≡◌, ◌/◌, slice_index, IfOk, IfSome, Ok, is_some, length};
+ghost use Rattle.std.specs.Prelude.{◌≡◌, ◌/◌, slice_index, IfOk, IfSome, OnOk, IsOk, Ok, is_some, length};
 ghost use Rattle.std.specs.Result.{result_err};
 ghost use Rattle.iol_isdu.specs.Frame.{text_at, isdu_fault, total_of};
 ghost use Rattle.iol_isdu.specs.Answers.{BeginsWithAnswer, IsAnswerBody, IsAnswerText, AnswersKind, answer_accepts, answer_fault, answers_read, is_read};
@@ -94,6 +94,73 @@ fn answer_in(service: u8, body: &[u8]) -> Option<(bool, Answer)>
             Some((true, Answer::Refused(*error, *additional)))
         }
         (Service::ReadDone, octets) => Some((true, Answer::Read(Octets::try_from(octets).ok()?))),
+        _ => None,
+    }
+}
+
+/// Puts the answer to this request in place, whose text the octets begin with, as `read_answer`
+/// reads it. A refusal may leave another answer there.
+pub fn answer_into(request: &Request, octets: &[u8], into: &mut Answer) -> Result<(), IsduFault>
+    ensures refused { result_err result ≡ answer_fault (is_read request.now) octets.now }
+    ensures found { OnOk result (BeginsWithAnswer (is_read request.now) octets.now into.new) }
+    ensures only { (a : Answer) → BeginsWithAnswer (is_read request.now) octets.now a
+        → IsOk result × (into.new ≡ a) }
+{
+    put_answer_to(is_read(request), octets, into)
+}
+
+/// The answer to a read or to a write whose text the octets begin with.
+fn put_answer_to(read: bool, octets: &[u8], into: &mut Answer) -> Result<(), IsduFault>
+    ensures refused { result_err result ≡ answer_fault read octets.now }
+    ensures found { OnOk result (IsAnswerText read into.new (text_at octets.now)) }
+{
+    let to_read = put_framed(octets, into)?;
+    if to_read != read {
+        return Err(IsduFault::WrongAnswerKind);
+    }
+    Ok(())
+}
+
+/// Whether the octets begin with an answer to a read, and that answer.
+fn put_framed(octets: &[u8], into: &mut Answer) -> Result<bool, IsduFault>
+    ensures refused { result_err result ≡ isdu_fault answer_accepts octets.now }
+    ensures kind { IfOk result (λ read. read ≡ answers_read (slice_index octets.now 0 / 16)) }
+    ensures found { IfOk result (λ read. IsAnswerText read into.new (text_at octets.now)) }
+{
+    let frame = frame_of(octets)?;
+    let Some(read) = put_body(frame.service, frame.body, into) else {
+        return Err(IsduFault::BadService);
+    };
+    if xor_of(frame.text) != 0 {
+        return Err(IsduFault::BadChkpdu);
+    }
+    Ok(read)
+}
+
+/// The answer of a service and the octets between its first octets and its CHKPDU, and whether
+/// it is to a read.
+fn put_body(service: u8, body: &[u8], into: &mut Answer) -> Option<bool>
+    ensures accepted { is_some result ≡ answer_accepts service (total_of (length body.now)) }
+    ensures kind { IfSome result (λ read. read ≡ answers_read service) }
+    ensures found { IfSome result (λ read. IsAnswerBody read into.new service body.now) }
+{
+    match (Service::from_bits(service)?, body) {
+        (Service::WriteRefused, [error, additional]) => {
+            *into = Answer::Refused(*error, *additional);
+            Some(false)
+        }
+        (Service::WriteDone, []) => {
+            *into = Answer::Written;
+            Some(false)
+        }
+        (Service::ReadRefused, [error, additional]) => {
+            *into = Answer::Refused(*error, *additional);
+            Some(true)
+        }
+        (Service::ReadDone, octets) if octets.len() <= 232 => {
+            into.set_read(octets);
+            Some(true)
+        }
         _ => None,
     }
 }

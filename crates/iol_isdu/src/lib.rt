@@ -15,10 +15,10 @@ mod requests;
 mod service;
 mod values;
 
-pub use answers::{encode_answer, read_answer};
+pub use answers::{answer_into, encode_answer, read_answer};
 pub use fault::IsduFault;
 pub use frame::total_of;
 pub use front::{Front, answer_front, chkpdu_of, request_front};
 pub use laws::{one_text_each, one_text_in_front};
-pub use requests::{encode_request, read_request};
+pub use requests::{encode_request, read_request, request_into};
 pub use values::{Answer, Cause, Octets, Place, Request, Text};

@@ -1,5 +1,5 @@
 //! Texts of requests, written and read, in three forms of index (IEC 61131-9, A.5.4 and A.5.5).
-ghost use Rattle.std.specs.Prelude.{◌≡◌, ◌+◌, ◌++◌, ◌∷◌, [], IfOk, IfSome, Ok, is_some, nat_le, length};
+ghost use Rattle.std.specs.Prelude.{◌≡◌, ◌+◌, ◌++◌, ◌∷◌, [], IfOk, IfSome, OnOk, OnSome, IsOk, IsSome, Ok, Some, is_some, nat_le, length};
 ghost use Rattle.std.specs.Result.{result_err, result_ok};
 ghost use Rattle.iol_isdu.specs.Frame.{text_at, isdu_fault, total_of};
 ghost use Rattle.iol_isdu.specs.Requests.{WideIndexSub, Holds, index_part, BeginsWithRequest, IsRequestBody, IsRequestText, IsShortText, request_accepts};
@@ -107,4 +107,74 @@ fn write_of(place: Place, octets: &[u8]) -> Option<Request>
 {
     let octets = Octets::try_from(octets).ok()?;
     Some(Request::Write(place, octets))
+}
+
+/// Puts the request in place whose text the octets begin with, as `read_request` reads it. A
+/// refusal may leave another request there.
+pub fn request_into(octets: &[u8], into: &mut Request) -> Result<(), IsduFault>
+    ensures refused { result_err result ≡ isdu_fault request_accepts octets.now }
+    ensures found { OnOk result (BeginsWithRequest octets.now into.new) }
+    ensures only { (r : Request) → BeginsWithRequest octets.now r → IsOk result × (into.new ≡ r) }
+    ensures value { OnOk result (request_of octets.now ≡ Some into.new) }
+{
+    put_framed(octets, into)
+}
+
+/// The request of the frame that the octets begin with.
+fn put_framed(octets: &[u8], into: &mut Request) -> Result<(), IsduFault>
+    ensures refused { result_err result ≡ isdu_fault request_accepts octets.now }
+    ensures found { OnOk result (IsRequestText into.new (text_at octets.now)) }
+{
+    let frame = frame_of(octets)?;
+    if put_body(frame.service, frame.body, into).is_none() {
+        return Err(IsduFault::BadService);
+    }
+    if xor_of(frame.text) != 0 {
+        return Err(IsduFault::BadChkpdu);
+    }
+    Ok(())
+}
+
+/// The request of a service and the octets between its first octets and its CHKPDU.
+fn put_body(service: u8, body: &[u8], into: &mut Request) -> Option<()>
+    ensures accepted { is_some result ≡ request_accepts service (total_of (length body.now)) }
+    ensures found { OnSome result (IsRequestBody into.new service body.now) }
+{
+    match (Service::from_bits(service)?, body) {
+        (Service::Write(Form::Index), [index, octets @ ..]) => {
+            put_write(narrow(*index, 0), octets, into)
+        }
+        (Service::Write(Form::IndexSub), [index, sub, octets @ ..]) => {
+            put_write(narrow(*index, *sub), octets, into)
+        }
+        (Service::Write(Form::WideIndexSub), [high, low, sub, octets @ ..]) => {
+            put_write(wide([*high, *low], *sub), octets, into)
+        }
+        (Service::Read(Form::Index), [index]) => put_read(narrow(*index, 0), into),
+        (Service::Read(Form::IndexSub), [index, sub]) => put_read(narrow(*index, *sub), into),
+        (Service::Read(Form::WideIndexSub), [high, low, sub]) => {
+            put_read(wide([*high, *low], *sub), into)
+        }
+        _ => None,
+    }
+}
+
+fn put_write(place: Place, octets: &[u8], into: &mut Request) -> Option<()>
+    ensures fits { is_some result ≡ nat_le (length octets.now) 232 }
+    ensures value { OnSome result (into.new
+        ≡ Request.Write place (record { items = octets.now })) }
+{
+    if octets.len() > 232 {
+        return None;
+    }
+    into.set_write(place, octets);
+    Some(())
+}
+
+fn put_read(place: Place, into: &mut Request) -> Option<()>
+    ensures some { IsSome result }
+    ensures value { into.new ≡ Request.Read place }
+{
+    *into = Request::Read(place);
+    Some(())
 }

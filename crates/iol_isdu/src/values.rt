@@ -1,5 +1,5 @@
 //! Requests, answers and places, as values.
-ghost use Rattle.std.specs.Prelude.{◌≡◌, ◌<◌, ◌↔◌, IsErr, IfErr, IfOk, length};
+ghost use Rattle.std.specs.Prelude.{◌≡◌, ◌<◌, ◌≤◌, ◌↔◌, IsErr, IfErr, IfOk, length};
 
 use crate::fault::IsduFault;
 use arrayvec::ArrayVec;
@@ -90,6 +90,73 @@ fn octets_again(octets: &Octets) -> Octets
     let mut again = Octets::new();
     again.try_extend_from_slice(octets).unwrap();
     again
+}
+
+/// Puts these octets in place of others.
+fn put(own: &mut Octets, octets: &[u8])
+    requires { length octets.now ≤ 232 }
+    ensures { own.new.items ≡ octets.now }
+{
+    own.clear();
+    own.try_extend_from_slice(octets).unwrap();
+}
+
+impl Request {
+    /// Becomes a copy of another one, where it lies.
+    pub fn set(&mut self, other: &Request)
+        ensures { self.new ≡ other.now }
+    {
+        match other {
+            Request::Read(place) => *self = Request::Read(*place),
+            Request::Write(place, octets) => self.set_write(*place, octets),
+        }
+    }
+
+    /// Becomes a write of these octets, at most 232, to the parameter at this place.
+    pub fn set_write(&mut self, place: Place, octets: &[u8])
+        requires { length octets.now ≤ 232 }
+        ensures { self.new ≡ Request.Write place (record { items = octets.now }) }
+    {
+        match self {
+            Request::Write(own_place, own) => {
+                *own_place = place;
+                put(own, octets);
+            }
+            Request::Read(_) => {
+                let mut own = Octets::new();
+                put(&mut own, octets);
+                *self = Request::Write(place, own);
+            }
+        }
+    }
+}
+
+impl Answer {
+    ghost use Rattle.iol_isdu.specs.declared.values.Answer.{Answer};
+
+    /// Becomes a copy of another one, where it lies.
+    pub fn set(&mut self, other: &Answer)
+        ensures { self.new ≡ other.now }
+    {
+        match other {
+            Answer::Read(octets) => self.set_read(octets),
+            Answer::Written => *self = Answer::Written,
+            Answer::Refused(error, additional) => *self = Answer::Refused(*error, *additional),
+        }
+    }
+
+    /// Becomes the answer to a read with these octets, at most 232.
+    pub fn set_read(&mut self, octets: &[u8])
+        requires { length octets.now ≤ 232 }
+        ensures { self.new ≡ Answer.Read (record { items = octets.now }) }
+    {
+        if !matches!(self, Answer::Read(_)) {
+            *self = Answer::Read(Octets::new());
+        }
+        if let Answer::Read(own) = self {
+            put(own, octets);
+        }
+    }
 }
 
 impl Clone for Request {

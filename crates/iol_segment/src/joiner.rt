@@ -1,5 +1,5 @@
 //! Segments, joined into a text (IEC 61131-9, 7.3.6).
-ghost use Rattle.std.specs.Prelude.{◌≡◌, ◌<◌, ◌+◌, ◌++◌, true, false, None, Some, Ok, Err, IfOk, IfSome, IsTrue, length};
+ghost use Rattle.std.specs.Prelude.{◌≡◌, ◌<◌, ◌+◌, ◌++◌, true, false, None, Some, Ok, Err, IfOk, IfSome, IsOk, OnOk, IsTrue, length};
 ghost use Rattle.std.specs.Result.{result_err, result_ok};
 ghost use Rattle.iol_isdu.specs.declared.values.Request.{Request};
 ghost use Rattle.iol_isdu.specs.declared.values.Answer.{Answer};
@@ -13,7 +13,10 @@ ghost use Rattle.iol_segment.specs.declared.took.JoinFault.TheVariants.{WrongCou
 
 use crate::append::append;
 use crate::took::{JoinFault, Took};
-use iol_isdu::{Answer, IsduFault, Request, Text, read_answer, read_request, total_of};
+use iol_isdu::{
+    Answer, IsduFault, Request, Text, answer_into, read_answer, read_request, request_into,
+    total_of,
+};
 use iol_octets::Flow;
 use std::marker::Model;
 
@@ -83,7 +86,7 @@ impl Joiner {
     {
         match flow {
             Flow::Start => {
-                *self = Joiner::empty(self.requests);
+                self.clear();
                 self.add(None, octets)
             }
             Flow::Count(count) if self.started => self.take_count(count, octets),
@@ -154,6 +157,42 @@ impl Joiner {
         read_answer(request, &self.text)
     }
 
+    /// Puts the answer to this request in place, whose text was taken, as
+    /// [`into_answer`](Joiner::into_answer) reads it, and refuses as that does. The joiner stays.
+    pub fn answer_into(&self, request: &Request, into: &mut Answer) -> Result<(), IsduFault>
+        requires kind { self.now.requests ≡ false }
+        requires whole { is_whole self.now.text ≡ true }
+        ensures refused { result_err result ≡ answer_fault (is_read request.now) self.now.text }
+        ensures found { OnOk result (BeginsWithAnswer (is_read request.now) self.now.text into.new) }
+        ensures only { (a : Answer) → BeginsWithAnswer (is_read request.now) self.now.text a
+            → IsOk result × (into.new ≡ a) }
+    {
+        answer_into(request, &self.text, into)
+    }
+
+    /// Puts the request in place whose text was taken, as [`request`](Joiner::request) reads it, and
+    /// refuses as that does.
+    pub fn request_into(&self, into: &mut Request) -> Result<(), IsduFault>
+        requires kind { self.now.requests ≡ true }
+        requires whole { is_whole self.now.text ≡ true }
+        ensures refused { result_err result ≡ isdu_fault request_accepts self.now.text }
+        ensures found { OnOk result (BeginsWithRequest self.now.text into.new) }
+        ensures only { (r : Request) → BeginsWithRequest self.now.text r
+            → IsOk result × (into.new ≡ r) }
+        ensures value { OnOk result (request_of self.now.text ≡ Some into.new) }
+    {
+        request_into(&self.text, into)
+    }
+
+    /// Empties it, where it lies.
+    fn clear(&mut self)
+        ensures { self.new ≡ empty self.old.requests }
+    {
+        self.started = false;
+        self.count = None;
+        self.text.clear();
+    }
+
     fn empty(requests: bool) -> Joiner
         ensures { result ≡ empty requests }
     {
@@ -169,7 +208,7 @@ impl Joiner {
         ensures took { result ≡ Err WrongCount }
         ensures joining { self.new ≡ empty self.old.requests }
     {
-        *self = Joiner::empty(self.requests);
+        self.clear();
         Err(JoinFault::WrongCount)
     }
 
@@ -216,7 +255,7 @@ impl Joiner {
         self.count = count;
         let took = grow(&mut self.text, octets);
         if took.is_err() {
-            *self = Joiner::empty(self.requests);
+            self.clear();
         }
         took
     }
