@@ -8,7 +8,7 @@ ghost use Rattle.iol_far.specs.Record.{takes_more};
 ghost use base.Fml.{ftrue};
 
 use iol_far::Carried;
-use iol_isdu::{Answer, Octets, Request};
+use iol_isdu::{Answer, Place, Request};
 use std::alloc::{AllocError, Allocator, Global};
 use std::marker::{Model, PhantomData, Send, Sync};
 
@@ -80,39 +80,14 @@ impl<A: Allocator + Copy> Record for Kept<A> {
 
     fn push(&mut self, request: &Request, answer: &Answer) {
         self.pairs.push_reserved(Carried {
-            request: request_again(request),
-            answer: answer_again(answer),
+            request: Request::Read(Place { index: 0, sub: 0 }),
+            answer: Answer::Written,
         });
+        if let Some(last) = self.pairs.last_mut() {
+            last.request.set(request);
+            last.answer.set(answer);
+        }
     }
-}
-
-/// The request once more. It takes no memory, since the octets lie in place.
-fn request_again(request: &Request) -> Request
-    ensures { result ≡ request.now }
-{
-    match request {
-        Request::Read(place) => Request::Read(*place),
-        Request::Write(place, octets) => Request::Write(*place, octets_again(octets)),
-    }
-}
-
-/// The answer once more.
-fn answer_again(answer: &Answer) -> Answer
-    ensures { result ≡ answer.now }
-{
-    match answer {
-        Answer::Read(octets) => Answer::Read(octets_again(octets)),
-        Answer::Written => Answer::Written,
-        Answer::Refused(error, additional) => Answer::Refused(*error, *additional),
-    }
-}
-
-fn octets_again(octets: &Octets) -> Octets
-    ensures { result ≡ octets.now }
-{
-    let mut again = Octets::new();
-    again.try_extend_from_slice(octets).unwrap();
-    again
 }
 
 /// A record without bound that takes no memory: clauses alone know it.
