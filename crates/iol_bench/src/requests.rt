@@ -57,8 +57,9 @@ fn repeat_once_opened(
     let page = Page::from_octets(&PLAIN);
     let mut port = opened(alloc, page, Some(value), Vec::new(alloc))?;
     start(&mut port)?;
+    let mut outcome = Outcome::Withdrawn;
     for _ in 0..count {
-        carry(word, &mut port, request)?;
+        carry(word, &mut port, request, &mut outcome)?;
     }
     add_port(word, &port);
     Ok(())
@@ -70,12 +71,13 @@ fn carry<W: Wire>(
     word: &mut CheckWord,
     port: &mut Port<W>,
     request: &Request,
+    outcome: &mut Outcome,
 ) -> Result<(), BenchFault> {
     let ticket = port.submit(request.clone()?)?;
     for _ in 0..TURNS {
         port.turn();
-        match port.collect(ticket) {
-            Ok(outcome) => return add_outcome(word, &outcome),
+        match port.collect_into(ticket, outcome) {
+            Ok(()) => return add_outcome(word, outcome),
             Err(PortFault::Book(BookFault::NotYet)) => {}
             Err(fault) => return Err(fault.into()),
         }

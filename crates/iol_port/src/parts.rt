@@ -101,6 +101,22 @@ impl<W: Wire, A: Allocator + Copy> Parts<W, A> {
         by_book(self.book.collect(ticket))
     }
 
+    pub(crate) fn collect_into(
+        &mut self,
+        ticket: Ticket,
+        into: &mut Outcome,
+    ) -> Result<(), PortFault>
+        ensures does { Does W.facts self.old (call.Collect ticket)
+            (outcome_reply (result_map_both (λ _. into.new) (λ why. why) result)) self.new }
+        ensures gives { CollectGives self.old ticket
+            (result_map_both (λ _. into.new) (λ why. why) result) self.new }
+        ensures called { CallGives W.facts self.old (call.Collect ticket)
+            (outcome_reply (result_map_both (λ _. into.new) (λ why. why) result)) self.new }
+        ensures kept { IfErr result (λ _. into.new ≡ into.old) }
+    {
+        by_book(self.book.collect_into(ticket, into))
+    }
+
     pub(crate) fn withdraw(&mut self, ticket: Ticket) -> Result<(), PortFault>
         ensures does { Does W.facts self.old (call.Withdraw ticket)
             (nothing_reply result) self.new }

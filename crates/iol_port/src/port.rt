@@ -143,6 +143,19 @@ impl<W: Wire, A: Handle> Port<W, A> {
         self.parts.collect(ticket)
     }
 
+    /// Hands out the outcome of a ticket as [`collect`](Port::collect) does, into a place of the
+    /// caller, which a refusal leaves as it was. Most asks come before the outcome, and cost little.
+    pub fn collect_into(&mut self, ticket: Ticket, into: &mut Outcome) -> Result<(), PortFault>
+        ensures does { Does W.facts self.old.parts (call.Collect ticket)
+            (outcome_reply (result_map_both (λ _. into.new) (λ why. why) result)) self.new.parts }
+        ensures gives { CollectGives self.old.parts ticket
+            (result_map_both (λ _. into.new) (λ why. why) result) self.new.parts }
+        ensures kept { IfErr result (λ _. into.new ≡ into.old) }
+        ensures rest { self.new ≡ record self.old { parts = self.new.parts } }
+    {
+        self.parts.collect_into(ticket, into)
+    }
+
     /// Takes back a request that waits, urgent or not. Its outcome is then that it was withdrawn.
     ///
     /// Refused, with nothing changed, by 25 where no such ticket is outstanding,
