@@ -159,6 +159,7 @@ impl<R: Record> FarEnd<R> {
         requires { reply.old.items ≡ [] }
         ensures far { self.new ≡ (far.hear self.old octets.now).far }
         ensures reply { buffered result reply.new ≡ (far.hear self.old octets.now).reply }
+        ensures unanswered { result ≡ false → reply.new.items ≡ [] }
         ensures answers { result ≡ is_some (far.accepted self.old octets.now) }
         ensures silent { result ≡ false → self.new ≡ self.old }
     {
