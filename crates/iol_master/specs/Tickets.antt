@@ -62,3 +62,10 @@ module _ {W : Type 0} (facts : WireFacts W) where
   Enters p a d kind request (Err NoSuchPort) p' a' d' = ⊥
   Enters p a d kind request (Err NoThread) p' a' d' = ⊥
   Enters p a d kind request (Err DesksFull) p' a' d' = ⊥
+
+  -- some port and some tally, whose locks were held, between which this very submit was made
+  abbrev pub WasEntered : DeskState → Urgency → Request → Result Ticket MasterFault → DeskState
+      → Type 0
+  WasEntered d kind request result d' =
+      (p : Port W) × (a : AccountState) × (p' : Port W) × (a' : AccountState)
+      × Enters p a d kind request result p' a' d'

@@ -1,7 +1,8 @@
 //! The master: its ports and its tally, each under a lock.
-ghost use Rattle.std.specs.Prelude.{◌≡◌, ◌≤◌, All, vec_len, MatchResult, MatchOption};
+ghost use Rattle.std.specs.Prelude.{◌≡◌, ◌≤◌, ◌⊎◌, Err, All, vec_len, MatchResult, MatchOption};
 ghost use Rattle.iol_master.specs.declared.fault.MasterFault.TheVariants as fault;
-ghost use Rattle.iol_master.specs.Tickets.{HasGiven};
+ghost use Rattle.iol_master.specs.declared.held.Urgency.TheVariants as urgency;
+ghost use Rattle.iol_master.specs.Tickets.{HasGiven, WasEntered};
 ghost use Rattle.iol_master.specs.Master.{IsPort, Desks, Submitted, SettledAs};
 ghost use Rattle.iol_master.specs.Counts.{IsClosed};
 ghost use Rattle.iol_master.specs.Ledgers.{IsBlankFor};
@@ -130,7 +131,8 @@ impl<W: Wire, L: Ledger, K: Ledger, A: Handle> Master<W, L, K, A> {
         desk: &mut Desk<L>,
         request: Request,
     ) -> Result<Ticket, MasterFault>
-        ensures { Submitted self.now desk.old result desk.new }
+        ensures submitted { Submitted self.now desk.old result desk.new }
+        ensures entered { (result ≡ Err fault.NoSuchPort) ⊎ WasEntered W.facts desk.old urgency.Ordinary request result desk.new }
     {
         self.enter(rt, desk, Urgency::Ordinary, request)
     }
@@ -145,7 +147,8 @@ impl<W: Wire, L: Ledger, K: Ledger, A: Handle> Master<W, L, K, A> {
         desk: &mut Desk<L>,
         request: Request,
     ) -> Result<Ticket, MasterFault>
-        ensures { Submitted self.now desk.old result desk.new }
+        ensures submitted { Submitted self.now desk.old result desk.new }
+        ensures entered { (result ≡ Err fault.NoSuchPort) ⊎ WasEntered W.facts desk.old urgency.Urgent request result desk.new }
     {
         self.enter(rt, desk, Urgency::Urgent, request)
     }
@@ -157,7 +160,8 @@ impl<W: Wire, L: Ledger, K: Ledger, A: Handle> Master<W, L, K, A> {
         urgency: Urgency,
         request: Request,
     ) -> Result<Ticket, MasterFault>
-        ensures { Submitted self.now desk.old result desk.new }
+        ensures submitted { Submitted self.now desk.old result desk.new }
+        ensures entered { (result ≡ Err fault.NoSuchPort) ⊎ WasEntered W.facts desk.old urgency request result desk.new }
     {
         let Some(port) = self.port(desk.port()) else {
             return Err(MasterFault::NoSuchPort);
