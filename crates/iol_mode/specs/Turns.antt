@@ -11,7 +11,7 @@ use Rattle.iol_far.specs.Far.{Far}
 use Rattle.iol_far.specs.Level.{Link as FarLink}
 use Rattle.iol_page.specs.declared.page.Layouts.{Layouts}
 use Rattle.iol_link.specs.declared.handler.Attempt.{Attempt}
-use Rattle.iol_link.specs.Attempts.{Sending, good_reply}
+use Rattle.iol_link.specs.Attempts.{Sending, good_reply, attempt_of}
 use Rattle.iol_link.specs.WireFacts.{WireFacts, Passes}
 use Rattle.iol_mode.specs.declared.states.State.{State}
 use Rattle.iol_mode.specs.declared.states.State.TheVariants.{Startup as AtStartup, Preoperate as AtPreoperate, Operate as AtOperate}
@@ -57,6 +57,18 @@ module _ {W : Type 0} (facts : WireFacts W) where
       (turned : Option Reply → Outcome) (outcome : Outcome) (new : W) : Type 0 where
     pub exchange : IsExchange wire layout message turned outcome new
     pub risen : IsTrue (honest wire) → IsRisen outcome (silence new) (far wire) (far new)
+
+  -- the message was sent once, and the attempt ended by what came back
+  abbrev pub IsTried : W → Shape → Sending → Attempt → W → Type 0
+  IsTried wire layout sent attempt new = (answer : Option (ArrayVec ℕ))
+      × exchange_gives wire (master_text layout sent.message) answer new
+      × (attempt ≡ attempt_of sent.tries (good_reply layout sent.message (octets_in answer)))
+
+  -- the message of a start-up's step
+  abbrev pub IsStartTried : W → State → Attempt → W → Type 0
+  IsStartTried wire (AtStartup s) attempt new = IsTried wire startup_shape s.sent attempt new
+  IsStartTried wire (AtPreoperate s) attempt new = IsTried wire s.pre s.sent attempt new
+  IsStartTried wire s attempt new = ⊥
 
   abbrev pub IsStartTurn : W → State → Outcome → W → Type 0
   IsStartTurn wire (AtStartup s) outcome new =

@@ -13,7 +13,7 @@ ghost use Rattle.iol_mode.specs.Messages.{stays};
 ghost use Rattle.iol_mode.specs.States.{StateFits, IsDown, IsStartup, IsPreoperate, Takes, is_starting, waked, state_of, outcome_with, startup_turned, preoperate_turned, sending_of, counted, left_by};
 ghost use Rattle.iol_mode.specs.Stands.{OutcomeStands, StateStands, IsTold};
 ghost use Rattle.iol_mode.specs.Next.{wire_of, outcome_of, told_by, message_out};
-ghost use Rattle.iol_mode.specs.Turns.{IsStartTurn, IsOperateTurn, IsRise, IsCycle, IsEnd};
+ghost use Rattle.iol_mode.specs.Turns.{IsStartTurn, IsStartTried, IsOperateTurn, IsRise, IsCycle, IsEnd};
 ghost use Rattle.iol_mode.specs.Laws.{Laws};
 
 use crate::messages::copy_of;
@@ -124,7 +124,8 @@ fn startup_turn<W: Wire>(state: &mut State, wire: &mut W) -> Attempt
     requires fits { IsStartup state.old }
     requires stands { IsTrue (W.facts.honest wire.old)
         → StateStands state.old (W.facts.silence wire.old) (W.facts.far wire.old) }
-    ensures { IsStartTurn W.facts wire.old state.old (outcome_with result state.new) wire.new }
+    ensures turn { IsStartTurn W.facts wire.old state.old (outcome_with result state.new) wire.new }
+    ensures tried { IsStartTried W.facts wire.old state.old result wire.new }
 {
     laws();
     let State::Startup(Startup { sent, .. }) = state else {
@@ -140,7 +141,8 @@ fn preoperate_turn<W: Wire>(state: &mut State, wire: &mut W) -> Attempt
     requires fits { IsPreoperate state.old }
     requires stands { IsTrue (W.facts.honest wire.old)
         → StateStands state.old (W.facts.silence wire.old) (W.facts.far wire.old) }
-    ensures { IsStartTurn W.facts wire.old state.old (outcome_with result state.new) wire.new }
+    ensures turn { IsStartTurn W.facts wire.old state.old (outcome_with result state.new) wire.new }
+    ensures tried { IsStartTried W.facts wire.old state.old result wire.new }
 {
     laws();
     let State::Preoperate(preoperate) = state else {
@@ -157,7 +159,8 @@ fn start_turn<W: Wire>(state: &mut State, wire: &mut W) -> Attempt
     requires fits { StateFits state.old }
     requires stands { IsTrue (W.facts.honest wire.old)
         → StateStands state.old (W.facts.silence wire.old) (W.facts.far wire.old) }
-    ensures { IsStartTurn W.facts wire.old state.old (outcome_with result state.new) wire.new }
+    ensures turn { IsStartTurn W.facts wire.old state.old (outcome_with result state.new) wire.new }
+    ensures tried { IsStartTried W.facts wire.old state.old result wire.new }
 {
     match state {
         State::Startup(_) => startup_turn(state, wire),
@@ -259,6 +262,7 @@ impl<W: Wire> Link<W, State> {
         requires { is_starting self.old.state ≡ true }
         ensures turn { IsStartTurn W.facts self.old.wire self.old.state
             (outcome_with result self.new.state) self.new.wire }
+        ensures tried { IsStartTried W.facts self.old.wire self.old.state result self.new.wire }
     {
         start_turn(&mut self.state, &mut self.wire)
     }

@@ -7,7 +7,7 @@ use Rattle.iol_mode.specs.States.{PreoperateSends}
 use Rattle.iol_mode.specs.declared.states.State.{State}
 use Rattle.iol_mode.specs.States.{Outcome, IsPreoperate, PreoperateFits, StateFits, outcome_with}
 use Rattle.iol_mode.specs.Stands.{StateStands}
-use Rattle.iol_mode.specs.Turns.{IsRisen, IsStartTurn}
+use Rattle.iol_mode.specs.Turns.{IsRisen, IsStartTurn, IsStartTried}
 use Rattle.iol_mode.proofs.Outs.{preoperate_is, outcome_state}
 use Rattle.iol_mode.proofs.Preoperates.{preoperate_risen}
 use Rattle.iol_mode.proofs.links.preoperate_turn.Goals as goal
@@ -18,8 +18,8 @@ preoperate_done-requires g c =
     let was : PreoperateFits s = subst IsPreoperate c.in-Preoperate.is c.requires.fits in
     record { sends = subst (PreoperateSends s.cycle_written s.pre) (sym c.attempt-attempt.ensures.message) was.sends; parts = subst (HasMasterParts s.pre) (sym c.attempt-attempt.ensures.message) was.parts; layouts = was.layouts }
 
-pub returns : goal.returns
-returns g c =
+pub returns-clause-turn : goal.returns-clause-turn
+returns-clause-turn g c =
     let facts = g.W.Wire.facts in
     let s = c.in-Preoperate.preoperate in
     let old = c.args.wire.now in
@@ -44,3 +44,12 @@ returns g c =
           (preoperate_risen c.laws.ensures s (facts.silence old) (facts.silence new) (facts.far old) (facts.far new) (octets_in called.0) was c.attempt-attempt.ensures.few
           (subst (λ (t : State). StateStands t (facts.silence old) (facts.far old)) c.in-Preoperate.is (c.requires.stands honest)) (called.2 honest) reply refl);
     })
+
+pub returns-clause-tried : goal.returns-clause-tried
+returns-clause-tried g c =
+    let facts = g.W.Wire.facts in
+    let old = c.args.wire.now in
+    let new = c.attempt-attempt.new.wire in
+    let attempt = c.attempt-attempt.result in
+    let called = c.attempt-attempt.ensures.called in
+    subst (λ (t : State). IsStartTried facts old t attempt new) (sym c.in-Preoperate.is) (called.0, called.1, called.3.attempt_is)
