@@ -7,25 +7,20 @@ ghost use Rattle.iol_mseq.specs.Master.{HasMasterParts};
 ghost use Rattle.iol_mseq.specs.Texts.{master_text};
 ghost use Rattle.iol_far.specs.Octets.{octets_in};
 ghost use Rattle.iol_link.specs.declared.wire.Rate.{Rate};
-ghost use Rattle.iol_link.specs.Attempts.{good_reply, attempt_of};
 ghost use Rattle.iol_link.specs.WireFacts.{Wakes, Passes, Replaces};
 ghost use Rattle.iol_mode.specs.Messages.{stays};
-ghost use Rattle.iol_mode.specs.States.{StateFits, IsDown, IsStartup, IsPreoperate, Takes, is_starting, waked, state_of, outcome_with, startup_turned, preoperate_turned, sending_of, counted, left_by};
-ghost use Rattle.iol_mode.specs.Stands.{OutcomeStands, StateStands, IsTold};
+ghost use Rattle.iol_mode.specs.States.{StateFits, IsDown, Takes, is_starting, waked, state_of, outcome_with, startup_turned, preoperate_turned};
+ghost use Rattle.iol_mode.specs.Stands.{OutcomeStands, IsTold};
 ghost use Rattle.iol_mode.specs.Next.{wire_of, outcome_of, told_by, message_out};
 ghost use Rattle.iol_mode.specs.Turns.{IsStartTurn, IsStartTried, IsOperateTurn, IsRise, IsCycle, IsEnd};
-ghost use Rattle.iol_mode.specs.Laws.{Laws};
+ghost use Rattle.iol_mode.specs.Exchanges.{IsSending, AreFew, text_out, judged, attempted, ExchangeGives};
 
-use crate::messages::copy_of;
-use crate::states::{
-    Down, Mode, Operate, Preoperate, Startup, State, Up, operate_done, preoperate_done,
-    startup_done, woken,
-};
+use crate::exchange::laws;
+use crate::states::{Down, Mode, Operate, Preoperate, Startup, State, Up, woken};
 use crate::why::Why;
-use iol_far::{ends_stay_level, links_stay_level, texts_are_heard};
-use iol_link::{Attempt, Handler, Rate, Wire, exchanges_keep_ends_level};
+use iol_link::{Attempt, Rate, Wire};
 use iol_mseq::{Layout, MasterMsg, Message, Reply};
-use iol_page::{Layouts, pages_ask_for_layouts};
+use iol_page::Layouts;
 use std::marker::Model;
 use std::mem::replace;
 
@@ -65,128 +60,34 @@ pub enum Next<W: Wire> {
     Operate(Link<W, Operate>, Option<Reply>),
 }
 
-/// What is known of every exchange over an honest wire.
-fn laws()
-    ensures { Laws }
+/// One exchange of the message that is out.
+fn exchanged<W: Wire>(state: &mut State, wire: &mut W) -> Attempt
+    requires fits { StateFits state.old }
+    requires sends { IsSending state.old }
+    ensures called { (answer : Option (ArrayVec ℕ))
+        × W.facts.exchange_gives wire.old (text_out state.old) answer wire.new
+        × Passes W.facts wire.old (text_out state.old) answer wire.new
+        × (outcome_with result state.new ≡ judged state.old (octets_in answer))
+        × (result ≡ attempted state.old (octets_in answer))
+        × ExchangeGives state.old (octets_in answer) (outcome_with result state.new) }
+    ensures honesty { W.facts.honest wire.new ≡ W.facts.honest wire.old }
+    ensures fits { StateFits state.new }
+    ensures few { AreFew state.old }
 {
-    pages_ask_for_layouts();
-    texts_are_heard();
-    ends_stay_level();
-    links_stay_level();
-    exchanges_keep_ends_level();
+    let came = pass(state, wire);
+    state.receives(&came)
 }
 
-/// Sends once the message that is out, where there is one, else this one; it is out
-/// afterwards only where it is to be sent again.
-fn send<W: Wire>(
-    out: &mut Option<Handler>,
-    message: &MasterMsg,
-    wire: &mut W,
-    layout: &Layout,
-) -> Attempt
-    requires { HasMasterParts layout.now (sending_of out.old message.now).message }
-    ensures called { (answer : Option (ArrayVec ℕ))
-        × W.facts.exchange_gives wire.old
-        (master_text layout.now (sending_of out.old message.now).message) answer wire.new
-        × Passes W.facts wire.old
-        (master_text layout.now (sending_of out.old message.now).message) answer wire.new
-        × (result
-        ≡ attempt_of (sending_of out.old message.now).tries
-        (good_reply layout.now (sending_of out.old message.now).message (octets_in answer)))
-        × (out.new
-        ≡ left_by result
-        (counted (sending_of out.old message.now)
-        (good_reply layout.now (sending_of out.old message.now).message
-        (octets_in answer)))) }
-    ensures few { (sending_of out.old message.now).tries < 3 }
+/// The message that is out goes out.
+fn pass<W: Wire>(state: &State, wire: &mut W) -> Option<Message>
+    requires fits { StateFits state.now }
+    requires sends { IsSending state.now }
+    ensures gives { W.facts.exchange_gives wire.old (text_out state.now) result wire.new }
+    ensures passes { Passes W.facts wire.old (text_out state.now) result wire.new }
     ensures honesty { W.facts.honest wire.new ≡ W.facts.honest wire.old }
 {
-    match out {
-        Some(sent) => {
-            let attempt = sent.attempt(wire, layout);
-            if !matches!(attempt, Attempt::Again) {
-                *out = None;
-            }
-            attempt
-        }
-        None => {
-            let attempt = Handler::first_attempt(message, wire, layout);
-            if matches!(attempt, Attempt::Again) {
-                *out = Some(Handler::tried_once(copy_of(message)));
-            }
-            attempt
-        }
-    }
-}
-
-/// The turn of STARTUP: its message is sent once.
-fn startup_turn<W: Wire>(state: &mut State, wire: &mut W) -> Attempt
-    requires fits { IsStartup state.old }
-    requires stands { IsTrue (W.facts.honest wire.old)
-        → StateStands state.old (W.facts.silence wire.old) (W.facts.far wire.old) }
-    ensures turn { IsStartTurn W.facts wire.old state.old (outcome_with result state.new) wire.new }
-    ensures tried { IsStartTried W.facts wire.old state.old result wire.new }
-{
-    laws();
-    let State::Startup(Startup { sent, .. }) = state else {
-        unreachable!()
-    };
-    let attempt = sent.attempt(wire, &Layout::startup());
-    startup_done(state, &attempt);
-    attempt
-}
-
-/// The turn of PREOPERATE: its message is sent once.
-fn preoperate_turn<W: Wire>(state: &mut State, wire: &mut W) -> Attempt
-    requires fits { IsPreoperate state.old }
-    requires stands { IsTrue (W.facts.honest wire.old)
-        → StateStands state.old (W.facts.silence wire.old) (W.facts.far wire.old) }
-    ensures turn { IsStartTurn W.facts wire.old state.old (outcome_with result state.new) wire.new }
-    ensures tried { IsStartTried W.facts wire.old state.old result wire.new }
-{
-    laws();
-    let State::Preoperate(preoperate) = state else {
-        unreachable!()
-    };
-    let attempt = preoperate.sent.attempt(wire, &preoperate.pre);
-    preoperate_done(state, &attempt);
-    attempt
-}
-
-/// The turn of a start-up.
-fn start_turn<W: Wire>(state: &mut State, wire: &mut W) -> Attempt
-    requires mode { is_starting state.old ≡ true }
-    requires fits { StateFits state.old }
-    requires stands { IsTrue (W.facts.honest wire.old)
-        → StateStands state.old (W.facts.silence wire.old) (W.facts.far wire.old) }
-    ensures turn { IsStartTurn W.facts wire.old state.old (outcome_with result state.new) wire.new }
-    ensures tried { IsStartTried W.facts wire.old state.old result wire.new }
-{
-    match state {
-        State::Startup(_) => startup_turn(state, wire),
-        State::Preoperate(_) => preoperate_turn(state, wire),
-        State::Down(_) | State::Operate(_) => unreachable!(),
-    }
-}
-
-/// The turn of OPERATE: the message that is out, else this one, is sent once.
-fn operate_turn<W: Wire>(state: &mut State, message: &MasterMsg, wire: &mut W) -> Attempt
-    requires fits { StateFits state.old }
-    requires takes { Takes state.old message.now }
-    requires stays { IsTrue (stays message.now) }
-    requires stands { IsTrue (W.facts.honest wire.old)
-        → StateStands state.old (W.facts.silence wire.old) (W.facts.far wire.old) }
-    ensures turn { IsOperateTurn W.facts wire.old state.old
-        message.now (outcome_with result state.new) wire.new }
-    ensures ends { IsEnd result (outcome_with result state.new) }
-{
-    laws();
-    let State::Operate(operate) = state else {
-        unreachable!()
-    };
-    let attempt = send(&mut operate.out, message, wire, &operate.layouts.run);
-    operate_done(state, &attempt);
-    attempt
+    let sent = state.sends();
+    wire.exchange(sent.as_slice())
 }
 
 /// A link in any mode, which goes from one to the next in place.
@@ -264,7 +165,7 @@ impl<W: Wire> Link<W, State> {
             (outcome_with result self.new.state) self.new.wire }
         ensures tried { IsStartTried W.facts self.old.wire self.old.state result self.new.wire }
     {
-        start_turn(&mut self.state, &mut self.wire)
+        exchanged(&mut self.state, &mut self.wire)
     }
 
     /// Sends once the message that is out, where there is one, else this one, in OPERATE.
@@ -278,7 +179,8 @@ impl<W: Wire> Link<W, State> {
             (outcome_with result self.new.state) self.new.wire }
         ensures ends { IsEnd result (outcome_with result self.new.state) }
     {
-        operate_turn(&mut self.state, message, &mut self.wire)
+        self.state.put_out(message);
+        exchanged(&mut self.state, &mut self.wire)
     }
 
     /// The link in its mode, after a turn whose attempt ended so.

@@ -1,0 +1,105 @@
+-- What goes out in a mode, what is made of what comes back, and what one exchange
+-- over an honest wire gives: plain data, without the wire.
+use Rattle.std.specs.Prelude.{ℕ, ◌<◌, List, [], Option, Some, None, IsSome, IfSome, ⊤}
+use Rattle.iol_mseq.specs.Shape.{Shape, startup_shape}
+use Rattle.iol_mseq.specs.Texts.{master_text}
+use Rattle.iol_mseq.specs.declared.master.MasterMsg.{MasterMsg}
+use Rattle.iol_page.specs.declared.page.Layouts.{Layouts}
+use Rattle.iol_far.specs.Far.{Far}
+use Rattle.iol_far.specs.Level.{Link}
+use Rattle.iol_link.specs.declared.handler.Attempt.{Attempt}
+use Rattle.iol_link.specs.declared.handler.Attempt.TheVariants.{Again}
+use Rattle.iol_link.specs.Attempts.{Sending, good_reply, attempt_of}
+use Rattle.iol_link.specs.Honest.{HonestExchange}
+use Rattle.iol_mode.specs.declared.states.State.{State}
+use Rattle.iol_mode.specs.declared.states.State.TheVariants.{Down as AtDown, Startup as AtStartup, Preoperate as AtPreoperate, Operate as AtOperate}
+use Rattle.iol_mode.specs.States.{Outcome, InDown, InOperate, counted, operate_by, startup_turned, preoperate_turned, sending_of}
+use Rattle.iol_mode.specs.Stands.{IsOperating, IsAccepted, StateStands, text_in}
+use Rattle.iol_mode.specs.Turns.{IsMet, IsRisen}
+
+-- a message is out
+abbrev pub IsSending : State → Type 0
+IsSending (AtDown s) = ⊥
+IsSending (AtStartup s) = ⊤
+IsSending (AtPreoperate s) = ⊤
+IsSending (AtOperate s) = IsSome s.out
+
+-- OPERATE, and one is
+abbrev pub IsOperateSending : State → Type 0
+IsOperateSending (AtOperate s) = IsSome s.out
+IsOperateSending s = ⊥
+
+-- its octets
+abbrev pub text_out : State → List ℕ
+text_out (AtDown s) = []
+text_out (AtStartup s) = master_text startup_shape s.sent.message
+text_out (AtPreoperate s) = master_text s.pre s.sent.message
+text_out (AtOperate s) = text_in s.layouts.run s.out
+
+-- in OPERATE the message that is out stays so, else this one is out from now on
+abbrev pub putting : MasterMsg → State → State
+putting message (AtOperate s) =
+    AtOperate (record { out = Some (sending_of s.out message); layouts = s.layouts })
+putting message s = s
+
+-- what is made of what comes back to it
+abbrev pub judged_out : Option Sending → Layouts → Option (List ℕ) → Outcome
+judged_out None layouts came = InOperate (record { out = None; layouts = layouts }) None
+judged_out (Some sent) layouts came =
+    operate_by (counted sent (good_reply layouts.run sent.message came)) layouts
+    (attempt_of sent.tries (good_reply layouts.run sent.message came))
+
+abbrev pub judged : State → Option (List ℕ) → Outcome
+judged (AtDown s) came = InDown s
+judged (AtStartup s) came = startup_turned s (good_reply startup_shape s.sent.message came)
+judged (AtPreoperate s) came = preoperate_turned s (good_reply s.pre s.sent.message came)
+judged (AtOperate s) came = judged_out s.out s.layouts came
+
+-- how the attempt ends
+abbrev pub attempt_at : Option Sending → Shape → Option (List ℕ) → Attempt
+attempt_at None layout came = Again
+attempt_at (Some sent) layout came =
+    attempt_of sent.tries (good_reply layout sent.message came)
+
+abbrev pub attempted : State → Option (List ℕ) → Attempt
+attempted (AtDown s) came = Again
+attempted (AtStartup s) came = attempt_at (Some s.sent) startup_shape came
+attempted (AtPreoperate s) came = attempt_at (Some s.sent) s.pre came
+attempted (AtOperate s) came = attempt_at s.out s.layouts.run came
+
+-- the attempts at it are fewer than three
+abbrev pub AreFew : State → Type 0
+AreFew (AtDown s) = ⊤
+AreFew (AtStartup s) = s.sent.tries < 3
+AreFew (AtPreoperate s) = s.sent.tries < 3
+AreFew (AtOperate s) = IfSome s.out (λ sent. sent.tries < 3)
+
+-- Over an honest wire, whose far end and silence were and are these
+
+-- in OPERATE the far end accepts the message in whichever link it is
+abbrev pub OutGives : Option Sending → Layouts → Far → Outcome → ℕ → Far → Type 0
+OutGives None layouts far outcome silence_new far_new = ⊤
+OutGives (Some sent) layouts far outcome silence_new far_new =
+    IsMet outcome silence_new far_new
+    × ((link : Link) → IsOperating layouts link
+    → IsAccepted layouts far.page link sent.message)
+
+abbrev pub StateGives : State → Far → Outcome → ℕ → Far → Type 0
+StateGives (AtDown s) far outcome silence_new far_new = ⊤
+StateGives (AtStartup s) far outcome silence_new far_new = IsRisen outcome silence_new far far_new
+StateGives (AtPreoperate s) far outcome silence_new far_new =
+    IsRisen outcome silence_new far far_new
+StateGives (AtOperate s) far outcome silence_new far_new =
+    OutGives s.out s.layouts far outcome silence_new far_new
+
+-- one exchange, of which this came back
+abbrev pub ExchangeGives : State → Option (List ℕ) → Outcome → Type 0
+ExchangeGives s came outcome =
+    (far far_new : Far) (silence silence_new : ℕ) → StateStands s silence far
+    → HonestExchange far silence (text_out s) came far_new silence_new
+    → StateGives s far outcome silence_new far_new
+
+-- both ends stand as before
+abbrev pub StandsOn : State → State → Type 0
+StandsOn old new = (far : Far) (silence : ℕ) → StateStands old silence far
+    → StateStands new silence far

@@ -1,0 +1,189 @@
+//! One exchange of a link that isn't down, in two halves without the wire: what goes
+//! out, and what is made of what comes back.
+ghost use Rattle.std.specs.Prelude.{◌≡◌, ◌<◌, IsTrue, IsSome, IfSome};
+ghost use Rattle.iol_octets.specs.Checksum.{has_checksum};
+ghost use Rattle.iol_far.specs.Octets.{octets_in};
+ghost use Rattle.iol_link.specs.Attempts.{good_reply, attempt_of};
+ghost use Rattle.iol_mode.specs.Messages.{stays};
+ghost use Rattle.iol_mode.specs.States.{StateFits, Takes, IsStartup, IsPreoperate, OutFits, outcome_with, counted, left_by};
+ghost use Rattle.iol_mode.specs.Stands.{text_in};
+ghost use Rattle.iol_mode.specs.Exchanges.{IsSending, IsOperateSending, AreFew, text_out, putting, judged, attempted, ExchangeGives, StandsOn};
+ghost use Rattle.iol_mode.specs.Laws.{Laws};
+
+use crate::messages::copy_of;
+use crate::states::{Startup, State, operate_done, preoperate_done, startup_done};
+use iol_far::{ends_stay_level, links_stay_level, texts_are_heard};
+use iol_link::{Attempt, Handler, exchanges_keep_ends_level};
+use iol_mseq::{Layout, MasterMsg, Message};
+use iol_page::pages_ask_for_layouts;
+
+/// What is known of every exchange over an honest wire.
+pub(crate) fn laws()
+    ensures { Laws }
+{
+    pages_ask_for_layouts();
+    texts_are_heard();
+    ends_stay_level();
+    links_stay_level();
+    exchanges_keep_ends_level();
+}
+
+impl State {
+    /// The octets of the message that is out.
+    pub fn sends(&self) -> Message
+        requires fits { StateFits self.now }
+        requires sends { IsSending self.now }
+        ensures text { result.items ≡ text_out self.now }
+        ensures checksum { IsTrue (has_checksum 1 result.items) }
+    {
+        match self {
+            State::Startup(startup) => startup.sent.octets(&Layout::startup()),
+            State::Preoperate(preoperate) => preoperate.sent.octets(&preoperate.pre),
+            State::Operate(operate) => octets_out(&operate.out, &operate.layouts.run),
+            State::Down(_) => unreachable!(),
+        }
+    }
+
+    /// In OPERATE: this message is out from now on, where none is out.
+    ///
+    /// Nothing went out yet: both ends stand as before.
+    pub fn put_out(&mut self, message: &MasterMsg)
+        requires fits { StateFits self.old }
+        requires takes { Takes self.old message.now }
+        requires stays { IsTrue (stays message.now) }
+        ensures state { self.new ≡ putting message.now self.old }
+        ensures fits { StateFits self.new }
+        ensures sends { IsOperateSending self.new }
+        ensures stands { StandsOn self.old self.new }
+    {
+        laws();
+        put_out(self, message);
+    }
+
+    /// Takes what came back to the message that is out, and judges it: octets, or nothing.
+    ///
+    /// Without a good reply the message stays out, and the third attempt in a row has lost
+    /// the link. What comes back alone says what becomes of the mode.
+    pub fn receives(&mut self, came: &Option<Message>) -> Attempt
+        requires fits { StateFits self.old }
+        requires sends { IsSending self.old }
+        ensures state { outcome_with result self.new ≡ judged self.old (octets_in came.now) }
+        ensures fits { StateFits self.new }
+        ensures few { AreFew self.old }
+        ensures attempt { result ≡ attempted self.old (octets_in came.now) }
+
+        // over an honest wire
+        ensures gives { ExchangeGives self.old (octets_in came.now) (outcome_with result self.new) }
+    {
+        laws();
+        received(self, came)
+    }
+}
+
+fn received(state: &mut State, came: &Option<Message>) -> Attempt
+    requires fits { StateFits state.old }
+    requires sends { IsSending state.old }
+    ensures state { outcome_with result state.new ≡ judged state.old (octets_in came.now) }
+    ensures fits { StateFits state.new }
+    ensures few { AreFew state.old }
+    ensures attempt { result ≡ attempted state.old (octets_in came.now) }
+{
+    match state {
+        State::Startup(_) => startup_receives(state, came),
+        State::Preoperate(_) => preoperate_receives(state, came),
+        State::Operate(_) => operate_receives(state, came),
+        State::Down(_) => unreachable!(),
+    }
+}
+
+/// The octets of the message that is out in OPERATE.
+fn octets_out(out: &Option<Handler>, layout: &Layout) -> Message
+    requires fits { OutFits layout.now out.now }
+    requires out { IsSome out.now }
+    ensures text { result.items ≡ text_in layout.now out.now }
+    ensures checksum { IsTrue (has_checksum 1 result.items) }
+{
+    match out {
+        Some(sent) => sent.octets(layout),
+        None => unreachable!(),
+    }
+}
+
+fn put_out(state: &mut State, message: &MasterMsg)
+    requires takes { Takes state.old message.now }
+    ensures { state.new ≡ putting message.now state.old }
+{
+    let State::Operate(operate) = state else {
+        unreachable!()
+    };
+    if operate.out.is_none() {
+        operate.out = Some(Handler::new(copy_of(message)));
+    }
+}
+
+/// What came back in STARTUP.
+fn startup_receives(state: &mut State, came: &Option<Message>) -> Attempt
+    requires { IsStartup state.old }
+    ensures state { outcome_with result state.new ≡ judged state.old (octets_in came.now) }
+    ensures fits { StateFits state.new }
+    ensures few { AreFew state.old }
+    ensures attempt { result ≡ attempted state.old (octets_in came.now) }
+{
+    let State::Startup(Startup { sent, .. }) = state else {
+        unreachable!()
+    };
+    let attempt = sent.judge(&Layout::startup(), came);
+    startup_done(state, &attempt);
+    attempt
+}
+
+/// What came back in PREOPERATE.
+fn preoperate_receives(state: &mut State, came: &Option<Message>) -> Attempt
+    requires { IsPreoperate state.old }
+    ensures state { outcome_with result state.new ≡ judged state.old (octets_in came.now) }
+    ensures fits { StateFits state.new }
+    ensures few { AreFew state.old }
+    ensures attempt { result ≡ attempted state.old (octets_in came.now) }
+{
+    let State::Preoperate(preoperate) = state else {
+        unreachable!()
+    };
+    let attempt = preoperate.sent.judge(&preoperate.pre, came);
+    preoperate_done(state, &attempt);
+    attempt
+}
+
+/// What came back in OPERATE.
+fn operate_receives(state: &mut State, came: &Option<Message>) -> Attempt
+    requires fits { StateFits state.old }
+    requires sends { IsOperateSending state.old }
+    ensures state { outcome_with result state.new ≡ judged state.old (octets_in came.now) }
+    ensures fits { StateFits state.new }
+    ensures few { AreFew state.old }
+    ensures attempt { result ≡ attempted state.old (octets_in came.now) }
+{
+    let State::Operate(operate) = state else {
+        unreachable!()
+    };
+    let attempt = judge_out(&mut operate.out, came, &operate.layouts.run);
+    operate_done(state, &attempt);
+    attempt
+}
+
+/// The message is out afterwards only where it is to be sent again.
+fn judge_out(out: &mut Option<Handler>, came: &Option<Message>, layout: &Layout) -> Attempt
+    requires { IsSome out.old }
+    ensures { IfSome out.old (λ sent. (sent.tries < 3)
+        × (result
+        ≡ attempt_of sent.tries (good_reply layout.now sent.message (octets_in came.now)))
+        × (out.new
+        ≡ left_by result
+        (counted sent (good_reply layout.now sent.message (octets_in came.now))))) }
+{
+    let Some(sent) = out else { unreachable!() };
+    let attempt = sent.judge(layout, came);
+    if !matches!(attempt, Attempt::Again) {
+        *out = None;
+    }
+    attempt
+}
