@@ -36,11 +36,8 @@ impl Image {
         ensures length { IsOk result ↔ IsImage octets.now }
         ensures fault { IfErr result (λ fault. fault ≡ WrongImageLength) }
     {
-        let mut image = ArrayVec::new();
-        if octets.is_empty() || image.try_extend_from_slice(octets).is_err() {
-            return Err(ImageFault::WrongImageLength);
-        }
-        Ok(Image { octets: image })
+        let octets = ArrayVec::try_from(octets).map_err(|_| ImageFault::WrongImageLength)?;
+        Image::of(octets)
     }
 
     /// The image of these octets, which are not copied.

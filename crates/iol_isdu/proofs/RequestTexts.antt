@@ -1,5 +1,5 @@
 -- Requests and their texts.
-use Rattle.std.proofs.Common.{◌≡◌, ℕ, ◌+◌, ◌/◌, ◌%◌, ◌<◌, ◌≤◌, true, List, [], ◌∷◌, ◌++◌, ◌-◌, length, get_or, take, drop, refl, sym, ap, subst, subst₂, ◌∙◌, arith, Ok, Err, Option, Some, None, Result, IfOk, OnOk, OnSome, IsOk, rules, IfSome, is_some, nat_le}
+use Rattle.std.proofs.Common.{◌≡◌, ℕ, ◌+◌, ◌/◌, ◌%◌, ◌<◌, ◌≤◌, true, List, [], ◌∷◌, ◌++◌, ◌-◌, length, get_or, take, drop, refl, sym, ap, subst, subst₂, ◌∙◌, arith, Ok, Err, Option, Some, None, Result, OnOk, OnSome, IsOk, rules, is_some, nat_le}
 use Rattle.std.specs.Result.{result_err}
 use Rattle.std.proofs.Math.Seq.{take-length}
 use Rattle.std.proofs.lemmas.Bool.Decides.{nat_tests}
@@ -75,42 +75,20 @@ one_request_text q r text a b =
     let same = one_frame a.1.service b.1.service a.1.body b.1.body text a.1.frame b.1.frame in
     one_request a.0 b.0 q r b.1.service b.1.body (subst₂ (λ s x. IsRequestBodyIn a.0 q s x) same.0 same.1 a.1.means) b.1.means
 
-pub only_request : (octets : List ℕ) (result : Result Request IsduFault) → result_err result ≡ isdu_fault request_accepts octets → IfOk result (λ r. IsRequestText r (text_at octets))
-    → (r : Request) (text rest : List ℕ) → IsRequestText r text → octets ≡ text ++ rest → result ≡ Ok r
-only_request octets (Err fault) refused found r text rest t e =
-    let none : isdu_fault request_accepts (text ++ rest) ≡ None = isdu_fault-frame request_accepts t.1.service t.1.body text rest t.1.frame (body_fits t.0 r t.1.service t.1.body t.1.means) (accepts_size t.0 r t.1.service t.1.body t.1.means) in
-    let some : Some fault ≡ isdu_fault request_accepts (text ++ rest) = refused ∙ ap (isdu_fault request_accepts) e in
-    absurd cc
-only_request octets (Ok q) refused found r text rest t e =
-    let same : text_at octets ≡ text = ap text_at e ∙ text_at-frame t.1.service t.1.body text rest t.1.frame (body_fits t.0 r t.1.service t.1.body t.1.means) in
-    ap Ok (one_request_text q r text (rw same at found) t)
-
-pub begins_with : (octets : List ℕ) (result : Result Request IsduFault) → IfOk result (λ r. IsRequestText r (text_at octets)) → IfOk result (BeginsWithRequest octets)
-begins_with octets (Err fault) found = found
-begins_with octets (Ok r) found = record { text = text_at octets; rest = drop (length (text_at octets)) octets; spells = found; whole = text_at-rest octets }
-
--- the same of a request that is put in place
-pub only_put : {T : Type 0} (octets : List ℕ) (result : Result T IsduFault) (now : Request) → result_err result ≡ isdu_fault request_accepts octets → OnOk result (IsRequestText now (text_at octets))
+-- the octets begin with the request that was found, and with no other
+pub only_request : {T : Type 0} (octets : List ℕ) (result : Result T IsduFault) (now : Request) → result_err result ≡ isdu_fault request_accepts octets → OnOk result (IsRequestText now (text_at octets))
     → (r : Request) (text rest : List ℕ) → IsRequestText r text → octets ≡ text ++ rest → IsOk result × (now ≡ r)
-only_put octets (Err fault) now refused found r text rest t e =
+only_request octets (Err fault) now refused found r text rest t e =
     let none : isdu_fault request_accepts (text ++ rest) ≡ None = isdu_fault-frame request_accepts t.1.service t.1.body text rest t.1.frame (body_fits t.0 r t.1.service t.1.body t.1.means) (accepts_size t.0 r t.1.service t.1.body t.1.means) in
     let some : Some fault ≡ isdu_fault request_accepts (text ++ rest) = refused ∙ ap (isdu_fault request_accepts) e in
     absurd cc
-only_put octets (Ok u) now refused found r text rest t e =
+only_request octets (Ok u) now refused found r text rest t e =
     let same : text_at octets ≡ text = ap text_at e ∙ text_at-frame t.1.service t.1.body text rest t.1.frame (body_fits t.0 r t.1.service t.1.body t.1.means) in
     (search rules, one_request_text now r text (rw same at found) t)
 
-pub begins_with_put : {T : Type 0} (octets : List ℕ) (result : Result T IsduFault) (now : Request) → OnOk result (IsRequestText now (text_at octets)) → OnOk result (BeginsWithRequest octets now)
-begins_with_put octets (Err fault) now found = found
-begins_with_put octets (Ok u) now found = record { text = text_at octets; rest = drop (length (text_at octets)) octets; spells = found; whole = text_at-rest octets }
-
--- a write whose body is the index part of a place in a form, and the octets
-pub written_body : (form : Form) (place : Place) (service : ℕ) (octets body : List ℕ) (request : Option Request)
-    → IfSome request (λ r. r ≡ Write place (record { items = octets })) → is_some request ≡ nat_le (length octets) 232
-    → service ≡ 1 + form_number form → Holds form place → body ≡ index_part form place ++ octets → IfSome request (λ r. IsRequestBody r service body)
-written_body form place service octets body None value fits code holds parts = value
-written_body form place service octets body (Some r) value fits code holds parts =
-    subst (λ r. IsRequestBody r service body) (sym value) (form, record { holds = holds; fits = (grind (arith, nat_tests)); code = code; parts = parts })
+pub begins_with : {T : Type 0} (octets : List ℕ) (result : Result T IsduFault) (now : Request) → OnOk result (IsRequestText now (text_at octets)) → OnOk result (BeginsWithRequest octets now)
+begins_with octets (Err fault) now found = found
+begins_with octets (Ok u) now found = record { text = text_at octets; rest = drop (length (text_at octets)) octets; spells = found; whole = text_at-rest octets }
 
 -- three octets, and those behind them
 pub three_octets : (xs : List ℕ) → 3 ≤ length xs → xs ≡ get_or xs 0 0 ∷ get_or xs 1 0 ∷ get_or xs 2 0 ∷ take (length xs - 3) (drop 3 xs)
@@ -121,9 +99,10 @@ three_octets (x ∷ y ∷ z ∷ xs) h =
     let size : length (x ∷ y ∷ z ∷ xs) - 3 ≡ length xs = omega arith in
     ap (λ ys. x ∷ y ∷ z ∷ ys) (sym (ap (λ n. take n xs) size ∙ take-length xs))
 
-pub written_put : {T : Type 0} (form : Form) (place : Place) (service : ℕ) (octets body : List ℕ) (result : Option T) (now : Request)
+-- a write whose body is the index part of a place in a form, and the octets
+pub written_body : {T : Type 0} (form : Form) (place : Place) (service : ℕ) (octets body : List ℕ) (result : Option T) (now : Request)
     → OnSome result (now ≡ Write place (record { items = octets })) → is_some result ≡ nat_le (length octets) 232
     → service ≡ 1 + form_number form → Holds form place → body ≡ index_part form place ++ octets → OnSome result (IsRequestBody now service body)
-written_put form place service octets body None now value fits code holds parts = value
-written_put form place service octets body (Some u) now value fits code holds parts =
+written_body form place service octets body None now value fits code holds parts = value
+written_body form place service octets body (Some u) now value fits code holds parts =
     subst (λ r. IsRequestBody r service body) (sym value) (form, record { holds = holds; fits = (grind (arith, nat_tests)); code = code; parts = parts })

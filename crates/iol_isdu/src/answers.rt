@@ -10,7 +10,7 @@ use crate::fault::IsduFault;
 use crate::frame::{frame_of, xor_of};
 use crate::front::answer_front;
 use crate::service::Service;
-use crate::values::{Answer, Octets, Request, Text};
+use crate::values::{Answer, Request, Text};
 
 /// The text of the answer to this request (IEC 61131-9, A.5.1 to A.5.6).
 ///
@@ -41,65 +41,15 @@ pub fn read_answer(request: &Request, octets: &[u8]) -> Result<Answer, IsduFault
     ensures only { (a : Answer) → BeginsWithAnswer (is_read request.now) octets.now a → result
         ≡ Ok a }
 {
-    answer_to(is_read(request), octets)
-}
-
-fn is_read(request: &Request) -> bool
-    ensures { result ≡ is_read request.now }
-{
-    matches!(request, Request::Read(_))
-}
-
-/// The answer to a read or to a write whose text the octets begin with.
-fn answer_to(read: bool, octets: &[u8]) -> Result<Answer, IsduFault>
-    ensures refused { result_err result ≡ answer_fault read octets.now }
-    ensures found { IfOk result (λ a. IsAnswerText read a (text_at octets.now)) }
-{
-    let (to_read, answer) = framed_answer(octets)?;
-    if to_read != read {
-        return Err(IsduFault::WrongAnswerKind);
-    }
+    let mut answer = Answer::Written;
+    answer_into(request, octets, &mut answer)?;
     Ok(answer)
 }
 
-/// Whether the octets begin with an answer to a read, and that answer.
-fn framed_answer(octets: &[u8]) -> Result<(bool, Answer), IsduFault>
-    ensures refused { result_err result ≡ isdu_fault answer_accepts octets.now }
-    ensures kind { IfOk result (λ a. a.0 ≡ answers_read (slice_index octets.now 0 / 16)) }
-    ensures found { IfOk result (λ a. IsAnswerText a.0 a.1 (text_at octets.now)) }
-{
-    let frame = frame_of(octets)?;
-    let Some(answer) = answer_in(frame.service, frame.body) else {
-        return Err(IsduFault::BadService);
-    };
-    if xor_of(frame.text) != 0 {
-        return Err(IsduFault::BadChkpdu);
-    }
-    Ok(answer)
-}
-
-/// The answer of a service and the octets between its first octets and its CHKPDU, and whether
-/// it is to a read.
-fn answer_in(service: u8, body: &[u8]) -> Option<(bool, Answer)>
-    ensures accepted { is_some result ≡ answer_accepts service (total_of (length body.now)) }
-    ensures kind { IfSome result (λ a. a.0 ≡ answers_read service) }
-    ensures found { IfSome result (λ a. IsAnswerBody a.0 a.1 service body.now) }
-{
-    match (Service::from_bits(service)?, body) {
-        (Service::WriteRefused, [error, additional]) => {
-            Some((false, Answer::Refused(*error, *additional)))
-        }
-        (Service::WriteDone, []) => Some((false, Answer::Written)),
-        (Service::ReadRefused, [error, additional]) => {
-            Some((true, Answer::Refused(*error, *additional)))
-        }
-        (Service::ReadDone, octets) => Some((true, Answer::Read(Octets::try_from(octets).ok()?))),
-        _ => None,
-    }
-}
-
-/// Puts the answer to this request in place, whose text the octets begin with, as `read_answer`
-/// reads it. A refusal may leave another answer there.
+/// Puts in place the answer to this request whose text the octets begin with.
+///
+/// It reads and refuses as [`read_answer`] does, with 10 to 14. A refusal may leave another
+/// answer there.
 pub fn answer_into(request: &Request, octets: &[u8], into: &mut Answer) -> Result<(), IsduFault>
     ensures refused { result_err result ≡ answer_fault (is_read request.now) octets.now }
     ensures found { OnOk result (BeginsWithAnswer (is_read request.now) octets.now into.new) }
@@ -109,7 +59,13 @@ pub fn answer_into(request: &Request, octets: &[u8], into: &mut Answer) -> Resul
     put_answer_to(is_read(request), octets, into)
 }
 
-/// The answer to a read or to a write whose text the octets begin with.
+fn is_read(request: &Request) -> bool
+    ensures { result ≡ is_read request.now }
+{
+    matches!(request, Request::Read(_))
+}
+
+/// Puts in place the answer to a read or to a write whose text the octets begin with.
 fn put_answer_to(read: bool, octets: &[u8], into: &mut Answer) -> Result<(), IsduFault>
     ensures refused { result_err result ≡ answer_fault read octets.now }
     ensures found { OnOk result (IsAnswerText read into.new (text_at octets.now)) }
@@ -121,7 +77,8 @@ fn put_answer_to(read: bool, octets: &[u8], into: &mut Answer) -> Result<(), Isd
     Ok(())
 }
 
-/// Whether the octets begin with an answer to a read, and that answer.
+/// Puts in place the answer of the frame that the octets begin with. Answers whether it is to
+/// a read.
 fn put_framed(octets: &[u8], into: &mut Answer) -> Result<bool, IsduFault>
     ensures refused { result_err result ≡ isdu_fault answer_accepts octets.now }
     ensures kind { IfOk result (λ read. read ≡ answers_read (slice_index octets.now 0 / 16)) }
@@ -137,8 +94,8 @@ fn put_framed(octets: &[u8], into: &mut Answer) -> Result<bool, IsduFault>
     Ok(read)
 }
 
-/// The answer of a service and the octets between its first octets and its CHKPDU, and whether
-/// it is to a read.
+/// Puts in place the answer of a service and the octets between its first octets and its CHKPDU.
+/// Answers whether it is to a read.
 fn put_body(service: u8, body: &[u8], into: &mut Answer) -> Option<bool>
     ensures accepted { is_some result ≡ answer_accepts service (total_of (length body.now)) }
     ensures kind { IfSome result (λ read. read ≡ answers_read service) }

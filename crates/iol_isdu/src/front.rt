@@ -63,7 +63,8 @@ impl Front<'_> {
     }
 }
 
-/// The CHKPDU that ends a text whose octets before it are these, in two pieces (IEC 61131-9, A.5.6).
+/// The CHKPDU that ends a text, of which the octets before it are these, in two pieces
+/// (IEC 61131-9, A.5.6).
 pub fn chkpdu_of(head: &[u8], octets: &[u8]) -> u8
     ensures { result ≡ xor_of (head.now ++ octets.now) }
 {

@@ -1,5 +1,5 @@
 //! Texts of requests, written and read, in three forms of index (IEC 61131-9, A.5.4 and A.5.5).
-ghost use Rattle.std.specs.Prelude.{◌≡◌, ◌+◌, ◌++◌, ◌∷◌, [], IfOk, IfSome, OnOk, OnSome, IsOk, IsSome, Ok, Some, is_some, nat_le, length};
+ghost use Rattle.std.specs.Prelude.{◌≡◌, ◌+◌, ◌++◌, ◌∷◌, [], IfOk, OnOk, OnSome, IsOk, IsSome, Ok, Some, is_some, nat_le, length};
 ghost use Rattle.std.specs.Result.{result_err, result_ok};
 ghost use Rattle.iol_isdu.specs.Frame.{text_at, isdu_fault, total_of};
 ghost use Rattle.iol_isdu.specs.Requests.{WideIndexSub, Holds, index_part, BeginsWithRequest, IsRequestBody, IsRequestText, IsShortText, request_accepts};
@@ -11,7 +11,7 @@ use crate::fault::IsduFault;
 use crate::frame::{frame_of, xor_of};
 use crate::front::request_front;
 use crate::service::{Form, Service};
-use crate::values::{Octets, Place, Request, Text};
+use crate::values::{Place, Request, Text};
 
 /// The text that the master sends for a request, in the shortest form that says its place
 /// (IEC 61131-9, A.5.1 to A.5.6).
@@ -40,77 +40,15 @@ pub fn read_request(octets: &[u8]) -> Result<Request, IsduFault>
     ensures only { (r : Request) → BeginsWithRequest octets.now r → result ≡ Ok r }
     ensures value { result_ok result ≡ request_of octets.now }
 {
-    framed_request(octets)
-}
-
-/// The request of the frame that the octets begin with.
-fn framed_request(octets: &[u8]) -> Result<Request, IsduFault>
-    ensures refused { result_err result ≡ isdu_fault request_accepts octets.now }
-    ensures found { IfOk result (λ r. IsRequestText r (text_at octets.now)) }
-{
-    let frame = frame_of(octets)?;
-    let Some(request) = request_in(frame.service, frame.body) else {
-        return Err(IsduFault::BadService);
-    };
-    if xor_of(frame.text) != 0 {
-        return Err(IsduFault::BadChkpdu);
-    }
+    let mut request = Request::Read(Place { index: 0, sub: 0 });
+    request_into(octets, &mut request)?;
     Ok(request)
 }
 
-/// The request of a service and the octets between its first octets and its CHKPDU.
-fn request_in(service: u8, body: &[u8]) -> Option<Request>
-    ensures accepted { is_some result ≡ request_accepts service (total_of (length body.now)) }
-    ensures found { IfSome result (λ r. IsRequestBody r service body.now) }
-{
-    match (Service::from_bits(service)?, body) {
-        (Service::Write(Form::Index), [index, octets @ ..]) => write_of(narrow(*index, 0), octets),
-        (Service::Write(Form::IndexSub), [index, sub, octets @ ..]) => {
-            write_of(narrow(*index, *sub), octets)
-        }
-        (Service::Write(Form::WideIndexSub), [high, low, sub, octets @ ..]) => {
-            write_of(wide([*high, *low], *sub), octets)
-        }
-        (Service::Read(Form::Index), [index]) => Some(Request::Read(narrow(*index, 0))),
-        (Service::Read(Form::IndexSub), [index, sub]) => Some(Request::Read(narrow(*index, *sub))),
-        (Service::Read(Form::WideIndexSub), [high, low, sub]) => {
-            Some(Request::Read(wide([*high, *low], *sub)))
-        }
-        _ => None,
-    }
-}
-
-/// The place of an 8-bit index.
-fn narrow(index: u8, sub: u8) -> Place
-    ensures { result ≡ record { index = index; sub = sub } }
-{
-    Place {
-        index: u16::from(index),
-        sub,
-    }
-}
-
-/// The place of a 16-bit index, whose high octet comes first.
-fn wide(index: [u8; 2], sub: u8) -> Place
-    ensures holds { Holds WideIndexSub result }
-    ensures says { index_part WideIndexSub result ≡ index ++ sub ∷ [] }
-{
-    Place {
-        index: u16::from_be_bytes(index),
-        sub,
-    }
-}
-
-fn write_of(place: Place, octets: &[u8]) -> Option<Request>
-    ensures fits { is_some result ≡ nat_le (length octets.now) 232 }
-    ensures value { IfSome result (λ r. r ≡ Request.Write place (record { items = octets.now })) }
-{
-    let octets = Octets::try_from(octets).ok()?;
-    Some(Request::Write(place, octets))
-}
-
-/// Puts the request in place whose text the octets begin with, as `read_request` reads it. A
-/// refusal may leave another request there.
+/// Puts in place the request whose text the octets begin with.
+///
+/// It reads and refuses as [`read_request`] does, with 10 to 13. A refusal may leave another
+/// request there.
 pub fn request_into(octets: &[u8], into: &mut Request) -> Result<(), IsduFault>
     ensures refused { result_err result ≡ isdu_fault request_accepts octets.now }
     ensures found { OnOk result (BeginsWithRequest octets.now into.new) }
@@ -120,7 +58,7 @@ pub fn request_into(octets: &[u8], into: &mut Request) -> Result<(), IsduFault>
     put_framed(octets, into)
 }
 
-/// The request of the frame that the octets begin with.
+/// Puts in place the request of the frame that the octets begin with.
 fn put_framed(octets: &[u8], into: &mut Request) -> Result<(), IsduFault>
     ensures refused { result_err result ≡ isdu_fault request_accepts octets.now }
     ensures found { OnOk result (IsRequestText into.new (text_at octets.now)) }
@@ -135,7 +73,7 @@ fn put_framed(octets: &[u8], into: &mut Request) -> Result<(), IsduFault>
     Ok(())
 }
 
-/// The request of a service and the octets between its first octets and its CHKPDU.
+/// Puts in place the request of a service and the octets between its first octets and its CHKPDU.
 fn put_body(service: u8, body: &[u8], into: &mut Request) -> Option<()>
     ensures accepted { is_some result ≡ request_accepts service (total_of (length body.now)) }
     ensures found { OnSome result (IsRequestBody into.new service body.now) }
@@ -159,6 +97,7 @@ fn put_body(service: u8, body: &[u8], into: &mut Request) -> Option<()>
     }
 }
 
+/// Puts in place a write, where one text holds that many octets.
 fn put_write(place: Place, octets: &[u8], into: &mut Request) -> Option<()>
     ensures fits { is_some result ≡ nat_le (length octets.now) 232 }
     ensures value { OnSome result (into.new
@@ -171,10 +110,32 @@ fn put_write(place: Place, octets: &[u8], into: &mut Request) -> Option<()>
     Some(())
 }
 
+/// Puts in place a read.
 fn put_read(place: Place, into: &mut Request) -> Option<()>
     ensures some { IsSome result }
     ensures value { into.new ≡ Request.Read place }
 {
     *into = Request::Read(place);
     Some(())
+}
+
+/// The place of an 8-bit index.
+fn narrow(index: u8, sub: u8) -> Place
+    ensures { result ≡ record { index = index; sub = sub } }
+{
+    Place {
+        index: u16::from(index),
+        sub,
+    }
+}
+
+/// The place of a 16-bit index, whose high octet comes first.
+fn wide(index: [u8; 2], sub: u8) -> Place
+    ensures holds { Holds WideIndexSub result }
+    ensures says { index_part WideIndexSub result ≡ index ++ sub ∷ [] }
+{
+    Place {
+        index: u16::from_be_bytes(index),
+        sub,
+    }
 }

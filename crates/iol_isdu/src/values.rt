@@ -81,27 +81,7 @@ impl Request {
         let octets = Octets::try_from(octets).map_err(|_| IsduFault::DataTooLong)?;
         Ok(Request::Write(place, octets))
     }
-}
 
-/// The octets once more, all of them in one step.
-fn octets_again(octets: &Octets) -> Octets
-    ensures { result ≡ octets.now }
-{
-    let mut again = Octets::new();
-    again.try_extend_from_slice(octets).unwrap();
-    again
-}
-
-/// Puts these octets in place of others.
-fn put(own: &mut Octets, octets: &[u8])
-    requires { length octets.now ≤ 232 }
-    ensures { own.new.items ≡ octets.now }
-{
-    own.clear();
-    own.try_extend_from_slice(octets).unwrap();
-}
-
-impl Request {
     /// Becomes a copy of another one, where it lies.
     pub fn set(&mut self, other: &Request)
         ensures { self.new ≡ other.now }
@@ -188,4 +168,22 @@ impl Clone for Answer {
             Answer::Refused(error, additional) => Answer::Refused(*error, *additional),
         })
     }
+}
+
+/// The octets once more, all of them in one step.
+fn octets_again(octets: &Octets) -> Octets
+    ensures { result ≡ octets.now }
+{
+    let mut again = Octets::new();
+    put(&mut again, octets);
+    again
+}
+
+/// Puts these octets in place of others.
+fn put(own: &mut Octets, octets: &[u8])
+    requires { length octets.now ≤ 232 }
+    ensures { own.new.items ≡ octets.now }
+{
+    own.clear();
+    own.try_extend_from_slice(octets).unwrap();
 }

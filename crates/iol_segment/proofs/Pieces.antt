@@ -79,7 +79,3 @@ behind-last size most i old front piece enough fits is short =
     ∙ ap (take (length old + size)) (append_assoc old (one ++ xor_of front ∷ []) (replicate most 0))
     ∙ take-behind size old ((one ++ xor_of front ∷ []) ++ replicate most 0)
     ∙ ap (λ xs. old ++ xs) (piece-last size most i front enough fits less)
-
--- a place in the two pieces of a front, or right behind them, is within the text
-pub sealed-within : (from : ℕ) (head octets front : List ℕ) → head ++ octets ≡ front → from ≤ length head + length octets → from < length (sealed front)
-sealed-within from head octets front e h = omega (arith, h, length-append head octets, ap length e, length-append front (xor_of front ∷ []))

@@ -101,8 +101,7 @@ impl Joiner {
         is_whole(&self.text)
     }
 
-    /// The request whose text was taken, as `iol_isdu::read_request` reads it,
-    /// where the joiner lies.
+    /// The request whose text was taken, as `iol_isdu::read_request` reads it.
     ///
     /// The text is whole, as [`take`](Joiner::take) has answered. The first of
     /// these that holds refuses:
@@ -119,13 +118,10 @@ impl Joiner {
         read_request(&self.text)
     }
 
-    /// The request whose text was taken, as `iol_isdu::read_request` reads it. A
-    /// refusal gives the joiner up all the same.
+    /// The request whose text was taken, for which the joiner is given up.
     ///
-    /// The text is whole, as [`take`](Joiner::take) has answered. The first of
-    /// these that holds refuses:
-    /// - 12 `BadService`: the service is no request's, or its texts don't have this total length;
-    /// - 13 `BadChkpdu`: the XOR of all octets of the text is not 0.
+    /// It reads and refuses as [`request`](Joiner::request) does, with 12 and 13. A refusal gives
+    /// the joiner up all the same.
     pub fn into_request(self) -> Result<Request, IsduFault>
         requires kind { self.requests ≡ true }
         requires whole { is_whole self.text ≡ true }
@@ -135,6 +131,22 @@ impl Joiner {
         ensures value { result_ok result ≡ request_of self.text }
     {
         self.request()
+    }
+
+    /// Puts in place the request whose text was taken.
+    ///
+    /// It reads and refuses as [`request`](Joiner::request) does, with 12 and 13. A refusal may
+    /// leave another request there.
+    pub fn request_into(&self, into: &mut Request) -> Result<(), IsduFault>
+        requires kind { self.now.requests ≡ true }
+        requires whole { is_whole self.now.text ≡ true }
+        ensures refused { result_err result ≡ isdu_fault request_accepts self.now.text }
+        ensures found { OnOk result (BeginsWithRequest self.now.text into.new) }
+        ensures only { (r : Request) → BeginsWithRequest self.now.text r
+            → IsOk result × (into.new ≡ r) }
+        ensures value { OnOk result (request_of self.now.text ≡ Some into.new) }
+    {
+        request_into(&self.text, into)
     }
 
     /// The answer to this request whose text was taken, as `iol_isdu::read_answer`
@@ -157,31 +169,20 @@ impl Joiner {
         read_answer(request, &self.text)
     }
 
-    /// Puts the answer to this request in place, whose text was taken, as
-    /// [`into_answer`](Joiner::into_answer) reads it, and refuses as that does. The joiner stays.
+    /// Puts in place the answer to this request whose text was taken.
+    ///
+    /// It reads and refuses as [`into_answer`](Joiner::into_answer) does, with 12 to 14. A
+    /// refusal may leave another answer there.
     pub fn answer_into(&self, request: &Request, into: &mut Answer) -> Result<(), IsduFault>
         requires kind { self.now.requests ≡ false }
         requires whole { is_whole self.now.text ≡ true }
         ensures refused { result_err result ≡ answer_fault (is_read request.now) self.now.text }
-        ensures found { OnOk result (BeginsWithAnswer (is_read request.now) self.now.text into.new) }
+        ensures found { OnOk result
+            (BeginsWithAnswer (is_read request.now) self.now.text into.new) }
         ensures only { (a : Answer) → BeginsWithAnswer (is_read request.now) self.now.text a
             → IsOk result × (into.new ≡ a) }
     {
         answer_into(request, &self.text, into)
-    }
-
-    /// Puts the request in place whose text was taken, as [`request`](Joiner::request) reads it, and
-    /// refuses as that does.
-    pub fn request_into(&self, into: &mut Request) -> Result<(), IsduFault>
-        requires kind { self.now.requests ≡ true }
-        requires whole { is_whole self.now.text ≡ true }
-        ensures refused { result_err result ≡ isdu_fault request_accepts self.now.text }
-        ensures found { OnOk result (BeginsWithRequest self.now.text into.new) }
-        ensures only { (r : Request) → BeginsWithRequest self.now.text r
-            → IsOk result × (into.new ≡ r) }
-        ensures value { OnOk result (request_of self.now.text ≡ Some into.new) }
-    {
-        request_into(&self.text, into)
     }
 
     /// Empties it, where it lies.

@@ -20,7 +20,7 @@ pub trait Source {
         ensures body { result.octets.now ≡ body self.now }
         ensures fits { length result.head.items + length result.octets.now ≤ 237 };
 
-    /// The second piece.
+    /// The second piece, the octets of the parameter.
     fn body(&self) -> &[u8]
         ensures { result.now ≡ body self.now };
 

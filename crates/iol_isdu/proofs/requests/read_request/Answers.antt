@@ -1,14 +1,10 @@
-use Rattle.iol_isdu.proofs.RequestTexts.{only_request, begins_with}
-use Rattle.iol_isdu.proofs.Parse.{request_of-read}
+use Rattle.std.proofs.Common.{rules, ap, Ok}
+use Rattle.iol_isdu.proofs.Parse.{request_of-refused}
 use Rattle.iol_isdu.proofs.requests.read_request.Goals as goal
 
-pub returns-clause-found : goal.returns-clause-found
-returns-clause-found c = begins_with c.args.octets.now _ c.framed_request.ensures.found
-
 pub returns-clause-only : goal.returns-clause-only
-returns-clause-only c =
-    λ r b. only_request c.args.octets.now _ c.framed_request.ensures.refused c.framed_request.ensures.found r b.text b.rest b.spells b.whole
+returns-clause-only c = λ r b. ap Ok (c.request_into.ensures.only r b).1
 
-pub returns-clause-value : goal.returns-clause-value
-returns-clause-value c =
-    request_of-read c.args.octets.now _ c.framed_request.ensures.refused (begins_with c.args.octets.now _ c.framed_request.ensures.found)
+pub returns-in_err-request_into-clause-value : goal.returns-in_err-request_into-clause-value
+returns-in_err-request_into-clause-value c =
+    request_of-refused c.args.octets.now c.from_residual.result c.from_residual.ensures.0 (search rules)
