@@ -9,7 +9,6 @@ use Rattle.iol_book.specs.declared.entries.Outcome.{Outcome}
 use Rattle.iol_book.specs.declared.entries.Outcome.TheVariants as outcome
 use Rattle.iol_book.specs.declared.entries.Entry.TheVariants.{Submitted, Withdrawn, Collected, Urgent}
 use Rattle.iol_book.specs.Replay.{Standing, step, same_ticket, waiting_after, is_among}
-use Rattle.std.specs.Option.{option_map_or}
 use Rattle.iol_book.specs.BookModel.{waits, is_taken, next_taken, others_behind}
 use Rattle.iol_book.specs.Numbers.{times_in, IsNumbered}
 
@@ -131,17 +130,6 @@ module _ (last : ℕ) (s next : Standing) where
   taken-waits p (outcome.Unknown c) e h = refl
   taken-waits p outcome.Withdrawn e h = refl
 
-  -- and has no outcome
-  pub taken-unanswered : (t : Ticket) → is_taken s t ≡ true → IsNumbered last s → lookup (same_ticket t) s.outcomes ≡ None
-  taken-unanswered t taken h = by s.taken refl
-    where
-      by : (r : Option (Ticket × Request)) → s.taken ≡ r → lookup (same_ticket t) s.outcomes ≡ None
-      by None e = let f : false ≡ true = subst (λ (r : Option (Ticket × Request)). option_map_or (λ p. same_ticket t p.0) r false ≡ true) e taken in grind (arith, common_steps)
-      by (Some p) e =
-          let k : IsNumbered last (standing s.urgent s.waiting (Some p) s.outcomes) = subst (λ taken. IsNumbered last (standing s.urgent s.waiting taken s.outcomes)) e h in
-          let same : nat_eq t.0 p.0.0 ≡ true = subst (λ (r : Option (Ticket × Request)). option_map_or (λ p. same_ticket t p.0) r false ≡ true) e taken in
-          lookup-none t.0 t s.outcomes (grind (arith, common_steps, k.once t.0))
-
   pub entered-post : (p : Ticket × Request) (o : Outcome) → s.taken ≡ Some p → next ≡ record s { taken = None; outcomes = insert_entry same_ticket s.outcomes p.0 o } → IsNumbered last s → IsNumbered last next
   entered-post p o e is h =
       rw is (numbered-post last s.urgent s.waiting s.outcomes p o (subst (λ taken. IsNumbered last (standing s.urgent s.waiting taken s.outcomes)) e h))
@@ -167,3 +155,12 @@ module _ (last : ℕ) (s next : Standing) where
 
   pub entered-collect : (t : Ticket) → next ≡ step s (Collected t) → IsNumbered last s → IsNumbered last next
   entered-collect t is h = rw is (numbered-collect last s.urgent s.waiting s.outcomes t s.taken h)
+
+-- the request that is taken has no outcome yet
+unanswered : (last : ℕ) (t : Ticket) (us ws : List (Ticket × Request)) (os : List (Ticket × Outcome)) (taken : Option (Ticket × Request)) → is_taken (standing us ws taken os) t ≡ true
+    → IsNumbered last (standing us ws taken os) → lookup (same_ticket t) os ≡ None
+unanswered last t us ws os None found h = absurd (cc)
+unanswered last t us ws os (Some p) found h = lookup-none t.0 t os (grind (arith, common_steps, h.once t.0))
+
+pub taken-unanswered : {last : ℕ} {s : Standing} (t : Ticket) → is_taken s t ≡ true → IsNumbered last s → lookup (same_ticket t) s.outcomes ≡ None
+taken-unanswered {last} {s} t found h = unanswered last t s.urgent s.waiting s.outcomes s.taken found h

@@ -1,7 +1,5 @@
-use Rattle.std.proofs.Common.{◌≡◌, None, arith}
+use Rattle.std.proofs.Common.{arith}
 use Rattle.std.proofs.lemmas.Grind.{common_steps}
-use Rattle.std.specs.Map.{lookup}
-use Rattle.iol_book.specs.Replay.{same_ticket}
 use Rattle.iol_book.proofs.ReplayLemmas.{replay-push}
 use Rattle.iol_book.proofs.NumberLemmas.{entered-collect, taken-unanswered}
 use Rattle.iol_book.proofs.book.Book.collect_into.Goals as goal
@@ -19,13 +17,7 @@ invariant_of-self g c = record {
 }
 
 pub returns-then-is_taken-clause-answer : goal.returns-then-is_taken-clause-answer
-returns-then-is_taken-clause-answer g c =
-    let none : lookup (same_ticket c.args.ticket) c.args.self.now.state.standing.outcomes ≡ None =
-    taken-unanswered c.args.self.now.state.last c.args.self.now.state.standing c.args.self.now.state.standing c.args.ticket (grind (arith, common_steps)) (grind (arith, common_steps)) in
-    grind (arith, common_steps, none)
+returns-then-is_taken-clause-answer g c = grind (arith, common_steps, taken-unanswered)
 
 pub returns-then-is_taken-clause-state : goal.returns-then-is_taken-clause-state
-returns-then-is_taken-clause-state g c =
-    let none : lookup (same_ticket c.args.ticket) c.args.self.now.state.standing.outcomes ≡ None =
-    taken-unanswered c.args.self.now.state.last c.args.self.now.state.standing c.args.self.now.state.standing c.args.ticket (grind (arith, common_steps)) (grind (arith, common_steps)) in
-    grind (arith, common_steps, none)
+returns-then-is_taken-clause-state g c = grind (arith, common_steps, taken-unanswered)
