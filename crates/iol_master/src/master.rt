@@ -132,7 +132,8 @@ impl<W: Wire, L: Ledger, K: Ledger, A: Handle> Master<W, L, K, A> {
         request: Request,
     ) -> Result<Ticket, MasterFault>
         ensures submitted { Submitted self.now desk.old result desk.new }
-        ensures entered { (result ≡ Err fault.NoSuchPort) ⊎ WasEntered W.facts desk.old urgency.Ordinary request result desk.new }
+        ensures entered { (result ≡ Err fault.NoSuchPort)
+            ⊎ WasEntered W.facts desk.old urgency.Ordinary request result desk.new }
     {
         self.enter(rt, desk, Urgency::Ordinary, request)
     }
@@ -148,7 +149,8 @@ impl<W: Wire, L: Ledger, K: Ledger, A: Handle> Master<W, L, K, A> {
         request: Request,
     ) -> Result<Ticket, MasterFault>
         ensures submitted { Submitted self.now desk.old result desk.new }
-        ensures entered { (result ≡ Err fault.NoSuchPort) ⊎ WasEntered W.facts desk.old urgency.Urgent request result desk.new }
+        ensures entered { (result ≡ Err fault.NoSuchPort)
+            ⊎ WasEntered W.facts desk.old urgency.Urgent request result desk.new }
     {
         self.enter(rt, desk, Urgency::Urgent, request)
     }
@@ -161,7 +163,8 @@ impl<W: Wire, L: Ledger, K: Ledger, A: Handle> Master<W, L, K, A> {
         request: Request,
     ) -> Result<Ticket, MasterFault>
         ensures submitted { Submitted self.now desk.old result desk.new }
-        ensures entered { (result ≡ Err fault.NoSuchPort) ⊎ WasEntered W.facts desk.old urgency request result desk.new }
+        ensures entered { (result ≡ Err fault.NoSuchPort)
+            ⊎ WasEntered W.facts desk.old urgency request result desk.new }
     {
         let Some(port) = self.port(desk.port()) else {
             return Err(MasterFault::NoSuchPort);
