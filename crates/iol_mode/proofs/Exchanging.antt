@@ -5,6 +5,7 @@ use Rattle.arrayvec.specs.ArrayVec.{ArrayVec}
 use Rattle.iol_mseq.specs.Shape.{startup_shape}
 use Rattle.iol_mseq.specs.declared.master.MasterMsg.{MasterMsg}
 use Rattle.iol_page.specs.declared.page.Layouts.{Layouts}
+use Rattle.iol_far.specs.Far.{Far}
 use Rattle.iol_far.specs.Octets.{octets_in}
 use Rattle.iol_link.specs.declared.handler.Attempt.{Attempt}
 use Rattle.iol_link.specs.Attempts.{Sending, good_reply}
@@ -12,13 +13,15 @@ use Rattle.iol_link.specs.WireFacts.{WireFacts, Passes}
 use Rattle.iol_mode.specs.declared.states.State.{State}
 use Rattle.iol_mode.specs.declared.states.State.TheVariants.{Down as AtDown, Startup as AtStartup, Preoperate as AtPreoperate, Operate as AtOperate}
 use Rattle.iol_mode.specs.States.{Outcome, OperateFits, OutcomeFits, StateFits, Takes, is_starting, counted, operate_by, sending_of}
-use Rattle.iol_mode.specs.Stands.{StateStands}
+use Rattle.iol_mode.specs.Stands.{StateStands, IsTold}
 use Rattle.iol_mode.specs.Turns.{IsEnd, IsOperateTurn, IsStartTurn, IsStartTried}
-use Rattle.iol_mode.specs.Exchanges.{AreFew, text_out, putting, judged, attempted, OutGives, ExchangeGives, StandsOn}
+use Rattle.iol_mode.specs.Exchanges.{AreFew, text_out, putting, judged, attempted, OutGives, ExchangeGives, StandsOn, OutAccepted, AcceptedBy}
 use Rattle.iol_mode.specs.Laws.{Laws}
+use Rattle.iol_mode.specs.Messages.{stays}
+use Rattle.iol_mseq.specs.Master.{HasMasterParts}
 use Rattle.iol_mode.proofs.Startups.{startup_risen}
 use Rattle.iol_mode.proofs.Preoperates.{preoperate_risen}
-use Rattle.iol_mode.proofs.Operates.{operate_both, operate_accepted}
+use Rattle.iol_mode.proofs.Operates.{accepted, operate_both, operate_accepted}
 
 out_gives : (laws : Laws) (out : Option Sending) (layouts : Layouts) → OperateFits (record { out = out; layouts = layouts }) → IfSome out (λ sent. sent.tries < 3) → (came : Option (List ℕ))
     → ExchangeGives (AtOperate (record { out = out; layouts = layouts })) came (judged (AtOperate (record { out = out; layouts = layouts })) came)
@@ -33,6 +36,27 @@ exchange_gives laws (AtDown s) fits few came = λ far far' n n' h x. tt
 exchange_gives laws (AtStartup s) fits few came = λ far far' n n' h x. startup_risen laws s n n' far far' came fits few h x (good_reply startup_shape s.sent.message came) refl
 exchange_gives laws (AtPreoperate s) fits few came = λ far far' n n' h x. preoperate_risen laws s n n' far far' came fits few h x (good_reply s.pre s.sent.message came) refl
 exchange_gives laws (AtOperate s) fits few came = out_gives laws s.out s.layouts fits few came
+
+-- the message that is out is accepted
+accepts_out : (laws : Laws) (out : Option Sending) (layouts : Layouts) → OperateFits (record { out = out; layouts = layouts }) → (far : Far) → IsTold layouts far → OutAccepted out layouts far
+accepts_out laws None layouts fits far told = tt
+accepts_out laws (Some sent) layouts fits far told = λ link operating. accepted laws layouts sent.message far told fits.layouts fits.out.0 fits.out.1 link operating
+
+pub accepts : (laws : Laws) (s : State) → StateFits s → (far : Far) → AcceptedBy s far
+accepts laws (AtDown s) fits far = tt
+accepts laws (AtStartup s) fits far = tt
+accepts laws (AtPreoperate s) fits far = tt
+accepts laws (AtOperate s) fits far = accepts_out laws s.out s.layouts fits far
+
+put_fits_out : (out : Option Sending) (layouts : Layouts) (m : MasterMsg) → OperateFits (record { out = out; layouts = layouts }) → HasMasterParts layouts.run m → IsTrue (stays m) → OperateFits (record { out = Some (sending_of out m); layouts = layouts })
+put_fits_out None layouts m fits takes stay = record { out = (takes, stay); layouts = fits.layouts }
+put_fits_out (Some w) layouts m fits takes stay = record { out = fits.out; layouts = fits.layouts }
+
+pub put_fits : (s : State) (m : MasterMsg) → StateFits s → Takes s m → IsTrue (stays m) → StateFits (putting m s)
+put_fits (AtDown s) m fits takes stay = absurd takes
+put_fits (AtStartup s) m fits takes stay = absurd takes
+put_fits (AtPreoperate s) m fits takes stay = absurd takes
+put_fits (AtOperate s) m fits takes stay = put_fits_out s.out s.layouts m fits takes stay
 
 -- in OPERATE the attempt alone says what becomes of the mode
 pub is_end : (s : State) (m : MasterMsg) → Takes s m → (came : Option (List ℕ)) (attempt : Attempt) (outcome : Outcome) → outcome ≡ judged (putting m s) came → attempt ≡ attempted (putting m s) came → IsEnd attempt outcome

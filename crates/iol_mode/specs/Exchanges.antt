@@ -1,6 +1,6 @@
 -- What goes out in a mode, what is made of what comes back, and what one exchange
 -- over an honest wire gives: plain data, without the wire.
-use Rattle.std.specs.Prelude.{ℕ, ◌<◌, List, [], Option, Some, None, IsSome, IfSome, ⊤}
+use Rattle.std.specs.Prelude.{ℕ, ◌<◌, List, [], Option, Some, None, IsSome, IfSome, ⊤, Bool}
 use Rattle.iol_mseq.specs.Shape.{Shape, startup_shape}
 use Rattle.iol_mseq.specs.Texts.{master_text}
 use Rattle.iol_mseq.specs.declared.master.MasterMsg.{MasterMsg}
@@ -10,11 +10,11 @@ use Rattle.iol_far.specs.Level.{Link}
 use Rattle.iol_link.specs.declared.handler.Attempt.{Attempt}
 use Rattle.iol_link.specs.declared.handler.Attempt.TheVariants.{Again}
 use Rattle.iol_link.specs.Attempts.{Sending, good_reply, attempt_of}
-use Rattle.iol_link.specs.Honest.{HonestExchange}
+use Rattle.iol_link.specs.Honest.{HonestWake, HonestExchange}
 use Rattle.iol_mode.specs.declared.states.State.{State}
 use Rattle.iol_mode.specs.declared.states.State.TheVariants.{Down as AtDown, Startup as AtStartup, Preoperate as AtPreoperate, Operate as AtOperate}
-use Rattle.iol_mode.specs.States.{Outcome, InDown, InOperate, counted, operate_by, startup_turned, preoperate_turned, sending_of}
-use Rattle.iol_mode.specs.Stands.{IsOperating, IsAccepted, StateStands, text_in}
+use Rattle.iol_mode.specs.States.{Outcome, InDown, InOperate, counted, operate_by, startup_turned, preoperate_turned, sending_of, state_of, waked}
+use Rattle.iol_mode.specs.Stands.{IsOperating, IsAccepted, IsTold, StateStands, text_in}
 use Rattle.iol_mode.specs.Turns.{IsMet, IsRisen}
 
 -- a message is out
@@ -76,13 +76,16 @@ AreFew (AtOperate s) = IfSome s.out (λ sent. sent.tries < 3)
 
 -- Over an honest wire, whose far end and silence were and are these
 
--- in OPERATE the far end accepts the message in whichever link it is
+-- in OPERATE it accepts the message that is out, in whichever link it is
+abbrev pub OutAccepted : Option Sending → Layouts → Far → Type 0
+OutAccepted None layouts far = ⊤
+OutAccepted (Some sent) layouts far =
+    (link : Link) → IsOperating layouts link → IsAccepted layouts far.page link sent.message
+
 abbrev pub OutGives : Option Sending → Layouts → Far → Outcome → ℕ → Far → Type 0
 OutGives None layouts far outcome silence_new far_new = ⊤
 OutGives (Some sent) layouts far outcome silence_new far_new =
-    IsMet outcome silence_new far_new
-    × ((link : Link) → IsOperating layouts link
-    → IsAccepted layouts far.page link sent.message)
+    IsMet outcome silence_new far_new × OutAccepted (Some sent) layouts far
 
 abbrev pub StateGives : State → Far → Outcome → ℕ → Far → Type 0
 StateGives (AtDown s) far outcome silence_new far_new = ⊤
@@ -103,3 +106,13 @@ ExchangeGives s came outcome =
 abbrev pub StandsOn : State → State → Type 0
 StandsOn old new = (far : Far) (silence : ℕ) → StateStands old silence far
     → StateStands new silence far
+
+-- a far end whose page asks for the layouts accepts the message that is out
+abbrev pub AcceptedBy : State → Far → Type 0
+AcceptedBy (AtOperate s) far = IsTold s.layouts far → OutAccepted s.out s.layouts far
+AcceptedBy s far = ⊤
+
+-- one wake, which was answered or not
+abbrev pub WakeStands : Bool → Type 0
+WakeStands answered = (far far_new : Far) (silence : ℕ) → HonestWake far answered far_new
+    → StateStands (state_of (waked answered)) silence far_new

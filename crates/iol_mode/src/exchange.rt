@@ -1,19 +1,20 @@
-//! One exchange of a link that isn't down, in two halves without the wire: what goes
-//! out, and what is made of what comes back.
-ghost use Rattle.std.specs.Prelude.{◌≡◌, ◌<◌, IsTrue, IsSome, IfSome};
+//! One call of the wire, in two halves without it: what goes out, and what is made of what
+//! comes back.
+ghost use Rattle.std.specs.Prelude.{◌≡◌, ◌<◌, ◌↔◌, IsTrue, IsSome, IfSome, is_some};
 ghost use Rattle.iol_octets.specs.Checksum.{has_checksum};
+ghost use Rattle.iol_far.specs.Far.{Far};
 ghost use Rattle.iol_far.specs.Octets.{octets_in};
 ghost use Rattle.iol_link.specs.Attempts.{good_reply, attempt_of};
 ghost use Rattle.iol_mode.specs.Messages.{stays};
-ghost use Rattle.iol_mode.specs.States.{StateFits, Takes, IsStartup, IsPreoperate, OutFits, outcome_with, counted, left_by};
+ghost use Rattle.iol_mode.specs.States.{StateFits, Takes, IsDown, IsStartup, IsPreoperate, OutFits, outcome_with, state_of, waked, counted, left_by};
 ghost use Rattle.iol_mode.specs.Stands.{text_in};
-ghost use Rattle.iol_mode.specs.Exchanges.{IsSending, IsOperateSending, AreFew, text_out, putting, judged, attempted, ExchangeGives, StandsOn};
+ghost use Rattle.iol_mode.specs.Exchanges.{IsSending, IsOperateSending, AreFew, text_out, putting, judged, attempted, ExchangeGives, StandsOn, AcceptedBy, WakeStands};
 ghost use Rattle.iol_mode.specs.Laws.{Laws};
 
 use crate::messages::copy_of;
-use crate::states::{Startup, State, operate_done, preoperate_done, startup_done};
+use crate::states::{Startup, State, operate_done, preoperate_done, startup_done, woken};
 use iol_far::{ends_stay_level, links_stay_level, texts_are_heard};
-use iol_link::{Attempt, Handler, exchanges_keep_ends_level};
+use iol_link::{Attempt, Handler, Rate, exchanges_keep_ends_level};
 use iol_mseq::{Layout, MasterMsg, Message};
 use iol_page::pages_ask_for_layouts;
 
@@ -46,7 +47,7 @@ impl State {
 
     /// In OPERATE: this message is out from now on, where none is out.
     ///
-    /// Nothing went out yet: both ends stand as before.
+    /// Nothing went out yet: both ends stand as before, and the far end accepts the octets.
     pub fn put_out(&mut self, message: &MasterMsg)
         requires fits { StateFits self.old }
         requires takes { Takes self.old message.now }
@@ -55,6 +56,7 @@ impl State {
         ensures fits { StateFits self.new }
         ensures sends { IsOperateSending self.new }
         ensures stands { StandsOn self.old self.new }
+        ensures accepted { (far : Far) → AcceptedBy self.new far }
     {
         laws();
         put_out(self, message);
@@ -77,6 +79,27 @@ impl State {
     {
         laws();
         received(self, came)
+    }
+
+    /// Whether a wake goes out in place of a message: in Down.
+    pub fn sends_wake(&self) -> bool
+        ensures { IsTrue result ↔ IsDown self.now }
+    {
+        matches!(self, State::Down(_))
+    }
+
+    /// Takes what a wake brought: STARTUP, where the device answered it, else Down
+    /// with `NoWake`.
+    pub fn receives_wake(&mut self, rate: Option<Rate>)
+        requires { IsDown self.old }
+        ensures state { self.new ≡ state_of (waked (is_some rate)) }
+        ensures fits { StateFits self.new }
+
+        // over an honest wire
+        ensures stands { WakeStands (is_some rate) }
+    {
+        laws();
+        woken(self, rate.is_some());
     }
 }
 

@@ -16,7 +16,7 @@ ghost use Rattle.iol_mode.specs.Turns.{IsStartTurn, IsStartTried, IsOperateTurn,
 ghost use Rattle.iol_mode.specs.Exchanges.{IsSending, AreFew, text_out, judged, attempted, ExchangeGives};
 
 use crate::exchange::laws;
-use crate::states::{Down, Mode, Operate, Preoperate, Startup, State, Up, woken};
+use crate::states::{Down, Mode, Operate, Preoperate, Startup, State, Up};
 use crate::why::Why;
 use iol_link::{Attempt, Rate, Wire};
 use iol_mseq::{Layout, MasterMsg, Message, Reply};
@@ -148,7 +148,7 @@ impl<W: Wire> Link<W, State> {
     {
         laws();
         let rate = self.wire.wake();
-        woken(&mut self.state, rate.is_some());
+        self.state.receives_wake(rate);
         rate
     }
 
