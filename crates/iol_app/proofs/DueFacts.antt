@@ -8,17 +8,8 @@ use Rattle.iol_app.specs.declared.session.Exchange.{Exchange}
 use Rattle.iol_app.specs.declared.session.Exchange.TheVariants.{TellOutput, DropOutput, Abort, ReadEvent, ConfirmEvents, Request as NextMessage, Idle}
 use Rattle.iol_app.specs.Requests.{aborts, Suits}
 use Rattle.iol_app.specs.Due.{is_under_way, is_confirm_due, is_resting, due_of}
+use Rattle.iol_app.specs.Ends.{output_for}
 use Rattle.iol_app.specs.State.{SessionState}
-
--- the output command that a message for this is
-abbrev pub output_for : Exchange → Option Bool
-output_for TellOutput = Some true
-output_for DropOutput = Some false
-output_for any = None
-
-abbrev pub reads_for : Exchange → Bool
-reads_for ReadEvent = true
-reads_for any = false
 
 pub record IsDue (s : SessionState) (room : Bool) (exchange : Exchange) : Type 0 where
   pub suits : Suits exchange s.current

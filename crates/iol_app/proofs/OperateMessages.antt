@@ -9,7 +9,7 @@ use Rattle.iol_mseq.specs.Shape.{Shape}
 use Rattle.iol_mseq.specs.Master.{SpellsMaster, master_fault, message_of}
 use Rattle.iol_mseq.specs.declared.master.MasterMsg.{MasterMsg}
 use Rattle.iol_far.specs.Codec.{message_in}
-use Rattle.iol_far.specs.Far.{is_confirm, command_at, command_in}
+use Rattle.iol_far.specs.Far.{is_confirm, command_at, command_in, mode_asked}
 use Rattle.iol_far.specs.Laws.{MessagesAreHeard}
 use Rattle.iol_app.specs.declared.event_work.Reading.{Reading}
 use Rattle.iol_app.specs.declared.request.Current.{Current}
@@ -23,10 +23,10 @@ use Rattle.iol_mseq.specs.Texts.{master_text}
 use Rattle.iol_page.specs.Commands.{command_octet}
 use Rattle.iol_page.specs.declared.master_command.MasterCommand.TheVariants.{ProcessDataOutputOperate, DeviceOperate}
 use Rattle.iol_mseq.specs.Parts.{first_of_zeros}
-use Rattle.iol_mode.specs.Messages.{command_message}
+use Rattle.iol_mode.specs.Messages.{command_message, stays, stays_by}
 use Rattle.iol_steps.specs.declared.mode.Mode.TheVariants.{Operate}
-use Rattle.iol_steps.specs.Station.{confirms, reads_events, is_diagnosis_read, output_by}
-use Rattle.iol_app.proofs.DueFacts.{output_for, reads_for}
+use Rattle.iol_steps.specs.Station.{confirms, output_by}
+use Rattle.iol_app.specs.Ends.{output_for}
 
 abbrev pub is_confirm_head : Head → Bool
 is_confirm_head head = is_confirm head.channel head.read head.address
@@ -68,17 +68,6 @@ pub exchange_confirms : (exchange : Exchange) (reading : Reading) (current : Opt
     → confirms message ≡ confirms_events exchange
 exchange_confirms exchange reading current message e = ap is_confirm_head e ∙ confirms_by_head exchange reading current
 
-abbrev reads_head : Head → Bool
-reads_head head = is_diagnosis_read head.channel head.read
-
-reads_by_head : (exchange : Exchange) (reading : Reading) (current : Option Current) → reads_head (head_for exchange reading current) ≡ reads_for exchange
-reads_by_head NextMessage _ current = ap (λ (c : Channel). is_diagnosis_read c (request_head current).read) (request_channel current)
-reads_by_head other _ current = refl
-
-pub exchange_reads : (exchange : Exchange) (reading : Reading) (current : Option Current) (message : MasterMsg) → head_of message.mc ≡ head_for exchange reading current
-    → reads_events message ≡ reads_for exchange
-exchange_reads exchange reading current message e = ap reads_head e ∙ reads_by_head exchange reading current
-
 -- an output command
 
 abbrev command_by : Head → ℕ → Option Bool
@@ -101,6 +90,28 @@ exchange_command exchange reading current size message e d =
     ap (λ (h : Head). command_by h (slice_index message.od.items 0)) e
     ∙ ap (λ (o : List ℕ). command_by (head_for exchange reading current) (slice_index o 0)) d
     ∙ command_is exchange reading current size
+
+-- no message of OPERATE is a command that leaves it
+
+abbrev stays_head : Head → ℕ → Bool
+stays_head head octet = stays_by (mode_asked (command_at head.read head.channel head.address octet))
+
+isdu_stays : (read : Bool) (address octet : ℕ) → stays_by (mode_asked (command_at read Isdu address octet)) ≡ true
+isdu_stays true address octet = refl
+isdu_stays false address octet = refl
+
+stays_is : (exchange : Exchange) (reading : Reading) (current : Option Current) (size : ℕ) → stays_head (head_for exchange reading current) (slice_index (data_for exchange size current) 0) ≡ true
+stays_is NextMessage _ current size =
+    ap (λ (c : Channel). stays_by (mode_asked (command_at (request_head current).read c (request_head current).address (slice_index (request_data current) 0)))) (request_channel current)
+    ∙ isdu_stays (request_head current).read (request_head current).address (slice_index (request_data current) 0)
+stays_is other _ current size = refl
+
+pub exchange_stays : (exchange : Exchange) (reading : Reading) (current : Option Current) (size : ℕ) (message : MasterMsg) → head_of message.mc ≡ head_for exchange reading current
+    → message.od.items ≡ data_for exchange size current → stays message ≡ true
+exchange_stays exchange reading current size message e d =
+    ap (λ (h : Head). stays_head h (slice_index message.od.items 0)) e
+    ∙ ap (λ (o : List ℕ). stays_head (head_for exchange reading current) (slice_index o 0)) d
+    ∙ stays_is exchange reading current size
 
 -- ProcessDataOutputOperate in OPERATE isn't DeviceOperate in PREOPERATE
 

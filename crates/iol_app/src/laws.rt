@@ -1,16 +1,18 @@
 //! Laws of the definitions, each carried by a function that does nothing when it runs.
 ghost use Rattle.iol_app.specs.Moves.{MessagesAreMoves, ConfirmsConfirm, AnswersAreTakenUp};
 ghost use Rattle.iol_app.specs.StationLaws.{StationLaws};
+ghost use Rattle.iol_steps.specs.Exchange.{TextNamesAnswer};
+ghost use Rattle.iol_app.specs.Core.{Wakes, Rises, Receives, Sends, Turns, Opens, Wants, Restarts, Begins, Aborts};
 
-use iol_far::{messages_are_heard, requests_are_received, texts_are_heard};
-use iol_isdu::one_text_each;
-use iol_link::exchanges_keep_ends_level;
+use iol_event::{memory_stays_valid, reading_gives_the_frozen_list};
+use iol_far::{
+    ends_stay_level, events_stay_until_confirmed, links_stay_level, messages_are_heard,
+    modes_have_layouts, page_and_room_stay, replies_are_read, requests_are_received,
+    texts_are_heard,
+};
+use iol_isdu::{one_text_each, one_text_in_front};
 use iol_page::pages_ask_for_layouts;
 use iol_segment::texts_join;
-use iol_steps::{
-    good_reply_gives_steps, good_reply_tells, lost_link_gives_steps, missed_attempt_gives_steps,
-    start_up_gives_steps, text_names_its_answer, wake_gives_steps,
-};
 
 /// Each new message of a session is the move that the request's progress asks for:
 /// its next segment, START until the answer begins, the COUNT of the answer's next
@@ -40,20 +42,92 @@ pub(crate) fn answers_are_taken_up()
     one_text_each();
 }
 
-/// What one call of an honest wire gives, and what a session makes of a reply.
+/// A wake.
+#[tactic(auto, using(crate::proofs::Waking::wakes))]
+pub(crate) fn wake_gives()
+    ensures { Wakes }
+{
+    ends_stay_level();
+    page_and_room_stay();
+    replies_are_read();
+    events_stay_until_confirmed();
+    modes_have_layouts();
+}
+
+/// An exchange of a start-up, in STARTUP and in PREOPERATE.
+#[tactic(auto, using(crate::proofs::Starting::rises))]
+pub(crate) fn rise_gives()
+    ensures { Rises }
+{
+    ends_stay_level();
+    page_and_room_stay();
+    replies_are_read();
+    events_stay_until_confirmed();
+    modes_have_layouts();
+    texts_are_heard();
+    pages_ask_for_layouts();
+}
+
+/// A port that is opened, another output, a restart, a request, an abort.
+#[tactic(auto, using(crate::proofs::Calling::opens, crate::proofs::Calling::wants, crate::proofs::Calling::restarts, crate::proofs::Asking::begins, crate::proofs::Asking::aborts))]
+pub(crate) fn calls_give()
+    ensures opens { Opens }
+    ensures wants { Wants }
+    ensures restarts { Restarts }
+    ensures begins { Begins }
+    ensures aborts { Aborts }
+{}
+
+/// Octets that begin with the text of an answer to a request name it: they are the
+/// text, or the first segments of the text, of no other answer.
+pub(crate) fn text_names_its_answer()
+    ensures { TextNamesAnswer }
+{
+    one_text_in_front();
+    one_text_each();
+}
+
+/// What comes back in OPERATE.
+pub(crate) fn receive_gives()
+    ensures { Receives }
+{
+    ends_stay_level();
+    page_and_room_stay();
+    replies_are_read();
+    events_stay_until_confirmed();
+    modes_have_layouts();
+    memory_stays_valid();
+    reading_gives_the_frozen_list();
+    text_names_its_answer();
+    requests_are_received();
+    texts_join();
+    one_text_each();
+}
+
+/// A new message goes out in OPERATE.
+pub(crate) fn send_gives()
+    ensures { Sends }
+{
+    ends_stay_level();
+    modes_have_layouts();
+    requests_are_received();
+    texts_join();
+}
+
+/// A turn whose message is new: it goes out, and what comes back is taken up.
+#[tactic(auto, using(crate::proofs::Sending::turns))]
+pub(crate) fn turn_gives()
+    ensures { Turns }
+{}
+
+/// What one call of an honest wire gives.
 pub(crate) fn station_laws()
     ensures { StationLaws }
 {
-    pages_ask_for_layouts();
-    texts_are_heard();
-    exchanges_keep_ends_level();
-    wake_gives_steps();
-    missed_attempt_gives_steps();
-    lost_link_gives_steps();
-    start_up_gives_steps();
-    good_reply_gives_steps();
-    good_reply_tells();
-    text_names_its_answer();
-    messages_are_moves();
-    answers_are_taken_up();
+    links_stay_level();
+    wake_gives();
+    rise_gives();
+    send_gives();
+    receive_gives();
+    turn_gives();
 }

@@ -14,6 +14,4 @@ mod mode;
 #[cfg(test)]
 mod sim;
 #[cfg(test)]
-mod steps;
-#[cfg(test)]
 mod tap;

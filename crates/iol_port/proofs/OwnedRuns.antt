@@ -9,17 +9,15 @@ use Rattle.iol_isdu.specs.declared.values.Cause.{Cause}
 use Rattle.iol_isdu.specs.declared.values.Cause.TheVariants.{Restarted}
 use Rattle.iol_far.specs.declared.carried.Carried.{Carried}
 use Rattle.iol_far.specs.Far.{Far}
-use Rattle.iol_mode.specs.declared.why.Why.{Why}
 use Rattle.iol_book.specs.declared.entries.Limits.{Limits}
 use Rattle.iol_book.specs.declared.entries.Ticket.{Ticket}
 use Rattle.iol_book.specs.declared.entries.Outcome.{Outcome}
 use Rattle.iol_book.specs.declared.entries.Outcome.TheVariants as outcome
 use Rattle.iol_book.specs.Replay.{same_ticket, without, others_without}
 use Rattle.iol_book.specs.BookModel.{BookState, next_ticket}
-use Rattle.iol_steps.specs.declared.mode.Mode.{Mode}
 use Rattle.iol_steps.specs.declared.mode.Mode.TheVariants.{Down}
 use Rattle.iol_steps.specs.Step.{Step, Moment}
-use Rattle.iol_steps.specs.Session.{Job, Session, MayMove, MaySession, MaySessionAll, session_after, session_through, marked}
+use Rattle.iol_steps.specs.Session.{Job, Session, MaySession, MaySessionAll, session_after, session_through, marked}
 use Rattle.iol_steps.specs.Kinds.{restart_steps}
 use Rattle.iol_port.specs.declared.call.Call.{Call}
 use Rattle.iol_port.specs.declared.call.Call.TheVariants as call
@@ -33,9 +31,6 @@ use Rattle.iol_port.proofs.Replaying.{steps_keep}
 use Rattle.iol_port.proofs.OwnedLists.{ahead_once, ahead_given, ahead_next, waiting_push, waiting_without, waiting_others, each_inserted, each_looked, each_removed, each_others, each_push, one_counts, apart_of, Tally, HasAnswer, OutcomeStands, outcome_then, marked_sent, tally_in, OwnsAll, GoesTo, still, goes_then, goes_step, waits_owns, same_sent, cut_owns, step_owns}
 
 -- Where the mode is down, it stays so until a wake has success
-
-down_move : (m : Moment) (mode : Mode) (why : Option Why) → MayMove m Down mode why → mode ≡ Down
-down_move m mode why given = grind (arith, common_steps)
 
 down_stays : (m : Moment) (step : Step) (s : Session) → s.mode ≡ Down → MaySession m step s → ((session_after step s).late ≡ None) ⊎ ((session_after step s).mode ≡ Down)
 down_stays m step s given given2 = grind (arith, common_steps)

@@ -1,143 +1,160 @@
 -- the three pieces of a turn make one turn of the abstract port
-use Rattle.std.proofs.Common.{◌≡◌, ◌≢◌, ◌∷◌, ◌++◌, [], List, ℕ, Some, None, refl, ap, sym, ◌∙◌, subst, inl, inr, arith}
+use Rattle.std.proofs.Common.{◌≡◌, ◌∷◌, ◌++◌, [], List, ℕ, Option, Some, None, filter, refl, ap, sym, ◌∙◌, subst, inl, inr, arith}
 use Rattle.std.proofs.lemmas.Grind.{common_steps}
+use Rattle.std.specs.Option.{option_map}
 use Rattle.iol_isdu.specs.declared.values.Request.{Request}
+use Rattle.iol_isdu.specs.declared.values.Answer.{Answer}
 use Rattle.iol_book.specs.declared.entries.Ticket.{Ticket}
 use Rattle.iol_book.specs.BookModel.{BookState, next_taken, took, denied}
-use Rattle.std.specs.Option.{option_map}
-use Rattle.iol_steps.specs.declared.mode.Mode.TheVariants.{Down, Operate}
+use Rattle.iol_steps.specs.declared.mode.Mode.{Mode}
+use Rattle.iol_steps.specs.declared.mode.Mode.TheVariants.{Down, Startup, Preoperate, Operate}
 use Rattle.iol_steps.specs.declared.said.Said.{Said}
-use Rattle.iol_steps.specs.Step.{Step, Take, Deny, Moment, woke_up, book_said, reports_said}
-use Rattle.iol_steps.specs.Session.{MaySession, MaySessionAll, session_after, session_through}
-use Rattle.iol_event.specs.declared.event.Event.{Event}
+use Rattle.iol_steps.specs.Step.{Step, Take, Deny, Moment, Terms, is_for_book, is_report, woke_up, book_said, reports_said}
+use Rattle.iol_steps.specs.Session.{Session, MaySession, MaySessionAll, session_through}
+use Rattle.iol_steps.specs.Station.{job_of}
 use Rattle.iol_link.specs.WireFacts.{WireFacts}
-use Rattle.iol_steps.specs.Station.{Station, Unseen, Stands, session_in, job_of}
-use Rattle.iol_steps.specs.Exchange.{begun, unseen_begun}
-use Rattle.iol_steps.specs.Promises.{Begins}
-use Rattle.iol_steps.specs.Turn.{moment_of, TurnGives}
-use Rattle.iol_app.specs.StationState.{StationState, mode_of}
-use Rattle.iol_app.specs.Seen.{IsSeen, TurnSteps, BeginSteps, DenySteps}
+use Rattle.iol_mode.specs.declared.states.State.{State}
+use Rattle.iol_mode.specs.declared.states.State.TheVariants.{Down as AtDown, Startup as AtStartup, Preoperate as AtPreoperate, Operate as AtOperate}
+use Rattle.iol_app.specs.declared.request.Current.{Current}
+use Rattle.iol_app.specs.Requests.{request_in}
+use Rattle.iol_app.specs.State.{SessionState, begun_in}
+use Rattle.iol_app.specs.StationState.{StationState, StateFits as Joined, mode_in, mode_of}
+use Rattle.iol_app.specs.Core.{Ghost, BeginGives, begun_ghost, moment_of}
+use Rattle.iol_app.specs.Seen.{StandsAt, TurnGives, TurnSteps, BeginSteps, DenySteps, core_of, far_of, silence_of, session_in}
 use Rattle.iol_port.specs.declared.call.Call.TheVariants as call
 use Rattle.iol_port.specs.declared.call.Answered.TheVariants as answered
 use Rattle.iol_port.specs.Steps.{MayBookAll, book_after, book_through, kept_through}
-use Rattle.iol_port.specs.Run.{TurnOf, CallOf}
+use Rattle.iol_port.specs.Run.{PortState, TurnOf, CallOf}
 use Rattle.iol_port.specs.View.{Parts, Choice, state_of, Shows, Follows, BeginsNext}
 use Rattle.iol_port.proofs.Filters.{book_through-filter, MayBookAll-filter, kept_through-filter, clash_free-take, clash_free-deny, may_book_said}
 use Rattle.iol_port.proofs.CallLemmas.{does_by_choice}
 
 -- down leaves no request under way
-no_job_down : (s : Station) (u : Unseen) → Stands s u → s.seen.mode ≡ Down → (session_in s u).job ≡ None
-no_job_down s u stands down =
-    let apart : s.seen.mode ≢ Operate = λ operate. absurd (let e : Down ≡ Operate = sym down ∙ operate in cc) in
-    ap (λ request. job_of request u.hidden.answer s.seen.busy s.seen.asked) (stands.request apart)
+pub none_down : (state : State) (session : SessionState) (g : Ghost) (answer : Option Answer) → Joined state session → mode_in state ≡ Down → job_of (request_in session.current) answer g.request.busy g.request.asked ≡ None
+none_down (AtDown s) session g answer fits down = ap (λ (c : Option Current). job_of (request_in c) answer g.request.busy g.request.asked) fits.0
+none_down (AtStartup s) session g answer fits down = absurd (let e : Startup ≡ Down = down in cc)
+none_down (AtPreoperate s) session g answer fits down = absurd (let e : Preoperate ≡ Down = down in cc)
+none_down (AtOperate s) session g answer fits down = absurd (let e : Operate ≡ Down = down in cc)
 
--- a turn of the station, with what its words leave in the book and in the kept events
-pub record Settles (b : BookState) (kept : List Event) (s next : Station) (said : Said) (after : BookState) (later : List Event) : Type 0 where
-  pub posts : after ≡ book_through (woke_up s.seen.mode next.seen.mode ++ book_said said) b
-  pub keeps : later ≡ kept_through (reports_said said) kept
+pub terms_of : (limit was : ℕ) (page old : List ℕ) → (limit ≡ was) × (page ≡ old) → let a : Terms = record { busy_limit = limit; page = page } in let b : Terms = record { busy_limit = was; page = old } in a ≡ b
+terms_of limit was page old (e, f) = ap (λ (n : ℕ). let x : Terms = record { busy_limit = n; page = page } in x) e ∙ ap (λ (l : List ℕ). let x : Terms = record { busy_limit = was; page = l } in x) f
 
-module _ (base : ℕ) (s next : Station) (u : Unseen) (said : Said) (b after : BookState) (kept later : List Event) where
+module _ {W : Type 0} (facts : WireFacts W) (p next : Parts W) (base : ℕ) (g : Ghost) (said : Said) where
+  abbrev before : PortState
+  before = state_of facts p (record { base = base; ghost = g })
+
+  abbrev after : Ghost → PortState
+  after h = state_of facts next (record { base = base; ghost = h })
+
+  -- what the words of a turn leave in the book and in the kept events
+  pub record Settles (began : Mode) (start : BookState) : Type 0 where
+    pub posts : next.book.state ≡ book_through (woke_up began (mode_of next.station.link) ++ book_said said) start
+    pub keeps : next.kept ≡ kept_through (reports_said said) p.kept
+
+  book_steps : (start : BookState) (steps : List Step) (began : Mode) → Settles began start → filter is_for_book steps ≡ woke_up began (mode_of next.station.link) ++ book_said said → MayBookAll steps start × (next.book.state ≡ book_through steps start)
+  book_steps start steps began settles said_book = (
+    MayBookAll-filter steps start (rw said_book (may_book_said _ _ said start)),
+    settles.posts ∙ (rw (← said_book) (sym (book_through-filter steps start))),
+  )
+
+  kept_steps : (steps : List Step) (began : Mode) (start : BookState) → Settles began start → filter is_report steps ≡ reports_said said → next.kept ≡ kept_through steps p.kept
+  kept_steps steps began start settles said_reports = settles.keeps ∙ (rw (← said_reports) (sym (kept_through-filter steps p.kept)))
+
   -- with no taking before it
-  idle_turn : Settles b kept s next said after later → (g : TurnGives s u said next) → TurnOf (state_of (record { base = base; station = s; unseen = u }) b kept) (state_of (record { base = base; station = next; unseen = g.after }) after later)
-  idle_turn settles g =
-      let may : MayBookAll g.steps b = MayBookAll-filter g.steps b (rw g.turn.said_book (may_book_said _ _ said b)) in
-      let book_is : after ≡ book_through g.steps b = settles.posts ∙ (rw (← g.turn.said_book) (sym (book_through-filter g.steps b))) in
-      let kept_is : later ≡ kept_through g.steps kept = settles.keeps ∙ (rw (← g.turn.said_reports) (sym (kept_through-filter g.steps kept))) in (
-        record { call = g.call; steps = g.steps },
-        record { fits = g.turn.fits; silence = g.turn.silence; clash_free = g.turn.clash_free; terms = g.turn.terms },
+  idle_turn : Settles (mode_of p.station.link) p.book.state → (t : TurnGives facts p.station g said next.station) → TurnOf before (after t.given.after)
+  idle_turn settles t =
+      let x = t.given in
+      let book = book_steps p.book.state x.steps _ settles x.said_book in (
+        record { call = x.call; steps = x.steps },
+        record { fits = x.fits; silence = x.silent; clash_free = x.clash_free; terms = terms_of _ _ _ _ x.terms },
         record {
-          may_book = may;
-          book = book_is;
-          may_session = g.session.may;
-          session = sym g.session.is;
+          may_book = book.0;
+          book = book.1;
+          may_session = x.session.0;
+          session = sym x.session.1;
           base = refl;
-          down = λ down. no_job_down next g.after g.stands down;
+          down = none_down next.station.link.state next.station.session x.after x.after.request.hidden.answer t.stands.both.joined;
         },
-        record { may_frozen = g.frozen.may; frozen = sym g.frozen.is; kept = kept_is },
-        record { may_images = g.images.may; images = sym g.images.is; image_is_last = g.images.image_is_last; output_is_wanted = g.images.output_is_wanted },
+        record { may_frozen = x.frozen.0; frozen = sym x.frozen.1; kept = kept_steps x.steps _ _ settles x.said_reports },
+        record { may_images = x.images.0; images = sym x.images.1; image_is_last = x.image_is_last; output_is_wanted = t.output_is_wanted },
       )
 
   -- after a taking
-  taking_turn : (t : Ticket) (q : Request) → next_taken b.standing ≡ Some (t, q) → Begins s u q → Settles (took b (t, q)) kept (begun q s) next said after later →
-      (g : TurnGives (begun q s) (unseen_begun u) said next) → TurnOf (state_of (record { base = base; station = s; unseen = u }) b kept) (state_of (record { base = base; station = next; unseen = g.after }) after later)
-  taking_turn t q head begins settles g =
-      let mid : BookState = took b (t, q) in
-      let may : MayBookAll g.steps mid = MayBookAll-filter g.steps mid (rw g.turn.said_book (may_book_said _ _ said mid)) in
-      let book_is : after ≡ book_through g.steps mid = settles.posts ∙ (rw (← g.turn.said_book) (sym (book_through-filter g.steps mid))) in
-      let kept_is : later ≡ kept_through g.steps kept = settles.keeps ∙ (rw (← g.turn.said_reports) (sym (kept_through-filter g.steps kept))) in
-      let taken_is : session_after (Take t.0 q) (session_in s u) ≡ session_in (begun q s) (unseen_begun u) = begins.is t.0 in
-      let m : Moment = moment_of s g.call in
-      let may_session : MaySessionAll m g.steps (session_after (Take t.0 q) (session_in s u)) = subst (λ x. MaySessionAll m g.steps x) (sym taken_is) g.session.may in
-      let session_is : session_in next g.after ≡ session_through g.steps (session_after (Take t.0 q) (session_in s u)) = sym g.session.is ∙ ap (λ x. session_through g.steps x) (sym taken_is) in (
-        record { call = g.call; steps = Take t.0 q ∷ g.steps },
-        record { fits = g.turn.fits; silence = g.turn.silence; clash_free = rw (clash_free-take t.0 q g.steps (g.turn.fresh refl) (clash_free-deny t.0 g.steps _ _ said g.turn.said_book)) g.turn.clash_free; terms = g.turn.terms },
+  taking_turn : (k : Ticket) (q : Request) → next_taken p.book.state.standing ≡ Some (k, q) → let s : StationState W = record p.station { session = begun_in q p.station.session } in
+      BeginGives (core_of p.station) (core_of s) g (far_of facts p.station) (silence_of facts p.station) q → Settles (mode_of p.station.link) (took p.book.state (k, q))
+      → (t : TurnGives facts s (begun_ghost g) said next.station) → TurnOf before (after t.given.after)
+  taking_turn k q head begins settles t =
+      let x = t.given in
+      let book = book_steps (took p.book.state (k, q)) x.steps _ settles x.said_book in
+      let taken_is = begins.is k.0 in
+      let m : Moment = moment_of (core_of p.station) g (silence_of facts p.station) x.call in
+      let old : Session = session_in facts p.station g in (
+        record { call = x.call; steps = Take k.0 q ∷ x.steps },
+        record { fits = x.fits; silence = x.silent; clash_free = rw (clash_free-take k.0 q x.steps (x.fresh refl) (clash_free-deny k.0 x.steps _ _ said x.said_book)) x.clash_free; terms = terms_of _ _ _ _ x.terms },
         record {
-          may_book = (head, may);
-          book = book_is;
-          may_session = (begins.may m t.0 refl, may_session);
-          session = session_is;
+          may_book = (head, book.0);
+          book = book.1;
+          may_session = (begins.may m k.0 refl, subst (λ (s : Session). MaySessionAll m x.steps s) (sym taken_is) x.session.0);
+          session = sym x.session.1 ∙ ap (λ (s : Session). session_through x.steps s) (sym taken_is);
           base = refl;
-          down = λ down. no_job_down next g.after g.stands down;
+          down = none_down next.station.link.state next.station.session x.after x.after.request.hidden.answer t.stands.both.joined;
         },
-        record { may_frozen = (tt, g.frozen.may); frozen = sym g.frozen.is; kept = kept_is },
-        record { may_images = (tt, g.images.may); images = sym g.images.is; image_is_last = g.images.image_is_last; output_is_wanted = g.images.output_is_wanted },
+        record { may_frozen = (tt, x.frozen.0); frozen = sym x.frozen.1; kept = kept_steps x.steps _ _ settles x.said_reports },
+        record { may_images = (tt, x.images.0); images = sym x.images.1; image_is_last = x.image_is_last; output_is_wanted = t.output_is_wanted },
       )
 
   -- after a denial, which leaves the station as it is
-  denying_turn : (t : Ticket) → option_map (λ p. p.0) (next_taken b.standing) ≡ Some t → ((m : Moment) → m.terms ≡ s.terms → MaySession m (Deny t.0) (session_in s u)) → Settles (denied b t) kept s next said after later →
-      (g : TurnGives s u said next) → TurnOf (state_of (record { base = base; station = s; unseen = u }) b kept) (state_of (record { base = base; station = next; unseen = g.after }) after later)
-  denying_turn t head may_deny settles g =
-      let mid : BookState = denied b t in
-      let may : MayBookAll g.steps mid = MayBookAll-filter g.steps mid (rw g.turn.said_book (may_book_said _ _ said mid)) in
-      let book_is : after ≡ book_through g.steps mid = settles.posts ∙ (rw (← g.turn.said_book) (sym (book_through-filter g.steps mid))) in
-      let kept_is : later ≡ kept_through g.steps kept = settles.keeps ∙ (rw (← g.turn.said_reports) (sym (kept_through-filter g.steps kept))) in
-      let m : Moment = moment_of s g.call in (
-        record { call = g.call; steps = Deny t.0 ∷ g.steps },
-        record { fits = g.turn.fits; silence = g.turn.silence; clash_free = rw (clash_free-deny t.0 g.steps _ _ said g.turn.said_book) g.turn.clash_free; terms = g.turn.terms },
+  denying_turn : (k : Ticket) → option_map (λ p. p.0) (next_taken p.book.state.standing) ≡ Some k → ((m : Moment) → m.terms.page ≡ g.page → MaySession m (Deny k.0) (session_in facts p.station g)) → Settles (mode_of p.station.link) (denied p.book.state k)
+      → (t : TurnGives facts p.station g said next.station) → TurnOf before (after t.given.after)
+  denying_turn k head may_deny settles t =
+      let x = t.given in
+      let book = book_steps (denied p.book.state k) x.steps _ settles x.said_book in
+      let m : Moment = moment_of (core_of p.station) g (silence_of facts p.station) x.call in (
+        record { call = x.call; steps = Deny k.0 ∷ x.steps },
+        record { fits = x.fits; silence = x.silent; clash_free = rw (clash_free-deny k.0 x.steps _ _ said x.said_book) x.clash_free; terms = terms_of _ _ _ _ x.terms },
         record {
-          may_book = (head, may);
-          book = book_is;
-          may_session = (may_deny m refl, g.session.may);
-          session = sym g.session.is;
+          may_book = (head, book.0);
+          book = book.1;
+          may_session = (may_deny m refl, x.session.0);
+          session = sym x.session.1;
           base = refl;
-          down = λ down. no_job_down next g.after g.stands down;
+          down = none_down next.station.link.state next.station.session x.after x.after.request.hidden.answer t.stands.both.joined;
         },
-        record { may_frozen = (tt, g.frozen.may); frozen = sym g.frozen.is; kept = kept_is },
-        record { may_images = (tt, g.images.may); images = sym g.images.is; image_is_last = g.images.image_is_last; output_is_wanted = g.images.output_is_wanted },
+        record { may_frozen = (tt, x.frozen.0); frozen = sym x.frozen.1; kept = kept_steps x.steps _ _ settles x.said_reports },
+        record { may_images = (tt, x.images.0); images = sym x.images.1; image_is_last = x.image_is_last; output_is_wanted = t.output_is_wanted },
       )
 
 module _ {W : Type 0} (facts : WireFacts W) where
-  -- what the words of a turn leave, by the modes of the links
-  settles_seen : (old new : StationState W) (s n : Station) (said : Said) (b start after : BookState) (kept later : List Event) → IsSeen facts old s → IsSeen facts new n →
-      after ≡ book_through (woke_up (mode_of old.link) (mode_of new.link) ++ book_said said) b → later ≡ kept_through (reports_said said) kept → b ≡ start → Settles start kept s n said after later
-  settles_seen old new s n said b start after kept later seen_old seen_new book kept_is is =
-      record { posts = rw (seen_old.mode, seen_new.mode, ← is) book; keeps = kept_is }
+  -- the same over a station that is that one
+  abbrev Turned : StationState W → BookState → Parts W → Parts W → Said → Type 0
+  Turned s b p next said = TurnSteps facts s said next.station × (next.book.state ≡ book_through (woke_up (mode_of s.link) (mode_of next.station.link) ++ book_said said) b)
 
   pub turn_does : (p next : Parts W) (said : Said) (s : StationState W) (b : BookState) → BeginsNext facts p.station p.book.state s b → TurnSteps facts s said next.station
       → next.book.state ≡ book_through (woke_up (mode_of s.link) (mode_of next.station.link) ++ book_said said) b → next.kept ≡ kept_through (reports_said said) p.kept → Follows facts p call.Turn answered.Nothing next
   unfolding TurnSteps BeginSteps DenySteps
-  turn_does p next said s b begins gives book kept = does_by_choice facts p call.Turn answered.Nothing next (λ u shows. by_begins begins gives book u shows)
+  turn_does p next said s b begins gives book kept = does_by_choice facts p call.Turn answered.Nothing next (λ u shows. by_begins begins (gives, book) u shows)
     where
       After : Choice → Type 0
-      After u = (v : Choice) × Shows facts next v × CallOf (state_of u p.book.state p.kept) call.Turn answered.Nothing (state_of v next.book.state next.kept)
+      After u = (v : Choice) × Shows facts next v × CallOf (state_of facts p u) call.Turn answered.Nothing (state_of facts next v)
 
-      by_begins : BeginsNext facts p.station p.book.state s b → TurnSteps facts s said next.station → next.book.state ≡ book_through (woke_up (mode_of s.link) (mode_of next.station.link) ++ book_said said) b → (u : Choice) → Shows facts p u → After u
-      by_begins (inl (s_is, b_is)) gives book u shows =
-          let seen : IsSeen facts s u.station = rw s_is shows.seen in
-          let (n, seen_next, g) = gives u.station u.unseen seen shows.stands in
-          let settled : Settles p.book.state p.kept u.station n said next.book.state next.kept = settles_seen s next.station u.station n said b _ next.book.state p.kept next.kept seen seen_next book kept b_is in
-          (record { base = u.base; station = n; unseen = g.after }, record { seen = seen_next; stands = g.stands }, (refl, idle_turn u.base u.station n u.unseen said p.book.state next.book.state p.kept next.kept settled g))
-      by_begins (inr (inl (t, q, head, b_is, free, s_is, begins))) gives book u shows =
-          let (seen, taken) = begins u.station u.unseen shows.seen shows.stands in
-          let (n, seen_next, g) = gives (begun q u.station) (unseen_begun u.unseen) seen taken.stands in
-          let settled : Settles (took p.book.state (t, q)) p.kept (begun q u.station) n said next.book.state next.kept = settles_seen s next.station (begun q u.station) n said b _ next.book.state p.kept next.kept seen seen_next book kept b_is in
-          (record { base = u.base; station = n; unseen = g.after }, record { seen = seen_next; stands = g.stands }, (refl, taking_turn u.base u.station n u.unseen said p.book.state next.book.state p.kept next.kept t q head taken settled g))
-      by_begins (inr (inr (t, head, b_is, free, s_is, told, denies))) gives book u shows =
-          let seen : IsSeen facts s u.station = rw s_is shows.seen in
-          let (n, seen_next, g) = gives u.station u.unseen seen shows.stands in
-          let settled : Settles (denied p.book.state t) p.kept u.station n said next.book.state next.kept = settles_seen s next.station u.station n said b _ next.book.state p.kept next.kept seen seen_next book kept b_is in
-          let may_deny : (m : Moment) → m.terms ≡ u.station.terms → MaySession m (Deny t.0) (session_in u.station u.unseen) = λ m terms. denies u.station u.unseen shows.seen shows.stands m t.0 terms in
-          (record { base = u.base; station = n; unseen = g.after }, record { seen = seen_next; stands = g.stands }, (refl, denying_turn u.base u.station n u.unseen said p.book.state next.book.state p.kept next.kept t head may_deny settled g))
+      at : StationState W → BookState → Type 0
+      at s b = Turned s b p next said
+
+      by_begins : BeginsNext facts p.station p.book.state s b → at s b → (u : Choice) → Shows facts p u → After u
+      by_begins (inl (s_is, b_is)) turned u shows =
+          let (gives, posts) = subst (λ (c : BookState). at p.station c) b_is (subst (λ (x : StationState W). at x b) s_is turned) in
+          let t = gives u.ghost shows in
+          (record { base = u.base; ghost = t.given.after }, t.stands, (refl, idle_turn facts p next u.base u.ghost said (record { posts = posts; keeps = kept }) t))
+      by_begins (inr (inl (k, q, head, b_is, free, s_is, begins))) turned u shows =
+          let mid : StationState W = record p.station { session = begun_in q p.station.session } in
+          let (gives, posts) = subst (λ (c : BookState). at mid c) b_is (subst (λ (x : StationState W). at x b) s_is turned) in
+          let (there, taken) = subst (λ (x : StationState W). StandsAt facts x (begun_ghost u.ghost) × BeginGives (core_of p.station) (core_of x) u.ghost (far_of facts p.station) (silence_of facts p.station) q) s_is (begins u.ghost shows) in
+          let t = gives (begun_ghost u.ghost) there in
+          (record { base = u.base; ghost = t.given.after }, t.stands, (refl, taking_turn facts p next u.base u.ghost said k q head taken (record { posts = posts; keeps = kept }) t))
+      by_begins (inr (inr (k, head, b_is, free, s_is, told, denies))) turned u shows =
+          let (gives, posts) = subst (λ (c : BookState). at p.station c) b_is (subst (λ (x : StationState W). at x b) s_is turned) in
+          let t = gives u.ghost shows in
+          (record { base = u.base; ghost = t.given.after }, t.stands, (refl, denying_turn facts p next u.base u.ghost said k head (λ m page. denies u.ghost shows m k.0 page) (record { posts = posts; keeps = kept }) t))
 
 -- a turn gives no ticket
 last_after : (step : Step) (b : BookState) → (book_after step b).last ≡ b.last

@@ -7,4 +7,3 @@ pub mod Kinds
 pub mod Station
 pub mod Turn
 pub mod Exchange
-pub mod Promises

@@ -134,6 +134,12 @@ is_clash_free [] = true
 is_clash_free (step ∷ steps) =
     list_all (λ other. not (clash step other)) steps && is_clash_free steps
 
+-- no message is made in them
+abbrev pub no_make : List Step → Bool
+no_make [] = true
+no_make (Make ∷ steps) = false
+no_make (step ∷ steps) = no_make steps
+
 -- the steps that the book hears of
 abbrev pub is_for_book : Step → Bool
 is_for_book (Take ticket request) = true

@@ -1,0 +1,82 @@
+-- The reading of events goes with the far end's frozen list.
+use Rattle.std.proofs.Common.{◌≡◌, ℕ, ◌+◌, ◌*◌, ◌≤◌, ◌<◌, Bool, true, false, not, List, [], ◌∷◌, take, drop, refl, sym, ◌∙◌, ap, subst, arith}
+use Rattle.std.specs.Prelude.{Option, Some, None, if◌then◌else◌}
+use Rattle.iol_mseq.specs.declared.master.MasterMsg.{MasterMsg}
+use Rattle.iol_isdu.specs.declared.values.Answer.{Answer}
+use Rattle.iol_event.specs.declared.event.Event.{Event}
+use Rattle.iol_event.specs.Memory.{Events, IsEventMemory, is_empty, released}
+use Rattle.iol_event.specs.Laws.{MemoryStaysValid, WaitsForAll, GivesFrozen}
+use Rattle.iol_far.specs.Isdu.{IsduState}
+use Rattle.iol_far.specs.Codec.{layout_in}
+use Rattle.iol_far.specs.Far.{Far, hear, heard_as, events_after}
+use Rattle.iol_far.specs.Local.{LocalStep, local, locals, carried_by, is_input}
+use Rattle.iol_far.specs.Local.{Carry as OwnCarry, Raise as OwnRaise, Input as OwnInput, NoInput as OwnNoInput, Power as OwnPower}
+use Rattle.iol_far.specs.Laws.{confirms as octets_confirm}
+use Rattle.iol_steps.specs.Bridge.{confirms_by}
+use Rattle.iol_steps.specs.Station.{Reading, Resting, Flagged, Under, Due, is_due, wants_octet, EventsFit}
+use Rattle.iol_steps.specs.Exchange.{reading_flagged, reading_kept}
+use Rattle.iol_app.proofs.Accepted.{by_accepted}
+use Rattle.iol_app.proofs.FirstOctet.{confirms_of}
+use Rattle.std.proofs.lemmas.Grind.{common_steps}
+
+pub record ReaderLaws : Type 0 where
+  pub memory : MemoryStaysValid
+  pub waits : WaitsForAll
+  pub gives : GivesFrozen
+
+carried_events : (g : Far) (a : Answer) (s : IsduState) → (carried_by s g a).events ≡ g.events
+carried_events g a s = grind (arith, common_steps)
+
+module _ (laws : ReaderLaws) where
+  memory_step : (far : Far) (step : LocalStep) → IsEventMemory far.events → IsEventMemory (local far step).events
+  memory_step far (OwnCarry a) h = subst IsEventMemory (sym (carried_events far a far.isdu)) h
+  memory_step far (OwnRaise e) h = laws.memory.raise far.events e h
+  memory_step far (OwnInput image) h = elim (is_input far image) as (λ b. IsEventMemory (if b then record far { input = Some image } else far).events) [ true ↦ h | false ↦ h ]
+  memory_step far OwnNoInput h = h
+  memory_step far OwnPower h = laws.memory.at_first
+
+  pub memory_locals : (steps : List LocalStep) (far : Far) → IsEventMemory far.events → IsEventMemory (locals far steps).events
+  memory_locals [] far h = h
+  memory_locals (step ∷ steps) far h = memory_locals steps (local far step) (memory_step far step h)
+
+  memory_worked : (m : Events) (c : Bool) → IsEventMemory m → IsEventMemory (events_after m c)
+  memory_worked m true h = laws.memory.confirm m h
+  memory_worked m false h = laws.memory.other m h
+
+  pub memory_hear : (far : Far) (o : List ℕ) → IsEventMemory far.events → IsEventMemory (hear far o).far.events
+  memory_hear far o h = by_accepted (λ q. IsEventMemory (heard_as far o q).far.events) far o h
+      (λ w m e. memory_worked far.events (confirms_by m.mc) h)
+      (λ w c k m e. memory_worked far.events (confirms_by m.mc) h)
+
+pub undue : (r : Reading) → wants_octet r ≡ true → is_due r ≡ false
+undue r given = grind (arith, common_steps)
+
+-- what is kept
+pub kept_due : (r : Reading) (event : Bool) → is_due (reading_kept r event) ≡ is_due r
+kept_due r event = grind (arith, common_steps)
+
+flagged_fits : (event : Bool) (m : Events) → event ≡ not (is_empty m.frozen) → m.held ≡ false → EventsFit (reading_flagged event) false m
+flagged_fits event m is held = by_list m.frozen refl event is
+  where
+    by_list : (l : List Event) → m.frozen ≡ l → (b : Bool) → b ≡ not (is_empty m.frozen) → EventsFit (reading_flagged b) false m
+    by_list l e false k = tt
+    by_list [] e true k = absurd (let z : true ≡ false = k ∙ ap (λ (x : List Event). not (is_empty x)) e in cc)
+    by_list (x ∷ xs) e true k = (x, xs, (e, held))
+
+pub kept_fits : (r : Reading) (event : Bool) (m : Events) → event ≡ not (is_empty m.frozen) → m.held ≡ false → EventsFit r false m → EventsFit (reading_kept r event) false m
+kept_fits Resting event m is held fit = flagged_fits event m is held
+kept_fits Flagged event m is held fit = flagged_fits event m is held
+kept_fits (Under octets) event m is held fit = fit
+kept_fits (Due e es) event m is held fit = fit
+
+-- what is heard and is no confirm ends the hold
+released_held : (m : Events) → (released m).held ≡ false
+released_held m = elim (is_empty m.frozen) as (λ b. (if b then (let x : Events = record { frozen = take 6 m.waiting; waiting = drop 6 m.waiting; held = false } in x) else record m { held = false }).held ≡ false) [ true ↦ refl | false ↦ refl ]
+
+pub ends_hold : (far : Far) (o reply : List ℕ) → octets_confirm o ≡ false → (hear far o).reply ≡ Some reply → (hear far o).far.events.held ≡ false
+ends_hold far o reply other = by_accepted P far o (λ r. absurd (let z : Path (Option (List ℕ)) None (Some reply) = r in cc))
+    (λ w m e r. rw (confirms_of (layout_in far.page far.mode) o m e, other) (released_held far.events))
+    (λ w c k m e r. rw (confirms_of (layout_in far.page c.into) o m e, other) (released_held far.events))
+  where
+    P : Option (Far × MasterMsg) → Type 0
+    P q = (heard_as far o q).reply ≡ Some reply → (heard_as far o q).far.events.held ≡ false

@@ -1,0 +1,170 @@
+-- The frozen events: own steps, what is heard, and a wake are allowed there, and leave what the far end's memory says.
+use Rattle.std.proofs.Common.{◌≡◌, ℕ, zero, suc, ◌≤◌, Bool, true, false, ◌&&◌, List, [], ◌∷◌, ◌++◌, length, take, refl, sym, ◌∙◌, ap, subst, arith}
+use Rattle.std.specs.Prelude.{Option, Some, None, if◌then◌else◌, nat_le}
+use Rattle.iol_mseq.specs.declared.master.MasterMsg.{MasterMsg}
+use Rattle.iol_isdu.specs.declared.values.Request.{Request}
+use Rattle.iol_isdu.specs.declared.values.Answer.{Answer}
+use Rattle.iol_event.specs.declared.event.Event.{Event}
+use Rattle.iol_event.specs.Memory.{Events, freezes_at_once, raised, confirmed, released}
+use Rattle.iol_link.specs.Honest.{Passage, OutLost, BackLost, Clean, far_after}
+use Rattle.iol_far.specs.Isdu.{IsduState, Empty, Receiving, Whole, Handed, Answered, fits}
+use Rattle.iol_far.specs.Codec.{layout_in}
+use Rattle.iol_far.specs.Far.{Far, moved, hear, heard_as, worked, output_of, events_after}
+use Rattle.iol_far.specs.Local.{LocalStep, local, locals, carried_by, has_room, is_input, woken}
+use Rattle.iol_far.specs.Local.{Carry as OwnCarry, Raise as OwnRaise, Input as OwnInput, NoInput as OwnNoInput, Power as OwnPower}
+use Rattle.iol_far.specs.Level.{grown_by}
+use Rattle.iol_far.specs.Laws.{confirms as octets_confirm}
+use Rattle.iol_steps.specs.Step.{Step, OutputOff, Input, Image}
+use Rattle.iol_steps.specs.FrozenEvents.{Frozen, frozen_through, MayFrozenAll}
+use Rattle.iol_steps.specs.Bridge.{carry_step, carry_steps, raise_steps, own_step, own_steps, told_after, told_through, confirm_steps, release_steps, event_steps, output_steps, confirms_by, worked_steps, heard_steps_as, heard_steps, told_released, told_worked, told_heard_as, told_heard, passed_steps, told_passed, exchange_steps, told_exchanged, woken_steps, told_woken, wake_steps, told_wake}
+use Rattle.iol_steps.specs.Station.{frozen_of}
+use Rattle.iol_app.proofs.Accepted.{by_accepted}
+use Rattle.iol_app.proofs.FirstOctet.{confirms_of}
+use Rattle.iol_app.proofs.OwnSession.{woken_if}
+
+-- these steps are allowed in the part of the frozen events, and leave this list, told or not
+abbrev pub FrozenRuns : List Event → Bool → List Step → List Event → Bool → Type 0
+FrozenRuns f told steps f' told' = MayFrozenAll steps (frozen_of f told) × (frozen_through steps (frozen_of f told) ≡ frozen_of f' told')
+
+may_frozen-append : (xs ys : List Step) (f : Option Frozen) → MayFrozenAll xs f → MayFrozenAll ys (frozen_through xs f) → MayFrozenAll (xs ++ ys) f
+may_frozen-append [] ys f h k = k
+may_frozen-append (x ∷ xs) ys f h k = (h.0, may_frozen-append xs ys _ h.1 k)
+
+frozen_through-append : (xs ys : List Step) (f : Option Frozen) → frozen_through (xs ++ ys) f ≡ frozen_through ys (frozen_through xs f)
+frozen_through-append [] ys f = refl
+frozen_through-append (x ∷ xs) ys f = frozen_through-append xs ys _
+
+pub frozen_runs-append : (f f1 f2 : List Event) (t t1 t2 : Bool) (xs ys : List Step) → FrozenRuns f t xs f1 t1 → FrozenRuns f1 t1 ys f2 t2 → FrozenRuns f t (xs ++ ys) f2 t2
+frozen_runs-append f f1 f2 t t1 t2 xs ys a b = (
+  may_frozen-append xs ys (frozen_of f t) a.0 (subst (MayFrozenAll ys) (sym a.1) b.0),
+  frozen_through-append xs ys (frozen_of f t) ∙ ap (frozen_through ys) a.1 ∙ b.1,
+)
+
+-- Own steps
+
+abbrev memory_of : List Event → List Event → Bool → Events
+memory_of f w h = record { frozen = f; waiting = w; held = h }
+
+raise_frozen : (f w : List Event) (h : Bool) (e : Event) (t : Bool) →
+    let m : Events = record { frozen = f; waiting = w; held = h } in FrozenRuns f t (raise_steps m e) (raised m e).frozen (if freezes_at_once m then false else t)
+raise_frozen [] w false e t = (((refl, arith_one, arith_one_six), tt), refl)
+  where
+    arith_one : 1 ≤ 1
+    arith_one = omega arith
+
+    arith_one_six : 1 ≤ 6
+    arith_one_six = omega arith
+raise_frozen [] w true e t =
+    elim (nat_le 32 (length w)) as (λ b. FrozenRuns [] t [] (if b then memory_of [] w true else memory_of [] (w ++ e ∷ []) true).frozen t) [ true ↦ (tt, refl) | false ↦ (tt, refl) ]
+raise_frozen (x ∷ xs) w h e t =
+    elim (nat_le 32 (length w)) as (λ b. FrozenRuns (x ∷ xs) t [] (if b then memory_of (x ∷ xs) w h else memory_of (x ∷ xs) (w ++ e ∷ []) h).frozen t) [ true ↦ (tt, refl) | false ↦ (tt, refl) ]
+
+carry_frozen_step : (request : Option Request) (a : Answer) (f : List Event) (t : Bool) → FrozenRuns f t (carry_step request a ∷ []) f t
+carry_frozen_step None a f t = ((tt, tt), refl)
+carry_frozen_step (Some r) a f t = ((tt, tt), refl)
+
+carry_frozen : (request : Option Request) (far : Far) (a : Answer) (s : IsduState) (t : Bool) → FrozenRuns far.events.frozen t (carry_steps request s far a) (carried_by s far a).events.frozen t
+carry_frozen request far a Empty t = (tt, refl)
+carry_frozen request far a (Receiving x l) t = (tt, refl)
+carry_frozen request far a (Whole r l) t = (tt, refl)
+carry_frozen request far a (Answered r b l) t = (tt, refl)
+carry_frozen request far a (Handed r) t =
+    elim (has_room far && fits r a)
+    as (λ b. FrozenRuns far.events.frozen t (if b then carry_step request a ∷ [] else []) (if b then record far { isdu = Answered r a None; carried = grown_by far.carried r a } else far).events.frozen t)
+    [ true ↦ carry_frozen_step request a far.events.frozen t | false ↦ (tt, refl) ]
+
+own_frozen_step : (request : Option Request) (far : Far) (step : LocalStep) (t : Bool) → FrozenRuns far.events.frozen t (own_step request far step) (local far step).events.frozen (told_after far step t)
+own_frozen_step request far (OwnCarry a) t = carry_frozen request far a far.isdu t
+own_frozen_step request far (OwnRaise e) t = raise_frozen far.events.frozen far.events.waiting far.events.held e t
+own_frozen_step request far (OwnInput image) t =
+    elim (is_input far image)
+    as (λ b. FrozenRuns far.events.frozen t (if b then Input (Some image) ∷ [] else []) (if b then record far { input = Some image } else far).events.frozen t) [ true ↦ ((tt, tt), refl) | false ↦ (tt, refl) ]
+own_frozen_step request far OwnNoInput t = ((tt, tt), refl)
+own_frozen_step request far OwnPower t = ((tt, tt), refl)
+
+pub own_frozen : (request : Option Request) (steps : List LocalStep) (far : Far) (t : Bool) → FrozenRuns far.events.frozen t (own_steps request far steps) (locals far steps).events.frozen (told_through far steps t)
+own_frozen request [] far t = (tt, refl)
+own_frozen request (step ∷ steps) far t =
+    frozen_runs-append far.events.frozen (local far step).events.frozen (locals (local far step) steps).events.frozen t (told_after far step t) (told_through (local far step) steps (told_after far step t))
+    (own_step request far step) (own_steps request (local far step) steps)
+    (own_frozen_step request far step t) (own_frozen request steps (local far step) (told_after far step t))
+
+-- What is heard
+
+take_most : (n : ℕ) (xs : List Event) → length (take n xs) ≤ n
+take_most zero xs = omega arith
+take_most (suc n) [] = omega arith
+take_most (suc n) (x ∷ xs) = let h = take_most n xs in omega arith
+
+release_frozen : (f w : List Event) (h : Bool) (t : Bool) →
+    let m : Events = record { frozen = f; waiting = w; held = h } in FrozenRuns f t (release_steps m) (released m).frozen (told_released m t)
+release_frozen [] [] h t = (tt, refl)
+release_frozen [] (x ∷ xs) h t = (((refl, least, most), tt), refl)
+  where
+    least : 1 ≤ length (take 6 (x ∷ xs))
+    least = omega arith
+
+    most : length (take 6 (x ∷ xs)) ≤ 6
+    most = take_most 6 (x ∷ xs)
+release_frozen (x ∷ xs) w h t = (tt, refl)
+
+confirm_frozen : (f w : List Event) (h : Bool) (t : Bool) → t ≡ true →
+    let m : Events = record { frozen = f; waiting = w; held = h } in FrozenRuns f t (confirm_steps m) (confirmed m).frozen t
+confirm_frozen [] w true t told = (tt, refl)
+confirm_frozen [] w false t told = (tt, refl)
+confirm_frozen (x ∷ xs) w true t told = (tt, refl)
+confirm_frozen (x ∷ xs) w false t told = ((told, tt), refl)
+
+event_frozen : (m : Events) (confirms : Bool) (t : Bool) → (confirms ≡ true → t ≡ true) → FrozenRuns m.frozen t (event_steps m confirms) (events_after m confirms).frozen (told_worked m confirms t)
+event_frozen m true t told = confirm_frozen m.frozen m.waiting m.held t (told refl)
+event_frozen m false t told = release_frozen m.frozen m.waiting m.held t
+
+output_frozen : (f : List Event) (t : Bool) (output : Option Image) → FrozenRuns f t (output_steps output) f t
+output_frozen f t None = ((tt, tt), refl)
+output_frozen f t (Some image) = ((tt, tt), refl)
+
+worked_frozen : (there : Far) (o : List ℕ) (m : MasterMsg) (t : Bool) → (confirms_by m.mc ≡ true → t ≡ true) →
+    FrozenRuns there.events.frozen t (worked_steps there o m) (worked there o m).events.frozen (told_worked there.events (confirms_by m.mc) t)
+worked_frozen there o m t told =
+    let confirms = confirms_by m.mc in
+    frozen_runs-append there.events.frozen (worked there o m).events.frozen (worked there o m).events.frozen t (told_worked there.events confirms t) (told_worked there.events confirms t)
+    (event_steps there.events confirms) (output_steps (output_of (worked there o m)))
+    (event_frozen there.events confirms t told) (output_frozen (worked there o m).events.frozen (told_worked there.events confirms t) (output_of (worked there o m)))
+
+-- a confirm that is accepted finds its list told
+abbrev pub ConfirmsTold : List ℕ → Far → Bool → Type 0
+ConfirmsTold o far t = far.awake ≡ true → octets_confirm o ≡ true → t ≡ true
+
+pub heard_frozen : (far : Far) (o : List ℕ) (t : Bool) → ConfirmsTold o far t → FrozenRuns far.events.frozen t (heard_steps far o) (hear far o).far.events.frozen (told_heard far o t)
+heard_frozen far o t told = by_accepted P far o (tt, refl)
+    (λ awake m spells. worked_frozen far o m t (λ c. told awake (sym (confirms_of (layout_in far.page far.mode) o m spells) ∙ c)))
+    (λ awake command w m spells. worked_frozen (moved far command.into) o m t (λ c. told awake (sym (confirms_of (layout_in far.page command.into) o m spells) ∙ c)))
+  where
+    P : Option (Far × MasterMsg) → Type 0
+    P q = FrozenRuns far.events.frozen t (heard_steps_as q o) (heard_as far o q).far.events.frozen (told_heard_as q t)
+
+pub passed_frozen : (passage : Passage) (far : Far) (o : List ℕ) (t : Bool) → ConfirmsTold o far t → FrozenRuns far.events.frozen t (passed_steps passage far o) (far_after passage far o).events.frozen (told_passed passage far o t)
+passed_frozen OutLost far o t told = (tt, refl)
+passed_frozen BackLost far o t told = heard_frozen far o t told
+passed_frozen Clean far o t told = heard_frozen far o t told
+
+-- the far end's part of an exchange
+pub exchange_frozen : (request : Option Request) (far : Far) (steps : List LocalStep) (passage : Passage) (o : List ℕ) (t : Bool) → ConfirmsTold o (locals far steps) (told_through far steps t) →
+    FrozenRuns far.events.frozen t (exchange_steps request far steps passage o) (far_after passage (locals far steps) o).events.frozen (told_exchanged far steps passage o t)
+exchange_frozen request far steps passage o t told =
+    frozen_runs-append far.events.frozen (locals far steps).events.frozen (far_after passage (locals far steps) o).events.frozen t (told_through far steps t) (told_exchanged far steps passage o t)
+    (own_steps request far steps) (passed_steps passage (locals far steps) o)
+    (own_frozen request steps far t) (passed_frozen passage (locals far steps) o (told_through far steps t) told)
+
+woken_frozen : (wakes : Bool) (far : Far) (t : Bool) → FrozenRuns far.events.frozen t (woken_steps wakes far) (woken_if wakes far).events.frozen (told_woken wakes far t)
+woken_frozen false far t = (tt, refl)
+woken_frozen true far t =
+    frozen_runs-append far.events.frozen (woken far).events.frozen (woken far).events.frozen t (told_released far.events t) (told_released far.events t)
+    (release_steps far.events) (OutputOff ∷ []) (release_frozen far.events.frozen far.events.waiting far.events.held t) ((tt, tt), refl)
+
+-- the far end's part of a wake
+pub wake_frozen : (far : Far) (steps : List LocalStep) (wakes : Bool) (t : Bool) → FrozenRuns far.events.frozen t (wake_steps far steps wakes) (woken_if wakes (locals far steps)).events.frozen (told_wake far steps wakes t)
+wake_frozen far steps wakes t =
+    frozen_runs-append far.events.frozen (locals far steps).events.frozen (woken_if wakes (locals far steps)).events.frozen t (told_through far steps t) (told_wake far steps wakes t)
+    (own_steps None far steps) (woken_steps wakes (locals far steps))
+    (own_frozen None steps far t) (woken_frozen wakes (locals far steps) (told_through far steps t))

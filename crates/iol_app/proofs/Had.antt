@@ -1,0 +1,377 @@
+-- A good reply in OPERATE: once for all kinds, over what a kind has to bring.
+use Rattle.std.proofs.Common.{◌≡◌, ◌≢◌, ◌⊎◌, inl, inr, ⊎_elim, ℕ, zero, suc, ◌*◌, ◌≤◌, ◌<◌, Bool, true, false, not, ◌&&◌, List, [], ◌∷◌, filter, length, refl, sym, ◌∙◌, ap, subst, arith}
+use Rattle.std.specs.Prelude.{Option, Some, None, IsTrue, IsSome, IfSome, if◌then◌else◌, slice_index, nat_lt}
+use Rattle.iol_mseq.specs.Shape.{Shape}
+use Rattle.iol_mseq.specs.Texts.{master_text}
+use Rattle.iol_mseq.specs.declared.reply.Reply.{Reply}
+use Rattle.iol_octets.specs.declared.control.Channel.TheVariants.{Page, Diagnosis}
+use Rattle.iol_page.specs.declared.page.Layouts.{Layouts}
+use Rattle.iol_isdu.specs.declared.values.Request.{Request}
+use Rattle.iol_isdu.specs.declared.values.Answer.{Answer}
+use Rattle.iol_event.specs.declared.event.Event.{Event}
+use Rattle.iol_event.specs.Memory.{is_empty, event_octet}
+use Rattle.iol_event.specs.Reading.{next_address, taken as taken_octet}
+use Rattle.iol_far.specs.declared.mode.Mode.TheVariants.{Operate as FarOperate}
+use Rattle.iol_far.specs.declared.carried.Carried.{Carried}
+use Rattle.iol_far.specs.Codec.{layout_in, flow_of}
+use Rattle.iol_far.specs.Isdu.{isdu_data, answer_text, fits}
+use Rattle.iol_far.specs.Far.{Far, hear, data_of, reply_to, output_of}
+use Rattle.iol_far.specs.Local.{LocalStep, locals, input_size}
+use Rattle.iol_far.specs.Level.{Progress, Quiet, Had as IsHad, Stands as FarStands, Move, Leave, Link, after, base_after, turned, IsBefore, IsGrown}
+use Rattle.iol_far.specs.Laws.{IsRegular, IsSized, ReplySays}
+use Rattle.iol_far.specs.Laws.{confirms as octets_confirm}
+use Rattle.iol_segment.specs.TextLaws.{joined}
+use Rattle.iol_link.specs.Attempts.{Sending}
+use Rattle.iol_link.specs.Honest.{Clean}
+use Rattle.iol_mode.specs.Stands.{StateStands, entering_link, operate_link, IsAccepted}
+use Rattle.iol_mode.specs.States.{InOperate, StateFits, state_of}
+use Rattle.iol_steps.specs.declared.mode.Mode.TheVariants.{Operate as ModeOperate}
+use Rattle.iol_steps.specs.declared.said.Said.{Said}
+use Rattle.iol_steps.specs.Step.{Step, ShowImage, Exchanged, Moment, is_for_book, is_report, book_said, reports_said, Image, no_make}
+use Rattle.iol_steps.specs.Bridge.{Hidden, hidden_through, told_through, exchange_steps, told_exchanged}
+use Rattle.iol_steps.specs.Kinds.{Brought, Had, brought_steps, quiet_said}
+use Rattle.iol_steps.specs.Station.{Reading, Due, is_due, wants_octet, session_of, images_of, frozen_of, AnswerFits, ProgressFits, EventsFit}
+use Rattle.iol_steps.specs.Exchange.{ReadsAnswer, reading_kept, reading_flagged, image_had, told_by}
+use Rattle.iol_app.proofs.Given.{Laws, sized_locals}
+use Rattle.iol_app.proofs.EventReading.{ReaderLaws, memory_locals, memory_hear, kept_fits, kept_due, ends_hold}
+use Rattle.iol_app.specs.Ends.{EventsTold}
+use Rattle.iol_app.proofs.Told.{told_locals}
+use Rattle.iol_app.proofs.OwnSession.{SessionRuns}
+use Rattle.iol_app.proofs.FrozenPart.{FrozenRuns}
+use Rattle.iol_app.proofs.ImagesPart.{ImagesRuns}
+use Rattle.iol_app.proofs.OpenLevel.{IsTied, stands_open}
+use Rattle.iol_app.proofs.Clash.{Before, exchange_before, no_clash}
+use Rattle.iol_app.proofs.Moves.{answers_data, data_after, answer_after}
+use Rattle.iol_app.proofs.TextHad.{had_text}
+use Rattle.iol_app.proofs.Missed.{quiet_book}
+use Rattle.iol_app.specs.declared.event_work.Reading as app
+use Rattle.iol_app.specs.declared.event_work.Reading.TheVariants.{Resting, UnderWay, ConfirmDue, Refused}
+use Rattle.iol_app.specs.declared.request.Current.{Current}
+use Rattle.iol_app.specs.declared.session.Exchange.{Exchange}
+use Rattle.iol_app.specs.EventReading.{is_refused, reader_of, read_on, list_read}
+use Rattle.iol_app.specs.Messages.{Head, head_of, read_of}
+use Rattle.iol_app.specs.Requests.{request_in, current_after}
+use Rattle.iol_app.specs.Moves.{written, before_last, progress_at, progress_of, move_for, confirms_events}
+use Rattle.iol_app.specs.declared.request.Progress.{Progress as Cursor}
+use Rattle.iol_app.specs.declared.request.Progress.TheVariants.{Sending as Cut, Asking, Receiving, Refused as NoText}
+use Rattle.iol_segment.specs.Cut.{Cutting}
+use Rattle.iol_image.specs.Image.{IsImage}
+use Rattle.iol_app.specs.Ends.{BusySeen, SentSeen, output_for}
+use Rattle.iol_app.specs.State.{SessionState, IsSession, absorbed, image_in}
+use Rattle.iol_app.specs.StationState.{StateFits as Joined}
+use Rattle.iol_app.specs.declared.output.Output.{Output}
+use Rattle.iol_app.specs.Core.{Core, Ghost, Stands, ReceiveGives, OperateRequest, core_out, reading_at, reading_in, moment_of, seen_in, shown_in, after_exchange}
+use Rattle.iol_app.proofs.ReadingOn.{Took, reads_next}
+use Rattle.iol_app.proofs.Reused.{confirms_is, not_operate, same_output, input_is, input_hear, input_locals, image_octets, HasOctets}
+use Rattle.iol_app.proofs.Exchanging.{Passes, gives, at, tied', confirms, told'}
+
+-- the progress is that of the request under way
+written_fits : (r : Request) (given : ℕ) → ProgressFits (written r given) (Some r)
+written_fits r zero = tt
+written_fits r (suc i) = refl
+
+cursor_fits : (cutter : Cutting Request) (p : Cursor) → ProgressFits (progress_at cutter p) (Some cutter.source)
+cursor_fits cutter (Cut flow piece) = before_fits cutter.source cutter.given
+  where
+    before_fits : (r : Request) (given : ℕ) → ProgressFits (before_last r given) (Some r)
+    before_fits r zero = tt
+    before_fits r (suc given) = written_fits r given
+cursor_fits cutter (Asking zero) = written_fits cutter.source cutter.given
+cursor_fits cutter (Asking (suc busy)) = refl
+cursor_fits cutter (Receiving joining had) = refl
+cursor_fits cutter NoText = tt
+
+pub progress_fits : (current : Option Current) → ProgressFits (progress_of current) (request_in current)
+progress_fits None = tt
+progress_fits (Some current) = cursor_fits current.cutter current.progress
+
+-- a reading that is under way goes on
+kept_at : (reading : app.Reading) (flag event : Bool) (due : Event × List Event) → is_refused reading ≡ false → reading_kept (reading_at reading flag due) event ≡ reading_at reading event due
+kept_at Resting true event due h = refl
+kept_at Resting false event due h = refl
+kept_at (UnderWay octets) flag event due h = refl
+kept_at ConfirmDue flag event due h = refl
+kept_at Refused flag event due h = absurd (let z : true ≡ false = h in cc)
+
+-- one exchange that brought this reply, and what is said of it
+pub record Good : Type 0 where
+  pub layouts : Layouts
+  pub w : Sending
+  pub t : SessionState
+  pub g : Ghost
+  pub far : Far
+  pub far' : Far
+  pub n : ℕ
+  pub n' : ℕ
+  pub steps : List LocalStep
+  pub regular : IsRegular far
+  pub r : Reply
+  pub said : Said
+
+module _ (laws : Laws) (readers : ReaderLaws) (turn : Good) where
+  open turn use {layouts, w, t, g, far, far', n, n', steps, regular, r, said}
+
+  abbrev o : List ℕ
+  o = master_text layouts.run w.message
+
+  abbrev pub there : Far
+  there = (hear (locals far steps) o).far
+
+  abbrev pub od : List ℕ
+  od = r.od.items
+
+  abbrev pub told : Bool
+  told = told_exchanged far steps Clean o g.events.told
+
+  abbrev pub R : Reading
+  R = reading_in t.events g.events
+
+  pub record Replied (e : Exchange) (current : Option Current) : Type 0 where
+    pub stands : Stands (core_out layouts w t e current) g far n
+    pub passes : Passes layouts w t g far steps Clean e current
+    pub silent : n' ≡ 0
+    pub octets : List ℕ
+    pub replies : (hear (locals far steps) o).reply ≡ Some octets
+    pub far_is : far' ≡ there
+    pub reply_is : r ≡ reply_to there layouts.run w.message
+    pub says : ReplySays g.page layouts.run.od g.request.base stands.request.link (progress_of current) o w.message (move_for e current) (hear (locals far steps) o)
+    pub told_as : there.valid ≡ told_by (output_for e) t.output.told
+    pub out_is : there.out ≡ w.message.out.items
+    pub accepted : IsAccepted layouts g.page stands.request.link w.message
+    pub valid : IsSession (core_out layouts w t e current).session
+    pub sized : length r.input.items ≡ layouts.run.pd_in
+
+  module _ (e : Exchange) (current : Option Current) (a : Replied e current) where
+    abbrev c : Core
+    c = core_out layouts w t e current
+
+    abbrev pub request : Option Request
+    request = request_in current
+
+    abbrev pub h : Hidden
+    h = hidden_through request far steps g.request.hidden
+
+    abbrev pub xs : List Step
+    xs = exchange_steps request far steps Clean o
+
+    abbrev m : Moment
+    m = moment_of c g n (Exchanged true)
+
+    abbrev up : OperateRequest (record { out = Some w; layouts = layouts }) t.limit current (Some e) R g far
+    up = a.stands.request
+
+    abbrev what : Move
+    what = move_for e current
+
+    next_link : turned g.page up.link o w.message ≡ operate_link
+    next_link =
+        ⊎_elim
+        (λ (k : (turned g.page up.link o w.message ≡ entering_link layouts) × (w.message.mc.channel ≡ Page)). absurd (not_operate layouts.pre (sym (ap (λ (l : Link). l.mode) k.0) ∙ up.out.mode)))
+        (λ (k : turned g.page up.link o w.message ≡ operate_link). k)
+        a.accepted.next
+
+    pub od_is : od ≡ (if w.message.mc.read then data_of there layouts.run.od w.message.mc.channel w.message.mc.address else [])
+    od_is = ap (λ (q : Reply). q.od.items) a.reply_is
+
+    pub before : IsBefore g.page layouts.run.od (base_after what g.request.base there.carried) operate_link (after (progress_of current) what od) there
+    before =
+        subst (λ (q : Progress). IsBefore g.page layouts.run.od (base_after what g.request.base there.carried) operate_link q there)
+        (sym (ap (after (progress_of current) what) od_is
+        ∙ data_after layouts.run.od what (progress_of current) w.message.mc.channel w.message.mc.read (flow_of w.message.mc.address) w.message.od.items w.message.mc.address there up.out.goes.move))
+        (subst (λ (l : Link). IsBefore g.page layouts.run.od (base_after what g.request.base there.carried) l (after (progress_of current) what (isdu_data layouts.run.od there.isdu)) there) next_link a.says.before)
+
+    pub tied : IsTied g.request.base request h there.carried
+    tied = tied' laws layouts w t g far n steps Clean e current a.stands
+
+    quiet_base : progress_of current ≡ Quiet → there.carried ≡ g.request.base
+    quiet_base quiet = subst (λ (q : Progress). IsGrown g.request.base q there.carried) quiet a.says.grown
+
+    -- the segments of an answer, the last of which has octets of its text
+    pub text : ReadsAnswer what → (q : Request) (i : ℕ) (octets : List ℕ) → after (progress_of current) what od ≡ IsHad q i octets
+        → (answer : Answer) × IsTrue (fits q answer) × (octets ≡ joined layouts.run.od (answer_text q answer) i) × (i * layouts.run.od < length (answer_text q answer))
+    text k q i octets is =
+        had_text layouts.run.od (base_after what g.request.base there.carried) q i octets there.isdu there.carried
+        (subst (λ (p : Progress). FarStands layouts.run.od (base_after what g.request.base there.carried) p there.isdu there.carried) is before.stands)
+        what (progress_of current) w.message.mc.channel w.message.mc.read (flow_of w.message.mc.address) w.message.od.items od k up.out.goes.move
+        (od_is ∙ answers_data layouts.run.od what (progress_of current) w.message.mc.channel w.message.mc.read (flow_of w.message.mc.address) w.message.od.items w.message.mc.address there k up.out.goes.move) is
+
+    -- The events
+
+    event_is : r.event ≡ not (is_empty there.events.frozen)
+    event_is = ap (λ (q : Reply). q.event) a.reply_is
+
+    pub told_now : told ≡ is_due R
+    told_now = (told' laws layouts w t g far n steps Clean e current a.stands).1 ∙ ap (λ (b : Bool). b && is_due R) a.says.before.awake
+
+    confirms_by : octets_confirm o ≡ confirms_events e
+    confirms_by = confirms laws layouts w t g far n steps Clean e current a.stands
+
+    pub fit_now : EventsFit R (confirms_events e) there.events
+    fit_now = subst (λ (b : Bool). EventsFit R b there.events) confirms_by ((told' laws layouts w t g far n steps Clean e current a.stands).0 a.says.before.awake)
+
+    -- what it makes of the reading
+    pub record Reads : Type 0 where
+      pub due : Event × List Event
+      pub fit : EventsFit (reading_at (read_on e od t.events.reading) r.event due) false there.events
+      pub form : is_refused (read_on e od t.events.reading) ≡ false
+      pub same : list_read e od t.events.reading ≡ None → frozen_of there.events.frozen told ≡ frozen_of there.events.frozen (is_due (reading_at (read_on e od t.events.reading) r.event due))
+
+    pub keeps : confirms_events e ≡ false → read_on e od t.events.reading ≡ t.events.reading → Reads
+    keeps other kept =
+        let held : there.events.held ≡ false = ends_hold (locals far steps) o a.octets (confirms_by ∙ other) a.replies in
+        let fit : EventsFit (reading_kept R r.event) false there.events = kept_fits R r.event there.events event_is held (subst (λ (b : Bool). EventsFit R b there.events) other fit_now) in
+        let is : reading_kept R r.event ≡ reading_at (read_on e od t.events.reading) r.event g.events.due =
+        kept_at t.events.reading t.events.flag r.event g.events.due a.stands.shown.no_form ∙ ap (λ (x : app.Reading). reading_at x r.event g.events.due) (sym kept) in
+        record {
+          due = g.events.due;
+          fit = subst (λ (x : Reading). EventsFit x false there.events) is fit;
+          form = ap is_refused kept ∙ a.stands.shown.no_form;
+          same = λ k. ap (frozen_of there.events.frozen) (told_now ∙ sym (kept_due R r.event) ∙ ap is_due is);
+        }
+
+    -- a confirm leaves nothing frozen
+    cleared : confirms_events e ≡ true → there.events.frozen ≡ []
+    cleared is = by_reading R (up.out.confirm (confirms_is e is)) fit_before
+      where
+        before_heard : EventsTold R (confirms_events e) (locals far steps) (told_through far steps g.events.told)
+        before_heard = told_locals laws.events R (confirms_events e) steps far g.events.told a.stands.events
+
+        fit_before : (locals far steps).awake ≡ true → EventsFit R true (locals far steps).events
+        fit_before k = subst (λ (b : Bool). EventsFit R b (locals far steps).events) is (before_heard.0 k)
+
+        by_reading : (x : Reading) → is_due x ≡ true → ((locals far steps).awake ≡ true → EventsFit x true (locals far steps).events) → there.events.frozen ≡ []
+        by_reading (Due first rest) d fit = ((laws.events first rest).clears (locals far steps) o a.octets (confirms_by ∙ is) fit a.replies).0
+        by_reading other d fit = absurd (let z : false ≡ true = d in cc)
+
+    pub rests : confirms_events e ≡ true → read_on e od t.events.reading ≡ Resting → Reads
+    rests is rest =
+        let none : there.events.frozen ≡ [] = cleared is in
+        record {
+          due = g.events.due;
+          fit = subst (λ (x : app.Reading). EventsFit (reading_at x r.event g.events.due) false there.events) (sym rest) (unflagged r.event (event_is ∙ ap (λ (l : List Event). not (is_empty l)) none));
+          form = ap is_refused rest;
+          same = λ k. ap (λ (l : List Event). frozen_of l told) none ∙ sym (ap (λ (l : List Event). frozen_of l (is_due (reading_at (read_on e od t.events.reading) r.event g.events.due))) none);
+        }
+      where
+        unflagged : (event : Bool) → event ≡ false → EventsFit (reading_flagged event) false there.events
+        unflagged false is = tt
+        unflagged true is = absurd (let z : true ≡ false = is in cc)
+
+    -- an octet of the list
+    pub took : (head_of w.message.mc ≡ read_of Diagnosis (next_address (reader_of t.events.reading))) → wants_octet R ≡ true → Took (taken_octet (reader_of t.events.reading) (slice_index od 0)) r.event there.events
+    took head wants =
+        subst (λ (k : ℕ). Took (taken_octet (reader_of t.events.reading) k) r.event there.events) (sym octet)
+        (reads_next readers r.event t.events.reading t.events.flag g.events.due (confirms_events e) there.events (memory_hear readers (locals far steps) o (memory_locals readers steps far regular.memory)) fit_now wants)
+      where
+        octet : slice_index od 0 ≡ event_octet there.events.frozen (next_address (reader_of t.events.reading))
+        octet = ap (λ (l : List ℕ). slice_index l 0) od_is ∙ ap (λ (x : Head). slice_index (if x.read then data_of there layouts.run.od x.channel x.address else []) 0) head
+
+    -- Process data
+
+    image : image_in r ≡ there.input
+    image =
+        let same : layouts.run.pd_in ≡ input_size there =
+        ap (λ (l : Shape). l.pd_in) (sym (at laws layouts w t g far n steps Clean e current a.stands)) ∙ sym (ap (λ (p : List ℕ). (layout_in p FarOperate).pd_in) a.says.before.page_is) in
+        let sized : IsSized there = laws.sized.hears (locals far steps) o (sized_locals laws steps far regular.sized) in
+        let octets_in : HasOctets there.input = subst HasOctets (sym (input_hear (locals far steps) o)) (input_locals steps far (image_octets far.input regular.input)) in
+        ap (λ (k : ℕ). image_had k r) a.sized
+        ∙ input_is layouts.run.pd_in there.input r (subst (λ (k : ℕ). IfSome there.input (λ image. length image ≡ k)) (sym same) sized) octets_in
+        (ap (λ (q : Reply). q.input.items) a.reply_is) (ap (λ (q : Reply). q.invalid) a.reply_is)
+
+    ordered_now : output_of there ≡ (if told_by (output_for e) t.output.told && nat_lt 0 (length w.message.out.items) then Some w.message.out.items else None)
+    ordered_now =
+        ap (λ (b : Bool). if b && nat_lt 0 (length there.out) then Some there.out else None) a.told_as
+        ∙ ap (λ (l : List ℕ). if told_by (output_for e) t.output.told && nat_lt 0 (length l) then Some l else None) a.out_is
+
+    -- What one kind of message and reply has to bring
+
+    pub record Brings (reads : Reads) (kind : Brought) (next : Option Current) (busy : ℕ) : Type 0 where
+      pub session : SessionRuns m (seen_in c g) h there.carried (brought_steps kind request) (record (seen_in c g) { request = request_in next; busy = busy }) h there.carried
+      pub frozen : FrozenRuns there.events.frozen told (brought_steps kind request) there.events.frozen (is_due (reading_at (read_on e od t.events.reading) r.event reads.due))
+      pub images : ImagesRuns m (images_of (shown_in t g.sent) there) (brought_steps kind request) (images_of (record (shown_in t g.sent) { image = there.input }) there)
+      pub book : filter is_for_book (brought_steps kind request) ≡ book_said said
+      pub reports : filter is_report (brought_steps kind request) ≡ reports_said said
+      pub apart : Before xs (brought_steps kind request)
+      pub calm : IsTrue g.fresh → no_clash (brought_steps kind request)
+      pub once : no_make (brought_steps kind request) ≡ true
+      pub base : List Carried
+      pub level : IsBefore g.page layouts.run.od base operate_link (progress_of next) there
+      pub answer : AnswerFits base (request_in next) h there.carried
+      pub busy_is : BusySeen t.limit next busy g.request.asked
+      pub known : IsSome (request_in next) → IsSome request
+
+    pub had : (reads : Reads) (kind : Brought) (busy : ℕ) → Brings reads kind (current_after e t.limit od current) busy
+        → StateStands (state_of (InOperate (record { out = None; layouts = layouts }) (Some r))) n' far' → StateFits (state_of (InOperate (record { out = None; layouts = layouts }) (Some r)))
+        → Joined (state_of (InOperate (record { out = None; layouts = layouts }) (Some r))) (absorbed e r c.session)
+        → ReceiveGives c g far n said (after_exchange (InOperate (record { out = None; layouts = layouts }) (Some r)) c.session) far' n'
+    had reads kind busy b link fits joined =
+        gives laws layouts w t g far n steps Clean e current a.stands far' n' a.far_is said a.passes (Exchanged true) (after_exchange (InOperate (record { out = None; layouts = layouts }) (Some r)) c.session)
+        (record g { request = record { hidden = h; busy = busy; asked = g.request.asked; base = b.base }; events = record { told = is_due (reading_at (read_on e od t.events.reading) r.event reads.due); due = reads.due }; fresh = false })
+        (brought_steps kind request)
+        (record {
+          limit = refl;
+          page = refl;
+          session = b.session;
+          frozen = b.frozen;
+          images = subst (λ (q : Output). ImagesRuns m (images_of (shown_in t g.sent) there) (brought_steps kind request) (images_of (record (shown_in t g.sent) { image = image_in r; wanted = q.wanted }) there)) (sym (same_output e t.output))
+              (subst (λ (i : Option Image). ImagesRuns m (images_of (shown_in t g.sent) there) (brought_steps kind request) (images_of (record (shown_in t g.sent) { image = i }) there)) (sym image) b.images);
+          apart = b.apart;
+          calm = b.calm;
+          spent = refl;
+          once = b.once;
+          book = b.book;
+          reports = b.reports;
+          last = ((λ k. image), (λ k. absurd (k refl)), (λ k l. absurd (unlast k)));
+          wanted = λ k. ordered_now;
+          request_is = record {
+            late = tied.0;
+            opens = stands_open layouts.run.od b.base (progress_of (current_after e t.limit od current)) there.isdu there.carried (request_in (current_after e t.limit od current)) h b.level.stands (progress_fits (current_after e t.limit od current)) b.answer;
+            link = operate_link;
+            linked = inr refl;
+            level = b.level;
+            out = tt;
+            answer = b.answer;
+            busy = b.busy_is;
+            known = λ k. up.known (b.known k);
+          };
+          events = ((λ k. reads.fit), ap (λ (q : Bool). q && is_due (reading_at (read_on e od t.events.reading) r.event reads.due)) (sym a.says.before.awake));
+          output = (a.passes.outputs.0, (λ k l. a.told_as ∙ ap (λ (q : Output). q.told) (sym (same_output e t.output))), a.passes.outputs.2);
+          sent = subst (λ (q : Output). SentSeen t.layout q.carried.items g.sent) (sym (same_output e t.output)) a.stands.sent;
+          shown = record { image = λ k. absurd (k refl); wanted = subst (λ (q : Output). IfSome q.wanted IsImage) (sym (same_output e t.output)) a.stands.shown.wanted; lengths = a.stands.shown.lengths; isdu = a.stands.shown.isdu; no_form = reads.form };
+        })
+        tt a.silent link fits joined a.silent
+      where
+        unlast : (ModeOperate ≢ ModeOperate) ⊎ (1 ≤ 0) → ⊥
+        unlast (inl k) = k refl
+        unlast (inr k) = omega arith
+
+    -- a kind with all that it brings
+    pub record Comes (next : Option Current) : Type 0 where
+      pub reads : Reads
+      pub kind : Brought
+      pub busy : ℕ
+      pub brings : Brings reads kind next busy
+
+    -- a request goes on, or none is under way
+    pub goes_on : (reads : Reads) (next : Option Current) → request_in next ≡ request → (what ≡ Leave → progress_of current ≡ Quiet) → after (progress_of current) what od ≡ progress_of next → BusySeen t.limit next g.request.busy g.request.asked
+        → list_read e od t.events.reading ≡ None → said ≡ quiet_said request → Comes next
+    goes_on reads next same leaves is busy none says = record {
+      reads = reads;
+      kind = Had;
+      busy = g.request.busy;
+      brings = record {
+        session = ((tt, tt), ap (λ (q : Option Request). session_of (record (seen_in c g) { request = q }) h there.carried) (sym same));
+        frozen = ((tt, tt), reads.same none);
+        images = (((refl, refl), tt), refl);
+        book = rw says (sym (quiet_book request).0);
+        reports = rw says (sym (quiet_book request).1);
+        apart = exchange_before request far steps Clean o (ShowImage ∷ []) refl refl refl;
+        calm = λ k. refl;
+        once = refl;
+        base = base_after what g.request.base there.carried;
+        level = subst (λ (q : Progress). IsBefore g.page layouts.run.od (base_after what g.request.base there.carried) operate_link q there) is before;
+        answer = subst (λ (q : Option Request). AnswerFits (base_after what g.request.base there.carried) q h there.carried) (sym same) (answer_after what g.request.base there.carried request h (λ k. quiet_base (leaves k)) tied.1);
+        busy_is = busy;
+        known = subst (λ (q : Option Request). IsSome (request_in next) → IsSome q) same (λ k. k);
+      };
+    }

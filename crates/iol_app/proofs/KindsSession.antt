@@ -1,0 +1,87 @@
+-- The session's part of an exchange, kind by kind.
+use Rattle.std.proofs.Common.{◌≡◌, ℕ, ◌+◌, ◌≤◌, Bool, true, List, ◌∷◌, refl, arith}
+use Rattle.std.proofs.lemmas.Grind.{common_steps}
+use Rattle.std.specs.Prelude.{Option, Some, None, ◌==◌, IsTrue, slice_index}
+use Rattle.iol_isdu.specs.declared.values.Request.{Request}
+use Rattle.iol_isdu.specs.declared.values.Answer.{Answer}
+use Rattle.iol_isdu.specs.declared.values.Cause.{Cause}
+use Rattle.iol_isdu.specs.declared.values.Cause.TheVariants.{LinkLost, Restarted, BusyTooLong, Protocol, Cancelled}
+use Rattle.iol_segment.specs.TextLaws.{joined}
+use Rattle.iol_far.specs.declared.carried.Carried.{Carried}
+use Rattle.iol_far.specs.Isdu.{IsduState, Empty, Receiving, Whole, Handed, Answered, fits, answer_text, isdu_data}
+use Rattle.iol_far.specs.Level.{Busy as IsBusy, Had as IsHad, Stands as FarStands}
+use Rattle.iol_steps.specs.declared.mode.Mode.{Mode}
+use Rattle.iol_steps.specs.declared.mode.Mode.TheVariants.{Down, Startup, Preoperate, Operate}
+use Rattle.iol_mode.specs.declared.why.Why.{Why}
+use Rattle.iol_mode.specs.declared.why.Why.TheVariants.{Lost}
+use Rattle.iol_steps.specs.Step.{Moment, silence_left}
+use Rattle.iol_steps.specs.Session.{MayMove}
+use Rattle.iol_steps.specs.Bridge.{Hidden, IsOpen}
+use Rattle.iol_steps.specs.Kinds.{Seen, Gone, WasBusy, WasAnswered, WasAborted, lost_steps, brought_steps}
+use Rattle.iol_steps.specs.Station.{AnswerFits}
+use Rattle.iol_steps.specs.Exchange.{MayAbort, hidden_lost}
+use Rattle.iol_app.proofs.OwnSession.{SessionRuns}
+
+-- What each kind leaves of the fields seen, and of the choices
+
+abbrev pub freed : Seen → Seen
+freed seen = record seen { request = None }
+
+pub busy_session : (m : Moment) (seen : Seen) (h : Hidden) (c : List Carried) (r : Request) → seen.request ≡ Some r → h.answer ≡ None →
+    SessionRuns m seen h c (brought_steps WasBusy seen.request) (record seen { busy = seen.busy + 1 }) h c
+busy_session m seen h c r under none = rw (under, none) ((refl, (tt, tt)), refl)
+
+pub answered_session : (m : Moment) (seen : Seen) (h : Hidden) (c : List Carried) (r : Request) (a : Answer) → seen.request ≡ Some r → h.answer ≡ Some a →
+    SessionRuns m seen h c (brought_steps (WasAnswered a) seen.request) (freed seen) h c
+answered_session m seen h c r a under is = rw (under, is) ((refl, (tt, tt)), refl)
+
+-- whether it had an answer or not
+pub aborted_session : (m : Moment) (seen : Seen) (h : Hidden) (c : List Carried) (r : Request) (cause : Cause) → seen.request ≡ Some r → MayAbort m.terms.busy_limit seen.busy seen.asked cause →
+    SessionRuns m seen h c (brought_steps (WasAborted cause) seen.request) (freed seen) h c
+aborted_session m seen h c r BusyTooLong under may = rw under ((may, (tt, tt)), refl)
+aborted_session m seen h c r Cancelled under may = rw under ((may, (tt, tt)), refl)
+aborted_session m seen h c r LinkLost under may = absurd may
+aborted_session m seen h c r Restarted under may = absurd may
+aborted_session m seen h c r Protocol under may = absurd may
+
+-- from the three modes above down
+abbrev pub lost_seen : Seen → Seen
+lost_seen seen = record seen { request = None; mode = Down; why = Some Lost }
+
+may_lose : (m : Moment) (mode : Mode) → (mode ≡ Down → ⊥) → 3 ≤ silence_left m → MayMove m mode Down (Some Lost)
+may_lose m Down n least = absurd (n refl)
+may_lose m Startup n least = least
+may_lose m Preoperate n least = least
+may_lose m Operate n least = least
+
+lost_at : (m : Moment) (request : Option Request) (busy : ℕ) (asked : Bool) (mode : Mode) (why : Option Why) (answer : Option Answer) (late : Option Request) (c : List Carried) → (mode ≡ Down → ⊥) → 3 ≤ silence_left m →
+    let seen : Seen = record { request = request; busy = busy; asked = asked; mode = mode; why = why } in let h : Hidden = record { answer = answer; late = late } in
+    SessionRuns m seen h c (lost_steps request) (lost_seen seen) (hidden_lost request h) c
+lost_at m None busy asked mode why answer late c up least = ((tt, (may_lose m mode up least, tt)), refl)
+lost_at m (Some r) busy asked mode why None late c up least = ((least, (tt, (may_lose m mode up least, tt))), refl)
+lost_at m (Some r) busy asked mode why (Some a) late c up least = ((least, (tt, (may_lose m mode up least, tt))), refl)
+
+pub lost_session : (m : Moment) (seen : Seen) (h : Hidden) (c : List Carried) → (seen.mode ≡ Down → ⊥) → 3 ≤ silence_left m →
+    SessionRuns m seen h c (brought_steps Gone seen.request) (lost_seen seen) (hidden_lost seen.request h) c
+lost_session m seen h c up least = lost_at m seen.request seen.busy seen.asked seen.mode seen.why h.answer h.late c up least
+
+-- and what the device is handed is still what it may carry out
+pub lost_opens : (state : IsduState) (request : Option Request) (h : Hidden) → IsOpen state request h → IsOpen state None (hidden_lost request h)
+lost_opens Empty request h opens = tt
+lost_opens (Receiving t l) request h opens = tt
+lost_opens (Whole r l) request h opens = tt
+lost_opens (Answered r a l) request h opens = tt
+lost_opens (Handed r) request h opens = opens
+
+-- What a good reply says of the answer
+
+pub busy_base : (size : ℕ) (base : List Carried) (r : Request) (s : IsduState) (c : List Carried) → FarStands size base (IsBusy r) s c → (slice_index (isdu_data size s) 0 == 1) ≡ true → c ≡ base
+busy_base size base r s c given given2 = grind (arith, common_steps)
+
+pub busy_unanswered : (base : List Carried) (r : Request) (h : Hidden) (c : List Carried) → AnswerFits base (Some r) h c → c ≡ base → h.answer ≡ None
+busy_unanswered base r h c given given2 = grind (arith, common_steps)
+
+pub had_answer : (size : ℕ) (base : List Carried) (r : Request) (i : ℕ) (text : List ℕ) (s : IsduState) (c : List Carried) (h : Hidden) (x : Answer) →
+    FarStands size base (IsHad r i text) s c → AnswerFits base (Some r) h c →
+    ((a : Answer) → IsTrue (fits r a) → text ≡ joined size (answer_text r a) i → a ≡ x) → h.answer ≡ Some x
+had_answer size base r i text s c h x given given2 given3 = grind (arith, common_steps)

@@ -1,0 +1,148 @@
+-- What comes back in OPERATE: from the wire's own words.
+use Rattle.std.proofs.Common.{◌≡◌, inl, inr, ℕ, ◌+◌, ◌≤◌, ◌<◌, min, Bool, true, false, ◌==◌, List, refl, sym, ◌∙◌, ap, subst, arith}
+use Rattle.std.proofs.lemmas.Bool.Decides.{nat_tests}
+use Rattle.std.specs.Prelude.{Option, Some, None, if◌then◌else◌}
+use Rattle.iol_mseq.specs.Texts.{master_text}
+use Rattle.iol_mseq.specs.declared.reply.Reply.{Reply}
+use Rattle.iol_page.specs.declared.page.Layouts.{Layouts}
+use Rattle.iol_event.specs.declared.event.Event.{Event}
+use Rattle.iol_event.specs.Laws.{MemoryStaysValid, WaitsForAll, GivesFrozen}
+use Rattle.iol_far.specs.Far.{Far, command_in}
+use Rattle.iol_far.specs.Local.{LocalStep, locals}
+use Rattle.iol_far.specs.Level.{Link, IsLevel}
+use Rattle.iol_far.specs.Laws.{RepliesAreRead, InputStaysSized, MuchStays, LevelLaws, EventLaws, ModesHaveLayouts}
+use Rattle.iol_link.specs.Attempts.{Sending, good_reply, attempt_of}
+use Rattle.iol_link.specs.Honest.{Passage, Clean, HonestExchange, far_after}
+use Rattle.iol_link.specs.declared.handler.Attempt.TheVariants.{Again, Lost as WasLost}
+use Rattle.iol_mode.specs.Stands.{IsOperating, IsAccepted}
+use Rattle.iol_mode.specs.States.{Outcome, OutcomeFits, state_of, operate_by, counted}
+use Rattle.iol_mode.specs.Turns.{IsMet}
+use Rattle.iol_steps.specs.declared.mode.Mode.TheVariants.{Operate as ModeOperate}
+use Rattle.iol_steps.specs.declared.said.Said.{Said}
+use Rattle.iol_steps.specs.Step.{Exchanged}
+use Rattle.iol_steps.specs.Bridge.{hidden_through}
+use Rattle.iol_steps.specs.Station.{output_by}
+use Rattle.iol_steps.specs.Exchange.{TextNamesAnswer}
+use Rattle.iol_app.proofs.Given.{Laws, all_laws, page_locals}
+use Rattle.iol_app.proofs.EventReading.{ReaderLaws}
+use Rattle.iol_app.proofs.OwnSession.{own_open}
+use Rattle.iol_app.specs.Ends.{OutputTold}
+use Rattle.iol_app.proofs.Outputs.{outputs_locals}
+use Rattle.iol_app.specs.declared.request.Current.{Current}
+use Rattle.iol_app.specs.declared.session.Exchange.{Exchange}
+use Rattle.iol_app.specs.Requests.{request_in}
+use Rattle.iol_app.specs.Messages.{data_for}
+use Rattle.iol_app.specs.Ends.{OperateLink, output_for}
+use Rattle.iol_steps.specs.Exchange.{told_by}
+use Rattle.iol_app.specs.Moves.{progress_of, move_for, AnswersAreTakenUp}
+use Rattle.iol_app.specs.State.{SessionState, IsSession, od_size}
+use Rattle.iol_app.specs.StationState.{StateFits as Joined, settled_session, IsSettledSaid}
+use Rattle.iol_app.proofs.OperateMessages.{exchange_command}
+use Rattle.iol_app.proofs.Turns.{good_parts}
+use Rattle.iol_mseq.specs.Shape.{Shape}
+use Rattle.iol_app.specs.Core.{Core, Ghost, Stands, ReceiveGives, Receives, core_out, after_exchange}
+use Rattle.iol_app.proofs.Reused.{third_time}
+use Rattle.iol_app.proofs.FarSide.{Goes, silent, replied, says_of, outputs_sent, outputs_after, opens_after, replied_told, replied_out}
+use Rattle.iol_app.proofs.Exchanging.{Passes, gives, misses, loses, at, level_here, tied'}
+use Rattle.iol_app.proofs.Had.{Good, Replied, progress_fits, had}
+use Rattle.iol_app.proofs.Cases.{message}
+
+module _ (laws : Laws) (layouts : Layouts) (w : Sending) (t : SessionState) (g : Ghost) (far : Far) (n : ℕ) (steps : List LocalStep) (e : Exchange) (current : Option Current)
+    (stands : Stands (core_out layouts w t e current) g far n) where
+  abbrev o : List ℕ
+  o = master_text layouts.run w.message
+
+  commands : output_by ModeOperate (command_in w.message) ≡ output_for e
+  commands = exchange_command e t.events.reading current layouts.run.od w.message stands.joined.out_for.head (stands.joined.out_for.octets ∙ ap (λ (l : Option Shape). data_for e (od_size l) current) stands.joined.told.0)
+
+  going : Goes g.page layouts.run stands.request.link (progress_of current) o w.message (move_for e current) ModeOperate g.sent t.output.told
+  going = record {
+    sent_at = stands.request.out.goes;
+    at_mode = stands.request.out.mode;
+    layout = at laws layouts w t g far n steps Clean e current stands;
+    carries = λ k. stands.request.out.carries;
+    tells = λ k. stands.request.out.tells (sym commands ∙ k);
+    starting = λ k. absurd (k refl);
+  }
+
+  page_here : (locals far steps).page ≡ g.page
+  page_here = page_locals laws steps far ∙ stands.page
+
+  level : IsLevel g.page layouts.run.od g.request.base stands.request.link (progress_of current) o w.tries (locals far steps)
+  level = level_here laws layouts w t g far n steps Clean e current stands
+
+  outputs_here : OutputTold g.sent (output_by ModeOperate (command_in w.message) ≡ None) t.output.told (locals far steps)
+  outputs_here = outputs_locals g.sent (output_by ModeOperate (command_in w.message) ≡ None) t.output.told steps far (subst (λ (c : Option Bool). OutputTold g.sent (c ≡ None) t.output.told far) (sym commands) stands.output)
+
+  passes : (passage : Passage) → Passes layouts w t g far steps passage e current
+  passes passage = record {
+    opens = opens_after laws g.page layouts.run g.request.base stands.request.link (progress_of current) o w.message (move_for e current) ModeOperate g.sent t.output.told going w.tries (locals far steps) level (request_in current)
+        (hidden_through (request_in current) far steps g.request.hidden) (progress_fits current) (own_open (request_in current) g.request.hidden steps far stands.request.opens) (tied' laws layouts w t g far n steps Clean e current stands).1 passage;
+    outputs = subst (λ (c : Option Bool). OutputTold g.sent (c ≡ None) t.output.told (far_after passage (locals far steps) o)) commands
+        (outputs_after laws g.page layouts.run g.request.base stands.request.link (progress_of current) o w.message (move_for e current) ModeOperate g.sent t.output.told going passage w.tries (locals far steps) page_here level outputs_here);
+    sends = outputs_sent laws g.page layouts.run g.request.base stands.request.link (progress_of current) o w.message (move_for e current) ModeOperate g.sent t.output.told going w.tries (locals far steps) page_here level outputs_here;
+  }
+
+module _ (names : TextNamesAnswer) (taken : AnswersAreTakenUp) (laws : Laws) (readers : ReaderLaws) where
+  module _ (layouts : Layouts) (w : Sending) (t : SessionState) (e : Exchange) (g : Ghost) (far far' : Far) (n n' : ℕ) (came : Option (List ℕ)) (said : Said) where
+    abbrev c : Core
+    c = core_out layouts w t e t.current
+
+    abbrev after_by : Option Reply → Outcome
+    after_by reply = operate_by (counted w reply) layouts (attempt_of w.tries reply)
+
+    module _ (stands : Stands c g far n) (valid : IsSession c.session) (x : HonestExchange far n (master_text layouts.run w.message) came far' n') (few : w.tries < 3)
+        (accepts : (link : Link) → IsOperating layouts link → IsAccepted layouts far.page link w.message) where
+      operating : (link : Link) → OperateLink layouts (progress_of t.current) link → IsOperating layouts link
+      operating link (inl k) = inl k.0
+      operating link (inr k) = inr k
+
+      by_tries : (b : Bool) → (w.tries == 2) ≡ b → n' ≡ min 3 (n + 1) → let o : Outcome = operate_by (record { message = w.message; tries = if b then 0 else w.tries + 1 }) layouts (if b then WasLost else Again) in
+          IsMet o n' far' → OutcomeFits o → Joined (state_of o) (settled_session o c.session) → IsSettledSaid o c.session said → ReceiveGives c g far n said (after_exchange o c.session) far' n'
+      by_tries true two silence met fits joined says =
+          gives laws layouts w t g far n x.steps x.passage e t.current stands far' n' x.far_is said (passes laws layouts w t g far n x.steps e t.current stands x.passage) (Exchanged false) _ _ _
+          (loses laws layouts w t g far n x.steps x.passage e t.current stands far' n' x.far_is said (passes laws layouts w t g far n x.steps e t.current stands x.passage) says
+          (third_time w.tries n (grind (arith, nat_tests)) stands.link.tries)) tt silence met.stands fits joined tt
+      by_tries false two silence met fits joined says =
+          gives laws layouts w t g far n x.steps x.passage e t.current stands far' n' x.far_is said (passes laws layouts w t g far n x.steps e t.current stands x.passage) (Exchanged false) _ _ _
+          (misses laws layouts w t g far n x.steps x.passage e t.current stands far' n' x.far_is said (passes laws layouts w t g far n x.steps e t.current stands x.passage) says) tt silence met.stands fits joined tt
+
+      by_reply : (reply : Option Reply) → good_reply layouts.run w.message came ≡ reply → IsMet (after_by reply) n' far' → OutcomeFits (after_by reply) → Joined (state_of (after_by reply)) (settled_session (after_by reply) c.session) → IsSettledSaid (after_by reply) c.session said
+          → ReceiveGives c g far n said (after_exchange (after_by reply) c.session) far' n'
+      by_reply None good met fits joined says =
+          by_tries (w.tries == 2) refl
+          (silent laws g.page layouts.run g.request.base stands.request.link (progress_of t.current) (master_text layouts.run w.message) w.message (move_for e t.current) ModeOperate g.sent t.output.told (going laws layouts w t g far n x.steps e t.current stands)
+          far far' n n' w.tries came x stands.request.level good) met fits joined says
+      by_reply (Some r) good met fits joined says =
+          let is = replied laws g.page layouts.run g.request.base stands.request.link (progress_of t.current) (master_text layouts.run w.message) w.message (move_for e t.current) ModeOperate g.sent t.output.told (going laws layouts w t g far n x.steps e t.current stands)
+          far far' n n' w.tries came x stands.request.level r good in
+          let turn : Good = record { layouts = layouts; w = w; t = t; g = g; far = far; far' = far'; n = n; n' = n'; steps = x.steps; regular = x.regular; r = r; said = said } in
+          let a : Replied laws readers turn e t.current = record {
+            stands = stands;
+            passes = passes laws layouts w t g far n x.steps e t.current stands Clean;
+            silent = is.silence_is;
+            octets = is.octets;
+            replies = is.replies;
+            far_is = is.far_is;
+            reply_is = is.reply_is;
+            says = says_of laws g.page layouts.run g.request.base stands.request.link (progress_of t.current) (master_text layouts.run w.message) w.message (move_for e t.current) ModeOperate g.sent t.output.told (going laws layouts w t g far n x.steps e t.current stands)
+                w.tries (locals far x.steps) (level laws layouts w t g far n x.steps e t.current stands) is.octets is.replies;
+            told_as = replied_told laws g.page layouts.run g.request.base stands.request.link (progress_of t.current) (master_text layouts.run w.message) w.message (move_for e t.current) ModeOperate g.sent t.output.told (going laws layouts w t g far n x.steps e t.current stands)
+                w.tries (locals far x.steps) (page_here laws layouts w t g far n x.steps e t.current stands) (level laws layouts w t g far n x.steps e t.current stands) (outputs_here laws layouts w t g far n x.steps e t.current stands) is.octets is.replies
+                ∙ ap (λ (k : Option Bool). told_by k t.output.told) (commands laws layouts w t g far n x.steps e t.current stands);
+            out_is = replied_out laws g.page layouts.run g.request.base stands.request.link (progress_of t.current) (master_text layouts.run w.message) w.message (move_for e t.current) ModeOperate g.sent t.output.told (going laws layouts w t g far n x.steps e t.current stands)
+                w.tries (locals far x.steps) (page_here laws layouts w t g far n x.steps e t.current stands) (level laws layouts w t g far n x.steps e t.current stands) refl is.octets is.replies;
+            accepted = subst (λ (p : List ℕ). IsAccepted layouts p stands.request.link w.message) stands.page (accepts stands.request.link (operating stands.request.link stands.request.linked));
+            valid = valid;
+            sized = (good_parts layouts.run w.message came r good).input;
+          } in
+          let k = message names taken laws readers turn e t.current a says in
+          had laws readers turn e t.current a k.reads k.kind k.busy k.brings met.stands fits joined
+
+pub receives : ((size : ℕ) → 1 ≤ size → LevelLaws size) → MuchStays → RepliesAreRead → InputStaysSized → ((first : Event) (rest : List Event) → EventLaws first rest) → ModesHaveLayouts → MemoryStaysValid → WaitsForAll → GivesFrozen
+    → TextNamesAnswer → AnswersAreTakenUp → Receives
+receives level much reads sized events layouts memory waits gives names taken = record {
+  gives = λ run w t e g far far_new n n_new came said stands valid x few met fits accepts joined says.
+      by_reply names taken (all_laws level much reads sized events layouts) (record { memory = memory; waits = waits; gives = gives }) run w t e g far far_new n n_new came said stands valid x few accepts
+      (good_reply run.run w.message came) refl met fits joined says;
+}

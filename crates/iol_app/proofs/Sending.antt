@@ -1,0 +1,231 @@
+-- A new message goes out in OPERATE.
+use Rattle.std.proofs.Common.{◌≡◌, ◌⊎◌, inl, inr, ⊎_elim, ℕ, ◌≤◌, Bool, true, false, List, [], ◌∷◌, length, refl, sym, ap, ◌∙◌, subst}
+use Rattle.std.specs.Prelude.{Option, Some, None, IfSome, IsSome, is_some, bytes_eq, unwrap_or, nat_lt, if◌then◌else◌}
+use Rattle.std.proofs.Common.{arith}
+use Rattle.std.proofs.lemmas.Grind.{common_steps}
+use Rattle.std.proofs.lemmas.Bool.{cases_Bool}
+use Rattle.std.proofs.lemmas.Bool.Decides.{nat_tests}
+use Rattle.std.proofs.lemmas.Slice.Eq.{bytes_eq-Decides}
+use Rattle.iol_octets.specs.declared.control.Channel.TheVariants.{Page}
+use Rattle.iol_mseq.specs.Shape.{Shape}
+use Rattle.iol_mseq.specs.Texts.{master_text}
+use Rattle.iol_mseq.specs.declared.master.MasterMsg.{MasterMsg}
+use Rattle.iol_page.specs.Page.{layouts_of}
+use Rattle.iol_page.specs.declared.page.Layouts.{Layouts}
+use Rattle.iol_page.specs.declared.master_command.MasterCommand.TheVariants.{DeviceOperate}
+use Rattle.iol_event.specs.declared.event.Event.{Event}
+use Rattle.iol_isdu.specs.declared.values.Request.{Request}
+use Rattle.iol_image.specs.Image.{IsImage}
+use Rattle.iol_far.specs.declared.mode.Mode.TheVariants.{Operate as FarOperate}
+use Rattle.iol_far.specs.Codec.{layout_in, message_in, flow_of}
+use Rattle.iol_far.specs.Far.{Far}
+use Rattle.iol_far.specs.Level.{Quiet, Move, Begin, Link, taken, turned, IsMove, MayBegin, IsSent}
+use Rattle.iol_far.specs.Laws.{LevelLaws, ModesHaveLayouts}
+use Rattle.iol_mode.specs.Messages.{command_message, unsent}
+use Rattle.iol_mode.specs.Stands.{entering_mode, entering_layout, entering_link, operate_link, StateStands, IsOperating, IsAccepted}
+use Rattle.iol_mode.specs.States.{StateFits}
+use Rattle.iol_steps.specs.Step.{Image, Make}
+use Rattle.iol_app.proofs.Clash.{made_before}
+use Rattle.iol_steps.specs.Images.{image_or}
+use Rattle.iol_steps.specs.Station.{is_due, wants_octet}
+use Rattle.iol_steps.specs.Exchange.{output_due, told_by}
+use Rattle.iol_app.specs.declared.event_work.Reading as app
+use Rattle.iol_app.specs.declared.event_work.Reading.TheVariants.{ConfirmDue}
+use Rattle.iol_app.specs.declared.session.Exchange.{Exchange}
+use Rattle.iol_app.specs.declared.session.Exchange.TheVariants.{TellOutput, DropOutput}
+use Rattle.iol_app.specs.Due.{due_of, is_under_way, is_confirm_due, is_resting}
+use Rattle.iol_app.specs.Messages.{Head, head_for, data_for}
+use Rattle.iol_app.specs.Moves.{progress_of, move_for, confirms_events, MessagesAreMoves}
+use Rattle.iol_app.specs.Outputs.{carried_by}
+use Rattle.iol_app.specs.Ends.{OperateLink, SentSeen, output_for}
+use Rattle.iol_app.specs.State.{SessionState, IsSession, IsMessageFor, sending, od_size}
+use Rattle.iol_app.proofs.DueFacts.{IsDue, due_is}
+use Rattle.iol_app.proofs.OperateMessages.{tell_differs, page_command}
+use Rattle.iol_app.proofs.Telling.{told_layout}
+use Rattle.iol_app.specs.Core.{Core, Ghost, Stands, Sends, SendGives, Turns, core_out, free_core, made_ghost, reading_at, reading_in, ordered_by}
+use Rattle.iol_app.proofs.Reused.{keeps_some, events_due, confirms_is, not_operate, begins_request, tells_wanted, drops_told, some_or, image_some, sent_made, same_carried}
+
+-- which readings a confirm and a read go out for
+confirm_due : (r : app.Reading) (flag : Bool) (due : Event × List Event) → is_confirm_due r ≡ true → is_due (reading_at r flag due) ≡ true
+confirm_due ConfirmDue flag due k = refl
+confirm_due other flag due k = absurd (let z : false ≡ true = k in cc)
+
+octet_due : (r : app.Reading) (flag room : Bool) (due : Event × List Event) → (is_under_way r ≡ true) ⊎ ((is_resting r ≡ true) × (flag ≡ true) × (room ≡ true)) → wants_octet (reading_at r flag due) ≡ true
+octet_due r flag room due k = grind (arith, common_steps)
+
+-- what a message asks for is what is wanted, where the command that is due goes with it
+asks_wanted : (wanted : Option Image) (told : Bool) (carried : List ℕ) → IfSome wanted IsImage → ordered_by (told_by (output_due wanted told) told) (unwrap_or wanted carried) ≡ wanted
+asks_wanted None true carried h = refl
+asks_wanted None false carried h = refl
+asks_wanted (Some image) told carried h = by_told told
+  where
+    some : (if nat_lt 0 (length image) then Some image else None) ≡ Some image
+    some = let t : nat_lt 0 (length image) ≡ true = (let low : 1 ≤ length image = h.some_octet in grind (arith, nat_tests)) in rw t refl
+
+    by_told : (told : Bool) → ordered_by (told_by (output_due (Some image) told) told) image ≡ Some image
+    by_told true = some
+    by_told false = some
+
+module _ (levels : (size : ℕ) → 1 ≤ size → LevelLaws size) (modes : ModesHaveLayouts) (moves : MessagesAreMoves)
+    (layouts : Layouts) (t : SessionState) (room : Bool) (m : MasterMsg) (g : Ghost) (far : Far) (n : ℕ)
+    (stands : Stands (free_core layouts t) g far n) (valid : IsSession t) (is : IsMessageFor (due_of t room) (sending (due_of t room) t) m) (carried : m.out.items ≡ carried_by t.output)
+    (accepts : (link : Link) → IsOperating layouts link → IsAccepted layouts far.page link m) where
+  abbrev e : Exchange
+  e = due_of t room
+
+  abbrev o : List ℕ
+  o = master_text layouts.run m
+
+  abbrev link : Link
+  link = stands.request.link
+
+  due : IsDue t room e
+  due = due_is t room
+
+  od : m.od.items ≡ data_for e layouts.run.od t.current
+  od = is.octets ∙ ap (λ (l : Option Shape). data_for e (od_size l) t.current) stands.joined.told.0
+
+  at : layout_in g.page FarOperate ≡ layouts.run
+  at = told_layout g.page FarOperate layouts (ap layouts_of (sym stands.page) ∙ stands.link.told)
+
+  accepted : IsAccepted layouts g.page link m
+  accepted = subst (λ (p : List ℕ). IsAccepted layouts p link m) stands.page (accepts link (operating link stands.request.linked))
+    where
+      operating : (link : Link) → OperateLink layouts (progress_of t.current) link → IsOperating layouts link
+      operating link (inl k) = inl k.0
+      operating link (inr k) = inr k
+
+  -- before the first good reply in OPERATE no output is told
+  untold : link ≡ entering_link layouts → t.output.told ≡ false
+  untold k =
+      let mode : far.mode ≡ entering_mode layouts.pre = ap (λ (l : Link). l.mode) (stands.request.level.link_is ∙ k) in
+      ⊎_elim
+      (λ (v : far.valid ≡ true). absurd (not_operate layouts.pre (sym mode ∙ (stands.output.0 stands.request.level.awake v).0)))
+      (λ (f : far.valid ≡ false). sym (stands.output.1 stands.request.level.awake refl) ∙ f)
+      (cases_Bool far.valid)
+
+  -- so that no message is DeviceOperate's octets again
+  is_other : link ≡ entering_link layouts → m.mc.channel ≡ Page → o ≡ master_text (entering_layout layouts) (command_message (entering_layout layouts) DeviceOperate) → ⊥
+  is_other k page same =
+      ⊎_elim
+      (λ (tell : e ≡ TellOutput).
+      let some : IsSome t.output.wanted = tells_wanted t.output.wanted t.output.told (sym (ap output_for tell) ∙ due.output) in
+      tell_differs layouts.run (entering_layout layouts) m layouts.run.od (subst (λ (x : List ℕ). 1 ≤ length x) (sym carried) (image_some t.output.wanted t.output.carried.items some stands.shown.wanted))
+      (od ∙ ap (λ (x : Exchange). data_for x layouts.run.od t.current) tell) same)
+      (λ (drop : e ≡ DropOutput). let z : true ≡ false = sym (drops_told t.output.wanted t.output.told (sym (ap output_for drop) ∙ due.output)) ∙ untold k in cc)
+      (page_command e t.events.reading t.current (sym (ap (λ (h : Head). h.channel) is.head) ∙ page))
+
+  mode : (taken link o).mode ≡ FarOperate
+  mode = by_link stands.request.linked
+    where
+      entry : link ≡ entering_link layouts → m.mc.channel ≡ Page → (taken (entering_link layouts) o).mode ≡ FarOperate
+      entry k page =
+          let command : List ℕ = master_text (entering_layout layouts) (command_message (entering_layout layouts) DeviceOperate) in
+          ⊎_elim
+          (λ (b : bytes_eq o command ≡ true). absurd (is_other k page ((bytes_eq-Decides o command).0 b)))
+          (λ (f : bytes_eq o command ≡ false). rw f refl)
+          (cases_Bool (bytes_eq o command))
+
+      by_link : OperateLink layouts (progress_of t.current) link → (taken link o).mode ≡ FarOperate
+      by_link (inr k) = ap (λ (l : Link). (taken l o).mode) k
+      by_link (inl k) =
+          ⊎_elim
+          (λ (j : (turned g.page link o m ≡ entering_link layouts) × (m.mc.channel ≡ Page)). ap (λ (l : Link). (taken l o).mode) k.0 ∙ entry k.0 j.1)
+          (λ (j : turned g.page link o m ≡ operate_link). ap (λ (l : Link). l.mode) j)
+          accepted.next
+
+  there : layout_in g.page (taken link o).mode ≡ layouts.run
+  there = ap (layout_in g.page) mode ∙ at
+
+  still : (l : Link) → OperateLink layouts (progress_of t.current) l → IfSome l.waits (λ command. progress_of t.current ≡ Quiet)
+  still l (inl k) = subst (λ (x : Link). IfSome x.waits (λ command. progress_of t.current ≡ Quiet)) (sym k.0) k.1
+  still l (inr k) = subst (λ (x : Link). IfSome x.waits (λ command. progress_of t.current ≡ Quiet)) (sym k) tt
+
+  abbrev IsMoved : Head → List ℕ → Type 0
+  IsMoved h d = IsMove layouts.run.od (move_for e t.current) (progress_of t.current) h.channel h.read (flow_of h.address) d
+
+  may_begin : (what : Move) → move_for e t.current ≡ what → MayBegin g.page what
+  may_begin (Begin request) k = stands.request.known (ap (λ (r : Option Request). is_some r) (begins_request e t.current request k))
+  may_begin _ k = tt
+
+  goes : IsSent g.page layouts.run.od link (progress_of t.current) o m (move_for e t.current)
+  goes = record {
+    spells = ap (λ (l : Shape). message_in l o) there ∙ accepted.out.spells;
+    size_of = ap (λ (l : Shape). l.od) there;
+    move = subst (λ (h : Head). IsMoved h m.od.items) (sym is.head) (subst (λ (d : List ℕ). IsMoved (head_for e t.events.reading t.current) d) (sym od) (moves t layouts.run e valid stands.joined.told.0));
+    begins = may_begin (move_for e t.current) refl;
+    quiet = still link stands.request.linked;
+  }
+
+  -- the image that it carries is the one sent
+  sent : IfSome (image_or t.output.wanted g.sent) (λ image. image ≡ carried_by t.output)
+  sent = sent_made t.output.wanted g.sent t.output.carried.items (subst (λ (l : Option Shape). SentSeen l t.output.carried.items g.sent) stands.joined.told.0 stands.sent)
+
+  pub sends : let next : Core = core_out layouts (unsent m) (sending e t) e t.current in StateStands next.state n far → StateFits next.state → SendGives (free_core layouts t) next g (made_ghost t g) far n
+  sends linked fits = record {
+    stands = record {
+      page = stands.page;
+      fits = fits;
+      link = linked;
+      joined = record { told = stands.joined.told; out_for = record { head = is.head; octets = is.octets } };
+      calm = tt;
+      fresh = stands.fresh;
+      sent = subst (λ (l : Option Shape). SentSeen l (carried_by t.output) (image_or t.output.wanted g.sent)) (sym stands.joined.told.0) sent;
+      request = record {
+        late = stands.request.late;
+        opens = stands.request.opens;
+        link = link;
+        linked = stands.request.linked;
+        level = ((levels layouts.run.od (subst (λ (l : Shape). 1 ≤ l.od) at (modes g.page FarOperate).1)).stays g.page g.request.base link (progress_of t.current) o).begins far stands.request.level;
+        out = record {
+          mode = mode;
+          goes = goes;
+          confirm = λ k. confirm_due t.events.reading t.events.flag g.events.due (due.confirm k);
+          reads = λ k. octet_due t.events.reading t.events.flag room g.events.due (due.reads k);
+          carries = same_carried (image_or t.output.wanted g.sent) m.out.items (carried_by t.output) carried sent;
+          tells = λ k. some_or t.output.wanted g.sent (tells_wanted t.output.wanted t.output.told (sym k ∙ due.output));
+        };
+        answer = stands.request.answer;
+        busy = stands.request.busy;
+        known = stands.request.known;
+      };
+      events = ((λ k. events_due (reading_in t.events g.events) (confirms_events e) far.events (λ c. confirm_due t.events.reading t.events.flag g.events.due (due.confirm (confirms_is e c))) (stands.events.0 k)), stands.events.1);
+      output = ((λ k v. let here = stands.output.0 k v in (here.0, keeps_some t.output.wanted g.sent here.1)), (λ k none. stands.output.1 k refl), stands.output.2);
+      shown = record { image = λ k. absurd (k refl); wanted = stands.shown.wanted; lengths = stands.shown.lengths; isdu = stands.shown.isdu; no_form = stands.shown.no_form };
+    };
+    session = refl;
+    frozen = refl;
+    may = λ call. (refl, stands.calm);
+    fresh = refl;
+    terms = (refl, refl);
+    images = λ call. refl;
+    asks = ap (λ (c : Option Bool). ordered_by (told_by c t.output.told) m.out.items) due.output ∙ ap (ordered_by (told_by (output_due t.output.wanted t.output.told) t.output.told)) carried ∙ asks_wanted t.output.wanted t.output.told t.output.carried.items stands.shown.wanted;
+  }
+
+pub sends_all : ((size : ℕ) → 1 ≤ size → LevelLaws size) → ModesHaveLayouts → MessagesAreMoves → Sends
+sends_all levels modes moves = record { gives = λ run t room m g far n stands valid is carried linked fits accepts. sends levels modes moves run t room m g far n stands valid is carried accepts linked fits }
+
+-- and with what comes back it is a turn
+pub turns : Turns
+turns = record {
+  gives = λ layouts t e m g far far' n n' said next s r.
+      let made = made_before true [] r.given.steps r.unmade (record { busy = λ k. k; make = λ k. k; free = r.given.clash_free; book = refl; reports = refl }) in
+      record {
+        call = r.given.call;
+        steps = Make ∷ r.given.steps;
+        after = r.given.after;
+        fits = r.given.fits;
+        silent = r.given.silent;
+        terms = r.given.terms;
+        clash_free = made.0;
+        fresh = r.given.fresh;
+        said_book = r.given.said_book;
+        said_reports = r.given.said_reports;
+        session = ((tt, r.given.session.0), r.given.session.1);
+        frozen = ((tt, r.given.frozen.0), r.given.frozen.1);
+        images = ((s.may r.given.call, r.given.images.0), r.given.images.1);
+        image_is_last = r.given.image_is_last;
+        output_is_wanted = λ k. r.given.output_is_wanted k ∙ s.asks;
+        stands = r.given.stands;
+      };
+}

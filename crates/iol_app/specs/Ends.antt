@@ -1,0 +1,82 @@
+-- How parts of a session stand to the device, and to what nothing stores of them.
+use Rattle.std.specs.Prelude.{◌≡◌, ◌⊎◌, ◌&&◌, ℕ, min, Bool, true, false, List, Option, Some, None, IfSome, IsSome, ⊤}
+use Rattle.std.specs.Option.{option_map}
+use Rattle.iol_mseq.specs.Shape.{Shape}
+use Rattle.iol_isdu.specs.declared.values.Cause.{Cause}
+use Rattle.iol_page.specs.declared.page.Layouts.{Layouts}
+use Rattle.iol_far.specs.declared.mode.Mode.TheVariants.{Operate as FarOperate}
+use Rattle.iol_far.specs.Far.{Far}
+use Rattle.iol_far.specs.Level.{Progress, Quiet, Link}
+use Rattle.iol_mode.specs.Stands.{entering_link, operate_link}
+use Rattle.iol_steps.specs.Step.{Image}
+use Rattle.iol_steps.specs.Station.{Shown, Reading, EventsFit, WaitsElsewhere, is_due}
+use Rattle.iol_steps.specs.Exchange.{MayAbort}
+use Rattle.iol_app.specs.declared.request.Current.{Current}
+use Rattle.iol_app.specs.declared.request.Progress.{Progress as Cursor}
+use Rattle.iol_app.specs.declared.request.Progress.TheVariants.{Sending, Asking, Receiving, Refused as NoText}
+use Rattle.iol_app.specs.declared.session.Exchange.{Exchange}
+use Rattle.iol_app.specs.declared.session.Exchange.TheVariants.{TellOutput, DropOutput}
+use Rattle.iol_app.specs.State.{SessionState}
+
+-- so many busy replies: they are counted while the answer is asked for. No text of
+-- an answer was refused
+abbrev pub BusyAt : Cursor → ℕ → Type 0
+BusyAt (Sending flow segment) busy = busy ≡ 0
+BusyAt (Asking counted) busy = counted ≡ min busy 65535
+BusyAt (Receiving joining had) busy = ⊤
+BusyAt NoText busy = ⊥
+
+-- an abort waits for too many busy replies, or because the program asked for it
+abbrev pub AbortAt : ℕ → Option Cause → ℕ → Bool → Type 0
+AbortAt limit abort busy asked = IfSome abort (MayAbort limit busy asked)
+
+abbrev pub BusySeen : ℕ → Option Current → ℕ → Bool → Type 0
+BusySeen limit None busy asked = ⊤
+BusySeen limit (Some current) busy asked = BusyAt current.progress busy
+    × AbortAt limit current.abort busy asked
+
+-- DeviceOperate waits at the device, and no segment of a request had a good reply;
+-- or no command waits
+abbrev pub OperateLink : Layouts → Progress → Link → Type 0
+OperateLink layouts progress link = ((link ≡ entering_link layouts) × (progress ≡ Quiet))
+    ⊎ (link ≡ operate_link)
+
+-- The process data
+
+-- the last output that was wanted and that a message carried; before lengths were told none was
+abbrev pub SentSeen : Option Shape → List ℕ → Option Image → Type 0
+SentSeen None carried sent = sent ≡ None
+SentSeen (Some layout) carried sent = IfSome sent (λ image. image ≡ carried)
+
+pub record ShownSeen (s : SessionState) (shown : Shown) : Type 0 where
+  pub image : shown.image ≡ s.image
+  pub wanted : shown.wanted ≡ s.output.wanted
+  pub sent : SentSeen s.layout s.output.carried.items shown.sent
+  -- the output length
+  pub told : shown.told ≡ option_map (λ layout. layout.pd_out) s.layout
+  pub isdu : shown.isdu ≡ s.isdu
+
+-- the output command that a message for this is
+abbrev pub output_for : Exchange → Option Bool
+output_for TellOutput = Some true
+output_for DropOutput = Some false
+output_for any = None
+
+-- The device's output: an image that is valid was sent, in OPERATE; it is as told, where that is
+-- known; and a command that waits is for another mode
+
+abbrev pub IsValid : Option Image → Far → Type 0
+IsValid sent far = far.awake ≡ true → far.valid ≡ true → (far.mode ≡ FarOperate) × IsSome sent
+
+abbrev pub IsAsTold : Type 0 → Bool → Far → Type 0
+IsAsTold known told far = far.awake ≡ true → known → far.valid ≡ told
+
+abbrev pub OutputTold : Option Image → Type 0 → Bool → Far → Type 0
+OutputTold sent known told far = IsValid sent far × IsAsTold known told far × WaitsElsewhere far
+
+-- The device's events: they fit the reading while it is awake, and are reported, outside down,
+-- exactly while it is awake and their confirm is due
+abbrev pub EventsTold : Reading → Bool → Far → Bool → Type 0
+EventsTold reading confirming far told =
+    (far.awake ≡ true → EventsFit reading confirming far.events)
+    × (told ≡ (far.awake && is_due reading))

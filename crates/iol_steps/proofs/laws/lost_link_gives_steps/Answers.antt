@@ -1,7 +1,0 @@
-use Rattle.iol_steps.proofs.Missed.{lost_gives}
-use Rattle.iol_steps.proofs.laws.lost_link_gives_steps.Goals as goal
-
--- src/laws.rt
-pub returns : goal.returns
-returns c =
-    lost_gives c.ends_stay_level.ensures c.page_and_room_stay.ensures.much c.replies_are_read.ensures.read c.replies_are_read.ensures.sized c.events_stay_until_confirmed.ensures c.modes_have_layouts.ensures

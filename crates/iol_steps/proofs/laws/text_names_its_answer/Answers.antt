@@ -1,6 +1,0 @@
-use Rattle.iol_steps.proofs.AnswerTexts.{text_names}
-use Rattle.iol_steps.proofs.laws.text_names_its_answer.Goals as goal
-
--- src/laws.rt
-pub returns : goal.returns
-returns c = text_names c.one_text_in_front.ensures.answer c.one_text_each.ensures.answer
