@@ -1,5 +1,5 @@
 -- What octets say of the answer whose text they are, or begin with.
-use Rattle.std.proofs.Common.{◌≡◌, ◌⊎◌, inl, inr, ℕ, zero, suc, ◌+◌, ◌-◌, ◌*◌, ◌≤◌, Bool, true, false, not, ◌&&◌, List, [], ◌∷◌, ◌++◌, length, take, drop, refl, sym, ◌∙◌, ap, subst, arith}
+use Rattle.std.proofs.Common.{◌≡◌, ◌⊎◌, inl, inr, ℕ, zero, suc, ◌+◌, ◌-◌, ◌*◌, ◌≤◌, Bool, true, false, ◌&&◌, List, [], ◌∷◌, ◌++◌, length, take, drop, refl, sym, ◌∙◌, ap, subst, arith}
 use Rattle.std.specs.Prelude.{nat_le, replicate}
 use Rattle.std.proofs.lemmas.List.{length-append, length-take-le, take-append-drop, take-append-le}
 use Rattle.std.proofs.Math.Nat.{suc-mul}
@@ -7,8 +7,7 @@ use Rattle.std.proofs.Math.Seq.{drop-append_seam, take-append-add}
 use Rattle.std.proofs.lemmas.Bool.Decides.{nat_tests}
 use Rattle.std.proofs.lemmas.Grind.{common_steps}
 use Rattle.iol_isdu.specs.declared.values.Answer.{Answer}
-use Rattle.iol_isdu.specs.declared.values.Answer.TheVariants.{Read, Written, Refused}
-use Rattle.iol_isdu.specs.Answers.{is_read, AnswersKind, answer_body, IsAnswerText}
+use Rattle.iol_isdu.specs.Answers.{is_read, answer_body, IsAnswerText}
 use Rattle.iol_isdu.specs.Texts.{FitsAnswer}
 use Rattle.iol_isdu.specs.Laws.{OneAnswerInFront, OneAnswerText}
 use Rattle.iol_segment.specs.Cut.{segment}
@@ -76,20 +75,7 @@ joined_filled size text (suc i) = next (joined_filled size text i)
 
 -- an answer that fits is one that its type holds
 fits_answer : (read : Bool) (answer : Answer) → (is_kind read answer && nat_le (length (answer_body answer)) 232) ≡ true → FitsAnswer read answer
-fits_answer read answer e = by_tests (is_kind read answer) refl (nat_le (length (answer_body answer)) 232) refl e
-  where
-    kind_of : (a : Answer) → is_kind read a ≡ true → AnswersKind read a
-    kind_of (Read octets) k = k
-    kind_of Written k = written read k
-      where
-        written : (b : Bool) → not b ≡ true → b ≡ false
-        written b given = grind (arith, common_steps)
-    kind_of (Refused error additional) k = tt
-
-    by_tests : (k : Bool) → is_kind read answer ≡ k → (l : Bool) → nat_le (length (answer_body answer)) 232 ≡ l → (k && l) ≡ true → FitsAnswer read answer
-    by_tests true k true l h = record { kind = kind_of answer k; fits = grind (arith, nat_tests, common_steps) }
-    by_tests true k false l h = absurd (let y : false ≡ true = h in cc)
-    by_tests false k b l h = absurd (let y : false ≡ true = h in cc)
+fits_answer read answer e = grind (arith, common_steps)
 
 pub text_names : OneAnswerInFront → OneAnswerText → TextNamesAnswer
 text_names front each size request i octets answer begins other fitting is =

@@ -1,7 +1,7 @@
 -- A request is begun, and an abort is let wait, in OPERATE.
-use Rattle.std.proofs.Common.{◌≡◌, inl, ℕ, ◌*◌, Bool, length, true, false, List, refl, sym, ap, ◌∙◌, subst}
+use Rattle.std.proofs.lemmas.Grind.{common_steps}
+use Rattle.std.proofs.Common.{arith, ◌≡◌, inl, ℕ, ◌*◌, Bool, length, true, false, List, refl, sym, ap, ◌∙◌, subst}
 use Rattle.std.specs.Prelude.{Option, Some, None, IfSome, IsTrue, if◌then◌else◌, nat_lt}
-use Rattle.iol_mseq.specs.Texts.{master_text}
 use Rattle.iol_mseq.specs.declared.master.MasterMsg.{MasterMsg}
 use Rattle.iol_page.specs.Page.{knows_isdu}
 use Rattle.iol_page.specs.declared.page.Layouts.{Layouts}
@@ -9,9 +9,9 @@ use Rattle.iol_isdu.specs.declared.values.Request.{Request}
 use Rattle.iol_isdu.specs.declared.values.Cause.{Cause}
 use Rattle.iol_isdu.specs.declared.values.Cause.TheVariants.{BusyTooLong, Cancelled}
 use Rattle.iol_segment.specs.Cut.{Cutting, pair}
-use Rattle.iol_far.specs.Isdu.{IsduState, Empty, Receiving, Whole, Handed, Answered, handed}
+use Rattle.iol_far.specs.Isdu.{IsduState, handed}
 use Rattle.iol_far.specs.Far.{Far}
-use Rattle.iol_far.specs.Level.{Progress, Quiet, Link, Move, IsSent}
+use Rattle.iol_far.specs.Level.{Progress, Quiet, Link}
 use Rattle.iol_link.specs.Attempts.{Sending}
 use Rattle.iol_mode.specs.declared.states.Operate.{Operate}
 use Rattle.iol_mode.specs.Next.{message_out}
@@ -47,10 +47,7 @@ waiting_at limit busy asked cause None h may = may
 waiting_at limit busy asked cause (Some first) h may = h
 
 marked_at : (limit busy : ℕ) (asked : Bool) (abort : Option Cause) → AbortAt limit abort busy asked → AbortAt limit abort busy true
-marked_at limit busy asked None h = tt
-marked_at limit busy asked (Some BusyTooLong) h = h
-marked_at limit busy asked (Some Cancelled) h = refl
-marked_at limit busy asked (Some cause) h = absurd h
+marked_at limit busy asked abort h = grind (arith, common_steps)
 
 -- what a message is for stays, where its request changes in nothing but that
 pub record SameFor (old new : Option Current) (e : Exchange) : Type 0 where
@@ -70,18 +67,7 @@ aborted_same cause current other = record { move = refl; head = λ r. refl; data
 module _ (old new : Option Current) (progress : progress_of old ≡ progress_of new) where
   out_same : (layouts : Layouts) (out : Option Sending) (e : Option Exchange) (R : Reading) (page : List ℕ) (link : Link) (sent : Option Image) → ((x : Exchange) → e ≡ Some x → SameFor old new x)
       → OutBy layouts out e old R page link sent → OutBy layouts out e new R page link sent
-  out_same layouts None None R page link sent same h = tt
-  out_same layouts (Some w) None R page link sent same h = absurd h
-  out_same layouts None (Some x) R page link sent same h = absurd h
-  out_same layouts (Some w) (Some x) R page link sent same h = record {
-    mode = h.mode;
-    goes = subst (λ (p : Progress). IsSent page layouts.run.od link p (master_text layouts.run w.message) w.message (move_for x new)) progress
-        (subst (λ (m : Move). IsSent page layouts.run.od link (progress_of old) (master_text layouts.run w.message) w.message m) (same x refl).move h.goes);
-    confirm = h.confirm;
-    reads = h.reads;
-    carries = h.carries;
-    tells = h.tells;
-  }
+  out_same layouts out e reading page link sent same h = grind (arith, common_steps)
 
   joined_same : (t : SessionState) (e : Option Exchange) (m : Option MasterMsg) → ((x : Exchange) → e ≡ Some x → SameFor old new x) → IsOutBy e (record t { current = old }) m → IsOutBy e (record t { current = new }) m
   joined_same t None None same h = h
@@ -92,11 +78,7 @@ module _ (old new : Option Current) (progress : progress_of old ≡ progress_of 
 -- Begun
 
 opened : (state : IsduState) (h : Hidden) (r : Request) → IsOpen state None h → h.late ≡ None → IsOpen state (Some r) (record { answer = None; late = None }) × (handed state ≡ None)
-opened (Handed q) h r opens late = absurd (let z : Path (Option Request) None (Some q) = sym late ∙ opens in cc)
-opened Empty h r opens late = (tt, refl)
-opened (Receiving t l) h r opens late = (tt, refl)
-opened (Whole q l) h r opens late = (tt, refl)
-opened (Answered q a l) h r opens late = (tt, refl)
+opened state h r opens late = grind (arith, common_steps)
 
 pub begins : Begins
 begins = record {

@@ -1,13 +1,12 @@
 -- The calls that are no turns: also between the two halves of one.
-use Rattle.std.proofs.Common.{◌≡◌, ℕ, Bool, true, false, List, refl}
+use Rattle.std.proofs.lemmas.Grind.{common_steps}
+use Rattle.std.proofs.Common.{arith, ◌≡◌, ℕ, Bool, true, false, List, refl}
 use Rattle.std.specs.Prelude.{Option, Some, None}
 use Rattle.iol_isdu.specs.declared.values.Request.{Request}
 use Rattle.iol_isdu.specs.declared.values.Answer.{Answer}
 use Rattle.iol_far.specs.declared.carried.Carried.{Carried}
-use Rattle.iol_far.specs.Isdu.{IsduState, Empty, Receiving, Whole, Handed, Answered, handed}
 use Rattle.iol_far.specs.Far.{Far}
 use Rattle.iol_mode.specs.declared.states.State.{State}
-use Rattle.iol_mode.specs.declared.states.State.TheVariants.{Down as AtDown, Startup as AtStartup, Preoperate as AtPreoperate, Operate as AtOperate}
 use Rattle.iol_mode.specs.declared.why.Why.{Why}
 use Rattle.iol_steps.specs.declared.mode.Mode.{Mode}
 use Rattle.iol_steps.specs.declared.mode.Mode.TheVariants.{Down as ModeDown}
@@ -21,49 +20,15 @@ use Rattle.iol_steps.specs.Station.{job_of}
 use Rattle.iol_steps.specs.Exchange.{hidden_lost}
 use Rattle.iol_app.proofs.KindsSession.{lost_opens}
 use Rattle.iol_app.specs.Requests.{request_in}
-use Rattle.iol_app.specs.State.{SessionState, IsOutBy, wanting}
-use Rattle.iol_app.specs.declared.session.Exchange.{Exchange}
-use Rattle.iol_mode.specs.Next.{message_out}
-use Rattle.iol_mseq.specs.declared.master.MasterMsg.{MasterMsg}
+use Rattle.iol_app.specs.State.{SessionState, wanting}
 use Rattle.iol_app.specs.StationState.{StateFits as Joined, mode_in, why_in}
 use Rattle.iol_app.specs.Core.{frozen_in, images_in, Ghost, RequestStands, Opens, Wants, Restarts}
 
-handed_opens : (state : IsduState) → IsOpen state None (record { answer = None; late = handed state })
-handed_opens Empty = tt
-handed_opens (Receiving t l) = tt
-handed_opens (Whole r l) = tt
-handed_opens (Handed r) = refl
-handed_opens (Answered r a l) = tt
-
 pub opens : Opens
-opens = record {
-  stands = λ limit far silence told due. record {
-    page = refl;
-    fits = tt;
-    link = tt;
-    joined = (refl, refl);
-    calm = tt;
-    fresh = λ k. absurd (let z : false ≡ true = k in cc);
-    sent = refl;
-    request = handed_opens far.isdu;
-    events = tt;
-    output = tt;
-    shown = record { image = λ e. refl; wanted = tt; lengths = tt; isdu = tt; no_form = refl };
-  };
-}
-
--- another output, or none, whatever message is out
-out_want : (x : Option Exchange) (m : Option MasterMsg) (t : SessionState) (image : Option (List ℕ)) → IsOutBy x t m → IsOutBy x (wanting image t) m
-out_want None None t image h = h
-out_want (Some x) (Some m) t image h = record { head = h.head; octets = h.octets }
-out_want None (Some m) t image h = absurd h
-out_want (Some x) None t image h = absurd h
+opens = grind (arith, common_steps)
 
 joined_want : (state : State) (t : SessionState) (image : Option (List ℕ)) → Joined state t → Joined state (wanting image t)
-joined_want (AtDown s) t image h = h
-joined_want (AtStartup s) t image h = h
-joined_want (AtPreoperate s) t image h = h
-joined_want (AtOperate s) t image h = record { told = h.told; out_for = out_want t.exchange (message_out s.out) t image h.out_for }
+joined_want state t image h = grind (arith, common_steps)
 
 pub wants : Wants
 wants = record {
@@ -84,17 +49,12 @@ wants = record {
 
 -- a restart, in every mode
 request_opens : (state : State) (t : SessionState) (g : Ghost) (far : Far) → Joined state t → RequestStands state t.limit t.current t.exchange t.events g far → IsOpen far.isdu (request_in t.current) g.request.hidden
-request_opens (AtDown s) t g far j h = rw j.0 h
-request_opens (AtStartup s) t g far j h = rw j.0.0 h.1
-request_opens (AtPreoperate s) t g far j h = rw j.0.0 h.1
-request_opens (AtOperate s) t g far j h = h.opens
+request_opens state t g far j h = grind (arith, common_steps)
 
 session_is : (r : Option Request) (answer : Option Answer) (late : Option Request) (busy : ℕ) (asked : Bool) (carried : List Carried) (mode : Mode) (why : Option Why) →
     session_through (restart_steps r) (record { job = job_of r answer busy asked; late = late; carried = carried; mode = mode; why = why })
     ≡ record { job = None; late = (hidden_lost r (record { answer = answer; late = late })).late; carried = carried; mode = ModeDown; why = None }
-session_is None answer late busy asked carried mode why = refl
-session_is (Some r) None late busy asked carried mode why = refl
-session_is (Some r) (Some a) late busy asked carried mode why = refl
+session_is r answer late busy asked carried mode why = grind (arith, common_steps)
 
 frozen_is : (r : Option Request) (f : Option Frozen) → frozen_through (restart_steps r) f ≡ f
 frozen_is None f = refl

@@ -1,8 +1,8 @@
 -- The good replies of OPERATE, kind by kind, by the code's own data.
+use Rattle.std.proofs.lemmas.Grind.{common_steps}
 use Rattle.std.proofs.Common.{◌≡◌, ⊎_elim, ℕ, zero, suc, ◌+◌, ◌*◌, ◌≤◌, ◌<◌, min, Bool, true, false, ◌==◌, List, [], ◌∷◌, length, refl, sym, ap, ◌∙◌, subst, arith, Option, Some, None}
 use Rattle.std.specs.Prelude.{IfSome, IsTrue, is_some, if◌then◌else◌, nat_lt, slice_index, MatchOption}
 use Rattle.std.proofs.lemmas.Bool.{cases_Bool}
-use Rattle.std.proofs.lemmas.Bool.Decides.{nat_tests}
 use Rattle.arrayvec.specs.ArrayVec.{ArrayVec}
 use Rattle.iol_octets.specs.declared.flow_control.Flow.{Flow}
 use Rattle.iol_mseq.specs.Texts.{master_text}
@@ -10,7 +10,7 @@ use Rattle.iol_isdu.specs.Answers.{is_read}
 use Rattle.iol_isdu.specs.declared.values.Request.{Request}
 use Rattle.iol_isdu.specs.declared.values.Answer.{Answer}
 use Rattle.iol_isdu.specs.declared.values.Cause.{Cause}
-use Rattle.iol_isdu.specs.declared.values.Cause.TheVariants.{BusyTooLong, Cancelled}
+use Rattle.iol_isdu.specs.declared.values.Cause.TheVariants.{BusyTooLong}
 use Rattle.iol_segment.specs.Cut.{Cutting, pair}
 use Rattle.iol_segment.specs.TextLaws.{joined as joined_octets}
 use Rattle.iol_far.specs.declared.carried.Carried.{Carried}
@@ -46,7 +46,7 @@ use Rattle.iol_app.proofs.Moving.{sent_follows, busy_follows, asked_after, unsen
 use Rattle.iol_app.specs.Core.{reading_in, moment_of, seen_in, core_out}
 use Rattle.iol_app.proofs.Had.{Good, Replied, Reads, Comes, keeps, rests, took, goes_on, tied, before, text, od_is, told_now, there, told, h}
 use Rattle.iol_app.proofs.ReadingOn.{Took}
-use Rattle.iol_app.proofs.Reused.{freed_quiet}
+use Rattle.iol_app.proofs.SmallFacts.{freed_quiet}
 
 -- a request's segment was written: busy replies are counted from here
 sent_busy : (cutter : Cutting Request) (b : Bool) (busy : ℕ) → busy ≡ 0 → BusyAt (sending (if b then Some (pair cutter.size (text_of cutter) cutter.given) else None)) busy
@@ -58,25 +58,9 @@ first_quiet source zero e = refl
 first_quiet source (suc zero) e = refl
 first_quiet source (suc (suc i)) e = absurd (cc)
 
-later : (limit busy : ℕ) (cancels : Bool) (abort : Option Cause) → AbortAt limit abort busy cancels → AbortAt limit abort (busy + 1) cancels
-later limit busy cancels None h = tt
-later limit busy cancels (Some BusyTooLong) h = omega (arith, h)
-later limit busy cancels (Some Cancelled) h = h
-later limit busy cancels (Some cause) h = absurd h
-
-at_limit : (limit busy : ℕ) (cancels : Bool) (abort : Option Cause) → AbortAt limit abort busy cancels → limit ≤ busy + 1 → AbortAt limit (waiting abort BusyTooLong) (busy + 1) cancels
-at_limit limit busy cancels None h low = low
-at_limit limit busy cancels (Some BusyTooLong) h low = low
-at_limit limit busy cancels (Some Cancelled) h low = h
-at_limit limit busy cancels (Some cause) h low = absurd h
-
 busy_waits : (limit busy : ℕ) (cancels : Bool) (abort : Option Cause) (counted : ℕ) → counted ≡ min busy 65535 → AbortAt limit abort busy cancels
     → AbortAt limit (if one_more counted == limit then waiting abort BusyTooLong else abort) (busy + 1) cancels
-busy_waits limit busy cancels abort counted e k =
-    ⊎_elim
-    (λ (b : (one_more counted == limit) ≡ true). rw b (at_limit limit busy cancels abort k (grind (arith, nat_tests))))
-    (λ (f : (one_more counted == limit) ≡ false). rw f (later limit busy cancels abort k))
-    (cases_Bool (one_more counted == limit))
+busy_waits limit busy cancels abort counted e k = grind (arith, common_steps)
 
 module _ (names : TextNamesAnswer) (taken : AnswersAreTakenUp)
     (laws : Laws) (readers : ReaderLaws) (turn : Good) where

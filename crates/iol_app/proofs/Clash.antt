@@ -45,20 +45,8 @@ all_own-append : (xs ys : List Step) → AllOwn xs → AllOwn ys → AllOwn (xs 
 all_own-append [] ys h k = k
 all_own-append (x ∷ xs) ys h k = (h.0, all_own-append xs ys h.1 k)
 
-carry_own : (request : Option Request) (a : Answer) → AllOwn (carry_step request a ∷ [])
-carry_own request a = grind (arith, common_steps)
-
-carry_all_own : (request : Option Request) (s : IsduState) (far : Far) (a : Answer) → AllOwn (carry_steps request s far a)
-carry_all_own request (Handed r) far a = elim (has_room far && fits r a) as (λ b. AllOwn (if b then carry_step request a ∷ [] else [])) [ true ↦ carry_own request a | false ↦ tt ]
-carry_all_own request s far a = tt
-
 own_all_step : (request : Option Request) (far : Far) (step : LocalStep) → AllOwn (own_step request far step)
-own_all_step request far (OwnCarry a) = carry_all_own request far.isdu far a
-own_all_step request far (OwnRaise e) = elim (freezes_at_once far.events) as (λ b. AllOwn (if b then Freeze (e ∷ []) ∷ [] else [])) [ true ↦ (refl, tt) | false ↦ tt ]
-own_all_step request far (OwnInput image) =
-    elim (is_input far image) as (λ b. AllOwn (if b then Input (Some image) ∷ [] else [])) [ true ↦ (refl, tt) | false ↦ tt ]
-own_all_step request far OwnNoInput = (refl, tt)
-own_all_step request far OwnPower = (refl, tt)
+own_all_step request far step = grind (arith, common_steps)
 
 pub own_all : (request : Option Request) (steps : List LocalStep) (far : Far) → AllOwn (own_steps request far steps)
 own_all request [] far = tt

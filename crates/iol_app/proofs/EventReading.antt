@@ -1,9 +1,8 @@
 -- The reading of events goes with the far end's frozen list.
-use Rattle.std.proofs.Common.{◌≡◌, ℕ, ◌+◌, ◌*◌, ◌≤◌, ◌<◌, Bool, true, false, not, List, [], ◌∷◌, take, drop, refl, sym, ◌∙◌, ap, subst, arith}
+use Rattle.std.proofs.Common.{◌≡◌, ℕ, ◌+◌, ◌*◌, ◌≤◌, ◌<◌, Bool, true, false, not, List, [], ◌∷◌, take, drop, refl, sym, ◌∙◌, subst, arith}
 use Rattle.std.specs.Prelude.{Option, Some, None, if◌then◌else◌}
 use Rattle.iol_mseq.specs.declared.master.MasterMsg.{MasterMsg}
 use Rattle.iol_isdu.specs.declared.values.Answer.{Answer}
-use Rattle.iol_event.specs.declared.event.Event.{Event}
 use Rattle.iol_event.specs.Memory.{Events, IsEventMemory, is_empty, released}
 use Rattle.iol_event.specs.Laws.{MemoryStaysValid, WaitsForAll, GivesFrozen}
 use Rattle.iol_far.specs.Isdu.{IsduState}
@@ -13,8 +12,8 @@ use Rattle.iol_far.specs.Local.{LocalStep, local, locals, carried_by, is_input}
 use Rattle.iol_far.specs.Local.{Carry as OwnCarry, Raise as OwnRaise, Input as OwnInput, NoInput as OwnNoInput, Power as OwnPower}
 use Rattle.iol_far.specs.Laws.{confirms as octets_confirm}
 use Rattle.iol_steps.specs.Bridge.{confirms_by}
-use Rattle.iol_steps.specs.Station.{Reading, Resting, Flagged, Under, Due, is_due, wants_octet, EventsFit}
-use Rattle.iol_steps.specs.Exchange.{reading_flagged, reading_kept}
+use Rattle.iol_steps.specs.Station.{Reading, is_due, wants_octet, EventsFit}
+use Rattle.iol_steps.specs.Exchange.{reading_kept}
 use Rattle.iol_app.proofs.Accepted.{by_accepted}
 use Rattle.iol_app.proofs.FirstOctet.{confirms_of}
 use Rattle.std.proofs.lemmas.Grind.{common_steps}
@@ -55,19 +54,8 @@ undue r given = grind (arith, common_steps)
 pub kept_due : (r : Reading) (event : Bool) → is_due (reading_kept r event) ≡ is_due r
 kept_due r event = grind (arith, common_steps)
 
-flagged_fits : (event : Bool) (m : Events) → event ≡ not (is_empty m.frozen) → m.held ≡ false → EventsFit (reading_flagged event) false m
-flagged_fits event m is held = by_list m.frozen refl event is
-  where
-    by_list : (l : List Event) → m.frozen ≡ l → (b : Bool) → b ≡ not (is_empty m.frozen) → EventsFit (reading_flagged b) false m
-    by_list l e false k = tt
-    by_list [] e true k = absurd (let z : true ≡ false = k ∙ ap (λ (x : List Event). not (is_empty x)) e in cc)
-    by_list (x ∷ xs) e true k = (x, xs, (e, held))
-
 pub kept_fits : (r : Reading) (event : Bool) (m : Events) → event ≡ not (is_empty m.frozen) → m.held ≡ false → EventsFit r false m → EventsFit (reading_kept r event) false m
-kept_fits Resting event m is held fit = flagged_fits event m is held
-kept_fits Flagged event m is held fit = flagged_fits event m is held
-kept_fits (Under octets) event m is held fit = fit
-kept_fits (Due e es) event m is held fit = fit
+kept_fits r event m is held fit = grind (arith, common_steps)
 
 -- what is heard and is no confirm ends the hold
 released_held : (m : Events) → (released m).held ≡ false

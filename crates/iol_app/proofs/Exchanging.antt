@@ -47,7 +47,7 @@ use Rattle.iol_app.specs.State.{SessionState}
 use Rattle.iol_app.specs.StationState.{StateFits as Joined, mode_in}
 use Rattle.iol_app.specs.Ends.{output_for, SentSeen}
 use Rattle.iol_app.proofs.OperateMessages.{exchange_confirms}
-use Rattle.iol_app.proofs.Reused.{confirms_is, more_silence}
+use Rattle.iol_app.proofs.SmallFacts.{confirms_is, more_silence}
 use Rattle.iol_app.proofs.Telling.{told_layout}
 use Rattle.iol_app.specs.Core.{Core, Ghost, Stands, ReceiveGives, OperateRequest, RequestStands, EventsStand, OutputStands, CalmAt, ShownStands, core_out, reading_in, ordered_by, moment_of, seen_in, shown_in, images_in, after_exchange}
 

@@ -1,5 +1,4 @@
--- The far end's part of an exchange, over the message, the link and the request's level: today's
--- Replying and Outputs, which are over a Station.
+-- The far end's part of an exchange, over the message, the link and the request's level.
 use Rattle.std.proofs.Common.{◌≡◌, ◌≢◌, ◌⊎◌, inl, inr, ℕ, ◌+◌, ◌≤◌, min, Bool, true, false, ◌&&◌, List, length, refl, sym, ◌∙◌, ap, subst, arith}
 use Rattle.std.proofs.lemmas.Grind.{common_steps}
 use Rattle.std.specs.Prelude.{Option, Some, None, if◌then◌else◌, nat_lt, IsSome, IfSome}
@@ -51,11 +50,7 @@ told_mode : (mode : Mode) (command : Option MasterCommand) (v t : Bool) → (out
 told_mode mode command v t given = grind (arith, common_steps)
 
 waits_stay : (mode : device.Mode) (waits : Option WaitingCommand) (octets : List ℕ) (asked : Option device.Mode) → IfSome waits (λ c. is_mode mode c.into ≡ false) → IfSome (waits_after mode waits octets asked) (λ c. is_mode mode c.into ≡ false)
-waits_stay mode waits octets None h = h
-waits_stay mode waits octets (Some into) h = split (is_mode mode into) refl
-  where
-    split : (b : Bool) → is_mode mode into ≡ b → IfSome (if b then waits else Some (record { into = into; octets = octets })) (λ c. is_mode mode c.into ≡ false)
-    split b given = grind (arith, common_steps)
+waits_stay mode waits octets asked h = grind (arith, common_steps)
 
 has_items : (sent : Option Image) (items : List ℕ) → IsSome sent → IfSome sent (λ image. items ≡ image) → sent ≡ Some items
 has_items sent items given given2 = grind (arith, common_steps)
@@ -282,10 +277,7 @@ module _ (laws : Laws) (page : List ℕ) (run : Shape) (base : List Carried) (li
 
   -- only an awake far end accepts
   pub accepts_awake : (g : Far) (there : Far) (m : MasterMsg) → accepted g o ≡ Some (there, m) → g.awake ≡ true
-  accepts_awake g = by_accepted P g o (λ t n k. absurd (let z : Path (Option (Far × MasterMsg)) None (Some (t, n)) = k in cc)) (λ a m e t n k. a) (λ a c q m e t n k. a)
-    where
-      P : Option (Far × MasterMsg) → Type 0
-      P q = (t : Far) (n : MasterMsg) → q ≡ Some (t, n) → g.awake ≡ true
+  accepts_awake g = grind (arith, common_steps)
 
   pub outputs_sent : (most : ℕ) (g : Far) → g.page ≡ page → IsLevel page run.od base link progress o most g → OutputsAt g → OutputsSent sent g o
   outputs_sent most g same level h there m e = sent_output most g same level h (accepts_awake g there m e) there m e

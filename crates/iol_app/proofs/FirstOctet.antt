@@ -1,21 +1,17 @@
 -- The first octet alone says which message octets are, in every layout.
-use Rattle.std.proofs.Common.{◌≡◌, ℕ, Bool, List, ap, arith}
+use Rattle.std.proofs.Common.{◌≡◌, ℕ, List, ap, arith}
 use Rattle.std.proofs.lemmas.Grind.{common_steps}
-use Rattle.std.specs.Prelude.{Some, None, if◌then◌else◌, slice_index, is_some}
+use Rattle.std.specs.Prelude.{Some, if◌then◌else◌, slice_index}
 use Rattle.iol_octets.specs.Control.{control_of}
 use Rattle.iol_mseq.specs.Shape.{Shape}
 use Rattle.iol_mseq.specs.declared.master.MasterMsg.{MasterMsg}
 use Rattle.iol_far.specs.Codec.{message_in}
 use Rattle.iol_far.specs.Laws.{confirms as octets_confirm}
 use Rattle.iol_steps.specs.Bridge.{confirms_by}
-use Rattle.iol_mseq.specs.Master.{master_fault, message_of}
 
 pub mc_of : (layout : Shape) (o : List ℕ) (m : MasterMsg) → message_in layout o ≡ Some m → m.mc ≡ control_of (slice_index o 0)
 unfolding message_in
-mc_of layout o m e = split (is_some (master_fault layout o)) e
-  where
-    split : (b : Bool) → (if b then None else Some (message_of layout o)) ≡ Some m → m.mc ≡ control_of (slice_index o 0)
-    split b given = grind (arith, common_steps)
+mc_of layout o m e = grind (arith, common_steps)
 
 pub confirms_of : (layout : Shape) (o : List ℕ) (m : MasterMsg) → message_in layout o ≡ Some m → confirms_by m.mc ≡ octets_confirm o
 confirms_of layout o m e = ap confirms_by (mc_of layout o m e)

@@ -1,38 +1,24 @@
 -- In the turn of a request begun since the last one, no step clashes with its taking: nothing is handed yet.
-use Rattle.std.proofs.Common.{◌≡◌, ℕ, Bool, true, false, List, [], ◌∷◌, ◌++◌, refl, arith}
+use Rattle.std.proofs.Common.{◌≡◌, ℕ, Bool, List, [], ◌∷◌, ◌++◌, arith}
 use Rattle.std.proofs.lemmas.Grind.{common_steps}
-use Rattle.std.specs.Prelude.{Option, Some, None, if◌then◌else◌, IsTrue}
+use Rattle.std.specs.Prelude.{Option, None, if◌then◌else◌, IsTrue}
 use Rattle.std.specs.List.{list_all}
 use Rattle.iol_isdu.specs.declared.values.Request.{Request}
-use Rattle.iol_isdu.specs.declared.values.Answer.{Answer}
-use Rattle.iol_event.specs.Memory.{freezes_at_once}
 use Rattle.iol_link.specs.Honest.{Passage}
-use Rattle.iol_far.specs.Isdu.{IsduState, Empty, Receiving, Whole, Handed, Answered, handed}
+use Rattle.iol_far.specs.Isdu.{handed}
 use Rattle.iol_far.specs.Far.{Far}
-use Rattle.iol_far.specs.Local.{LocalStep, local, locals, is_input}
-use Rattle.iol_far.specs.Local.{Carry as OwnCarry, Raise as OwnRaise, Input as OwnInput, NoInput as OwnNoInput, Power as OwnPower}
-use Rattle.iol_steps.specs.Step.{Step, Freeze, Input}
-use Rattle.iol_steps.specs.Bridge.{carry_steps, own_step, own_steps, passed_steps, exchange_steps}
+use Rattle.iol_far.specs.Local.{LocalStep, local, locals}
+use Rattle.iol_steps.specs.Step.{Step}
+use Rattle.iol_steps.specs.Bridge.{own_step, own_steps, passed_steps, exchange_steps}
 use Rattle.iol_steps.specs.Kinds.{made_steps}
 use Rattle.iol_steps.specs.Turn.{is_calm}
 use Rattle.iol_app.proofs.Clash.{AllCalm, calm-append, no_clash, no_clash-append, made_no_clash, all_calm_no_clash, passed_no_clash}
-
-carry_unhanded : (request : Option Request) (s : IsduState) (far : Far) (a : Answer) → handed s ≡ None → AllCalm (carry_steps request s far a)
-carry_unhanded request Empty far a h = tt
-carry_unhanded request (Receiving t l) far a h = tt
-carry_unhanded request (Whole q l) far a h = tt
-carry_unhanded request (Answered q c l) far a h = tt
-carry_unhanded request (Handed q) far a h = absurd (let z : Path (Option Request) (Some q) None = h in cc)
 
 step_unhanded : (far : Far) (step : LocalStep) → handed far.isdu ≡ None → handed (local far step).isdu ≡ None
 step_unhanded far step given = grind (arith, common_steps)
 
 calm_own : (request : Option Request) (far : Far) (step : LocalStep) → handed far.isdu ≡ None → AllCalm (own_step request far step)
-calm_own request far (OwnCarry a) h = carry_unhanded request far.isdu far a h
-calm_own request far (OwnRaise e) h = elim (freezes_at_once far.events) as (λ b. AllCalm (if b then Freeze (e ∷ []) ∷ [] else [])) [ true ↦ (refl, (λ y. refl), tt) | false ↦ tt ]
-calm_own request far (OwnInput image) h = elim (is_input far image) as (λ b. AllCalm (if b then Input (Some image) ∷ [] else [])) [ true ↦ (refl, (λ y. refl), tt) | false ↦ tt ]
-calm_own request far OwnNoInput h = (refl, (λ y. refl), tt)
-calm_own request far OwnPower h = (refl, (λ y. refl), tt)
+calm_own request far step h = grind (arith, common_steps)
 
 calm_owns : (request : Option Request) (steps : List LocalStep) (far : Far) → handed far.isdu ≡ None → AllCalm (own_steps request far steps)
 calm_owns request [] far h = tt

@@ -1,22 +1,19 @@
 -- The frozen events: own steps, what is heard, and a wake are allowed there, and leave what the far end's memory says.
-use Rattle.std.proofs.Common.{◌≡◌, ℕ, zero, suc, ◌≤◌, Bool, true, false, ◌&&◌, List, [], ◌∷◌, ◌++◌, length, take, refl, sym, ◌∙◌, ap, subst, arith}
-use Rattle.std.specs.Prelude.{Option, Some, None, if◌then◌else◌, nat_le}
+use Rattle.std.proofs.lemmas.Grind.{common_steps}
+use Rattle.std.proofs.Common.{◌≡◌, ℕ, ◌≤◌, Bool, true, false, ◌&&◌, List, [], ◌∷◌, ◌++◌, refl, sym, ◌∙◌, ap, subst, arith}
+use Rattle.std.specs.Prelude.{Option, Some, None, if◌then◌else◌}
 use Rattle.iol_mseq.specs.declared.master.MasterMsg.{MasterMsg}
 use Rattle.iol_isdu.specs.declared.values.Request.{Request}
-use Rattle.iol_isdu.specs.declared.values.Answer.{Answer}
 use Rattle.iol_event.specs.declared.event.Event.{Event}
-use Rattle.iol_event.specs.Memory.{Events, freezes_at_once, raised, confirmed, released}
+use Rattle.iol_event.specs.Memory.{Events, confirmed, released}
 use Rattle.iol_link.specs.Honest.{Passage, OutLost, BackLost, Clean, far_after}
-use Rattle.iol_far.specs.Isdu.{IsduState, Empty, Receiving, Whole, Handed, Answered, fits}
 use Rattle.iol_far.specs.Codec.{layout_in}
 use Rattle.iol_far.specs.Far.{Far, moved, hear, heard_as, worked, output_of, events_after}
-use Rattle.iol_far.specs.Local.{LocalStep, local, locals, carried_by, has_room, is_input, woken}
-use Rattle.iol_far.specs.Local.{Carry as OwnCarry, Raise as OwnRaise, Input as OwnInput, NoInput as OwnNoInput, Power as OwnPower}
-use Rattle.iol_far.specs.Level.{grown_by}
+use Rattle.iol_far.specs.Local.{LocalStep, local, locals, woken}
 use Rattle.iol_far.specs.Laws.{confirms as octets_confirm}
-use Rattle.iol_steps.specs.Step.{Step, OutputOff, Input, Image}
+use Rattle.iol_steps.specs.Step.{Step, OutputOff, Image}
 use Rattle.iol_steps.specs.FrozenEvents.{Frozen, frozen_through, MayFrozenAll}
-use Rattle.iol_steps.specs.Bridge.{carry_step, carry_steps, raise_steps, own_step, own_steps, told_after, told_through, confirm_steps, release_steps, event_steps, output_steps, confirms_by, worked_steps, heard_steps_as, heard_steps, told_released, told_worked, told_heard_as, told_heard, passed_steps, told_passed, exchange_steps, told_exchanged, woken_steps, told_woken, wake_steps, told_wake}
+use Rattle.iol_steps.specs.Bridge.{own_step, own_steps, told_after, told_through, confirm_steps, release_steps, event_steps, output_steps, confirms_by, worked_steps, heard_steps_as, heard_steps, told_released, told_worked, told_heard_as, told_heard, passed_steps, told_passed, exchange_steps, told_exchanged, woken_steps, told_woken, wake_steps, told_wake}
 use Rattle.iol_steps.specs.Station.{frozen_of}
 use Rattle.iol_app.proofs.Accepted.{by_accepted}
 use Rattle.iol_app.proofs.FirstOctet.{confirms_of}
@@ -42,45 +39,8 @@ frozen_runs-append f f1 f2 t t1 t2 xs ys a b = (
 
 -- Own steps
 
-abbrev memory_of : List Event → List Event → Bool → Events
-memory_of f w h = record { frozen = f; waiting = w; held = h }
-
-raise_frozen : (f w : List Event) (h : Bool) (e : Event) (t : Bool) →
-    let m : Events = record { frozen = f; waiting = w; held = h } in FrozenRuns f t (raise_steps m e) (raised m e).frozen (if freezes_at_once m then false else t)
-raise_frozen [] w false e t = (((refl, arith_one, arith_one_six), tt), refl)
-  where
-    arith_one : 1 ≤ 1
-    arith_one = omega arith
-
-    arith_one_six : 1 ≤ 6
-    arith_one_six = omega arith
-raise_frozen [] w true e t =
-    elim (nat_le 32 (length w)) as (λ b. FrozenRuns [] t [] (if b then memory_of [] w true else memory_of [] (w ++ e ∷ []) true).frozen t) [ true ↦ (tt, refl) | false ↦ (tt, refl) ]
-raise_frozen (x ∷ xs) w h e t =
-    elim (nat_le 32 (length w)) as (λ b. FrozenRuns (x ∷ xs) t [] (if b then memory_of (x ∷ xs) w h else memory_of (x ∷ xs) (w ++ e ∷ []) h).frozen t) [ true ↦ (tt, refl) | false ↦ (tt, refl) ]
-
-carry_frozen_step : (request : Option Request) (a : Answer) (f : List Event) (t : Bool) → FrozenRuns f t (carry_step request a ∷ []) f t
-carry_frozen_step None a f t = ((tt, tt), refl)
-carry_frozen_step (Some r) a f t = ((tt, tt), refl)
-
-carry_frozen : (request : Option Request) (far : Far) (a : Answer) (s : IsduState) (t : Bool) → FrozenRuns far.events.frozen t (carry_steps request s far a) (carried_by s far a).events.frozen t
-carry_frozen request far a Empty t = (tt, refl)
-carry_frozen request far a (Receiving x l) t = (tt, refl)
-carry_frozen request far a (Whole r l) t = (tt, refl)
-carry_frozen request far a (Answered r b l) t = (tt, refl)
-carry_frozen request far a (Handed r) t =
-    elim (has_room far && fits r a)
-    as (λ b. FrozenRuns far.events.frozen t (if b then carry_step request a ∷ [] else []) (if b then record far { isdu = Answered r a None; carried = grown_by far.carried r a } else far).events.frozen t)
-    [ true ↦ carry_frozen_step request a far.events.frozen t | false ↦ (tt, refl) ]
-
 own_frozen_step : (request : Option Request) (far : Far) (step : LocalStep) (t : Bool) → FrozenRuns far.events.frozen t (own_step request far step) (local far step).events.frozen (told_after far step t)
-own_frozen_step request far (OwnCarry a) t = carry_frozen request far a far.isdu t
-own_frozen_step request far (OwnRaise e) t = raise_frozen far.events.frozen far.events.waiting far.events.held e t
-own_frozen_step request far (OwnInput image) t =
-    elim (is_input far image)
-    as (λ b. FrozenRuns far.events.frozen t (if b then Input (Some image) ∷ [] else []) (if b then record far { input = Some image } else far).events.frozen t) [ true ↦ ((tt, tt), refl) | false ↦ (tt, refl) ]
-own_frozen_step request far OwnNoInput t = ((tt, tt), refl)
-own_frozen_step request far OwnPower t = ((tt, tt), refl)
+own_frozen_step request far step t = grind (arith, common_steps)
 
 pub own_frozen : (request : Option Request) (steps : List LocalStep) (far : Far) (t : Bool) → FrozenRuns far.events.frozen t (own_steps request far steps) (locals far steps).events.frozen (told_through far steps t)
 own_frozen request [] far t = (tt, refl)
@@ -91,22 +51,9 @@ own_frozen request (step ∷ steps) far t =
 
 -- What is heard
 
-take_most : (n : ℕ) (xs : List Event) → length (take n xs) ≤ n
-take_most zero xs = omega arith
-take_most (suc n) [] = omega arith
-take_most (suc n) (x ∷ xs) = let h = take_most n xs in omega arith
-
 release_frozen : (f w : List Event) (h : Bool) (t : Bool) →
     let m : Events = record { frozen = f; waiting = w; held = h } in FrozenRuns f t (release_steps m) (released m).frozen (told_released m t)
-release_frozen [] [] h t = (tt, refl)
-release_frozen [] (x ∷ xs) h t = (((refl, least, most), tt), refl)
-  where
-    least : 1 ≤ length (take 6 (x ∷ xs))
-    least = omega arith
-
-    most : length (take 6 (x ∷ xs)) ≤ 6
-    most = take_most 6 (x ∷ xs)
-release_frozen (x ∷ xs) w h t = (tt, refl)
+release_frozen f w h t = grind (arith, common_steps)
 
 confirm_frozen : (f w : List Event) (h : Bool) (t : Bool) → t ≡ true →
     let m : Events = record { frozen = f; waiting = w; held = h } in FrozenRuns f t (confirm_steps m) (confirmed m).frozen t

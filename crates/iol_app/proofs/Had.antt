@@ -1,10 +1,11 @@
 -- A good reply in OPERATE: once for all kinds, over what a kind has to bring.
-use Rattle.std.proofs.Common.{◌≡◌, ◌≢◌, ◌⊎◌, inl, inr, ⊎_elim, ℕ, zero, suc, ◌*◌, ◌≤◌, ◌<◌, Bool, true, false, not, ◌&&◌, List, [], ◌∷◌, filter, length, refl, sym, ◌∙◌, ap, subst, arith}
+use Rattle.std.proofs.lemmas.Grind.{common_steps}
+use Rattle.std.proofs.Common.{◌≡◌, ◌≢◌, ◌⊎◌, inl, inr, ℕ, ◌*◌, ◌≤◌, ◌<◌, Bool, true, false, not, ◌&&◌, List, [], ◌∷◌, filter, length, refl, sym, ◌∙◌, ap, subst, arith}
 use Rattle.std.specs.Prelude.{Option, Some, None, IsTrue, IsSome, IfSome, if◌then◌else◌, slice_index, nat_lt}
 use Rattle.iol_mseq.specs.Shape.{Shape}
 use Rattle.iol_mseq.specs.Texts.{master_text}
 use Rattle.iol_mseq.specs.declared.reply.Reply.{Reply}
-use Rattle.iol_octets.specs.declared.control.Channel.TheVariants.{Page, Diagnosis}
+use Rattle.iol_octets.specs.declared.control.Channel.TheVariants.{Diagnosis}
 use Rattle.iol_page.specs.declared.page.Layouts.{Layouts}
 use Rattle.iol_isdu.specs.declared.values.Request.{Request}
 use Rattle.iol_isdu.specs.declared.values.Answer.{Answer}
@@ -23,7 +24,7 @@ use Rattle.iol_far.specs.Laws.{confirms as octets_confirm}
 use Rattle.iol_segment.specs.TextLaws.{joined}
 use Rattle.iol_link.specs.Attempts.{Sending}
 use Rattle.iol_link.specs.Honest.{Clean}
-use Rattle.iol_mode.specs.Stands.{StateStands, entering_link, operate_link, IsAccepted}
+use Rattle.iol_mode.specs.Stands.{StateStands, operate_link, IsAccepted}
 use Rattle.iol_mode.specs.States.{InOperate, StateFits, state_of}
 use Rattle.iol_steps.specs.declared.mode.Mode.TheVariants.{Operate as ModeOperate}
 use Rattle.iol_steps.specs.declared.said.Said.{Said}
@@ -51,9 +52,8 @@ use Rattle.iol_app.specs.declared.session.Exchange.{Exchange}
 use Rattle.iol_app.specs.EventReading.{is_refused, reader_of, read_on, list_read}
 use Rattle.iol_app.specs.Messages.{Head, head_of, read_of}
 use Rattle.iol_app.specs.Requests.{request_in, current_after}
-use Rattle.iol_app.specs.Moves.{written, before_last, progress_at, progress_of, move_for, confirms_events}
+use Rattle.iol_app.specs.Moves.{progress_at, progress_of, move_for, confirms_events}
 use Rattle.iol_app.specs.declared.request.Progress.{Progress as Cursor}
-use Rattle.iol_app.specs.declared.request.Progress.TheVariants.{Sending as Cut, Asking, Receiving, Refused as NoText}
 use Rattle.iol_segment.specs.Cut.{Cutting}
 use Rattle.iol_image.specs.Image.{IsImage}
 use Rattle.iol_app.specs.Ends.{BusySeen, SentSeen, output_for}
@@ -62,24 +62,11 @@ use Rattle.iol_app.specs.StationState.{StateFits as Joined}
 use Rattle.iol_app.specs.declared.output.Output.{Output}
 use Rattle.iol_app.specs.Core.{Core, Ghost, Stands, ReceiveGives, OperateRequest, core_out, reading_at, reading_in, moment_of, seen_in, shown_in, after_exchange}
 use Rattle.iol_app.proofs.ReadingOn.{Took, reads_next}
-use Rattle.iol_app.proofs.Reused.{confirms_is, not_operate, same_output, input_is, input_hear, input_locals, image_octets, HasOctets}
+use Rattle.iol_app.proofs.SmallFacts.{confirms_is, same_output, input_is, input_hear, input_locals, image_octets, HasOctets}
 use Rattle.iol_app.proofs.Exchanging.{Passes, gives, at, tied', confirms, told'}
 
--- the progress is that of the request under way
-written_fits : (r : Request) (given : ℕ) → ProgressFits (written r given) (Some r)
-written_fits r zero = tt
-written_fits r (suc i) = refl
-
 cursor_fits : (cutter : Cutting Request) (p : Cursor) → ProgressFits (progress_at cutter p) (Some cutter.source)
-cursor_fits cutter (Cut flow piece) = before_fits cutter.source cutter.given
-  where
-    before_fits : (r : Request) (given : ℕ) → ProgressFits (before_last r given) (Some r)
-    before_fits r zero = tt
-    before_fits r (suc given) = written_fits r given
-cursor_fits cutter (Asking zero) = written_fits cutter.source cutter.given
-cursor_fits cutter (Asking (suc busy)) = refl
-cursor_fits cutter (Receiving joining had) = refl
-cursor_fits cutter NoText = tt
+cursor_fits cutter p = grind (arith, common_steps)
 
 pub progress_fits : (current : Option Current) → ProgressFits (progress_of current) (request_in current)
 progress_fits None = tt
@@ -164,11 +151,7 @@ module _ (laws : Laws) (readers : ReaderLaws) (turn : Good) where
     what = move_for e current
 
     next_link : turned g.page up.link o w.message ≡ operate_link
-    next_link =
-        ⊎_elim
-        (λ (k : (turned g.page up.link o w.message ≡ entering_link layouts) × (w.message.mc.channel ≡ Page)). absurd (not_operate layouts.pre (sym (ap (λ (l : Link). l.mode) k.0) ∙ up.out.mode)))
-        (λ (k : turned g.page up.link o w.message ≡ operate_link). k)
-        a.accepted.next
+    next_link = grind (arith, common_steps)
 
     pub od_is : od ≡ (if w.message.mc.read then data_of there layouts.run.od w.message.mc.channel w.message.mc.address else [])
     od_is = ap (λ (q : Reply). q.od.items) a.reply_is
@@ -279,9 +262,7 @@ module _ (laws : Laws) (readers : ReaderLaws) (turn : Good) where
         (ap (λ (q : Reply). q.input.items) a.reply_is) (ap (λ (q : Reply). q.invalid) a.reply_is)
 
     ordered_now : output_of there ≡ (if told_by (output_for e) t.output.told && nat_lt 0 (length w.message.out.items) then Some w.message.out.items else None)
-    ordered_now =
-        ap (λ (b : Bool). if b && nat_lt 0 (length there.out) then Some there.out else None) a.told_as
-        ∙ ap (λ (l : List ℕ). if told_by (output_for e) t.output.told && nat_lt 0 (length l) then Some l else None) a.out_is
+    ordered_now = grind (arith, common_steps)
 
     -- What one kind of message and reply has to bring
 

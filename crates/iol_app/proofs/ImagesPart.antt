@@ -1,19 +1,19 @@
 -- The images: own steps, what is heard, and a wake are allowed there, and leave the far end's input and output.
-use Rattle.std.proofs.Common.{◌≡◌, ℕ, Bool, true, false, not, ◌&&◌, List, [], ◌∷◌, ◌++◌, take, refl, sym, ◌∙◌, ap, subst}
+use Rattle.std.proofs.lemmas.Grind.{common_steps}
+use Rattle.std.proofs.Common.{arith, ◌≡◌, ℕ, Bool, true, false, not, ◌&&◌, List, [], ◌∷◌, ◌++◌, take, refl, sym, ◌∙◌, ap, subst}
 use Rattle.std.specs.Prelude.{Option, Some, None, if◌then◌else◌, IfSome}
 use Rattle.iol_mseq.specs.declared.master.MasterMsg.{MasterMsg}
 use Rattle.iol_isdu.specs.declared.values.Request.{Request}
 use Rattle.iol_isdu.specs.declared.values.Answer.{Answer}
 use Rattle.iol_event.specs.Memory.{Events, is_empty, freezes_at_once}
 use Rattle.iol_link.specs.Honest.{Passage, OutLost, BackLost, Clean, far_after}
-use Rattle.iol_far.specs.Isdu.{IsduState, Empty, Receiving, Whole, Handed, Answered, fits}
+use Rattle.iol_far.specs.Isdu.{IsduState, fits}
 use Rattle.iol_far.specs.Far.{Far, accepted, moved, hear, heard_as, worked, output_of}
-use Rattle.iol_far.specs.Local.{LocalStep, local, locals, carried_by, has_room, is_input, woken}
+use Rattle.iol_far.specs.Local.{LocalStep, local, locals, carried_by, is_input, woken}
 use Rattle.iol_far.specs.Local.{Carry as OwnCarry, Raise as OwnRaise, Input as OwnInput, NoInput as OwnNoInput, Power as OwnPower}
-use Rattle.iol_far.specs.Level.{grown_by}
-use Rattle.iol_steps.specs.Step.{Step, Freeze, Confirm, OutputOff, Input, Image, Moment}
+use Rattle.iol_steps.specs.Step.{Step, Freeze, OutputOff, Input, Image, Moment}
 use Rattle.iol_steps.specs.Images.{Images, images_through, MayImagesAll}
-use Rattle.iol_steps.specs.Bridge.{carry_step, carry_steps, own_step, own_steps, confirm_steps, release_steps, event_steps, output_steps, confirms_by, worked_steps, heard_steps_as, heard_steps, passed_steps, exchange_steps, woken_steps, wake_steps}
+use Rattle.iol_steps.specs.Bridge.{carry_steps, own_step, own_steps, release_steps, worked_steps, heard_steps_as, heard_steps, passed_steps, exchange_steps, woken_steps, wake_steps}
 use Rattle.iol_steps.specs.Station.{Shown, images_of}
 use Rattle.iol_app.proofs.Accepted.{by_accepted}
 use Rattle.iol_app.proofs.OwnSession.{woken_if}
@@ -38,19 +38,8 @@ images_runs-append m i i1 i2 xs ys a b = (
 
 -- Own steps
 
-carry_images_step : (m : Moment) (request : Option Request) (a : Answer) (i : Images) → ImagesRuns m i (carry_step request a ∷ []) i
-carry_images_step m None a i = ((tt, tt), refl)
-carry_images_step m (Some r) a i = ((tt, tt), refl)
-
 carry_images : (m : Moment) (request : Option Request) (s : Shown) (far : Far) (a : Answer) (state : IsduState) → ImagesRuns m (images_of s far) (carry_steps request state far a) (images_of s (carried_by state far a))
-carry_images m request s far a Empty = (tt, refl)
-carry_images m request s far a (Receiving x l) = (tt, refl)
-carry_images m request s far a (Whole r l) = (tt, refl)
-carry_images m request s far a (Answered r b l) = (tt, refl)
-carry_images m request s far a (Handed r) =
-    elim (has_room far && fits r a)
-    as (λ b. ImagesRuns m (images_of s far) (if b then carry_step request a ∷ [] else []) (images_of s (if b then record far { isdu = Answered r a None; carried = grown_by far.carried r a } else far)))
-    [ true ↦ carry_images_step m request a (images_of s far) | false ↦ (tt, refl) ]
+carry_images m request s far a state = grind (arith, common_steps)
 
 own_images_step : (m : Moment) (request : Option Request) (s : Shown) (far : Far) (step : LocalStep) → ImagesRuns m (images_of s far) (own_step request far step) (images_of s (local far step))
 own_images_step m request s far (OwnCarry a) = carry_images m request s far a far.isdu
@@ -70,19 +59,8 @@ own_images m request s (step ∷ steps) far =
 
 -- What is heard
 
-confirm_images : (m : Moment) (i : Images) (e : Events) → ImagesRuns m i (confirm_steps e) i
-confirm_images m i e = elim (not e.held && not (is_empty e.frozen)) as (λ b. ImagesRuns m i (if b then Confirm ∷ [] else []) i) [ true ↦ ((tt, tt), refl) | false ↦ (tt, refl) ]
-
 release_images : (m : Moment) (i : Images) (e : Events) → ImagesRuns m i (release_steps e) i
 release_images m i e = elim (is_empty e.frozen && not (is_empty e.waiting)) as (λ b. ImagesRuns m i (if b then Freeze (take 6 e.waiting) ∷ [] else []) i) [ true ↦ ((tt, tt), refl) | false ↦ (tt, refl) ]
-
-event_images : (m : Moment) (i : Images) (e : Events) (confirms : Bool) → ImagesRuns m i (event_steps e confirms) i
-event_images m i e true = confirm_images m i e
-event_images m i e false = release_images m i e
-
-output_images : (m : Moment) (i : Images) (output : Option Image) → IfSome output (λ x. i.sent ≡ Some x) → ImagesRuns m i (output_steps output) (record i { output = output })
-output_images m i None fits = ((tt, tt), refl)
-output_images m i (Some x) fits = ((tt, tt), ap (λ (o : Option Image). record i { output = o }) fits)
 
 -- the output that the far end has once it worked the message is the image that the master sent
 abbrev pub OutputIsSent : Option Image → Far → List ℕ → MasterMsg → Type 0
@@ -90,12 +68,7 @@ OutputIsSent sent there o msg = IfSome (output_of (worked there o msg)) (λ x. s
 
 worked_images : (m : Moment) (s : Shown) (there : Far) (o : List ℕ) (msg : MasterMsg) (before : Images) → before.input ≡ there.input → OutputIsSent s.sent there o msg →
     before ≡ record (images_of s there) { output = before.output } → ImagesRuns m before (worked_steps there o msg) (images_of s (worked there o msg))
-worked_images m s there o msg before input_is fits is =
-    let i : Images = record (images_of s there) { output = before.output } in
-    subst (λ (b : Images). ImagesRuns m b (worked_steps there o msg) (images_of s (worked there o msg))) (sym is)
-    (images_runs-append m i i (images_of s (worked there o msg)) (event_steps there.events (confirms_by msg.mc)) (output_steps (output_of (worked there o msg)))
-    (event_images m i there.events (confirms_by msg.mc))
-    (output_images m i (output_of (worked there o msg)) fits))
+worked_images m s there o msg before input_is fits is = grind (arith, common_steps)
 
 -- whatever the far end accepts there, its output is then the image that the master sent
 abbrev pub OutputsSent : Option Image → Far → List ℕ → Type 0

@@ -5,17 +5,15 @@ use Rattle.std.specs.Prelude.{Option, Some, None, ◌==◌, IsTrue, slice_index}
 use Rattle.iol_isdu.specs.declared.values.Request.{Request}
 use Rattle.iol_isdu.specs.declared.values.Answer.{Answer}
 use Rattle.iol_isdu.specs.declared.values.Cause.{Cause}
-use Rattle.iol_isdu.specs.declared.values.Cause.TheVariants.{LinkLost, Restarted, BusyTooLong, Protocol, Cancelled}
 use Rattle.iol_segment.specs.TextLaws.{joined}
 use Rattle.iol_far.specs.declared.carried.Carried.{Carried}
-use Rattle.iol_far.specs.Isdu.{IsduState, Empty, Receiving, Whole, Handed, Answered, fits, answer_text, isdu_data}
+use Rattle.iol_far.specs.Isdu.{IsduState, fits, answer_text, isdu_data}
 use Rattle.iol_far.specs.Level.{Busy as IsBusy, Had as IsHad, Stands as FarStands}
 use Rattle.iol_steps.specs.declared.mode.Mode.{Mode}
-use Rattle.iol_steps.specs.declared.mode.Mode.TheVariants.{Down, Startup, Preoperate, Operate}
+use Rattle.iol_steps.specs.declared.mode.Mode.TheVariants.{Down}
 use Rattle.iol_mode.specs.declared.why.Why.{Why}
 use Rattle.iol_mode.specs.declared.why.Why.TheVariants.{Lost}
 use Rattle.iol_steps.specs.Step.{Moment, silence_left}
-use Rattle.iol_steps.specs.Session.{MayMove}
 use Rattle.iol_steps.specs.Bridge.{Hidden, IsOpen}
 use Rattle.iol_steps.specs.Kinds.{Seen, Gone, WasBusy, WasAnswered, WasAborted, lost_steps, brought_steps}
 use Rattle.iol_steps.specs.Station.{AnswerFits}
@@ -38,28 +36,16 @@ answered_session m seen h c r a under is = rw (under, is) ((refl, (tt, tt)), ref
 -- whether it had an answer or not
 pub aborted_session : (m : Moment) (seen : Seen) (h : Hidden) (c : List Carried) (r : Request) (cause : Cause) → seen.request ≡ Some r → MayAbort m.terms.busy_limit seen.busy seen.asked cause →
     SessionRuns m seen h c (brought_steps (WasAborted cause) seen.request) (freed seen) h c
-aborted_session m seen h c r BusyTooLong under may = rw under ((may, (tt, tt)), refl)
-aborted_session m seen h c r Cancelled under may = rw under ((may, (tt, tt)), refl)
-aborted_session m seen h c r LinkLost under may = absurd may
-aborted_session m seen h c r Restarted under may = absurd may
-aborted_session m seen h c r Protocol under may = absurd may
+aborted_session m seen h c r cause under may = grind (arith, common_steps)
 
 -- from the three modes above down
 abbrev pub lost_seen : Seen → Seen
 lost_seen seen = record seen { request = None; mode = Down; why = Some Lost }
 
-may_lose : (m : Moment) (mode : Mode) → (mode ≡ Down → ⊥) → 3 ≤ silence_left m → MayMove m mode Down (Some Lost)
-may_lose m Down n least = absurd (n refl)
-may_lose m Startup n least = least
-may_lose m Preoperate n least = least
-may_lose m Operate n least = least
-
 lost_at : (m : Moment) (request : Option Request) (busy : ℕ) (asked : Bool) (mode : Mode) (why : Option Why) (answer : Option Answer) (late : Option Request) (c : List Carried) → (mode ≡ Down → ⊥) → 3 ≤ silence_left m →
     let seen : Seen = record { request = request; busy = busy; asked = asked; mode = mode; why = why } in let h : Hidden = record { answer = answer; late = late } in
     SessionRuns m seen h c (lost_steps request) (lost_seen seen) (hidden_lost request h) c
-lost_at m None busy asked mode why answer late c up least = ((tt, (may_lose m mode up least, tt)), refl)
-lost_at m (Some r) busy asked mode why None late c up least = ((least, (tt, (may_lose m mode up least, tt))), refl)
-lost_at m (Some r) busy asked mode why (Some a) late c up least = ((least, (tt, (may_lose m mode up least, tt))), refl)
+lost_at m request busy asked mode why answer late c up least = grind (arith, common_steps)
 
 pub lost_session : (m : Moment) (seen : Seen) (h : Hidden) (c : List Carried) → (seen.mode ≡ Down → ⊥) → 3 ≤ silence_left m →
     SessionRuns m seen h c (brought_steps Gone seen.request) (lost_seen seen) (hidden_lost seen.request h) c
@@ -67,11 +53,7 @@ lost_session m seen h c up least = lost_at m seen.request seen.busy seen.asked s
 
 -- and what the device is handed is still what it may carry out
 pub lost_opens : (state : IsduState) (request : Option Request) (h : Hidden) → IsOpen state request h → IsOpen state None (hidden_lost request h)
-lost_opens Empty request h opens = tt
-lost_opens (Receiving t l) request h opens = tt
-lost_opens (Whole r l) request h opens = tt
-lost_opens (Answered r a l) request h opens = tt
-lost_opens (Handed r) request h opens = opens
+lost_opens state request h opens = grind (arith, common_steps)
 
 -- What a good reply says of the answer
 

@@ -33,7 +33,7 @@ pub mod Ending
 pub mod Askings
 pub mod Rewiring
 pub mod AskedTurns
-pub mod Reused
+pub mod SmallFacts
 pub mod Waking
 pub mod Starting
 pub mod Calling

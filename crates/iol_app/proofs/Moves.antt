@@ -1,5 +1,5 @@
 -- What a move says of the message's channel, and of the request.
-use Rattle.std.proofs.Common.{subst, sym, ◌≡◌, ℕ, suc, ◌*◌, ◌<◌, Bool, List, [], length, refl, arith}
+use Rattle.std.proofs.Common.{◌≡◌, ℕ, suc, ◌*◌, ◌<◌, Bool, List, [], length, arith}
 use Rattle.std.proofs.lemmas.Grind.{common_steps}
 use Rattle.std.specs.Prelude.{Option, if◌then◌else◌, ◌==◌, IsTrue}
 use Rattle.iol_octets.specs.declared.control.Channel.{Channel}
@@ -10,7 +10,7 @@ use Rattle.iol_segment.specs.TextLaws.{joined}
 use Rattle.iol_far.specs.declared.carried.Carried.{Carried}
 use Rattle.iol_far.specs.Isdu.{fits, answer_text, isdu_data}
 use Rattle.iol_far.specs.Far.{Far, data_of}
-use Rattle.iol_far.specs.Level.{Progress, Had as IsHad, Move, Begin, More, Ask, Next, Leave, Other, after, IsMove, base_after}
+use Rattle.iol_far.specs.Level.{Progress, Had as IsHad, Move, Ask, Next, Leave, after, IsMove, base_after}
 use Rattle.iol_steps.specs.Bridge.{Hidden}
 use Rattle.iol_steps.specs.Station.{AnswerFits}
 use Rattle.iol_steps.specs.Exchange.{ReadsAnswer}
@@ -40,9 +40,4 @@ answers_base what base carried given = grind (arith, common_steps)
 
 -- and the record is the base still, or again
 pub answer_after : (what : Move) (base carried : List Carried) (request : Option Request) (h : Hidden) → (what ≡ Leave → carried ≡ base) → AnswerFits base request h carried → AnswerFits (base_after what base carried) request h carried
-answer_after (Begin r) base c request h leaves answer = answer
-answer_after More base c request h leaves answer = answer
-answer_after Ask base c request h leaves answer = answer
-answer_after Next base c request h leaves answer = answer
-answer_after Leave base c request h leaves answer = subst (λ (b : List Carried). AnswerFits b request h c) (sym (leaves refl)) answer
-answer_after Other base c request h leaves answer = answer
+answer_after what base c request h leaves answer = grind (arith, common_steps)

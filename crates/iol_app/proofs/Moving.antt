@@ -1,4 +1,5 @@
 -- Each new message is the move that the request's progress asks for, and a good reply brings the request on by it.
+use Rattle.std.proofs.lemmas.Grind.{common_steps}
 use Rattle.std.proofs.Common.{◌≡◌, ℕ, zero, suc, ◌%◌, ◌≤◌, true, false, [], refl, sym, ap, subst, ◌∙◌, arith, Option, Some, None, ◌+◌, ◌*◌, Bool, if◌then◌else◌, List, length}
 use Rattle.std.specs.Prelude.{nat_lt, ◌==◌, IfSome}
 use Rattle.std.proofs.lemmas.Bool.Decides.{nat_tests}
@@ -121,11 +122,7 @@ sent_follows cutter abort flow piece od (suc i) e h =
 -- The reply to a START read
 
 pub busy_follows : (cutter : Cutting Request) (busy : ℕ) → asked_for cutter (one_more busy) ≡ Busy cutter.source
-busy_follows cutter busy = by_count (one_more busy) (omega arith)
-  where
-    by_count : (n : ℕ) → 1 ≤ n → asked_for cutter n ≡ Busy cutter.source
-    by_count zero low = absurd (omega arith)
-    by_count (suc n) low = refl
+busy_follows cutter busy = grind (arith, common_steps)
 
 pub asked_after : (cutter : Cutting Request) (busy given : ℕ) (od : List ℕ) → cutter.given ≡ given → IsAllGiven cutter.size (text_of cutter) given
     → after (asked_for cutter busy) Ask od ≡ level_asked cutter.source od

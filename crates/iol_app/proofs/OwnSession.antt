@@ -1,23 +1,17 @@
 -- What the far end does by itself, in the session's part: it is allowed, and leaves what the record and the choices say.
 use Rattle.std.proofs.Common.{◌≡◌, ℕ, Bool, true, false, not, ◌&&◌, List, [], ◌∷◌, ◌++◌, take, refl, sym, ◌∙◌, ap, subst, arith}
 use Rattle.std.proofs.lemmas.Grind.{common_steps}
-use Rattle.std.specs.Prelude.{Option, Some, None, if◌then◌else◌}
+use Rattle.std.specs.Prelude.{Option, None, if◌then◌else◌}
 use Rattle.iol_mseq.specs.declared.master.MasterMsg.{MasterMsg}
 use Rattle.iol_isdu.specs.declared.values.Request.{Request}
-use Rattle.iol_isdu.specs.declared.values.Answer.{Answer}
-use Rattle.iol_event.specs.Memory.{Events, is_empty, freezes_at_once}
+use Rattle.iol_event.specs.Memory.{Events, is_empty}
 use Rattle.iol_link.specs.Honest.{Passage, OutLost, BackLost, Clean, far_after}
 use Rattle.iol_far.specs.declared.carried.Carried.{Carried}
-use Rattle.iol_far.specs.Isdu.{IsduState, Empty, Receiving, Whole, Handed, Answered, fits}
-use Rattle.iol_far.specs.Far.{Far, moved, hear, heard_as, worked, output_of}
-use Rattle.iol_far.specs.Local.{LocalStep, local, locals, carried_by, has_room, is_input, woken}
-use Rattle.iol_far.specs.Local.{Carry as OwnCarry, Raise as OwnRaise, Input as OwnInput, NoInput as OwnNoInput, Power as OwnPower}
-use Rattle.iol_far.specs.Level.{grown_by}
-use Rattle.iol_steps.specs.declared.mode.Mode.{Mode}
-use Rattle.iol_mode.specs.declared.why.Why.{Why}
-use Rattle.iol_steps.specs.Step.{Step, Freeze, OutputOff, Input, Image, Moment}
+use Rattle.iol_far.specs.Far.{Far, moved, hear, heard_as}
+use Rattle.iol_far.specs.Local.{LocalStep, local, locals, woken}
+use Rattle.iol_steps.specs.Step.{Step, Freeze, OutputOff, Moment}
 use Rattle.iol_steps.specs.Session.{Session, session_through, MaySessionAll}
-use Rattle.iol_steps.specs.Bridge.{Hidden, open_request, IsOpen, carry_step, carry_steps, own_step, own_steps, hidden_carried, hidden_carry, hidden_after, hidden_through, release_steps, event_steps, output_steps, confirms_by, worked_steps, heard_steps_as, heard_steps, passed_steps, exchange_steps, woken_steps, wake_steps}
+use Rattle.iol_steps.specs.Bridge.{Hidden, IsOpen, own_step, own_steps, hidden_after, hidden_through, release_steps, worked_steps, heard_steps_as, heard_steps, passed_steps, exchange_steps, woken_steps, wake_steps}
 use Rattle.iol_steps.specs.Kinds.{Seen}
 use Rattle.iol_steps.specs.Station.{session_of}
 use Rattle.iol_app.proofs.Accepted.{by_accepted}
@@ -43,59 +37,13 @@ session_runs-append m seen seen1 seen2 h h1 h2 c c1 c2 xs ys a b = (
   session_through-append xs ys (session_of seen h c) ∙ ap (session_through ys) a.1 ∙ b.1,
 )
 
-carried_session : (m : Moment) (request : Option Request) (busy : ℕ) (asked : Bool) (mode : Mode) (why : Option Why) (answer : Option Answer) (late : Option Request) (c : List Carried) (a : Answer) (r : Request) →
-    open_request request (record { answer = answer; late = late }) ≡ Some r →
-    let seen : Seen = record { request = request; busy = busy; asked = asked; mode = mode; why = why } in let h : Hidden = record { answer = answer; late = late } in
-    SessionRuns m seen h c (carry_step request a ∷ []) seen (hidden_carried request a h) (grown_by c r a)
-carried_session m None busy asked mode why answer None c a r opens = absurd (let k : None ≡ Some r = opens in cc)
-carried_session m None busy asked mode why answer (Some q) c a r opens =
-    let e : q ≡ r = cc in ((refl, tt), ap (λ (x : Request). session_of (record { request = None; busy = busy; asked = asked; mode = mode; why = why }) (record { answer = answer; late = None }) (grown_by c x a)) e)
-carried_session m (Some q) busy asked mode why None late c a r opens =
-    let e : q ≡ r = cc in ((refl, tt), ap (λ (x : Request). session_of (record { request = Some q; busy = busy; asked = asked; mode = mode; why = why }) (record { answer = Some a; late = late }) (grown_by c x a)) e)
-carried_session m (Some q) busy asked mode why (Some b) late c a r opens = absurd (let k : None ≡ Some r = opens in cc)
-
-carry_session : (m : Moment) (seen : Seen) (h : Hidden) (far : Far) (a : Answer) (s : IsduState) → IsOpen s seen.request h →
-    SessionRuns m seen h far.carried (carry_steps seen.request s far a) seen (hidden_carry seen.request s far a h) (carried_by s far a).carried
-carry_session m seen h far a Empty opens = (tt, refl)
-carry_session m seen h far a (Receiving t l) opens = (tt, refl)
-carry_session m seen h far a (Whole r l) opens = (tt, refl)
-carry_session m seen h far a (Answered r b l) opens = (tt, refl)
-carry_session m seen h far a (Handed r) opens =
-    elim (has_room far && fits r a)
-    as (λ b. SessionRuns m seen h far.carried (if b then carry_step seen.request a ∷ [] else []) seen (if b then hidden_carried seen.request a h else h)
-    (if b then record far { isdu = Answered r a None; carried = grown_by far.carried r a } else far).carried)
-    [ true ↦ carried_session m seen.request seen.busy seen.asked seen.mode seen.why h.answer h.late far.carried a r opens | false ↦ (tt, refl) ]
-
-carry_open : (request : Option Request) (h : Hidden) (far : Far) (a : Answer) (s : IsduState) → IsOpen far.isdu request h → IsOpen (carried_by s far a).isdu request (hidden_carry request s far a h)
-carry_open request h far a (Handed r) opens =
-    elim (has_room far && fits r a)
-    as (λ b. IsOpen (if b then record far { isdu = Answered r a None; carried = grown_by far.carried r a } else far).isdu request (if b then hidden_carried request a h else h))
-    [ true ↦ tt | false ↦ opens ]
-carry_open request h far a Empty opens = opens
-carry_open request h far a (Receiving t l) opens = opens
-carry_open request h far a (Whole r l) opens = opens
-carry_open request h far a (Answered r b l) opens = opens
-
 -- one own step
 pub own_session_step : (m : Moment) (seen : Seen) (h : Hidden) (far : Far) (step : LocalStep) → IsOpen far.isdu seen.request h →
     SessionRuns m seen h far.carried (own_step seen.request far step) seen (hidden_after seen.request far step h) (local far step).carried
-own_session_step m seen h far (OwnCarry a) opens = carry_session m seen h far a far.isdu opens
-own_session_step m seen h far (OwnRaise e) opens =
-    elim (freezes_at_once far.events) as (λ b. SessionRuns m seen h far.carried (if b then Freeze (e ∷ []) ∷ [] else []) seen h far.carried) [ true ↦ ((tt, tt), refl) | false ↦ (tt, refl) ]
-own_session_step m seen h far (OwnInput image) opens =
-    elim (is_input far image)
-    as (λ b. SessionRuns m seen h far.carried (if b then Input (Some image) ∷ [] else []) seen h (if b then record far { input = Some image } else far).carried) [ true ↦ ((tt, tt), refl) | false ↦ (tt, refl) ]
-own_session_step m seen h far OwnNoInput opens = ((tt, tt), refl)
-own_session_step m seen h far OwnPower opens = ((tt, tt), refl)
+own_session_step m seen h far step opens = grind (arith, common_steps)
 
 pub own_open_step : (request : Option Request) (h : Hidden) (far : Far) (step : LocalStep) → IsOpen far.isdu request h → IsOpen (local far step).isdu request (hidden_after request far step h)
-own_open_step request h far (OwnCarry a) opens = carry_open request h far a far.isdu opens
-own_open_step request h far (OwnRaise e) opens = opens
-own_open_step request h far (OwnInput image) opens =
-    elim (is_input far image)
-    as (λ b. IsOpen (if b then record far { input = Some image } else far).isdu request h) [ true ↦ opens | false ↦ opens ]
-own_open_step request h far OwnNoInput opens = opens
-own_open_step request h far OwnPower opens = tt
+own_open_step request h far step opens = grind (arith, common_steps)
 
 pub own_open : (request : Option Request) (h : Hidden) (steps : List LocalStep) (far : Far) → IsOpen far.isdu request h → IsOpen (locals far steps).isdu request (hidden_through request far steps h)
 own_open request h [] far opens = opens
@@ -117,17 +65,8 @@ own_session m seen h (step ∷ steps) far opens =
 release_session : (m : Moment) (s : Session) (e : Events) → MaySessionAll m (release_steps e) s × (session_through (release_steps e) s ≡ s)
 release_session m s e = elim (is_empty e.frozen && not (is_empty e.waiting)) as (λ b. MaySessionAll m (if b then Freeze (take 6 e.waiting) ∷ [] else []) s × (session_through (if b then Freeze (take 6 e.waiting) ∷ [] else []) s ≡ s)) [ true ↦ ((tt, tt), refl) | false ↦ (tt, refl) ]
 
-event_session : (m : Moment) (s : Session) (e : Events) (confirms : Bool) → MaySessionAll m (event_steps e confirms) s × (session_through (event_steps e confirms) s ≡ s)
-event_session m s e confirms = grind (arith, common_steps)
-
-output_session : (m : Moment) (s : Session) (output : Option Image) → MaySessionAll m (output_steps output) s × (session_through (output_steps output) s ≡ s)
-output_session m s output = grind (arith, common_steps)
-
 worked_session : (m : Moment) (seen : Seen) (h : Hidden) (there : Far) (o : List ℕ) (msg : MasterMsg) → SessionRuns m seen h there.carried (worked_steps there o msg) seen h there.carried
-worked_session m seen h there o msg =
-    session_runs-append m seen seen seen h h h there.carried there.carried there.carried (event_steps there.events (confirms_by msg.mc)) (output_steps (output_of (worked there o msg)))
-    (event_session m (session_of seen h there.carried) there.events (confirms_by msg.mc))
-    (output_session m (session_of seen h there.carried) (output_of (worked there o msg)))
+worked_session m seen h there o msg = grind (arith, common_steps)
 
 pub heard_session : (m : Moment) (seen : Seen) (h : Hidden) (far : Far) (o : List ℕ) → SessionRuns m seen h far.carried (heard_steps far o) seen h (hear far o).far.carried
 heard_session m seen h far o = by_accepted (λ q. SessionRuns m seen h far.carried (heard_steps_as q o) seen h (heard_as far o q).far.carried) far o (tt, refl)

@@ -41,7 +41,7 @@ use Rattle.iol_app.proofs.OperateMessages.{exchange_command}
 use Rattle.iol_app.proofs.Turns.{good_parts}
 use Rattle.iol_mseq.specs.Shape.{Shape}
 use Rattle.iol_app.specs.Core.{Core, Ghost, Stands, ReceiveGives, Receives, core_out, after_exchange}
-use Rattle.iol_app.proofs.Reused.{third_time}
+use Rattle.iol_app.proofs.SmallFacts.{third_time}
 use Rattle.iol_app.proofs.FarSide.{Goes, silent, replied, says_of, outputs_sent, outputs_after, opens_after, replied_told, replied_out}
 use Rattle.iol_app.proofs.Exchanging.{Passes, gives, misses, loses, at, level_here, tied'}
 use Rattle.iol_app.proofs.Had.{Good, Replied, progress_fits, had}

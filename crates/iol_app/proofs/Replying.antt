@@ -9,4 +9,3 @@ use Rattle.iol_far.specs.declared.mode.Mode as device
 -- a message that the far end accepts it replies to
 pub accepts_reply : (far : Far) (o : List ℕ) (there : Far) (m : MasterMsg) → accepted far o ≡ Some (there, m) → (reply : List ℕ) × ((hear far o).reply ≡ Some reply)
 accepts_reply far o there m e = (octets_of (reply_to (worked there o m) (layout_of (worked there o m)) m), ap (λ (q : Option (Far × MasterMsg)). (heard_as far o q).reply) e)
-

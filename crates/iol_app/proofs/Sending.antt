@@ -43,7 +43,7 @@ use Rattle.iol_app.proofs.DueFacts.{IsDue, due_is}
 use Rattle.iol_app.proofs.OperateMessages.{tell_differs, page_command}
 use Rattle.iol_app.proofs.Telling.{told_layout}
 use Rattle.iol_app.specs.Core.{Core, Ghost, Stands, Sends, SendGives, Turns, core_out, free_core, made_ghost, reading_at, reading_in, ordered_by}
-use Rattle.iol_app.proofs.Reused.{keeps_some, events_due, confirms_is, not_operate, begins_request, tells_wanted, drops_told, some_or, image_some, sent_made, same_carried}
+use Rattle.iol_app.proofs.SmallFacts.{keeps_some, events_due, confirms_is, not_operate, begins_request, tells_wanted, drops_told, some_or, image_some, sent_made, same_carried}
 
 -- which readings a confirm and a read go out for
 confirm_due : (r : app.Reading) (flag : Bool) (due : Event × List Event) → is_confirm_due r ≡ true → is_due (reading_at r flag due) ≡ true

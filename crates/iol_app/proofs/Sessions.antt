@@ -1,9 +1,10 @@
 -- What always holds of a session.
-use Rattle.std.proofs.Common.{◌≡◌, ⊎_elim, ℕ, zero, suc, ◌-◌, ◌*◌, ◌<◌, ◌≤◌, Bool, true, false, ◌==◌, if◌then◌else◌, List, length, replicate, refl, sym, ap, subst, ◌∙◌, arith, Option, Some, None}
+use Rattle.std.proofs.lemmas.Grind.{common_steps}
+use Rattle.std.proofs.Common.{◌≡◌, ⊎_elim, ℕ, zero, suc, ◌-◌, ◌*◌, ◌<◌, ◌≤◌, Bool, true, false, ◌==◌, if◌then◌else◌, List, length, refl, sym, ap, subst, ◌∙◌, arith, Option, Some, None}
 use Rattle.std.specs.Prelude.{slice_index, is_some, IfSome, IsTrue, unwrap_or}
 use Rattle.std.proofs.lemmas.Bool.{cases_Bool}
-use Rattle.std.proofs.lemmas.List.{length-append, length-replicate}
-use Rattle.iol_mseq.specs.Shape.{Shape, IsLayout, is_size}
+use Rattle.std.proofs.lemmas.List.{length-append}
+use Rattle.iol_mseq.specs.Shape.{Shape, IsLayout}
 use Rattle.iol_mseq.specs.Master.{HasMasterParts}
 use Rattle.iol_mseq.specs.Replies.{answered_od}
 use Rattle.iol_mseq.specs.declared.reply.Reply.{Reply}
@@ -113,9 +114,7 @@ module _ (layout : Option Shape) (reading : Reading) (limit : ℕ) (od : List �
   current_request exchange None said h size fits suits said_is = ap (request_after None) (sym said_is)
 
 output_stays : (size : ℕ) (exchange : Exchange) (output : Output) → IsOutput size output → IsOutput size (output_after exchange output)
-output_stays size TellOutput output h = record { carried = h.carried; wanted = h.wanted }
-output_stays size DropOutput output h = record { carried = h.carried; wanted = h.wanted }
-output_stays size other output h = h
+output_stays size exchange output h = grind (arith, common_steps)
 
 -- a session that takes up a good reply
 pub absorbed_stays : (s : SessionState) (exchange : Exchange) (reply : Reply) → IsSession s
@@ -137,9 +136,7 @@ carried_length size None carried e h = e
 carried_length size (Some image) carried e h = h
 
 length-first_of_zeros : (size octet : ℕ) → 1 ≤ size → length (first_of_zeros size octet) ≡ size
-length-first_of_zeros size octet some =
-    let zeros : length (replicate {A = ℕ} (size - 1) 0) ≡ size - 1 = length-replicate (size - 1) 0 in
-    omega arith
+length-first_of_zeros size octet some = grind (arith, common_steps)
 
 -- of the size of on-request data in a write, and none in a read
 abbrev IsData : ℕ → Bool → List ℕ → Type 0
@@ -171,11 +168,7 @@ data_length NextMessage size _ current some h same = request_data_length size cu
 data_length other size _ current some h same = refl
 
 od_some : (layout : Shape) → IsLayout layout → 1 ≤ layout.od
-od_some layout h = by_size layout.od h.od
-  where
-    by_size : (od : ℕ) → IsTrue (is_size od) → 1 ≤ od
-    by_size zero h = absurd (let k : false ≡ true = h in cc)
-    by_size (suc n) h = omega arith
+od_some layout h = grind (arith, common_steps)
 
 pub parts_fit : (s : SessionState) (exchange : Exchange) (message : MasterMsg) (layout : Shape) → IsSession s → s.layout ≡ Some layout
     → head_of message.mc ≡ head_for exchange s.events.reading s.current → message.od.items ≡ data_for exchange layout.od s.current → message.out.items ≡ carried_by s.output

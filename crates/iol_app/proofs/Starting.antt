@@ -75,7 +75,7 @@ use Rattle.iol_app.proofs.Telling.{startup_layout, told_layout, told_stays, told
 use Rattle.iol_app.specs.Core.{Core, Ghost, Stands, CallGives, Rises, RequestStands, EventsStand, OutputStands, OutputOff, CalmAt, ShownStands, moment_of, seen_in, shown_in, images_in, after_exchange}
 use Rattle.iol_mode.specs.Exchanges.{text_out, judged}
 use Rattle.iol_app.proofs.FarSide.{Goes, silent, replied, IsReplied, outputs_sent, outputs_after, opens_after}
-use Rattle.iol_app.proofs.Reused.{third_time}
+use Rattle.iol_app.proofs.SmallFacts.{third_time}
 
 data Start : Type 0 where
   InStart : Startup → Start

@@ -1,7 +1,7 @@
 -- The octets of an answer that the master has had.
 use Rattle.std.proofs.Common.{◌≡◌, ℕ, suc, ◌*◌, ◌<◌, Bool, List, ◌∷◌, ◌++◌, length, sym, ◌∙◌, ap, subst, arith}
 use Rattle.std.proofs.lemmas.Grind.{common_steps}
-use Rattle.std.specs.Prelude.{Some, None, if◌then◌else◌, ◌==◌, IsTrue, slice_index}
+use Rattle.std.specs.Prelude.{Some, None, if◌then◌else◌, ◌==◌, IsTrue}
 use Rattle.iol_octets.specs.declared.control.Channel.{Channel}
 use Rattle.iol_octets.specs.declared.flow_control.Flow.{Flow}
 use Rattle.iol_isdu.specs.declared.values.Request.{Request}
@@ -17,10 +17,7 @@ use Rattle.iol_app.proofs.Moves.{next_wants}
 
 -- a START read brings the first segment
 first_begins : (size : ℕ) (q r : Request) (i : ℕ) (octets data_in : List ℕ) (a : Answer) → asked q data_in ≡ IsHad r i octets → i * size < length (answer_text r a)
-first_begins size q r i octets data_in a e = by_test (slice_index data_in 0 == 1) e
-  where
-    by_test : (b : Bool) → (if b then IsBusy q else IsHad q 0 data_in) ≡ IsHad r i octets → i * size < length (answer_text r a)
-    by_test b given = grind (arith, common_steps)
+first_begins size q r i octets data_in a e = grind (arith, common_steps)
 
 -- a COUNT read the next one
 next_begins : (size : ℕ) (q : Request) (j : ℕ) (t : List ℕ) (r : Request) (i : ℕ) (octets data_in : List ℕ) (a : Answer) (channel : Channel) (read : Bool) (flow : Flow) (sent : List ℕ) → IsMove size Next (IsHad q j t) channel read flow sent →

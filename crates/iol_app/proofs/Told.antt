@@ -18,9 +18,6 @@ use Rattle.iol_app.proofs.Accepted.{by_accepted}
 use Rattle.iol_app.proofs.FirstOctet.{confirms_of}
 use Rattle.iol_app.proofs.FrozenPart.{ConfirmsTold}
 
-pub was_awake : (far : Far) (step : LocalStep) → (local far step).awake ≡ true → far.awake ≡ true
-was_awake far step given = grind (arith, common_steps)
-
 pub heard_awake : (far : Far) (o : List ℕ) → (hear far o).far.awake ≡ far.awake
 heard_awake far o = by_accepted (λ q. (heard_as far o q).far.awake ≡ far.awake) far o refl (λ w m e. refl) (λ w command k m e. refl)
 
@@ -28,21 +25,8 @@ worked_told : (reading : Reading) (c : Bool) (m : Events) (awake t : Bool) → (
 worked_told reading c m awake t given given2 given3 = grind (arith, common_steps)
 
 module _ (laws : (first : Event) (rest : List Event) → EventLaws first rest) where
-  fit_step : (reading : Reading) (c : Bool) (far : Far) (step : LocalStep) → (far.awake ≡ true → EventsFit reading c far.events) → (local far step).awake ≡ true → EventsFit reading c (local far step).events
-  fit_step Resting c far step h w = tt
-  fit_step Flagged c far step h w = let k = h (was_awake far step w) in (k.0, k.1, (laws k.0 k.1).frozen_steps far step (λ a. k.2) w)
-  fit_step (Under octets) c far step h w = let k = h (was_awake far step w) in (k.0, k.1, (laws k.0 k.1).frozen_steps far step (λ a. k.2) w, k.3)
-  fit_step (Due x xs) false far step h w = (laws x xs).frozen_steps far step h w
-  fit_step (Due x xs) true far step h w = (laws x xs).confirming_steps far step h w
-
   told_step : (reading : Reading) (c : Bool) (far : Far) (step : LocalStep) (t : Bool) → EventsTold reading c far t → EventsTold reading c (local far step) (told_after far step t)
-  told_step reading c far step t h = (fit_step reading c far step h.0, stays far step h)
-    where
-      same : (g : Far) (far : Far) → g.awake ≡ far.awake → t ≡ (far.awake && is_due reading) → t ≡ (g.awake && is_due reading)
-      same g far e k = k ∙ ap (λ (b : Bool). b && is_due reading) (sym e)
-
-      stays : (far : Far) (step : LocalStep) → EventsTold reading c far t → told_after far step t ≡ ((local far step).awake && is_due reading)
-      stays far step given = grind (arith, common_steps)
+  told_step reading c far step t h = grind (arith, common_steps)
 
   pub told_locals : (reading : Reading) (c : Bool) (steps : List LocalStep) (far : Far) (t : Bool) → EventsTold reading c far t → EventsTold reading c (locals far steps) (told_through far steps t)
   told_locals r c [] far t h = h

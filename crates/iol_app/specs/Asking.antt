@@ -1,5 +1,5 @@
 -- Which call of the wire a turn makes, as a function of the station before it.
-use Rattle.std.specs.Prelude.{ℕ, ◌+◌, ◌*◌, Bool, true, ◌&&◌, if◌then◌else◌, List, ◌∷◌, ◌++◌, Option, Some, None, unwrap_or}
+use Rattle.std.specs.Prelude.{◌≡◌, ℕ, ◌+◌, ◌*◌, Bool, true, ◌&&◌, if◌then◌else◌, List, ◌∷◌, ◌++◌, Option, Some, None, unwrap_or}
 use Rattle.arrayvec.specs.ArrayVec.{ArrayVec}
 use Rattle.iol_octets.specs.Checksum.{with_checksum}
 use Rattle.iol_octets.specs.Control.{channel_code}
@@ -16,7 +16,7 @@ use Rattle.iol_app.specs.declared.session.Exchange as purpose
 use Rattle.iol_mode.specs.declared.states.State.{State}
 use Rattle.iol_mode.specs.declared.states.State.TheVariants.{Down as AtDown, Startup as AtStartup, Preoperate as AtPreoperate, Operate as AtOperate}
 use Rattle.iol_app.specs.Outputs.{carried_by}
-use Rattle.iol_app.specs.Messages.{Head, head_for, data_for}
+use Rattle.iol_app.specs.Messages.{Head, head_of, head_for, data_for}
 use Rattle.iol_app.specs.State.{SessionState, od_size, begun_in}
 use Rattle.iol_app.specs.Due.{due_of, is_ready}
 use Rattle.iol_app.specs.StationState.{StationState, is_operating}
@@ -37,6 +37,12 @@ text_for layout exchange s =
 -- and of one for what is due
 abbrev pub text_due : Shape → SessionState → Bool → List ℕ
 text_due layout s room = text_for layout (due_of s room) s
+
+-- a new message for what is due
+pub record IsDue (s : SessionState) (room : Bool) (message : MasterMsg) : Type 0 where
+  pub head : head_of message.mc ≡ head_for (due_of s room) s.events.reading s.current
+  pub out : message.out.items ≡ carried_by s.output
+  pub od : message.od.items ≡ data_for (due_of s room) (od_size s.layout) s.current
 
 -- the message out, again, else a new one for what is due
 abbrev pub text_of : Shape → Option MasterMsg → SessionState → Bool → List ℕ

@@ -122,7 +122,8 @@ images_in c g far = images_of (shown_in c.session g.sent) far
 
 -- In OPERATE, with the message that is out
 
-abbrev pub LevelOut : List ℕ → ℕ → List Carried → Link → Progress → Shape → Option Sending → Far → Type 0
+abbrev pub LevelOut : List ℕ → ℕ → List Carried → Link → Progress → Shape → Option Sending → Far
+    → Type 0
 LevelOut page size base link progress run None far = IsBefore page size base link progress far
 LevelOut page size base link progress run (Some sent) far =
     IsLevel page size base link progress (master_text run sent.message) sent.tries far
@@ -137,31 +138,46 @@ confirm_out (Some exchange) = confirms_events exchange
 
 -- what the message out has to do with the rest: the far end takes it in OPERATE's layout, for the
 -- move that the request's progress asks for; the reading wants it; it carries the image sent
-pub record OutStands (layouts : Layouts) (out : Sending) (exchange : Exchange) (current : Option Current) (reading : Reading) (page : List ℕ) (link : Link) (sent : Option Image) : Type 0 where
+pub record OutStands (layouts : Layouts) (out : Sending) (exchange : Exchange)
+    (current : Option Current) (reading : Reading) (page : List ℕ) (link : Link)
+    (sent : Option Image) : Type 0 where
   pub mode : (taken link (master_text layouts.run out.message)).mode ≡ FarOperate
-  pub goes : IsSent page layouts.run.od link (progress_of current) (master_text layouts.run out.message) out.message (move_for exchange current)
+  pub goes :
+      IsSent page layouts.run.od link (progress_of current)
+      (master_text layouts.run out.message) out.message (move_for exchange current)
   pub confirm : exchange ≡ ConfirmEvents → is_due reading ≡ true
   pub reads : exchange ≡ ReadEvent → wants_octet reading ≡ true
   pub carries : IfSome sent (λ image. out.message.out.items ≡ image)
   pub tells : output_for exchange ≡ Some true → IsSome sent
 
-abbrev pub OutBy : Layouts → Option Sending → Option Exchange → Option Current → Reading → List ℕ → Link → Option Image → Type 0
-OutBy layouts (Some out) (Some exchange) current reading page link sent = OutStands layouts out exchange current reading page link sent
-OutBy layouts None None current reading page link sent = ⊤
-OutBy layouts out exchange current reading page link sent = ⊥
+abbrev pub OutBy : Layouts → Option Sending → Option Exchange → Option Current → Reading → List ℕ
+    → Link → Option Image → Type 0
+OutBy layouts (Some out) (Some exchange) current r page link sent =
+    OutStands layouts out exchange current r page link sent
+OutBy layouts None None current r page link sent = ⊤
+OutBy layouts out exchange current r page link sent = ⊥
 
-pub record OperateRequest (s : Operate) (limit : ℕ) (current : Option Current) (exchange : Option Exchange) (reading : Reading) (g : Ghost) (far : Far) : Type 0 where
+-- the request under way, or that none is
+pub record OperateRequest (s : Operate) (limit : ℕ) (current : Option Current)
+    (exchange : Option Exchange) (reading : Reading) (g : Ghost) (far : Far) : Type 0 where
+  -- nothing is left over of an earlier request; what the device is handed is this one
   pub late : g.request.hidden.late ≡ None
   pub opens : IsOpen far.isdu (request_in current) g.request.hidden
+  -- both ends are level, as far as the request has come, with the message that is out
   pub link : Link
   pub linked : OperateLink s.layouts (progress_of current) link
-  pub level : LevelOut g.page s.layouts.run.od g.request.base link (progress_of current) s.layouts.run s.out far
+  pub level :
+      LevelOut g.page s.layouts.run.od g.request.base link
+      (progress_of current) s.layouts.run s.out far
   pub out : OutBy s.layouts s.out exchange current reading g.page link g.sent
+  -- the record has grown by the device's answer, once it has one
   pub answer : AnswerFits g.request.base (request_in current) g.request.hidden far.carried
+  -- the busy replies are counted, and an abort waits for what it may
   pub busy : BusySeen limit current g.request.busy g.request.asked
   -- a request is under way only where the device has ISDU
   pub known : IsSome (request_in current) → IsTrue (knows_isdu g.page)
 
+-- the reading of events, with the list whose confirm is due
 abbrev pub reading_at : app.Reading → Bool → Event × List Event → Reading
 reading_at Resting flag due = reading_flagged flag
 reading_at (UnderWay octets) flag due = steps.Under octets
@@ -172,17 +188,23 @@ abbrev pub reading_in : Events → OfEvents → Reading
 reading_in events g = reading_at events.reading events.flag g.due
 
 -- the link's own part says that nothing is under way in a start-up
-abbrev pub RequestStands : State → ℕ → Option Current → Option Exchange → Events → Ghost → Far → Type 0
+abbrev pub RequestStands : State → ℕ → Option Current → Option Exchange → Events → Ghost → Far
+    → Type 0
 RequestStands (AtDown s) limit current exchange events g far = IsOpen far.isdu None g.request.hidden
-RequestStands (AtStartup s) limit current exchange events g far = (g.request.hidden.late ≡ None) × IsOpen far.isdu None g.request.hidden
-RequestStands (AtPreoperate s) limit current exchange events g far = (g.request.hidden.late ≡ None) × IsOpen far.isdu None g.request.hidden
-RequestStands (AtOperate s) limit current exchange events g far = OperateRequest s limit current exchange (reading_in events g.events) g far
+RequestStands (AtStartup s) limit current exchange events g far =
+    (g.request.hidden.late ≡ None) × IsOpen far.isdu None g.request.hidden
+RequestStands (AtPreoperate s) limit current exchange events g far =
+    (g.request.hidden.late ≡ None) × IsOpen far.isdu None g.request.hidden
+RequestStands (AtOperate s) limit current exchange events g far =
+    OperateRequest s limit current exchange (reading_in events g.events) g far
 
+-- in OPERATE the device's events fit the reading; in a start-up none is read, nor told
 abbrev pub EventsStand : State → Option Exchange → Events → OfEvents → Far → Type 0
 EventsStand (AtDown s) exchange events g far = ⊤
 EventsStand (AtStartup s) exchange events g far = (events.reading ≡ Resting) × (g.told ≡ false)
 EventsStand (AtPreoperate s) exchange events g far = (events.reading ≡ Resting) × (g.told ≡ false)
-EventsStand (AtOperate s) exchange events g far = EventsTold (reading_in events g) (confirm_out exchange) far g.told
+EventsStand (AtOperate s) exchange events g far =
+    EventsTold (reading_in events g) (confirm_out exchange) far g.told
 
 -- the device's output is invalid outside OPERATE
 pub record OutputOff (told : Bool) (far : Far) : Type 0 where
@@ -195,14 +217,16 @@ abbrev pub OutputStands : State → Option Exchange → Bool → Option Image �
 OutputStands (AtDown s) exchange told sent far = ⊤
 OutputStands (AtStartup s) exchange told sent far = OutputOff told far
 OutputStands (AtPreoperate s) exchange told sent far = OutputOff told far
-OutputStands (AtOperate s) exchange told sent far = OutputTold sent (command_out exchange ≡ None) told far
+OutputStands (AtOperate s) exchange told sent far =
+    OutputTold sent (command_out exchange ≡ None) told far
 
 -- with no message out in OPERATE there is no silence
 abbrev pub CalmBy : Option Sending → ℕ → Type 0
 CalmBy None silence = silence ≡ 0
 CalmBy (Some out) silence = ⊤
 
--- of a request begun since the last call of the wire no segment had a good reply, and none is handed
+-- of a request begun since the last call of the wire no segment had a good reply, and none is
+-- handed
 abbrev pub FreshAt : State → Option Current → Far → Type 0
 FreshAt (AtOperate s) current far = (progress_of current ≡ Quiet) × (handed far.isdu ≡ None)
 FreshAt s current far = ⊥
@@ -215,10 +239,13 @@ CalmAt s silence = ⊤
 pub record ShownStands (c : Core) (page : List ℕ) : Type 0 where
   pub image : mode_in c.state ≢ ModeOperate → c.session.image ≡ None
   pub wanted : IfSome c.session.output.wanted IsImage
-  pub lengths : IfSome (option_map (λ (layout : Shape). layout.pd_out) c.session.layout) (λ length. length ≡ output_length page)
+  pub lengths :
+      IfSome (option_map (λ (layout : Shape). layout.pd_out) c.session.layout)
+      (λ length. length ≡ output_length page)
   pub isdu : IfSome c.session.isdu (λ known. known ≡ knows_isdu page)
   pub no_form : is_refused c.session.events.reading ≡ false
 
+-- both ends stand together
 pub record Stands (c : Core) (g : Ghost) (far : Far) (silence : ℕ) : Type 0 where
   pub page : far.page ≡ g.page
   -- the link's part is the lower crate's, word for word
@@ -229,13 +256,14 @@ pub record Stands (c : Core) (g : Ghost) (far : Far) (silence : ℕ) : Type 0 wh
   pub fresh : IsTrue g.fresh → FreshAt c.state c.session.current far
   -- the image sent is the one carried last
   pub sent : SentSeen c.session.layout c.session.output.carried.items g.sent
-  pub request : RequestStands c.state c.session.limit c.session.current c.session.exchange c.session.events g far
+  pub request :
+      RequestStands c.state c.session.limit c.session.current c.session.exchange c.session.events g
+      far
   pub events : EventsStand c.state c.session.exchange c.session.events g.events far
   pub output : OutputStands c.state c.session.exchange c.session.output.told g.sent far
   pub shown : ShownStands c g.page
 
--- Where a call of the wire is one piece, a message that is out between two of them was sent at
--- least once
+-- Where a turn is one piece, a message that is out between two turns was sent at least once
 abbrev pub IsTried : Option Sending → Type 0
 IsTried None = ⊤
 IsTried (Some out) = 1 ≤ out.tries
@@ -252,12 +280,14 @@ ordered_by told items = if told && nat_lt 0 (length items) then Some items else 
 
 abbrev pub ordered_at : Option Sending → SessionState → Option Image
 ordered_at None t = t.output.wanted
-ordered_at (Some out) t = ordered_by (told_by (command_out t.exchange) t.output.told) out.message.out.items
+ordered_at (Some out) t =
+    ordered_by (told_by (command_out t.exchange) t.output.told) out.message.out.items
 
 abbrev pub ordered : State → SessionState → Option Image
 ordered (AtOperate s) t = ordered_at s.out t
 ordered s t = t.output.wanted
 
+-- what the steps of the call are judged by
 abbrev pub moment_of : Core → Ghost → ℕ → WireCall → Moment
 moment_of c g silence call = record {
   terms = record { busy_limit = c.session.limit; page = g.page };
@@ -266,7 +296,10 @@ moment_of c g silence call = record {
   call = call;
 }
 
-pub record CallGives (c : Core) (g : Ghost) (far : Far) (silence : ℕ) (said : Said) (next : Core) (far_new : Far) (silence_new : ℕ) : Type 0 where
+-- one call of the wire, and one list of steps, each allowed where it is taken, whose effects on the
+-- three parts of the abstract port are what happened; and both ends stand together afterwards
+pub record CallGives (c : Core) (g : Ghost) (far : Far) (silence : ℕ) (said : Said) (next : Core)
+    (far_new : Far) (silence_new : ℕ) : Type 0 where
   pub call : WireCall
   pub steps : List Step
   pub after : Ghost
@@ -276,13 +309,23 @@ pub record CallGives (c : Core) (g : Ghost) (far : Far) (silence : ℕ) (said : 
   pub clash_free : IsTrue (is_clash_free steps)
   -- in the call of a request begun since the last one, no step clashes with its taking
   pub fresh : IsTrue g.fresh → IsTrue (list_all is_calm steps)
-  pub said_book : filter is_for_book steps ≡ woke_up (mode_in c.state) (mode_in next.state) ++ book_said said
+  pub said_book : filter is_for_book steps
+      ≡ woke_up (mode_in c.state) (mode_in next.state) ++ book_said said
   pub said_reports : filter is_report steps ≡ reports_said said
-  pub session : MaySessionAll (moment_of c g silence call) steps (session_in c g far) × (session_through steps (session_in c g far) ≡ session_in next after far_new)
-  pub frozen : MayFrozenAll steps (frozen_in g far) × (frozen_through steps (frozen_in g far) ≡ frozen_in after far_new)
-  pub images : MayImagesAll (moment_of c g silence call) steps (images_in c g far) × (images_through (moment_of c g silence call) steps (images_in c g far) ≡ images_in next after far_new)
-  pub image_is_last : ImageIsLast (moment_of c g silence call) (mode_in next.state) (images_in c g far) (images_in next after far_new)
-  pub output_is_wanted : OutputIsWanted (moment_of c g silence call) (record (images_in c g far) { wanted = ordered c.state c.session }) (images_in next after far_new)
+  pub session : MaySessionAll (moment_of c g silence call) steps (session_in c g far)
+      × (session_through steps (session_in c g far) ≡ session_in next after far_new)
+  pub frozen : MayFrozenAll steps (frozen_in g far)
+      × (frozen_through steps (frozen_in g far) ≡ frozen_in after far_new)
+  pub images : MayImagesAll (moment_of c g silence call) steps (images_in c g far)
+      × (images_through (moment_of c g silence call) steps (images_in c g far)
+      ≡ images_in next after far_new)
+  pub image_is_last :
+      ImageIsLast (moment_of c g silence call) (mode_in next.state) (images_in c g far)
+      (images_in next after far_new)
+  pub output_is_wanted :
+      OutputIsWanted (moment_of c g silence call)
+      (record (images_in c g far) { wanted = ordered c.state c.session })
+      (images_in next after far_new)
   pub stands : Stands next after far_new silence_new
 
 -- a wake: the code's own functions say what becomes of the data
@@ -296,7 +339,8 @@ pub record Wakes : Type 0 where
   pub gives : (c : Core) (g : Ghost) (far far_new : Far) (silence : ℕ) (answered : Bool)
       → Stands c g far silence → IsDown c.state → HonestWake far answered far_new
       -- the link's own law
-      → StateStands (state_of (waked answered)) silence far_new → StateFits (state_of (waked answered))
+      → StateStands (state_of (waked answered)) silence far_new
+      → StateFits (state_of (waked answered))
       → CallGives c g far silence Idle (after_wake answered c.session) far_new silence
 
 -- an exchange of a start-up: the link says what becomes of the mode
@@ -305,11 +349,15 @@ after_exchange outcome t = record { state = state_of outcome; session = settled_
 
 -- in both modes of a start-up
 pub record Rises : Type 0 where
-  pub gives : (c : Core) (g : Ghost) (far far_new : Far) (silence silence_new : ℕ) (came : Option (List ℕ))
-      → is_starting c.state ≡ true → Stands c g far silence → IsSession c.session → HonestExchange far silence (text_out c.state) came far_new silence_new
+  pub gives :
+      (c : Core) (g : Ghost) (far far_new : Far) (silence silence_new : ℕ) (came : Option (List ℕ))
+      → is_starting c.state ≡ true → Stands c g far silence → IsSession c.session
+      → HonestExchange far silence (text_out c.state) came far_new silence_new
       -- the link's own laws, and the session's
-      → IsRisen (judged c.state came) silence_new far far_new → OutcomeFits (judged c.state came) → Joined (state_of (judged c.state came)) (settled_session (judged c.state came) c.session)
-      → CallGives c g far silence Idle (after_exchange (judged c.state came) c.session) far_new silence_new
+      → IsRisen (judged c.state came) silence_new far far_new → OutcomeFits (judged c.state came)
+      → Joined (state_of (judged c.state came)) (settled_session (judged c.state came) c.session)
+      → CallGives c g far silence Idle (after_exchange (judged c.state came) c.session)
+      far_new silence_new
 
 -- The calls that are no turns
 
@@ -319,7 +367,12 @@ opened_core limit = record { state = AtDown (record { why = None }); session = o
 abbrev pub opened_ghost : Far → Bool → Event × List Event → Ghost
 opened_ghost far told due = record {
   page = far.page;
-  request = record { hidden = record { answer = None; late = handed far.isdu }; busy = 0; asked = false; base = far.carried };
+  request = record {
+    hidden = record { answer = None; late = handed far.isdu };
+    busy = 0;
+    asked = false;
+    base = far.carried;
+  };
   events = record { told = told; due = due };
   sent = None;
   fresh = false;
@@ -333,21 +386,31 @@ abbrev pub wanting_core : Option Image → Core → Core
 wanting_core image c = record c { session = wanting image c.session }
 
 pub record Wants : Type 0 where
-  pub stands : (c : Core) (g : Ghost) (far : Far) (silence : ℕ) (image : Option Image) → IfSome image IsImage
+  pub stands : (c : Core) (g : Ghost) (far : Far) (silence : ℕ) (image : Option Image)
+      → IfSome image IsImage
       → Stands c g far silence → Stands (wanting_core image c) g far silence
 
 abbrev pub restarted_core : Core → Core
 restarted_core c = record { state = AtDown (record { why = None }); session = left c.session }
 
 abbrev pub restarted_ghost : Core → Ghost → Ghost
-restarted_ghost c g = record g { fresh = false; request = record g.request { hidden = hidden_lost (request_in c.session.current) g.request.hidden } }
+restarted_ghost c g = record g {
+  request = record g.request {
+    hidden = hidden_lost (request_in c.session.current) g.request.hidden;
+  };
+  fresh = false;
+}
 
 pub record Restarts : Type 0 where
   pub session : (c : Core) (g : Ghost) (far : Far) (silence : ℕ) → Stands c g far silence
-      → session_through (restart_steps (request_in c.session.current)) (session_in c g far) ≡ session_in (restarted_core c) (restarted_ghost c g) far
-  pub frozen : (c : Core) (g : Ghost) (far : Far) → frozen_through (restart_steps (request_in c.session.current)) (frozen_in g far) ≡ frozen_in (restarted_ghost c g) far
+      → session_through (restart_steps (request_in c.session.current)) (session_in c g far)
+      ≡ session_in (restarted_core c) (restarted_ghost c g) far
+  pub frozen : (c : Core) (g : Ghost) (far : Far)
+      → frozen_through (restart_steps (request_in c.session.current)) (frozen_in g far)
+      ≡ frozen_in (restarted_ghost c g) far
   pub images : (moment : Moment) (c : Core) (g : Ghost) (far : Far)
-      → images_through moment (restart_steps (request_in c.session.current)) (images_in c g far) ≡ images_in (restarted_core c) (restarted_ghost c g) far
+      → images_through moment (restart_steps (request_in c.session.current)) (images_in c g far)
+      ≡ images_in (restarted_core c) (restarted_ghost c g) far
   pub stands : (c : Core) (g : Ghost) (far : Far) (silence : ℕ) → Stands c g far silence
       → Stands (restarted_core c) (restarted_ghost c g) far silence
 
@@ -358,21 +421,35 @@ operate_core s t current = record { state = AtOperate s; session = record t { cu
 
 abbrev pub begun_ghost : Ghost → Ghost
 begun_ghost g = record g {
-  request = record { hidden = record { answer = None; late = None }; busy = 0; asked = false; base = g.request.base };
+  request = record {
+    hidden = record { answer = None; late = None };
+    busy = 0;
+    asked = false;
+    base = g.request.base;
+  };
   fresh = true;
 }
 
-pub record BeginGives (c next : Core) (g : Ghost) (far : Far) (silence : ℕ) (request : Request) : Type 0 where
+pub record BeginGives (c next : Core) (g : Ghost) (far : Far) (silence : ℕ) (request : Request) :
+    Type 0 where
   pub stands : Stands next (begun_ghost g) far silence
-  pub may : (moment : Moment) (ticket : ℕ) → moment.terms.page ≡ g.page → MaySession moment (Take ticket request) (session_in c g far)
-  pub is : (ticket : ℕ) → session_after (Take ticket request) (session_in c g far) ≡ session_in next (begun_ghost g) far
+  pub may : (moment : Moment) (ticket : ℕ) → moment.terms.page ≡ g.page
+      → MaySession moment (Take ticket request) (session_in c g far)
+  pub is : (ticket : ℕ)
+      → session_after (Take ticket request) (session_in c g far)
+      ≡ session_in next (begun_ghost g) far
 
 pub record Begins : Type 0 where
-  pub gives : (s : Operate) (t : SessionState) (g : Ghost) (far : Far) (silence : ℕ) (request : Request)
+  pub gives :
+      (s : Operate) (t : SessionState) (g : Ghost) (far : Far) (silence : ℕ) (request : Request)
       → Stands (operate_core s t None) g far silence → OutSuits t.exchange None → t.isdu ≡ Some true
-      → BeginGives (operate_core s t None) (operate_core s t (Some (begun (od_size t.layout) request))) g far silence request
-  pub denies : (s : Operate) (t : SessionState) (g : Ghost) (far : Far) (silence : ℕ) (moment : Moment) (ticket : ℕ)
-      → Stands (operate_core s t None) g far silence → t.isdu ≡ Some false → moment.terms.page ≡ g.page
+      → BeginGives (operate_core s t None)
+      (operate_core s t (Some (begun (od_size t.layout) request))) g far silence request
+  pub denies :
+      (s : Operate) (t : SessionState) (g : Ghost) (far : Far) (silence : ℕ) (moment : Moment)
+      (ticket : ℕ)
+      → Stands (operate_core s t None) g far silence → t.isdu ≡ Some false
+      → moment.terms.page ≡ g.page
       → MaySession moment (Deny ticket) (session_in (operate_core s t None) g far)
 
 -- because the device was busy as often as it may be, or because the program asked for it
@@ -380,14 +457,18 @@ abbrev pub asking_ghost : Bool → Ghost → Ghost
 asking_ghost asks g = record g { request = record g.request { asked = asks } }
 
 pub record Aborts : Type 0 where
-  pub busy : (s : Operate) (t : SessionState) (current : Current) (g : Ghost) (far : Far) (silence : ℕ)
+  pub busy :
+      (s : Operate) (t : SessionState) (current : Current) (g : Ghost) (far : Far) (silence : ℕ)
       → Stands (operate_core s t (Some current)) g far silence → t.limit ≤ g.request.busy
       → Stands (operate_core s t (Some (aborted BusyTooLong current))) g far silence
-  pub asked : (s : Operate) (t : SessionState) (current : Current) (g : Ghost) (far : Far) (silence : ℕ)
+  pub asked :
+      (s : Operate) (t : SessionState) (current : Current) (g : Ghost) (far : Far) (silence : ℕ)
       → Stands (operate_core s t (Some current)) g far silence
-      → Stands (operate_core s t (Some (aborted Cancelled current))) (asking_ghost true g) far silence
+      → Stands (operate_core s t (Some (aborted Cancelled current)))
+      (asking_ghost true g) far silence
   pub marked : (s : Operate) (t : SessionState) (current : Current) (g : Ghost) (far : Far)
-      → cancelling (session_in (operate_core s t (Some current)) g far) ≡ session_in (operate_core s t (Some (aborted Cancelled current))) (asking_ghost true g) far
+      → cancelling (session_in (operate_core s t (Some current)) g far)
+      ≡ session_in (operate_core s t (Some (aborted Cancelled current))) (asking_ghost true g) far
 
 -- An exchange in OPERATE
 
@@ -402,7 +483,10 @@ abbrev pub made_ghost : SessionState → Ghost → Ghost
 made_ghost t g = record g { sent = image_or t.output.wanted g.sent }
 
 abbrev pub free_core : Layouts → SessionState → Core
-free_core layouts t = record { state = AtOperate (record { out = None; layouts = layouts }); session = record t { exchange = None } }
+free_core layouts t = record {
+  state = AtOperate (record { out = None; layouts = layouts });
+  session = record t { exchange = None };
+}
 
 pub record SendGives (c next : Core) (g after : Ghost) (far : Far) (silence : ℕ) : Type 0 where
   pub stands : Stands next after far silence
@@ -411,37 +495,54 @@ pub record SendGives (c next : Core) (g after : Ghost) (far : Far) (silence : �
   pub may : (call : WireCall) → MayImages (moment_of c g silence call) Make (images_in c g far)
   pub fresh : g.fresh ≡ after.fresh
   pub terms : (next.session.limit ≡ c.session.limit) × (after.page ≡ g.page)
-  pub images : (call : WireCall) → images_after (moment_of c g silence call) Make (images_in c g far) ≡ images_in next after far
+  pub images : (call : WireCall)
+      → images_after (moment_of c g silence call) Make (images_in c g far)
+      ≡ images_in next after far
   pub asks : ordered next.state next.session ≡ c.session.output.wanted
 
 pub record Sends : Type 0 where
-  pub gives : (layouts : Layouts) (t : SessionState) (room : Bool) (message : MasterMsg) (g : Ghost) (far : Far) (silence : ℕ)
-      → let next : Core = core_out layouts (unsent message) (sending (due_of t room) t) (due_of t room) t.current in
+  pub gives :
+      (layouts : Layouts) (t : SessionState) (room : Bool) (message : MasterMsg) (g : Ghost)
+      (far : Far) (silence : ℕ)
+      → let next : Core =
+      core_out layouts (unsent message) (sending (due_of t room) t) (due_of t room) t.current in
       Stands (free_core layouts t) g far silence → IsSession t
       -- the message is that of what is due, and carries the output wanted
-      → IsMessageFor (due_of t room) (sending (due_of t room) t) message → message.out.items ≡ carried_by t.output
+      → IsMessageFor (due_of t room) (sending (due_of t room) t) message
+      → message.out.items ≡ carried_by t.output
       -- the link's own laws
-      → StateStands next.state silence far → StateFits next.state → ((link : Link) → IsOperating layouts link → IsAccepted layouts far.page link message)
+      → StateStands next.state silence far → StateFits next.state
+      → ((link : Link) → IsOperating layouts link → IsAccepted layouts far.page link message)
       → SendGives (free_core layouts t) next g (made_ghost t g) far silence
 
 -- what comes back to the message that is out: as CallGives, and no message is made
-pub record ReceiveGives (c : Core) (g : Ghost) (far : Far) (silence : ℕ) (said : Said) (next : Core) (far_new : Far) (silence_new : ℕ) : Type 0 where
+pub record ReceiveGives (c : Core) (g : Ghost) (far : Far) (silence : ℕ) (said : Said) (next : Core)
+    (far_new : Far) (silence_new : ℕ) : Type 0 where
   pub given : CallGives c g far silence said next far_new silence_new
   pub unmade : no_make given.steps ≡ true
 
 pub record Receives : Type 0 where
-  pub gives : (layouts : Layouts) (out : Sending) (t : SessionState) (exchange : Exchange) (g : Ghost) (far far_new : Far) (silence silence_new : ℕ) (came : Option (List ℕ)) (said : Said)
+  pub gives :
+      (layouts : Layouts) (out : Sending) (t : SessionState) (exchange : Exchange) (g : Ghost)
+      (far far_new : Far) (silence silence_new : ℕ) (came : Option (List ℕ)) (said : Said)
       → let c : Core = core_out layouts out t exchange t.current in
-      Stands c g far silence → IsSession c.session → HonestExchange far silence (text_out c.state) came far_new silence_new → out.tries < 3
+      Stands c g far silence → IsSession c.session
+      → HonestExchange far silence (text_out c.state) came far_new silence_new → out.tries < 3
       -- the link's own laws
-      → IsMet (judged c.state came) silence_new far_new → OutcomeFits (judged c.state came) → ((link : Link) → IsOperating layouts link → IsAccepted layouts far.page link out.message)
+      → IsMet (judged c.state came) silence_new far_new → OutcomeFits (judged c.state came)
+      → ((link : Link) → IsOperating layouts link → IsAccepted layouts far.page link out.message)
       -- the session's own
-      → Joined (state_of (judged c.state came)) (settled_session (judged c.state came) c.session) → IsSettledSaid (judged c.state came) c.session said
-      → ReceiveGives c g far silence said (after_exchange (judged c.state came) c.session) far_new silence_new
+      → Joined (state_of (judged c.state came)) (settled_session (judged c.state came) c.session)
+      → IsSettledSaid (judged c.state came) c.session said
+      → ReceiveGives c g far silence said
+      (after_exchange (judged c.state came) c.session) far_new silence_new
 
 -- the two, with no call between: a turn whose message is new
 pub record Turns : Type 0 where
-  pub gives : (layouts : Layouts) (t : SessionState) (due : Exchange) (message : MasterMsg) (g : Ghost) (far far_new : Far) (silence silence_new : ℕ) (said : Said) (next : Core)
+  pub gives :
+      (layouts : Layouts) (t : SessionState) (due : Exchange) (message : MasterMsg) (g : Ghost)
+      (far far_new : Far) (silence silence_new : ℕ) (said : Said) (next : Core)
       → let sent : Core = core_out layouts (unsent message) (sending due t) due t.current in
-      SendGives (free_core layouts t) sent g (made_ghost t g) far silence → ReceiveGives sent (made_ghost t g) far silence said next far_new silence_new
+      SendGives (free_core layouts t) sent g (made_ghost t g) far silence
+      → ReceiveGives sent (made_ghost t g) far silence said next far_new silence_new
       → CallGives (free_core layouts t) g far silence said next far_new silence_new

@@ -2,8 +2,6 @@
 -- of the definitions.
 use Rattle.std.specs.Prelude.{◌≡◌, ℕ, zero, suc, ◌*◌, ◌<◌, Bool, true, false, List, ◌++◌, length, Option, Some, None, IsTrue}
 use Rattle.iol_mseq.specs.Shape.{Shape}
-use Rattle.iol_mseq.specs.Master.{SpellsMaster}
-use Rattle.iol_mseq.specs.declared.master.MasterMsg.{MasterMsg}
 use Rattle.iol_isdu.specs.Answers.{BeginsWithAnswer, is_read}
 use Rattle.iol_isdu.specs.declared.values.Request.{Request}
 use Rattle.iol_isdu.specs.declared.values.Answer.{Answer}
@@ -12,9 +10,7 @@ use Rattle.iol_segment.specs.Join.{Joining}
 use Rattle.iol_segment.specs.TextLaws.{joined}
 use Rattle.iol_far.specs.Codec.{flow_of}
 use Rattle.iol_far.specs.Isdu.{answer_text, fits}
-use Rattle.iol_far.specs.Laws.{confirms}
 use Rattle.iol_far.specs.Level.{Progress, Quiet, Written, Busy, Had, Move, Begin, More, Ask, Next, Leave, Other, IsMove}
-use Rattle.iol_app.specs.declared.event_work.Reading.{Reading}
 use Rattle.iol_app.specs.declared.request.Current.{Current}
 use Rattle.iol_app.specs.declared.request.Progress.{Progress as Cursor}
 use Rattle.iol_app.specs.declared.request.Progress.TheVariants.{Sending, Asking, Receiving, Refused}
@@ -22,7 +18,7 @@ use Rattle.iol_app.specs.declared.session.Exchange.{Exchange}
 use Rattle.iol_app.specs.declared.session.Exchange.TheVariants.{Abort, ConfirmEvents, Request as NextMessage, Idle}
 use Rattle.iol_app.specs.Requests.{Outcome, GoesOn, HasText, replied, IsCurrent}
 use Rattle.iol_app.specs.State.{SessionState, IsSession}
-use Rattle.iol_app.specs.Messages.{Head, head_of, head_for, data_for}
+use Rattle.iol_app.specs.Messages.{Head, head_for, data_for}
 
 -- so many segments of the request had a good reply
 abbrev pub written : Request → ℕ → Progress
@@ -90,14 +86,6 @@ MessagesAreMoves =
 abbrev pub confirms_events : Exchange → Bool
 confirms_events ConfirmEvents = true
 confirms_events any = false
-
--- the device takes the octets of that message for a confirm, and those of no other
-abbrev pub ConfirmsConfirm : Type 0
-ConfirmsConfirm =
-    (exchange : Exchange) (reading : Reading) (current : Option Current) (layout : Shape)
-    (message : MasterMsg) (octets : List ℕ)
-    → head_of message.mc ≡ head_for exchange reading current → SpellsMaster layout message octets
-    → confirms octets ≡ confirms_events exchange
 
 -- the number of the answer's segment that comes next; those before it were had
 abbrev pub next_segment : Cursor → ℕ

@@ -1,14 +1,13 @@
 //! Laws of the definitions, each carried by a function that does nothing when it runs.
-ghost use Rattle.iol_app.specs.Moves.{MessagesAreMoves, ConfirmsConfirm, AnswersAreTakenUp};
+ghost use Rattle.iol_app.specs.Moves.{MessagesAreMoves, AnswersAreTakenUp};
 ghost use Rattle.iol_app.specs.StationLaws.{StationLaws};
 ghost use Rattle.iol_steps.specs.Exchange.{TextNamesAnswer};
 ghost use Rattle.iol_app.specs.Core.{Wakes, Rises, Receives, Sends, Turns, Opens, Wants, Restarts, Begins, Aborts};
 
 use iol_event::{memory_stays_valid, reading_gives_the_frozen_list};
 use iol_far::{
-    ends_stay_level, events_stay_until_confirmed, links_stay_level, messages_are_heard,
-    modes_have_layouts, page_and_room_stay, replies_are_read, requests_are_received,
-    texts_are_heard,
+    ends_stay_level, events_stay_until_confirmed, links_stay_level, modes_have_layouts,
+    page_and_room_stay, replies_are_read, requests_are_received, texts_are_heard,
 };
 use iol_isdu::{one_text_each, one_text_in_front};
 use iol_page::pages_ask_for_layouts;
@@ -22,14 +21,6 @@ pub(crate) fn messages_are_moves()
 {
     requests_are_received();
     texts_join();
-}
-
-/// The device takes the octets of the message that confirms events for a confirm,
-/// and those of no other message.
-pub(crate) fn confirms_confirm()
-    ensures { ConfirmsConfirm }
-{
-    messages_are_heard();
 }
 
 /// No segment of an answer that fits the request is refused, and the answer that is
@@ -99,9 +90,7 @@ pub(crate) fn receive_gives()
     memory_stays_valid();
     reading_gives_the_frozen_list();
     text_names_its_answer();
-    requests_are_received();
-    texts_join();
-    one_text_each();
+    answers_are_taken_up();
 }
 
 /// A new message goes out in OPERATE.
@@ -110,8 +99,7 @@ pub(crate) fn send_gives()
 {
     ends_stay_level();
     modes_have_layouts();
-    requests_are_received();
-    texts_join();
+    messages_are_moves();
 }
 
 /// A turn whose message is new: it goes out, and what comes back is taken up.

@@ -1,5 +1,5 @@
--- Lemmas that today are private in their files, word for word.
-use Rattle.std.proofs.Common.{◌≡◌, inl, ℕ, zero, suc, ◌+◌, ◌≤◌, min, Bool, true, false, not, ◌&&◌, List, [], ◌∷◌, length, refl, sym, ap, ◌∙◌, subst, arith}
+-- Facts of the parts of a session: the input that is shown, the output, the request, the events.
+use Rattle.std.proofs.Common.{◌≡◌, ℕ, zero, suc, ◌+◌, ◌≤◌, min, Bool, true, false, not, ◌&&◌, List, [], ◌∷◌, length, refl, sym, ap, ◌∙◌, arith}
 use Rattle.std.proofs.lemmas.Bool.Decides.{nat_tests}
 use Rattle.std.proofs.lemmas.Grind.{common_steps}
 use Rattle.std.specs.Prelude.{Option, Some, None, if◌then◌else◌, ◌==◌, IfSome, IsSome, replicate, is_some, unwrap_or}
@@ -10,20 +10,19 @@ use Rattle.iol_far.specs.declared.mode.Mode.TheVariants.{Operate as FarOperate}
 use Rattle.iol_isdu.specs.declared.values.Request.{Request}
 use Rattle.iol_far.specs.declared.carried.Carried.{Carried}
 use Rattle.iol_far.specs.Level.{Quiet, Had as IsHad, Stands as FarStands, Begin}
-use Rattle.iol_far.specs.Isdu.{IsduState, Empty, Receiving, Whole, Handed, Answered}
+use Rattle.iol_far.specs.Isdu.{IsduState}
 use Rattle.iol_far.specs.Far.{Far, hear, heard_as}
-use Rattle.iol_far.specs.Local.{LocalStep, local, locals, carried_by, is_input, input_size}
-use Rattle.iol_far.specs.Local.{Carry as OwnCarry, Raise as OwnRaise, Input as OwnInput, NoInput as OwnNoInput, Power as OwnPower}
+use Rattle.iol_far.specs.Local.{LocalStep, local, locals}
 use Rattle.iol_mode.specs.Stands.{entering_mode}
 use Rattle.iol_steps.specs.Step.{Image}
 use Rattle.iol_steps.specs.Images.{image_or}
 use Rattle.iol_steps.specs.Exchange.{image_had, told_by, output_due}
 use Rattle.iol_event.specs.Memory.{Events}
-use Rattle.iol_steps.specs.Station.{Reading, Resting, Flagged, Under, Due, is_due, EventsFit}
+use Rattle.iol_steps.specs.Station.{Reading, is_due, EventsFit}
 use Rattle.iol_app.proofs.Accepted.{by_accepted}
 use Rattle.iol_app.specs.declared.output.Output.{Output}
 use Rattle.iol_app.specs.declared.session.Exchange.{Exchange}
-use Rattle.iol_app.specs.declared.session.Exchange.TheVariants.{TellOutput, DropOutput, ConfirmEvents, Request as NextMessage}
+use Rattle.iol_app.specs.declared.session.Exchange.TheVariants.{ConfirmEvents, Request as NextMessage}
 use Rattle.iol_app.specs.Outputs.{output_after}
 use Rattle.iol_app.specs.declared.request.Current.{Current}
 use Rattle.iol_app.specs.declared.request.Progress.{Progress as Cursor}
@@ -41,28 +40,10 @@ image_octets (Some image) h = h.some_octet
 
 pub input_is : (size : ℕ) (input : Option Image) (reply : Reply) → IfSome input (λ image. length image ≡ size) → HasOctets input
     → reply.input.items ≡ (if size == 0 then [] else unwrap_or input (replicate size 0)) → reply.invalid ≡ (not (size == 0) && not (is_some input)) → image_had size reply ≡ input
-input_is size input reply sized octets items invalid = by_test (size == 0) refl input sized octets items invalid
-  where
-    by_test : (b : Bool) → (size == 0) ≡ b → (input : Option Image) → IfSome input (λ image. length image ≡ size) → HasOctets input → reply.input.items ≡ (if b then [] else unwrap_or input (replicate size 0)) → reply.invalid ≡ (not b && not (is_some input)) →
-        (if b then None else if reply.invalid then None else Some reply.input.items) ≡ input
-    by_test b given input given2 given3 given4 given5 = grind (arith, common_steps)
+input_is size input reply sized octets items invalid = grind (arith, common_steps)
 
 input_step : (far : Far) (step : LocalStep) → HasOctets far.input → HasOctets (local far step).input
-input_step far (OwnCarry a) h = subst HasOctets (sym (carried_input far.isdu)) h
-  where
-    carried_input : (s : IsduState) → (carried_by s far a).input ≡ far.input
-    carried_input s = grind (arith, common_steps)
-input_step far (OwnRaise e) h = h
-input_step far (OwnInput image) h = by_test (is_input far image) refl
-  where
-    by_test : (b : Bool) → (not (input_size far == 0) && (length image == input_size far)) ≡ b → HasOctets (if b then record far { input = Some image } else far).input
-    by_test true e = by_parts (input_size far == 0) refl (length image == input_size far) refl e
-      where
-        by_parts : (z : Bool) → (input_size far == 0) ≡ z → (l : Bool) → (length image == input_size far) ≡ l → (not z && l) ≡ true → 1 ≤ length image
-        by_parts z given l given2 given3 = grind (arith, common_steps)
-    by_test false e = h
-input_step far OwnNoInput h = tt
-input_step far OwnPower h = tt
+input_step far step h = grind (arith, common_steps)
 
 pub input_locals : (steps : List LocalStep) (far : Far) → HasOctets far.input → HasOctets (locals far steps).input
 input_locals [] far h = h
@@ -76,9 +57,7 @@ not_operate None e = cc
 not_operate (Some pre) e = cc
 
 pub same_output : (exchange : Exchange) (output : Output) → output_after exchange output ≡ record output { told = told_by (output_for exchange) output.told }
-same_output TellOutput output = refl
-same_output DropOutput output = refl
-same_output other output = refl
+same_output exchange output = grind (arith, common_steps)
 
 pub confirms_is : (exchange : Exchange) → confirms_events exchange ≡ true → exchange ≡ ConfirmEvents
 confirms_is ConfirmEvents e = refl
@@ -91,12 +70,7 @@ pub third_time : (tries silence : ℕ) → tries ≡ 2 → tries ≤ silence →
 third_time tries silence e few = grind (arith, nat_tests, common_steps)
 
 pub freed_quiet : (size : ℕ) (base : List Carried) (r : Request) (i : ℕ) (text : List ℕ) (state : IsduState) (c : List Carried) → FarStands size base (IsHad r i text) state c → FarStands size c Quiet state c
-freed_quiet size base r i text (Answered q a (Some j)) c h = refl
-freed_quiet size base r i text (Answered q a None) c h = absurd h
-freed_quiet size base r i text Empty c h = absurd h
-freed_quiet size base r i text (Receiving t l) c h = absurd h
-freed_quiet size base r i text (Whole q l) c h = absurd h
-freed_quiet size base r i text (Handed q) c h = absurd h
+freed_quiet size base r i text state c h = grind (arith, common_steps)
 
 pub segment_begins : (source : Request) (given : ℕ) (request : Request) → segment_move source given ≡ Begin request → source ≡ request
 segment_begins source zero request e = absurd (cc)
@@ -142,8 +116,4 @@ keeps_some None sent h = h
 keeps_some (Some image) sent h = refl
 
 pub events_due : (r : Reading) (c : Bool) (m : Events) → (c ≡ true → is_due r ≡ true) → EventsFit r false m → EventsFit r c m
-events_due Resting c m due h = tt
-events_due Flagged c m due h = h
-events_due (Under octets) c m due h = h
-events_due (Due x xs) false m due h = h
-events_due (Due x xs) true m due h = inl h
+events_due r c m due h = grind (arith, common_steps)
