@@ -1,7 +1,7 @@
 -- Hearing, by its three cases: not accepted, accepted in the present layout, accepted in the layout of the command that waits.
 use Rattle.std.proofs.lemmas.Grind.{common_steps}
 use Rattle.std.proofs.Common.{arith, ◌≡◌, ℕ, true, List}
-use Rattle.std.specs.Prelude.{Option, Some, None, if◌then◌else◌}
+use Rattle.std.specs.Prelude.{Option, Some, None}
 use Rattle.iol_mseq.specs.declared.master.MasterMsg.{MasterMsg}
 use Rattle.iol_far.specs.Codec.{layout_in, message_in}
 use Rattle.iol_far.specs.Far.{Far, WaitingCommand, accepted, moved}

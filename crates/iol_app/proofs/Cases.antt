@@ -1,6 +1,6 @@
 -- The good replies of OPERATE, kind by kind, by the code's own data.
 use Rattle.std.proofs.lemmas.Grind.{common_steps}
-use Rattle.std.proofs.Common.{◌≡◌, ⊎_elim, ℕ, zero, suc, ◌+◌, ◌*◌, ◌≤◌, ◌<◌, min, Bool, true, false, ◌==◌, List, [], ◌∷◌, length, refl, sym, ap, ◌∙◌, subst, arith, Option, Some, None}
+use Rattle.std.proofs.Common.{◌≡◌, ⊎_elim, ℕ, zero, suc, ◌+◌, ◌*◌, ◌<◌, min, Bool, true, false, ◌==◌, List, [], ◌∷◌, length, refl, sym, ap, ◌∙◌, subst, arith, Option, Some, None}
 use Rattle.std.specs.Prelude.{IfSome, IsTrue, is_some, if◌then◌else◌, nat_lt, slice_index, MatchOption}
 use Rattle.std.proofs.lemmas.Bool.{cases_Bool}
 use Rattle.arrayvec.specs.ArrayVec.{ArrayVec}
@@ -22,8 +22,7 @@ use Rattle.iol_mode.specs.Stands.{operate_link}
 use Rattle.iol_steps.specs.declared.said.Said.TheVariants.{Busy as SaidBusy, Answered, Cut as SaidCut, Reported}
 use Rattle.iol_steps.specs.Step.{Busy, Done, Unknown, Report, ShowImage, Exchanged}
 use Rattle.iol_steps.specs.Kinds.{WasBusy, WasAnswered, WasAborted, WasReported, quiet_said}
-use Rattle.iol_steps.specs.Exchange.{IsAnswerOf, ReadsAnswer}
-use Rattle.iol_steps.specs.Exchange.{TextNamesAnswer}
+use Rattle.iol_steps.specs.Exchange.{IsAnswerOf, ReadsAnswer, TextNamesAnswer}
 use Rattle.iol_app.proofs.Given.{Laws}
 use Rattle.iol_app.proofs.EventReading.{ReaderLaws, undue}
 use Rattle.iol_steps.specs.Station.{frozen_of}

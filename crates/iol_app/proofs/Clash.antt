@@ -10,8 +10,7 @@ use Rattle.iol_event.specs.Memory.{Events, is_empty, freezes_at_once}
 use Rattle.iol_link.specs.Honest.{Passage, OutLost, BackLost, Clean}
 use Rattle.iol_far.specs.Isdu.{IsduState, Empty, Receiving, Whole, Handed, Answered, fits}
 use Rattle.iol_far.specs.Far.{Far, accepted, worked, output_of}
-use Rattle.iol_far.specs.Local.{LocalStep, local, locals, has_room, is_input}
-use Rattle.iol_far.specs.Local.{Carry as OwnCarry, Raise as OwnRaise, Input as OwnInput, NoInput as OwnNoInput, Power as OwnPower}
+use Rattle.iol_far.specs.Local.{LocalStep, local, locals, has_room, is_input, Carry as OwnCarry, Raise as OwnRaise, Input as OwnInput, NoInput as OwnNoInput, Power as OwnPower}
 use Rattle.iol_steps.specs.Step.{Step, Carry, LateCarry, Freeze, Confirm, Make, OutputOn, OutputOff, Input, PowerLoss, Busy, Image, clash, is_clash_free, is_for_book, is_report, no_make}
 use Rattle.iol_steps.specs.Bridge.{Hidden, carry_step, carry_steps, own_step, own_steps, hidden_carried, hidden_carry, hidden_after, hidden_through, release_steps, event_steps, output_steps, confirms_by, heard_steps_as, passed_steps, exchange_steps, woken_steps, wake_steps}
 use Rattle.iol_steps.specs.Kinds.{made_steps}

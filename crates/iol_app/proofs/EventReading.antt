@@ -1,5 +1,5 @@
 -- The reading of events goes with the far end's frozen list.
-use Rattle.std.proofs.Common.{◌≡◌, ℕ, ◌+◌, ◌*◌, ◌≤◌, ◌<◌, Bool, true, false, not, List, [], ◌∷◌, take, drop, refl, sym, ◌∙◌, subst, arith}
+use Rattle.std.proofs.Common.{◌≡◌, ℕ, Bool, true, false, not, List, [], ◌∷◌, take, drop, refl, sym, subst, arith}
 use Rattle.std.specs.Prelude.{Option, Some, None, if◌then◌else◌}
 use Rattle.iol_mseq.specs.declared.master.MasterMsg.{MasterMsg}
 use Rattle.iol_isdu.specs.declared.values.Answer.{Answer}
@@ -8,8 +8,7 @@ use Rattle.iol_event.specs.Laws.{MemoryStaysValid, WaitsForAll, GivesFrozen}
 use Rattle.iol_far.specs.Isdu.{IsduState}
 use Rattle.iol_far.specs.Codec.{layout_in}
 use Rattle.iol_far.specs.Far.{Far, hear, heard_as, events_after}
-use Rattle.iol_far.specs.Local.{LocalStep, local, locals, carried_by, is_input}
-use Rattle.iol_far.specs.Local.{Carry as OwnCarry, Raise as OwnRaise, Input as OwnInput, NoInput as OwnNoInput, Power as OwnPower}
+use Rattle.iol_far.specs.Local.{LocalStep, local, locals, carried_by, is_input, Carry as OwnCarry, Raise as OwnRaise, Input as OwnInput, NoInput as OwnNoInput, Power as OwnPower}
 use Rattle.iol_far.specs.Laws.{confirms as octets_confirm}
 use Rattle.iol_steps.specs.Bridge.{confirms_by}
 use Rattle.iol_steps.specs.Station.{Reading, is_due, wants_octet, EventsFit}

@@ -30,12 +30,11 @@ use Rattle.iol_app.proofs.Given.{Laws, page_locals, page_after, level_locals, le
 use Rattle.iol_app.proofs.OwnSession.{SessionRuns, session_runs-append, exchange_session}
 use Rattle.iol_app.proofs.FrozenPart.{FrozenRuns, frozen_runs-append, exchange_frozen}
 use Rattle.iol_app.proofs.ImagesPart.{ImagesRuns, OutputsSent, images_runs-append, exchange_images}
-use Rattle.iol_app.specs.Ends.{OutputTold}
+use Rattle.iol_app.specs.Ends.{OutputTold, EventsTold, output_for, SentSeen}
 use Rattle.iol_app.proofs.OpenLevel.{IsTied, tied_locals, hear_carried}
 use Rattle.iol_app.proofs.Clash.{Before, exchange_before, no_clash}
 use Rattle.iol_app.proofs.Fresh.{fresh_turn}
 use Rattle.iol_app.proofs.KindsSession.{lost_session, lost_opens}
-use Rattle.iol_app.specs.Ends.{EventsTold}
 use Rattle.iol_app.proofs.Told.{told_locals, told_exchange, confirms_told}
 use Rattle.iol_app.proofs.FirstOctet.{confirms_of}
 use Rattle.iol_app.proofs.Missed.{quiet_book}
@@ -45,7 +44,6 @@ use Rattle.iol_app.specs.Requests.{request_in}
 use Rattle.iol_app.specs.Moves.{progress_of, confirms_events}
 use Rattle.iol_app.specs.State.{SessionState}
 use Rattle.iol_app.specs.StationState.{StateFits as Joined, mode_in}
-use Rattle.iol_app.specs.Ends.{output_for, SentSeen}
 use Rattle.iol_app.proofs.OperateMessages.{exchange_confirms}
 use Rattle.iol_app.proofs.SmallFacts.{confirms_is, more_silence}
 use Rattle.iol_app.proofs.Telling.{told_layout}

@@ -22,11 +22,10 @@ use Rattle.iol_far.specs.Laws.{IsSized, ReplySays}
 use Rattle.iol_steps.specs.declared.mode.Mode.{Mode}
 use Rattle.iol_steps.specs.declared.mode.Mode.TheVariants.{Down, Startup, Preoperate, Operate}
 use Rattle.iol_steps.specs.Step.{Image}
-use Rattle.iol_steps.specs.Station.{far_mode, output_by, WaitsElsewhere}
+use Rattle.iol_steps.specs.Station.{far_mode, output_by, WaitsElsewhere, AnswerFits, ProgressFits}
 use Rattle.iol_steps.specs.Exchange.{told_by}
 use Rattle.iol_isdu.specs.declared.values.Request.{Request}
 use Rattle.iol_steps.specs.Bridge.{Hidden, IsOpen}
-use Rattle.iol_steps.specs.Station.{AnswerFits, ProgressFits}
 use Rattle.iol_app.proofs.OpenLevel.{replied_opens}
 use Rattle.iol_app.proofs.Given.{Laws, level_locals, sized_locals}
 use Rattle.iol_app.proofs.Accepted.{by_accepted}

@@ -1,7 +1,7 @@
 -- The first octet alone says which message octets are, in every layout.
 use Rattle.std.proofs.Common.{◌≡◌, ℕ, List, ap, arith}
 use Rattle.std.proofs.lemmas.Grind.{common_steps}
-use Rattle.std.specs.Prelude.{Some, if◌then◌else◌, slice_index}
+use Rattle.std.specs.Prelude.{Some, slice_index}
 use Rattle.iol_octets.specs.Control.{control_of}
 use Rattle.iol_mseq.specs.Shape.{Shape}
 use Rattle.iol_mseq.specs.declared.master.MasterMsg.{MasterMsg}

@@ -1,7 +1,7 @@
 -- In the turn of a request begun since the last one, no step clashes with its taking: nothing is handed yet.
 use Rattle.std.proofs.Common.{◌≡◌, ℕ, Bool, List, [], ◌∷◌, ◌++◌, arith}
 use Rattle.std.proofs.lemmas.Grind.{common_steps}
-use Rattle.std.specs.Prelude.{Option, None, if◌then◌else◌, IsTrue}
+use Rattle.std.specs.Prelude.{Option, None, IsTrue}
 use Rattle.std.specs.List.{list_all}
 use Rattle.iol_isdu.specs.declared.values.Request.{Request}
 use Rattle.iol_link.specs.Honest.{Passage}

@@ -19,8 +19,7 @@ use Rattle.iol_far.specs.Isdu.{isdu_data, answer_text, fits}
 use Rattle.iol_far.specs.Far.{Far, hear, data_of, reply_to, output_of}
 use Rattle.iol_far.specs.Local.{LocalStep, locals, input_size}
 use Rattle.iol_far.specs.Level.{Progress, Quiet, Had as IsHad, Stands as FarStands, Move, Leave, Link, after, base_after, turned, IsBefore, IsGrown}
-use Rattle.iol_far.specs.Laws.{IsRegular, IsSized, ReplySays}
-use Rattle.iol_far.specs.Laws.{confirms as octets_confirm}
+use Rattle.iol_far.specs.Laws.{IsRegular, IsSized, ReplySays, confirms as octets_confirm}
 use Rattle.iol_segment.specs.TextLaws.{joined}
 use Rattle.iol_link.specs.Attempts.{Sending}
 use Rattle.iol_link.specs.Honest.{Clean}
@@ -35,7 +34,7 @@ use Rattle.iol_steps.specs.Station.{Reading, Due, is_due, wants_octet, session_o
 use Rattle.iol_steps.specs.Exchange.{ReadsAnswer, reading_kept, reading_flagged, image_had, told_by}
 use Rattle.iol_app.proofs.Given.{Laws, sized_locals}
 use Rattle.iol_app.proofs.EventReading.{ReaderLaws, memory_locals, memory_hear, kept_fits, kept_due, ends_hold}
-use Rattle.iol_app.specs.Ends.{EventsTold}
+use Rattle.iol_app.specs.Ends.{EventsTold, BusySeen, SentSeen, output_for}
 use Rattle.iol_app.proofs.Told.{told_locals}
 use Rattle.iol_app.proofs.OwnSession.{SessionRuns}
 use Rattle.iol_app.proofs.FrozenPart.{FrozenRuns}
@@ -56,7 +55,6 @@ use Rattle.iol_app.specs.Moves.{progress_at, progress_of, move_for, confirms_eve
 use Rattle.iol_app.specs.declared.request.Progress.{Progress as Cursor}
 use Rattle.iol_segment.specs.Cut.{Cutting}
 use Rattle.iol_image.specs.Image.{IsImage}
-use Rattle.iol_app.specs.Ends.{BusySeen, SentSeen, output_for}
 use Rattle.iol_app.specs.State.{SessionState, IsSession, absorbed, image_in}
 use Rattle.iol_app.specs.StationState.{StateFits as Joined}
 use Rattle.iol_app.specs.declared.output.Output.{Output}

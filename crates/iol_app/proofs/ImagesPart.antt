@@ -9,8 +9,7 @@ use Rattle.iol_event.specs.Memory.{Events, is_empty, freezes_at_once}
 use Rattle.iol_link.specs.Honest.{Passage, OutLost, BackLost, Clean, far_after}
 use Rattle.iol_far.specs.Isdu.{IsduState, fits}
 use Rattle.iol_far.specs.Far.{Far, accepted, moved, hear, heard_as, worked, output_of}
-use Rattle.iol_far.specs.Local.{LocalStep, local, locals, carried_by, is_input, woken}
-use Rattle.iol_far.specs.Local.{Carry as OwnCarry, Raise as OwnRaise, Input as OwnInput, NoInput as OwnNoInput, Power as OwnPower}
+use Rattle.iol_far.specs.Local.{LocalStep, local, locals, carried_by, is_input, woken, Carry as OwnCarry, Raise as OwnRaise, Input as OwnInput, NoInput as OwnNoInput, Power as OwnPower}
 use Rattle.iol_steps.specs.Step.{Step, Freeze, OutputOff, Input, Image, Moment}
 use Rattle.iol_steps.specs.Images.{Images, images_through, MayImagesAll}
 use Rattle.iol_steps.specs.Bridge.{carry_steps, own_step, own_steps, release_steps, worked_steps, heard_steps_as, heard_steps, passed_steps, exchange_steps, woken_steps, wake_steps}

@@ -1,7 +1,6 @@
 -- The segments of an answer, one after the other.
 use Rattle.std.proofs.lemmas.Grind.{common_steps}
-use Rattle.std.proofs.Common.{◌≡◌, ℕ, zero, suc, ◌*◌, ◌%◌, ◌<◌, ◌≤◌, false, ◌==◌, if◌then◌else◌, List, [], ◌∷◌, ◌++◌, length, refl, ◌∙◌, arith, Ok, Err, ◌+◌, Option, Some, None}
-use Rattle.std.specs.Prelude.{◌⊎◌}
+use Rattle.std.proofs.Common.{◌≡◌, ℕ, zero, suc, ◌*◌, ◌%◌, ◌<◌, false, List, [], ◌∷◌, ◌++◌, length, refl, arith, Ok, Err, ◌+◌, Option, Some, None}
 use Rattle.std.proofs.lemmas.List.{length-append}
 use Rattle.iol_isdu.specs.declared.fault.IsduFault.{IsduFault}
 use Rattle.iol_isdu.specs.declared.fault.IsduFault.TheVariants.{Truncated}

@@ -1,5 +1,5 @@
 -- The session's part of an exchange, kind by kind.
-use Rattle.std.proofs.Common.{◌≡◌, ℕ, ◌+◌, ◌≤◌, Bool, true, List, ◌∷◌, refl, arith}
+use Rattle.std.proofs.Common.{◌≡◌, ℕ, ◌+◌, ◌≤◌, Bool, true, List, refl, arith}
 use Rattle.std.proofs.lemmas.Grind.{common_steps}
 use Rattle.std.specs.Prelude.{Option, Some, None, ◌==◌, IsTrue, slice_index}
 use Rattle.iol_isdu.specs.declared.values.Request.{Request}

@@ -1,5 +1,5 @@
 -- A turn whose exchange brought no good reply: the message stays out, or for the third time the link is lost.
-use Rattle.std.proofs.Common.{◌≡◌, ◌≢◌, ◌+◌, ◌≤◌, [], ◌++◌, ◌∙◌, arith}
+use Rattle.std.proofs.Common.{◌≡◌, [], arith}
 use Rattle.std.specs.Prelude.{Option}
 use Rattle.iol_isdu.specs.declared.values.Request.{Request}
 use Rattle.iol_steps.specs.Step.{book_said, reports_said}

@@ -1,7 +1,7 @@
 -- What a move says of the message's channel, and of the request.
 use Rattle.std.proofs.Common.{◌≡◌, ℕ, suc, ◌*◌, ◌<◌, Bool, List, [], length, arith}
 use Rattle.std.proofs.lemmas.Grind.{common_steps}
-use Rattle.std.specs.Prelude.{Option, if◌then◌else◌, ◌==◌, IsTrue}
+use Rattle.std.specs.Prelude.{Option, if◌then◌else◌, IsTrue}
 use Rattle.iol_octets.specs.declared.control.Channel.{Channel}
 use Rattle.iol_octets.specs.declared.flow_control.Flow.{Flow}
 use Rattle.iol_isdu.specs.declared.values.Request.{Request}

@@ -1,6 +1,6 @@
 -- What the messages of OPERATE are for the device.
 use Rattle.std.proofs.lemmas.Grind.{common_steps}
-use Rattle.std.proofs.Common.{◌≡◌, ℕ, Bool, true, if◌then◌else◌, List, refl, ap, ◌∙◌, Option, Some, None, zero, suc, ◌-◌, ◌≤◌, [], ◌∷◌, ◌++◌, length, replicate, drop, sym, arith}
+use Rattle.std.proofs.Common.{◌≡◌, ℕ, Bool, true, List, refl, ap, ◌∙◌, Option, Some, None, zero, suc, ◌-◌, ◌≤◌, [], ◌∷◌, ◌++◌, length, replicate, drop, sym, arith}
 use Rattle.std.specs.Prelude.{◌⊎◌}
 use Rattle.iol_octets.specs.declared.control.Channel.{Channel}
 use Rattle.iol_octets.specs.declared.control.Channel.TheVariants.{Isdu, Page}

@@ -1,12 +1,11 @@
 -- The device's output over an exchange: valid in OPERATE alone once an image was sent, that image, and as told.
 use Rattle.std.proofs.lemmas.Grind.{common_steps}
-use Rattle.std.proofs.Common.{arith, ◌≡◌, ◌≢◌, ◌⊎◌, Bool, ◌&&◌, List, [], ◌∷◌, ◌∙◌}
-use Rattle.std.specs.Prelude.{Option, if◌then◌else◌}
+use Rattle.std.proofs.Common.{arith, Bool, List, [], ◌∷◌}
+use Rattle.std.specs.Prelude.{Option}
 use Rattle.iol_far.specs.Far.{Far}
 use Rattle.iol_far.specs.Local.{LocalStep, local, locals}
 use Rattle.iol_steps.specs.Step.{Image}
 use Rattle.iol_app.specs.Ends.{OutputTold}
-use Rattle.iol_far.specs.declared.mode.Mode as device
 
 module _ (sent : Option Image) (known : Type 0) (told : Bool) where
   abbrev Outputs : Far → Type 0

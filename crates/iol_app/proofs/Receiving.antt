@@ -22,18 +22,16 @@ use Rattle.iol_steps.specs.declared.said.Said.{Said}
 use Rattle.iol_steps.specs.Step.{Exchanged}
 use Rattle.iol_steps.specs.Bridge.{hidden_through}
 use Rattle.iol_steps.specs.Station.{output_by}
-use Rattle.iol_steps.specs.Exchange.{TextNamesAnswer}
+use Rattle.iol_steps.specs.Exchange.{TextNamesAnswer, told_by}
 use Rattle.iol_app.proofs.Given.{Laws, all_laws, page_locals}
 use Rattle.iol_app.proofs.EventReading.{ReaderLaws}
 use Rattle.iol_app.proofs.OwnSession.{own_open}
-use Rattle.iol_app.specs.Ends.{OutputTold}
+use Rattle.iol_app.specs.Ends.{OutputTold, OperateLink, output_for}
 use Rattle.iol_app.proofs.Outputs.{outputs_locals}
 use Rattle.iol_app.specs.declared.request.Current.{Current}
 use Rattle.iol_app.specs.declared.session.Exchange.{Exchange}
 use Rattle.iol_app.specs.Requests.{request_in}
 use Rattle.iol_app.specs.Messages.{data_for}
-use Rattle.iol_app.specs.Ends.{OperateLink, output_for}
-use Rattle.iol_steps.specs.Exchange.{told_by}
 use Rattle.iol_app.specs.Moves.{progress_of, move_for, AnswersAreTakenUp}
 use Rattle.iol_app.specs.State.{SessionState, IsSession, od_size}
 use Rattle.iol_app.specs.StationState.{StateFits as Joined, settled_session, IsSettledSaid}

@@ -1,10 +1,9 @@
 -- What the octets that come back say, where they are a good reply and where they aren't.
-use Rattle.std.proofs.Common.{◌≡◌, ℕ, ◌+◌, List, ◌∙◌, ap}
+use Rattle.std.proofs.Common.{◌≡◌, ℕ, List, ap}
 use Rattle.std.specs.Prelude.{Option, Some}
 use Rattle.iol_mseq.specs.declared.master.MasterMsg.{MasterMsg}
 use Rattle.iol_far.specs.Codec.{octets_of}
 use Rattle.iol_far.specs.Far.{Far, layout_of, accepted, hear, heard_as, worked, reply_to}
-use Rattle.iol_far.specs.declared.mode.Mode as device
 
 -- a message that the far end accepts it replies to
 pub accepts_reply : (far : Far) (o : List ℕ) (there : Far) (m : MasterMsg) → accepted far o ≡ Some (there, m) → (reply : List ℕ) × ((hear far o).reply ≡ Some reply)

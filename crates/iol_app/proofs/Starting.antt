@@ -23,8 +23,7 @@ use Rattle.iol_far.specs.Far.{Far, WaitingCommand, command_in}
 use Rattle.iol_far.specs.Linked.{TextsAreHeard}
 use Rattle.iol_far.specs.Local.{locals}
 use Rattle.iol_far.specs.Level.{Quiet, Other, Link, IsMove, IsBefore, IsLevel, taken}
-use Rattle.iol_far.specs.Laws.{RepliesAreRead, InputStaysSized, MuchStays, LevelLaws, EventLaws, ModesHaveLayouts}
-use Rattle.iol_far.specs.Laws.{confirms as octets_confirm}
+use Rattle.iol_far.specs.Laws.{RepliesAreRead, InputStaysSized, MuchStays, LevelLaws, EventLaws, ModesHaveLayouts, confirms as octets_confirm}
 use Rattle.iol_link.specs.Attempts.{good_reply}
 use Rattle.iol_link.specs.Honest.{HonestExchange, far_after}
 use Rattle.iol_link.specs.declared.handler.Attempt.TheVariants.{Again, Lost as WasLost}
@@ -46,12 +45,11 @@ use Rattle.iol_mode.specs.Turns.{IsRisen}
 use Rattle.iol_steps.specs.declared.mode.Mode.{Mode}
 use Rattle.iol_steps.specs.declared.mode.Mode.TheVariants.{Down as ModeDown, Startup as ModeStartup, Preoperate as ModePreoperate, Operate as ModeOperate}
 use Rattle.iol_steps.specs.declared.said.Said.TheVariants.{Idle}
-use Rattle.iol_steps.specs.Step.{Step, TellLength, Move as MoveTo, Exchanged, Moment, silence_by, output_length, CallFits, is_clash_free, is_for_book, is_report, woke_up}
+use Rattle.iol_steps.specs.Step.{Step, TellLength, Move as MoveTo, Exchanged, Moment, silence_by, output_length, CallFits, is_clash_free, is_for_book, is_report, woke_up, page_fault, fault_in}
 use Rattle.iol_steps.specs.Bridge.{Hidden, IsOpen, hidden_through, told_through, exchange_steps, told_exchanged}
 use Rattle.iol_steps.specs.Kinds.{Seen}
 use Rattle.iol_steps.specs.Session.{MayMove}
 use Rattle.iol_steps.specs.Images.{Images}
-use Rattle.iol_steps.specs.Step.{page_fault, fault_in}
 use Rattle.iol_steps.specs.Station.{far_mode, output_by, images_of, session_of, is_due}
 use Rattle.iol_steps.specs.Station as steps
 use Rattle.iol_steps.specs.Exchange.{reading_flagged}
@@ -59,7 +57,7 @@ use Rattle.iol_app.proofs.Given.{Laws, all_laws, page_locals, page_after as page
 use Rattle.iol_app.proofs.OwnSession.{SessionRuns, session_runs-append, exchange_session, own_open}
 use Rattle.iol_app.proofs.FrozenPart.{FrozenRuns, ConfirmsTold, frozen_runs-append, exchange_frozen}
 use Rattle.iol_app.proofs.ImagesPart.{ImagesRuns, images_runs-append, exchange_images}
-use Rattle.iol_app.specs.Ends.{OutputTold}
+use Rattle.iol_app.specs.Ends.{OutputTold, SentSeen, ShownSeen}
 use Rattle.iol_app.proofs.Outputs.{outputs_locals}
 use Rattle.iol_app.proofs.Clash.{no_busy, no_confirm, exchange_before}
 use Rattle.iol_app.proofs.OpenLevel.{IsTied, tied_locals, hear_carried}
@@ -68,7 +66,6 @@ use Rattle.iol_app.proofs.Told.{told_exchange}
 use Rattle.iol_app.proofs.FirstOctet.{confirms_of}
 use Rattle.iol_app.specs.declared.event_work.Reading.TheVariants.{Resting}
 use Rattle.iol_app.specs.State.{SessionState, IsSession, told, entered}
-use Rattle.iol_app.specs.Ends.{SentSeen, ShownSeen}
 use Rattle.iol_app.specs.StationState.{StateFits as Joined, IsTold as IsToldBy, settled_session, mode_in, told_in}
 use Rattle.iol_app.proofs.StartMessages.{step_channel, sends_channel, preoperate_turns, page_confirms}
 use Rattle.iol_app.proofs.Telling.{startup_layout, told_layout, told_stays, told_told, told_shown}

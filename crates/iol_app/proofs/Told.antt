@@ -1,7 +1,6 @@
 -- Outside down the frozen list is told exactly while the far end is awake and the confirm due or out.
 use Rattle.std.proofs.Common.{◌≡◌, ℕ, Bool, true, false, ◌&&◌, List, [], ◌∷◌, refl, sym, ◌∙◌, ap, arith}
 use Rattle.std.proofs.lemmas.Grind.{common_steps}
-use Rattle.std.specs.Prelude.{if◌then◌else◌}
 use Rattle.iol_event.specs.declared.event.Event.{Event}
 use Rattle.iol_event.specs.Memory.{Events}
 use Rattle.iol_event.specs.Reading.{reading}
@@ -9,8 +8,7 @@ use Rattle.iol_link.specs.Honest.{Passage, OutLost, BackLost, Clean, far_after}
 use Rattle.iol_far.specs.Codec.{layout_in}
 use Rattle.iol_far.specs.Far.{Far, hear, heard_as}
 use Rattle.iol_far.specs.Local.{LocalStep, local, locals}
-use Rattle.iol_far.specs.Laws.{EventLaws}
-use Rattle.iol_far.specs.Laws.{confirms as octets_confirm}
+use Rattle.iol_far.specs.Laws.{EventLaws, confirms as octets_confirm}
 use Rattle.iol_steps.specs.Bridge.{told_after, told_through, told_worked, told_heard_as, told_heard, told_passed, told_exchanged}
 use Rattle.iol_steps.specs.Station.{Reading, Resting, Flagged, Under, Due, is_due, EventsFit}
 use Rattle.iol_app.specs.Ends.{EventsTold}

@@ -9,7 +9,7 @@ use Rattle.iol_event.specs.declared.event.Event.{Event}
 use Rattle.iol_image.specs.Image.{IsImage}
 use Rattle.iol_far.specs.declared.carried.Carried.{Carried}
 use Rattle.iol_far.specs.declared.mode.Mode.TheVariants.{Operate as FarOperate}
-use Rattle.iol_far.specs.Level.{Link, Progress, Quiet, IsBefore, IsLevel}
+use Rattle.iol_far.specs.Level.{Link, Progress, Quiet, IsBefore, IsLevel, IsSent, taken}
 use Rattle.iol_link.specs.Attempts.{Sending}
 use Rattle.iol_link.specs.Honest.{HonestWake, HonestExchange}
 use Rattle.iol_mode.specs.declared.states.State.{State}
@@ -17,8 +17,8 @@ use Rattle.iol_mode.specs.declared.states.State.TheVariants.{Down as AtDown, Sta
 use Rattle.iol_mode.specs.declared.states.Operate.{Operate}
 use Rattle.iol_mode.specs.States.{Outcome, OutcomeFits, StateFits, IsDown, state_of, is_starting, waked}
 use Rattle.iol_mode.specs.Exchanges.{text_out, judged}
-use Rattle.iol_mode.specs.Turns.{IsRisen}
-use Rattle.iol_mode.specs.Stands.{StateStands}
+use Rattle.iol_mode.specs.Turns.{IsRisen, IsMet}
+use Rattle.iol_mode.specs.Stands.{StateStands, IsOperating, IsAccepted}
 use Rattle.iol_steps.specs.declared.mode.Mode.TheVariants.{Operate as ModeOperate}
 use Rattle.iol_steps.specs.declared.said.Said.{Said}
 use Rattle.iol_steps.specs.declared.said.Said.TheVariants.{Idle}
@@ -27,10 +27,10 @@ use Rattle.iol_steps.specs.Session.{Session, MaySession, MaySessionAll, session_
 use Rattle.iol_steps.specs.FrozenEvents.{Frozen, MayFrozenAll, frozen_through}
 use Rattle.iol_steps.specs.Images.{Images, MayImages, MayImagesAll, images_after, images_through, image_or}
 use Rattle.iol_steps.specs.Bridge.{Hidden, IsOpen}
-use Rattle.iol_steps.specs.Kinds.{Seen}
+use Rattle.iol_steps.specs.Kinds.{Seen, restart_steps}
 use Rattle.iol_steps.specs.Station.{Shown, session_of, frozen_of, images_of, AnswerFits, WaitsElsewhere, Reading, is_due, wants_octet}
 use Rattle.iol_steps.specs.Station as steps
-use Rattle.iol_steps.specs.Exchange.{reading_flagged, told_by}
+use Rattle.iol_steps.specs.Exchange.{reading_flagged, told_by, hidden_lost}
 use Rattle.iol_steps.specs.Turn.{ImageIsLast, OutputIsWanted, is_calm}
 use Rattle.std.specs.List.{list_all}
 use Rattle.iol_app.specs.declared.event_work.Reading as app
@@ -43,24 +43,17 @@ use Rattle.iol_isdu.specs.declared.values.Cause.TheVariants.{BusyTooLong, Cancel
 use Rattle.iol_app.specs.EventReading.{is_refused}
 use Rattle.iol_app.specs.Moves.{progress_of, move_for, confirms_events}
 use Rattle.iol_app.specs.Ends.{OutputTold, EventsTold, OperateLink, BusySeen, SentSeen, output_for}
-use Rattle.iol_app.specs.State.{IsSession, IsMessageFor, sending}
+use Rattle.iol_app.specs.State.{IsSession, IsMessageFor, sending, OutSuits, od_size, SessionState, opened, wanting, left}
 use Rattle.iol_app.specs.Due.{due_of}
 use Rattle.iol_app.specs.Outputs.{carried_by}
-use Rattle.iol_app.specs.StationState.{IsSettledSaid}
+use Rattle.iol_app.specs.StationState.{IsSettledSaid, StateFits as Joined, waked_session, settled_session, mode_in, why_in}
 use Rattle.iol_app.specs.declared.session.Exchange.{Exchange}
 use Rattle.iol_app.specs.declared.session.Exchange.TheVariants.{ReadEvent, ConfirmEvents}
 use Rattle.iol_page.specs.declared.page.Layouts.{Layouts}
 use Rattle.iol_mseq.specs.declared.master.MasterMsg.{MasterMsg}
 use Rattle.iol_far.specs.Far.{Far}
-use Rattle.iol_far.specs.Level.{IsSent, taken}
 use Rattle.iol_mode.specs.Messages.{unsent}
-use Rattle.iol_mode.specs.Stands.{IsOperating, IsAccepted}
-use Rattle.iol_mode.specs.Turns.{IsMet}
-use Rattle.iol_app.specs.State.{OutSuits, od_size, SessionState, opened, wanting, left}
 use Rattle.iol_far.specs.Isdu.{handed}
-use Rattle.iol_steps.specs.Kinds.{restart_steps}
-use Rattle.iol_steps.specs.Exchange.{hidden_lost}
-use Rattle.iol_app.specs.StationState.{StateFits as Joined, waked_session, settled_session, mode_in, why_in}
 
 -- the mode, and the session over it: what the code stores
 pub record Core : Type 0 where

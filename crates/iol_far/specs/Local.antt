@@ -4,7 +4,6 @@ use Rattle.iol_isdu.specs.declared.values.Request.{Request}
 use Rattle.iol_isdu.specs.declared.values.Answer.{Answer}
 use Rattle.iol_event.specs.declared.event.Event.{Event}
 use Rattle.iol_event.specs.Memory.{no_events, raised, released}
-use Rattle.iol_far.specs.declared.carried.Carried.{Carried}
 use Rattle.iol_far.specs.declared.mode.Mode.TheVariants.{Startup, Operate}
 use Rattle.iol_far.specs.Isdu.{IsduState, Empty, Handed, Answered, fits, handed}
 use Rattle.iol_far.specs.Codec.{layout_in}

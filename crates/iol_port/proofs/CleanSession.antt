@@ -18,9 +18,8 @@ use Rattle.iol_far.specs.Far.{Far, hear}
 use Rattle.iol_far.specs.Local.{Carry, local, carried_by, has_room, IsWorkedOff}
 use Rattle.iol_far.specs.Level.{Link, link_of}
 use Rattle.iol_far.specs.Laws.{IsSized, RepliesAreRead, InputStaysSized}
-use Rattle.iol_mode.specs.States.{InOperate as OutOperate}
+use Rattle.iol_mode.specs.States.{InOperate as OutOperate, operate_turned}
 use Rattle.iol_mode.specs.Stands.{operate_link, IsOperating, IsAccepted}
-use Rattle.iol_mode.specs.States.{operate_turned}
 use Rattle.iol_steps.specs.declared.said.Said.{Said}
 use Rattle.iol_app.specs.declared.request.Current.{Current}
 use Rattle.iol_app.specs.declared.request.Progress.{Progress}

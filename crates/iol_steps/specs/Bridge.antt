@@ -9,8 +9,7 @@ use Rattle.iol_event.specs.declared.event.Event.{Event}
 use Rattle.iol_event.specs.Memory.{Events, is_empty, freezes_at_once}
 use Rattle.iol_far.specs.Isdu.{IsduState, Handed, fits}
 use Rattle.iol_far.specs.Far.{Far, accepted, worked, is_confirm, output_of}
-use Rattle.iol_far.specs.Local.{LocalStep, local, locals, has_room, is_input}
-use Rattle.iol_far.specs.Local.{Carry as OwnCarry, Raise as OwnRaise, Input as OwnInput, NoInput as OwnNoInput, Power as OwnPower}
+use Rattle.iol_far.specs.Local.{LocalStep, local, locals, has_room, is_input, Carry as OwnCarry, Raise as OwnRaise, Input as OwnInput, NoInput as OwnNoInput, Power as OwnPower}
 use Rattle.iol_link.specs.Honest.{Passage, OutLost, BackLost, Clean}
 use Rattle.iol_steps.specs.Step.{Step, Carry, LateCarry, Freeze, Confirm, OutputOn, OutputOff, Input, PowerLoss, Image}
 use Rattle.iol_steps.specs.Session.{unanswered}
