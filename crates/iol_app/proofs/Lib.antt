@@ -31,7 +31,6 @@ pub mod OperateMessages
 pub mod Reporting
 pub mod Ending
 pub mod Askings
-pub mod Rewiring
 pub mod AskedTurns
 pub mod SmallFacts
 pub mod Waking
@@ -44,6 +43,8 @@ pub mod Had
 pub mod Cases
 pub mod Receiving
 pub mod Sending
+pub mod Halves
+pub mod Pieces
 pub mod Asking
 pub mod CoreCalls
 pub mod Stepping

@@ -23,8 +23,7 @@ use Rattle.iol_far.specs.Laws.{LevelLaws, ModesHaveLayouts}
 use Rattle.iol_mode.specs.Messages.{command_message, unsent}
 use Rattle.iol_mode.specs.Stands.{entering_mode, entering_layout, entering_link, operate_link, StateStands, IsOperating, IsAccepted}
 use Rattle.iol_mode.specs.States.{StateFits}
-use Rattle.iol_steps.specs.Step.{Image, Make}
-use Rattle.iol_app.proofs.Clash.{made_before}
+use Rattle.iol_steps.specs.Step.{Image}
 use Rattle.iol_steps.specs.Images.{image_or}
 use Rattle.iol_steps.specs.Station.{is_due, wants_octet}
 use Rattle.iol_steps.specs.Exchange.{output_due, told_by}
@@ -41,7 +40,7 @@ use Rattle.iol_app.specs.State.{SessionState, IsSession, IsMessageFor, sending, 
 use Rattle.iol_app.proofs.DueFacts.{IsDue, due_is}
 use Rattle.iol_app.proofs.OperateMessages.{tell_differs, page_command}
 use Rattle.iol_app.proofs.Telling.{told_layout}
-use Rattle.iol_app.specs.Core.{Core, Ghost, Stands, Sends, SendGives, Turns, core_out, free_core, made_ghost, reading_at, reading_in, ordered_by}
+use Rattle.iol_app.specs.Core.{Core, Ghost, Stands, Sends, SendGives, core_out, free_core, made_ghost, reading_at, reading_in, ordered_by}
 use Rattle.iol_app.proofs.SmallFacts.{keeps_some, events_due, confirms_is, not_operate, begins_request, tells_wanted, drops_told, some_or, image_some, sent_made, same_carried}
 
 -- which readings a confirm and a read go out for
@@ -196,35 +195,12 @@ module _ (levels : (size : ℕ) → 1 ≤ size → LevelLaws size) (modes : Mode
     frozen = refl;
     may = λ call. (refl, stands.calm);
     fresh = refl;
+    mode = refl;
     terms = (refl, refl);
     images = λ call. refl;
+    wants = refl;
     asks = ap (λ (c : Option Bool). ordered_by (told_by c t.output.told) m.out.items) due.output ∙ ap (ordered_by (told_by (output_due t.output.wanted t.output.told) t.output.told)) carried ∙ asks_wanted t.output.wanted t.output.told t.output.carried.items stands.shown.wanted;
   }
 
 pub sends_all : ((size : ℕ) → 1 ≤ size → LevelLaws size) → ModesHaveLayouts → MessagesAreMoves → Sends
 sends_all levels modes moves = record { gives = λ run t room m g far n stands valid is carried linked fits accepts. sends levels modes moves run t room m g far n stands valid is carried accepts linked fits }
-
--- and with what comes back it is a turn
-pub turns : Turns
-turns = record {
-  gives = λ layouts t e m g far far' n n' said next s r.
-      let made = made_before true [] r.given.steps r.unmade (record { busy = λ k. k; make = λ k. k; free = r.given.clash_free; book = refl; reports = refl }) in
-      record {
-        call = r.given.call;
-        steps = Make ∷ r.given.steps;
-        after = r.given.after;
-        fits = r.given.fits;
-        silent = r.given.silent;
-        terms = r.given.terms;
-        clash_free = made.0;
-        fresh = r.given.fresh;
-        said_book = r.given.said_book;
-        said_reports = r.given.said_reports;
-        session = ((tt, r.given.session.0), r.given.session.1);
-        frozen = ((tt, r.given.frozen.0), r.given.frozen.1);
-        images = ((s.may r.given.call, r.given.images.0), r.given.images.1);
-        image_is_last = r.given.image_is_last;
-        output_is_wanted = λ k. r.given.output_is_wanted k ∙ s.asks;
-        stands = r.given.stands;
-      };
-}

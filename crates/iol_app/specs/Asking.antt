@@ -19,7 +19,7 @@ use Rattle.iol_app.specs.Outputs.{carried_by}
 use Rattle.iol_app.specs.Messages.{Head, head_of, head_for, data_for}
 use Rattle.iol_app.specs.State.{SessionState, od_size, begun_in}
 use Rattle.iol_app.specs.Due.{due_of, is_ready}
-use Rattle.iol_app.specs.StationState.{StationState, is_operating}
+use Rattle.iol_app.specs.StationState.{StationState, operates}
 
 -- the octets of a message of these parts
 abbrev pub text_by : Shape → Head → List ℕ → List ℕ → List ℕ
@@ -62,6 +62,11 @@ takes_requests s = unwrap_or s.isdu true
 abbrev pub beginning : Option Request → SessionState → Bool → SessionState
 beginning next s room = begin_where (is_ready s room && takes_requests s) next s
 
+-- in OPERATE
+abbrev pub beginning_in : Option Request → State → SessionState → Bool → SessionState
+beginning_in next state s room =
+    begin_where (operates state && is_ready s room && takes_requests s) next s
+
 abbrev pub asked_in : State → SessionState → Bool → Asked
 asked_in (AtDown state) s room = Wake
 asked_in (AtStartup state) s room =
@@ -73,13 +78,7 @@ asked_in (AtOperate state) s room =
 
 module _ {W : Type 0} where
   abbrev pub prepared : Option Request → StationState W → Bool → StationState W
-  prepared next s room =
-      record s {
-        session =
-            begin_where
-            (is_operating s.link && is_ready s.session room && takes_requests s.session) next
-            s.session;
-      }
+  prepared next s room = record s { session = beginning_in next s.link.state s.session room }
 
   -- the call that the next turn makes, where there is room for events or not
   abbrev pub asked_of : StationState W → Bool → Asked

@@ -483,6 +483,7 @@ free_core layouts t = record {
 
 pub record SendGives (c next : Core) (g after : Ghost) (far : Far) (silence : ℕ) : Type 0 where
   pub stands : Stands next after far silence
+  pub mode : mode_in next.state ≡ mode_in c.state
   pub session : session_in c g far ≡ session_in next after far
   pub frozen : frozen_in g far ≡ frozen_in after far
   pub may : (call : WireCall) → MayImages (moment_of c g silence call) Make (images_in c g far)
@@ -491,6 +492,7 @@ pub record SendGives (c next : Core) (g after : Ghost) (far : Far) (silence : �
   pub images : (call : WireCall)
       → images_after (moment_of c g silence call) Make (images_in c g far)
       ≡ images_in next after far
+  pub wants : ordered c.state c.session ≡ c.session.output.wanted
   pub asks : ordered next.state next.session ≡ c.session.output.wanted
 
 pub record Sends : Type 0 where
@@ -529,13 +531,3 @@ pub record Receives : Type 0 where
       → IsSettledSaid (judged c.state came) c.session said
       → ReceiveGives c g far silence said
       (after_exchange (judged c.state came) c.session) far_new silence_new
-
--- the two, with no call between: a turn whose message is new
-pub record Turns : Type 0 where
-  pub gives :
-      (layouts : Layouts) (t : SessionState) (due : Exchange) (message : MasterMsg) (g : Ghost)
-      (far far_new : Far) (silence silence_new : ℕ) (said : Said) (next : Core)
-      → let sent : Core = core_out layouts (unsent message) (sending due t) due t.current in
-      SendGives (free_core layouts t) sent g (made_ghost t g) far silence
-      → ReceiveGives sent (made_ghost t g) far silence said next far_new silence_new
-      → CallGives (free_core layouts t) g far silence said next far_new silence_new

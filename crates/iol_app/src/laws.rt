@@ -2,12 +2,12 @@
 ghost use Rattle.iol_app.specs.Moves.{MessagesAreMoves, AnswersAreTakenUp};
 ghost use Rattle.iol_app.specs.StationLaws.{StationLaws};
 ghost use Rattle.iol_steps.specs.Exchange.{TextNamesAnswer};
-ghost use Rattle.iol_app.specs.Core.{Wakes, Rises, Receives, Sends, Turns, Opens, Wants, Restarts, Begins, Aborts};
+ghost use Rattle.iol_app.specs.Core.{Wakes, Rises, Receives, Sends, Opens, Wants, Restarts, Begins, Aborts};
 
 use iol_event::{memory_stays_valid, reading_gives_the_frozen_list};
 use iol_far::{
-    ends_stay_level, events_stay_until_confirmed, links_stay_level, modes_have_layouts,
-    page_and_room_stay, replies_are_read, requests_are_received, texts_are_heard,
+    ends_stay_level, events_stay_until_confirmed, modes_have_layouts, page_and_room_stay,
+    replies_are_read, requests_are_received, texts_are_heard,
 };
 use iol_isdu::{one_text_each, one_text_in_front};
 use iol_page::pages_ask_for_layouts;
@@ -102,20 +102,12 @@ pub(crate) fn send_gives()
     messages_are_moves();
 }
 
-/// A turn whose message is new: it goes out, and what comes back is taken up.
-#[tactic(auto, using(crate::proofs::Sending::turns))]
-pub(crate) fn turn_gives()
-    ensures { Turns }
-{}
-
 /// What one call of an honest wire gives.
 pub(crate) fn station_laws()
     ensures { StationLaws }
 {
-    links_stay_level();
     wake_gives();
     rise_gives();
     send_gives();
     receive_gives();
-    turn_gives();
 }

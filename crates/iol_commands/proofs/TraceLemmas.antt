@@ -11,7 +11,7 @@ use Rattle.iol_tap.specs.declared.tap.Passed.TheVariants as passed
 use Rattle.iol_steps.specs.declared.mode.Mode.{Mode}
 use Rattle.iol_app.specs.declared.asked.Asked.{Asked}
 use Rattle.iol_app.specs.declared.asked.Asked.TheVariants.{Wake, Exchange}
-use Rattle.iol_app.specs.declared.station.Status.{Status}
+use Rattle.iol_app.specs.declared.core_data.Status.{Status}
 use Rattle.iol_app.specs.Asking.{IsCall}
 use Rattle.iol_app.specs.StationState.{wire_of}
 use Rattle.iol_port.specs.declared.call.Call.{Call}

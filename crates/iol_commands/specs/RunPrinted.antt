@@ -14,7 +14,7 @@ use Rattle.iol_mode.specs.declared.why.Why.{Why}
 use Rattle.iol_mode.specs.declared.why.Why.TheVariants.{NoWake, Lost, Revision, PdLength, Code}
 use Rattle.iol_steps.specs.declared.mode.Mode.{Mode}
 use Rattle.iol_steps.specs.declared.mode.Mode.TheVariants.{Down, Startup, Preoperate, Operate}
-use Rattle.iol_app.specs.declared.station.Status.{Status}
+use Rattle.iol_app.specs.declared.core_data.Status.{Status}
 use Rattle.iol_app.specs.declared.output.OutputFault.{OutputFault}
 use Rattle.iol_app.specs.declared.output.OutputFault.TheVariants.{WrongImageLength, NoLayout}
 use Rattle.iol_book.specs.declared.entries.Outcome.{Outcome}

@@ -20,11 +20,8 @@ pub record WireFacts (W : Type 0) : Type 1 where
   pub wake_gives : W → Option Rate → W → Type 0
   -- what one exchange gives: the wire before it, the octets sent, the answer, the wire after it
   pub exchange_gives : W → List ℕ → Option (ArrayVec ℕ) → W → Type 0
-  -- what may become of the wire between two calls of it, where it is told from outside what
-  -- its next call brings: the wire before that, the wire after it
-  pub tells : W → W → Type 0
 
--- a wire that claims nothing, and is told nothing
+-- a wire that claims nothing
 abbrev pub unknown : {W : Type 0} → WireFacts W
 unknown = record {
   honest = λ w. false;
@@ -33,7 +30,6 @@ unknown = record {
   clean = λ w. false;
   wake_gives = λ w answer next. ⊤;
   exchange_gives = λ w sent answer next. ⊤;
-  tells = λ w next. ⊥;
 }
 
 module _ {W : Type 0} (facts : WireFacts W) where
@@ -47,9 +43,3 @@ module _ {W : Type 0} (facts : WireFacts W) where
   abbrev pub Passes : W → List ℕ → Option (ArrayVec ℕ) → W → Type 0
   Passes old sent answer new = IsTrue (honest old)
       → HonestExchange (far old) (silence old) sent (octets_in answer) (far new) (silence new)
-
-  -- another wire that may be put in the place of this one: as honest, to the same device, and
-  -- silent for as long
-  abbrev pub Replaces : W → W → Type 0
-  Replaces old new =
-      (honest new ≡ honest old) × (far new ≡ far old) × (silence new ≡ silence old)

@@ -7,7 +7,7 @@ ghost use Rattle.iol_mseq.specs.Master.{HasMasterParts};
 ghost use Rattle.iol_mseq.specs.Texts.{master_text};
 ghost use Rattle.iol_far.specs.Octets.{octets_in};
 ghost use Rattle.iol_link.specs.declared.wire.Rate.{Rate};
-ghost use Rattle.iol_link.specs.WireFacts.{Wakes, Passes, Replaces};
+ghost use Rattle.iol_link.specs.WireFacts.{Wakes, Passes};
 ghost use Rattle.iol_mode.specs.Messages.{stays};
 ghost use Rattle.iol_mode.specs.States.{StateFits, IsDown, Takes, is_starting, waked, state_of, outcome_with, startup_turned, preoperate_turned};
 ghost use Rattle.iol_mode.specs.Stands.{OutcomeStands, IsTold};
@@ -22,7 +22,6 @@ use iol_link::{Attempt, Rate, Wire};
 use iol_mseq::{Layout, MasterMsg, Message, Reply};
 use iol_page::Layouts;
 use std::marker::Model;
-use std::mem::replace;
 
 /// A link in the mode `S`, which owns the wire.
 ///
@@ -210,16 +209,6 @@ impl<W: Wire, S: Mode> Link<W, S> {
         ensures { result.now ≡ self.now.wire }
     {
         &self.wire
-    }
-
-    /// Goes on over this wire, which stands to the same device as the one before;
-    /// that one is handed back.
-    pub fn rewire(&mut self, wire: W) -> W
-        requires { Replaces W.facts self.old.wire wire }
-        ensures link { self.new ≡ record self.old { wire = wire } }
-        ensures before { result ≡ self.old.wire }
-    {
-        replace(&mut self.wire, wire)
     }
 }
 

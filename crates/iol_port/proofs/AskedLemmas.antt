@@ -9,8 +9,8 @@ use Rattle.iol_steps.specs.Step.{Step, Unknown}
 use Rattle.iol_steps.specs.Session.{Session, session_after, session_through}
 use Rattle.iol_port.specs.declared.call.Call.TheVariants as call
 use Rattle.iol_port.specs.declared.call.Answered.TheVariants as answered
-use Rattle.iol_port.specs.Run.{PortState, request_of}
-use Rattle.iol_port.proofs.CallsSound.{call_leaves}
+use Rattle.iol_port.specs.Run.{PortState, Whole, request_of}
+use Rattle.iol_port.proofs.CallsSound.{piece_leaves}
 use Rattle.iol_port.specs.Promises.{CancelledWasAsked, AskedByCancel, is_asked}
 
 -- no step sets the mark
@@ -30,7 +30,7 @@ flight_taken : (b : BookState) (t : Ticket) → flight_refusal b.standing t ≡ 
 flight_taken b t free = grind (arith, common_steps)
 
 pub asked_by_cancel : AskedByCancel
-asked_by_cancel a b c reply is = call_leaves Asked a b c reply is (record {
+asked_by_cancel a b c reply is = piece_leaves Asked a b c reply is (record {
   stays = λ kept images h. inl h;
   submit = λ q e r h. inl h;
   urgent = λ q e r h. inl h;
@@ -39,8 +39,8 @@ asked_by_cancel a b c reply is = call_leaves Asked a b c reply is (record {
   cancel = λ t e r free h. inr (t, e, r, flight_taken a.book t free);
   restart = λ h. inl (asked_through (restart_steps (request_of a.session.job)) a.session h);
   archive = λ may h. inl h;
-  turn = λ t b all work h. inl (asked_through t.steps a.session (ap (λ s. is_asked s.job) (sym work.session) ∙ h));
+  moves = λ m steps b w h. inl (asked_through steps a.session (ap (λ s. is_asked s.job) (sym w.session) ∙ h));
 })
   where
     Asked : PortState → Type 0
-    Asked p = is_asked p.session.job ≡ true → (is_asked a.session.job ≡ true) ⊎ ((ticket : Ticket) × (c ≡ call.Cancel ticket) × (reply ≡ answered.Nothing) × (is_taken a.book.standing ticket ≡ true))
+    Asked p = is_asked p.session.job ≡ true → (is_asked a.session.job ≡ true) ⊎ ((ticket : Ticket) × (c ≡ Whole (call.Cancel ticket)) × (reply ≡ answered.Nothing) × (is_taken a.book.standing ticket ≡ true))

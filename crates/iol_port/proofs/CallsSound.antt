@@ -1,4 +1,4 @@
--- what a call of the abstract port leaves, and that it keeps the port sound
+-- what a piece of a run of the abstract port leaves, and that it keeps the port sound
 use Rattle.std.proofs.Common.{◌≡◌, ◌∷◌, ◌++◌, [], List, ℕ, true, Option, Some, None, refl, ap, sym, ◌∙◌, length, map, append-nil, arith, subst, inl, inr, ◌⊎◌, drop}
 use Rattle.std.proofs.Math.Seq.{drop-length}
 use Rattle.std.proofs.lemmas.Grind.{common_steps}
@@ -16,33 +16,42 @@ use Rattle.iol_book.specs.declared.entries.Entry.TheVariants.{Submitted, Collect
 use Rattle.iol_book.specs.Replay.{same_ticket}
 use Rattle.iol_book.specs.BookModel.{BookState, IsReplayed, entered, submitted, next_ticket, collected, withdrawn, withdraw_refusal, may_archive, submitted_urgent, flight_refusal, submit_refusal}
 use Rattle.iol_book.specs.Takings.{ended, FitsTakings, FitsEnded, FitsJournal}
-use Rattle.iol_steps.specs.Session.{Job, Session, cut_for, cancelling, session_through}
+use Rattle.iol_steps.specs.Session.{Job, Session, MaySessionAll, cut_for, cancelling, session_through}
 use Rattle.iol_steps.specs.Kinds.{restart_steps}
-use Rattle.iol_port.specs.Steps.{book_through}
+use Rattle.iol_port.specs.Steps.{MayBookAll, book_through}
 use Rattle.iol_steps.specs.declared.mode.Mode.TheVariants.{Down}
-use Rattle.iol_port.specs.declared.call.Call.{Call}
 use Rattle.iol_port.specs.declared.call.Answered.{Answered}
-use Rattle.iol_port.specs.Run.{PortState, CallOf, Run, opened, moment_in, request_of, restarted, Is, Turn, TurnsAll, TurnsWork, submit_of, LacksMemory}
+use Rattle.iol_port.specs.Run.{PortState, CallOf, Piece, Whole, Send, Receive, PieceOf, Pieces, opened, moment_in, moment_by, request_of, restarted, Is, Turn, TurnsAll, TurnsWork, submit_of, LacksMemory}
 use Rattle.iol_port.specs.Sound.{Sound, IsSound, RecordFits, FitsOpen, pairs_from, request_taken, written}
 use Rattle.iol_port.proofs.Replaying.{entered_replayed, free_archive, BookLaws, taken_is, sound_book, sound_cut, sound_cancelling, sound_moved, sound_through}
 use Rattle.iol_event.specs.declared.event.Event.{Event}
 use Rattle.iol_steps.specs.Images.{Images}
-use Rattle.iol_steps.specs.Step.{Image}
+use Rattle.iol_steps.specs.Step.{Image, Step, Moment, Exchanged}
 use Rattle.iol_port.specs.declared.call.Call.TheVariants as call
 use Rattle.iol_port.specs.declared.call.Answered.TheVariants as answered
 use Rattle.iol_port.specs.Owned.{Happens}
 
--- What holds after each call but a turn, and after a turn, where nothing is said of the events and the images
-pub record Leaves (P : PortState → Type 0) (a : PortState) (c : Call) (reply : Answered) : Type 0 where
+-- some steps in the book and in the session, whatever becomes of the events and the images
+pub record Moves (m : Moment) (steps : List Step) (a b : PortState) : Type 0 where
+  pub may_book : MayBookAll steps a.book
+  pub book : b.book ≡ book_through steps a.book
+  pub may_session : MaySessionAll m steps a.session
+  pub session : b.session ≡ session_through steps a.session
+  pub base : b.base ≡ a.base
+  pub terms : b.terms ≡ a.terms
+  pub at : m.terms ≡ a.terms
+
+-- What holds after each piece
+pub record Leaves (P : PortState → Type 0) (a : PortState) (c : Piece) (reply : Answered) : Type 0 where
   pub stays : (kept : List Event) (images : Images) → P (record a { kept = kept; images = images })
-  pub submit : (q : Request) → c ≡ call.Submit q → reply ≡ answered.Ticket (next_ticket a.book) → P (record a { book = submitted a.book q })
-  pub urgent : (q : Request) → c ≡ call.SubmitUrgent q → reply ≡ answered.Ticket (next_ticket a.book) → P (record a { book = submitted_urgent a.book q })
+  pub submit : (q : Request) → c ≡ Whole (call.Submit q) → reply ≡ answered.Ticket (next_ticket a.book) → P (record a { book = submitted a.book q })
+  pub urgent : (q : Request) → c ≡ Whole (call.SubmitUrgent q) → reply ≡ answered.Ticket (next_ticket a.book) → P (record a { book = submitted_urgent a.book q })
   pub collect : (t : Ticket) (out : Outcome) → lookup (same_ticket t) a.book.standing.outcomes ≡ Some out → P (record a { book = collected a.book t })
   pub withdraw : (t : Ticket) → withdraw_refusal a.book.standing t ≡ None → P (record a { book = withdrawn a.book t })
-  pub cancel : (t : Ticket) → c ≡ call.Cancel t → reply ≡ answered.Nothing → flight_refusal a.book.standing t ≡ None → P (record a { session = cancelling a.session })
+  pub cancel : (t : Ticket) → c ≡ Whole (call.Cancel t) → reply ≡ answered.Nothing → flight_refusal a.book.standing t ≡ None → P (record a { session = cancelling a.session })
   pub restart : P (restarted a)
   pub archive : may_archive a.book ≡ true → P (record a { book = record a.book { journal = [] }; base = length a.session.carried })
-  pub turn : (t : Turn) (b : PortState) → TurnsAll t a b → TurnsWork t a b → P b
+  pub moves : (m : Moment) (steps : List Step) (b : PortState) → Moves m steps a b → P b
 
 module _ (a b : PortState) where
   -- what a call does that may be refused
@@ -77,41 +86,49 @@ module _ (P : PortState → Type 0) (a b : PortState) where
   may_be next stays leaves (inl e) = is a stays e
   may_be next stays leaves (inr (q, e)) = is next (leaves q) e
 
-  pub call_leaves : (c : Call) (reply : Answered) → CallOf a c reply b → Leaves P a c reply → P b
-  call_leaves (call.Submit q) reply e l = may_be (record a { book = submitted a.book q }) (l.stays a.kept a.images) (l.submit q refl) (submit_does a b (submitted a.book q) reply e)
-  call_leaves (call.SubmitUrgent q) reply e l = may_be (record a { book = submitted_urgent a.book q }) (l.stays a.kept a.images) (l.urgent q refl) (submit_does a b (submitted_urgent a.book q) reply e)
-  call_leaves (call.Collect t) reply e l = by_found (lookup (same_ticket t) a.book.standing.outcomes) refl
+  turn_leaves : (t : Turn) (c : Piece) (reply : Answered) → TurnsAll t a b → TurnsWork t a b → Leaves P a c reply → P b
+  turn_leaves t c reply all work l =
+      l.moves (moment_in a t) t.steps b (record { may_book = work.may_book; book = work.book; may_session = work.may_session; session = work.session; base = work.base; terms = all.terms; at = refl })
+
+  pub piece_leaves : (c : Piece) (reply : Answered) → PieceOf a c reply b → Leaves P a c reply → P b
+  piece_leaves (Whole (call.Submit q)) reply e l = may_be (record a { book = submitted a.book q }) (l.stays a.kept a.images) (l.submit q refl) (submit_does a b (submitted a.book q) reply e)
+  piece_leaves (Whole (call.SubmitUrgent q)) reply e l = may_be (record a { book = submitted_urgent a.book q }) (l.stays a.kept a.images) (l.urgent q refl) (submit_does a b (submitted_urgent a.book q) reply e)
+  piece_leaves (Whole (call.Collect t)) reply e l = by_found (lookup (same_ticket t) a.book.standing.outcomes) refl
     where
       by_found : (found : Option Outcome) → lookup (same_ticket t) a.book.standing.outcomes ≡ found → P b
       by_found None none = let f = rw none at e in is a (l.stays a.kept a.images) f.1
       by_found (Some o) some = let f = rw some at e in is (record a { book = collected a.book t }) (l.collect t o some) f.1
-  call_leaves (call.Withdraw t) reply e l = may_be (record a { book = withdrawn a.book t }) (l.stays a.kept a.images) (l.withdraw t) (withdraw_does a b t reply e)
-  call_leaves (call.Cancel t) reply e l = may_be (record a { session = cancelling a.session }) (l.stays a.kept a.images) (λ q. l.cancel t refl q.0 q.1) (cancel_does a b t reply e)
-  call_leaves call.Restart reply e l = is (restarted a) l.restart e.1
-  call_leaves (call.SetOutput image) reply e l = is (record a { images = b.images }) (l.stays a.kept b.images) (output_does a b image reply e)
-  call_leaves call.ClearOutput reply e l = is (record a { images = record a.images { wanted = None } }) (l.stays a.kept (record a.images { wanted = None })) e.1
-  call_leaves call.Look reply e l = is a (l.stays a.kept a.images) e.1
-  call_leaves call.TakeEvent reply e l = is (record a { kept = drop 1 a.kept }) (l.stays (drop 1 a.kept) a.images) (event_does a b reply e)
-  call_leaves call.Status reply e l = is a (l.stays a.kept a.images) e.1
-  call_leaves call.Archive reply e l = may_be (record a { book = record a.book { journal = [] }; base = length a.session.carried }) (l.stays a.kept a.images) l.archive (archive_does a b reply e)
-  call_leaves call.Turn reply (_, (t, all, work, _, _)) l = l.turn t b all work
+  piece_leaves (Whole (call.Withdraw t)) reply e l = may_be (record a { book = withdrawn a.book t }) (l.stays a.kept a.images) (l.withdraw t) (withdraw_does a b t reply e)
+  piece_leaves (Whole (call.Cancel t)) reply e l = may_be (record a { session = cancelling a.session }) (l.stays a.kept a.images) (λ q. l.cancel t refl q.0 q.1) (cancel_does a b t reply e)
+  piece_leaves (Whole call.Restart) reply e l = is (restarted a) l.restart e.1.1
+  piece_leaves (Whole (call.SetOutput image)) reply e l = is (record a { images = b.images }) (l.stays a.kept b.images) (output_does a b image reply e)
+  piece_leaves (Whole call.ClearOutput) reply e l = is (record a { images = record a.images { wanted = None } }) (l.stays a.kept (record a.images { wanted = None })) e.1
+  piece_leaves (Whole call.Look) reply e l = is a (l.stays a.kept a.images) e.1
+  piece_leaves (Whole call.TakeEvent) reply e l = is (record a { kept = drop 1 a.kept }) (l.stays (drop 1 a.kept) a.images) (event_does a b reply e)
+  piece_leaves (Whole call.Status) reply e l = is a (l.stays a.kept a.images) e.1
+  piece_leaves (Whole call.Archive) reply e l = may_be (record a { book = record a.book { journal = [] }; base = length a.session.carried }) (l.stays a.kept a.images) l.archive (archive_does a b reply e)
+  piece_leaves (Whole call.Turn) reply (_, (t, all, work, _, _, _)) l = turn_leaves t (Whole call.Turn) reply all work l
+  piece_leaves Send reply (_, inl s) l =
+      l.moves (moment_by a (Exchanged true)) s.steps b (record { may_book = s.may_book; book = s.book; may_session = s.may_session (Exchanged true); session = s.session; base = s.base; terms = s.terms; at = refl })
+  piece_leaves Send reply (_, inr (_, e)) l = is a (l.stays a.kept a.images) e
+  piece_leaves Receive reply (_, r) l = turn_leaves r.turn Receive reply r.all r.work l
 
--- What each call keeps, a run keeps; and it held where an outcome was handed out
-module _ (P : PortState → Type 0) (keeps : (a b : PortState) (c : Call) (reply : Answered) → CallOf a c reply b → P a → P b) where
-  pub run_keeps : (a b : PortState) (calls : List Call) (replies : List Answered) → Run a calls replies b → P a → P b
-  run_keeps a b [] [] run holds = subst P (sym run) holds
-  run_keeps a b (c ∷ calls) (r ∷ replies) (mid, first, rest) holds = run_keeps mid b calls replies rest (keeps a mid c r first holds)
-  run_keeps a b [] (r ∷ replies) run holds = absurd run
-  run_keeps a b (c ∷ calls) [] run holds = absurd run
+-- What each piece keeps, a run keeps; and it held where an outcome was handed out
+module _ (P : PortState → Type 0) (keeps : (a b : PortState) (c : Piece) (reply : Answered) → PieceOf a c reply b → P a → P b) where
+  pub pieces_keep : (a b : PortState) (pieces : List Piece) (replies : List Answered) → Pieces a pieces replies b → P a → P b
+  pieces_keep a b [] [] run holds = subst P (sym run) holds
+  pieces_keep a b (c ∷ pieces) (r ∷ replies) (mid, first, rest) holds = pieces_keep mid b pieces replies rest (keeps a mid c r first holds)
+  pieces_keep a b [] (r ∷ replies) run holds = absurd run
+  pieces_keep a b (c ∷ pieces) [] run holds = absurd run
 
-  pub run_told : (a b : PortState) (calls : List Call) (replies : List Answered) → Run a calls replies b → P a → (t : Ticket) (out : Outcome) → Happens calls replies (call.Collect t) (answered.Outcome out)
+  pub pieces_told : (a b : PortState) (pieces : List Piece) (replies : List Answered) → Pieces a pieces replies b → P a → (t : Ticket) (out : Outcome) → Happens pieces replies (Whole (call.Collect t)) (answered.Outcome out)
       → (mid : PortState) × P mid × (lookup (same_ticket t) mid.book.standing.outcomes ≡ Some out)
-  run_told a b (c ∷ calls) (r ∷ replies) (mid, first, rest) holds t out (inl (e, f)) = (a, holds, told_outcome a mid t out (rw (e, f) at first))
-  run_told a b (c ∷ calls) (r ∷ replies) (mid, first, rest) holds t out (inr i) = run_told mid b calls replies rest (keeps a mid c r first holds) t out i
-  run_told a b [] replies run holds t out i = absurd i
-  run_told a b (c ∷ calls) [] run holds t out i = absurd run
+  pieces_told a b (c ∷ pieces) (r ∷ replies) (mid, first, rest) holds t out (inl (e, f)) = (a, holds, told_outcome a mid t out (rw (e, f) at first))
+  pieces_told a b (c ∷ pieces) (r ∷ replies) (mid, first, rest) holds t out (inr i) = pieces_told mid b pieces replies rest (keeps a mid c r first holds) t out i
+  pieces_told a b [] replies run holds t out i = absurd i
+  pieces_told a b (c ∷ pieces) [] run holds t out i = absurd run
 
--- Every call keeps it sound, so every run does
+-- Every piece keeps it sound, so every run does
 
 no_job : (job : Option Job) → request_of job ≡ None → job ≡ None
 no_job job h = grind arith
@@ -149,8 +166,8 @@ module _ (laws : BookLaws) where
   restart_sound b s None base sound = sound_moved laws b (record s { job = None }) base Down None sound
   restart_sound b s (Some job) base sound = sound_moved laws _ (cut_for Restarted (record s { job = Some job })) base Down None (sound_cut laws Restarted job b s base sound)
 
-  pub call_sound : (a b : PortState) (c : Call) (reply : Answered) → CallOf a c reply b → IsSound a → IsSound b
-  call_sound a b c reply is sound = call_leaves IsSound a b c reply is (record {
+  piece_sound : (a b : PortState) (c : Piece) (reply : Answered) → PieceOf a c reply b → IsSound a → IsSound b
+  piece_sound a b c reply is sound = piece_leaves IsSound a b c reply is (record {
     stays = λ kept images. sound;
     submit = λ q e r. sound_book a.book (submitted a.book q) a.session a.base (entered_replayed a.book (Submitted (next_ticket a.book) q) sound.replayed) refl refl (laws.submit a.book q).0 sound;
     urgent = λ q e r. sound_book a.book (submitted_urgent a.book q) a.session a.base (entered_replayed a.book (Urgent (next_ticket a.book) q) sound.replayed) refl refl (laws.submit_urgent a.book q).0 sound;
@@ -159,11 +176,11 @@ module _ (laws : BookLaws) where
     cancel = λ t e r free. sound_cancelling laws a.book a.session a.base a.session.job sound;
     restart = restart_sound a.book a.session a.session.job a.base sound;
     archive = λ may. archived_sound a.book a.session a.base may sound;
-    turn = λ t b all work. rw (work.book, work.session, work.base) (sound_through laws (moment_in a t) t.steps a.book a.session a.base work.may_book work.may_session sound);
+    moves = λ m steps b w. rw (w.book, w.session, w.base) (sound_through laws m steps a.book a.session a.base w.may_book w.may_session sound);
   })
 
-  pub run_sound : (a b : PortState) (calls : List Call) (replies : List Answered) → Run a calls replies b → IsSound a → IsSound b
-  run_sound a b calls replies run sound = run_keeps IsSound call_sound a b calls replies run sound
+  pub pieces_sound : (a b : PortState) (pieces : List Piece) (replies : List Answered) → Pieces a pieces replies b → IsSound a → IsSound b
+  pieces_sound a b pieces replies run sound = pieces_keep IsSound piece_sound a b pieces replies run sound
 
   -- the request under way is in the record or not, a late one isn't yet
   record_fits : (b : BookState) (s : Session) (base : ℕ) → Sound b s base → FitsJournal b.journal (pairs_from base s.carried)

@@ -8,28 +8,28 @@ use Rattle.std.specs.contracts.alloc.Global as Heap
 use Rattle.std.specs.contracts.impls.GlobalAllocator.TheImpl.{ghosts}
 use Rattle.std.proofs.option.Option.TheSendSync as option
 use Rattle.iol_link.specs.declared.wire.Wire as wire
-use Rattle.iol_app.proofs.station.Station.TheSendSync as station
+use Rattle.iol_app.proofs.core_data.Core.TheSendSync as inner
 use Rattle.iol_book.proofs.book.Book.TheSendSync as book
 use Rattle.iol_cell.specs.contracts.cell.ImageWriter as Writer
 use Rattle.iol_cell.proofs.cell.ImageWriter.TheSendSync as writer
-use Rattle.iol_port.specs.contracts.parts.Parts as Parts
-use Rattle.iol_port.specs.contracts.parts.Parts.TheInside as parts
+use Rattle.iol_port.specs.contracts.port_core.PortCore as Core
+use Rattle.iol_port.specs.contracts.port_core.PortCore.TheInside as core
 use Rattle.iol_port.specs.contracts.port.Port as Port
 use Rattle.iol_port.specs.contracts.port.Port.TheInside as port
 
-parts_send : (W A : RattleType) (g : wire.Ghosts W.Denot) (h : alloc.Ghosts A.Denot) → IsSend W → IsSend A → Frees h h.dealloc_token → IsSend (Parts.the_row W A g h)
-parts_send W A g h w a f =
-    view_send (parts.the_row W A g h) _ _ _ _
-    (recorded_send (parts.the_field W A g h).row _ _ (parts.the_type W A g h).to_one
-    (struct_send (shape (parts.the_type W A g h)) (station.the_send W g w, (book.the_send A h a f, (search (crosses, sendable) depth 20, tt)))))
+core_send : (A : RattleType) (h : alloc.Ghosts A.Denot) → IsSend A → Frees h h.dealloc_token → IsSend (Core.the_row A h)
+core_send A h a f =
+    view_send (core.the_row A h) _ _ _ _
+    (recorded_send (core.the_field A h).row _ _ (core.the_type A h).to_one
+    (struct_send (shape (core.the_type A h)) (inner.the_send, (book.the_send A h a f, (search (crosses, sendable) depth 20, (search (crosses, sendable) depth 20, tt))))))
 
 pub port_send : (W A : RattleType) (g : wire.Ghosts W.Denot) (h : alloc.Ghosts A.Denot) → IsSend W → IsSend A → IsSync A → Frees h h.dealloc_token → IsSend (Port.the_row W A g h)
 port_send W A g h w a y f =
     view_send (port.the_row W A g h) _ _ _ _
     (recorded_send (port.the_field W A g h).row _ _ (port.the_type W A g h).to_one
     (struct_send (shape (port.the_type W A g h)) (
-      parts_send W A g h w a f,
-      (search (crosses, sendable) depth 20, (search (crosses, sendable) depth 20, (option.the_field_send (Writer.the_row A h) (search (writer.the_send, sendable) depth 20), tt))),
+      core_send A h a f,
+      (w, (search (crosses, sendable) depth 20, (search (crosses, sendable) depth 20, (option.the_field_send (Writer.the_row A h) (search (writer.the_send, sendable) depth 20), tt)))),
     )))
 
 -- at the heap, since `search` finds no allocator's ghost members in a row

@@ -4,8 +4,11 @@ pub mod CallLemmas
 pub mod Filters
 pub mod TurnLemmas
 pub mod RunLemmas
+pub mod CorePorts
+pub mod OverWire
 pub mod WireLemmas
 pub mod TurnsRuleOut
+pub mod Halves
 pub mod TieLemmas
 pub mod AskedLemmas
 pub mod AskLemmas

@@ -1,5 +1,5 @@
 -- the three pieces of a turn make one turn of the abstract port
-use Rattle.std.proofs.Common.{◌≡◌, ◌∷◌, ◌++◌, [], List, ℕ, Option, Some, None, filter, refl, ap, sym, ◌∙◌, subst, inl, inr, arith}
+use Rattle.std.proofs.Common.{◌≡◌, ◌∷◌, ◌++◌, [], List, ℕ, Option, Some, None, filter, refl, ap, sym, ◌∙◌, subst, inl, inr, arith, false}
 use Rattle.std.proofs.lemmas.Grind.{common_steps}
 use Rattle.std.specs.Option.{option_map}
 use Rattle.iol_isdu.specs.declared.values.Request.{Request}
@@ -24,10 +24,10 @@ use Rattle.iol_app.specs.Seen.{StandsAt, TurnGives, TurnSteps, BeginSteps, DenyS
 use Rattle.iol_port.specs.declared.call.Call.TheVariants as call
 use Rattle.iol_port.specs.declared.call.Answered.TheVariants as answered
 use Rattle.iol_port.specs.Steps.{MayBookAll, book_after, book_through, kept_through}
-use Rattle.iol_port.specs.Run.{PortState, TurnOf, CallOf}
-use Rattle.iol_port.specs.View.{Parts, Choice, state_of, Shows, Follows, BeginsNext}
+use Rattle.iol_port.specs.Run.{PortState, Pending, TurnOf, CallOf}
+use Rattle.iol_port.specs.View.{Parts, Choice, state_of, Shows, ShowsAt, Follows, BeginsNext}
 use Rattle.iol_port.proofs.Filters.{book_through-filter, MayBookAll-filter, kept_through-filter, clash_free-take, clash_free-deny, may_book_said}
-use Rattle.iol_port.proofs.CallLemmas.{does_by_choice}
+use Rattle.iol_port.proofs.CallLemmas.{does_by_choice, none_pending}
 
 -- down leaves no request under way
 pub none_down : (state : State) (session : SessionState) (g : Ghost) (answer : Option Answer) → Joined state session → mode_in state ≡ Down → job_of (request_in session.current) answer g.request.busy g.request.asked ≡ None
@@ -41,10 +41,10 @@ terms_of limit was page old (e, f) = ap (λ (n : ℕ). let x : Terms = record { 
 
 module _ {W : Type 0} (facts : WireFacts W) (p next : Parts W) (base : ℕ) (g : Ghost) (said : Said) where
   abbrev before : PortState
-  before = state_of facts p (record { base = base; ghost = g })
+  before = state_of facts p (record { base = base; ghost = g; pending = None })
 
   abbrev after : Ghost → PortState
-  after h = state_of facts next (record { base = base; ghost = h })
+  after h = state_of facts next (record { base = base; ghost = h; pending = None })
 
   -- what the words of a turn leave in the book and in the kept events
   pub record Settles (began : Mode) (start : BookState) : Type 0 where
@@ -77,6 +77,7 @@ module _ {W : Type 0} (facts : WireFacts W) (p next : Parts W) (base : ℕ) (g :
         },
         record { may_frozen = x.frozen.0; frozen = sym x.frozen.1; kept = kept_steps x.steps _ _ settles x.said_reports },
         record { may_images = x.images.0; images = sym x.images.1; image_is_last = x.image_is_last; output_is_wanted = t.output_is_wanted },
+        (refl, refl),
       )
 
   -- after a taking
@@ -101,6 +102,7 @@ module _ {W : Type 0} (facts : WireFacts W) (p next : Parts W) (base : ℕ) (g :
         },
         record { may_frozen = (tt, x.frozen.0); frozen = sym x.frozen.1; kept = kept_steps x.steps _ _ settles x.said_reports },
         record { may_images = (tt, x.images.0); images = sym x.images.1; image_is_last = x.image_is_last; output_is_wanted = t.output_is_wanted },
+        (refl, refl),
       )
 
   -- after a denial, which leaves the station as it is
@@ -122,6 +124,7 @@ module _ {W : Type 0} (facts : WireFacts W) (p next : Parts W) (base : ℕ) (g :
         },
         record { may_frozen = (tt, x.frozen.0); frozen = sym x.frozen.1; kept = kept_steps x.steps _ _ settles x.said_reports },
         record { may_images = (tt, x.images.0); images = sym x.images.1; image_is_last = x.image_is_last; output_is_wanted = t.output_is_wanted },
+        (refl, refl),
       )
 
 module _ {W : Type 0} (facts : WireFacts W) where
@@ -129,10 +132,15 @@ module _ {W : Type 0} (facts : WireFacts W) where
   abbrev Turned : StationState W → BookState → Parts W → Parts W → Said → Type 0
   Turned s b p next said = TurnSteps facts s said next.station × (next.book.state ≡ book_through (woke_up (mode_of s.link) (mode_of next.station.link) ++ book_said said) b)
 
-  pub turn_does : (p next : Parts W) (said : Said) (s : StationState W) (b : BookState) → BeginsNext facts p.station p.book.state s b → TurnSteps facts s said next.station
+  pub turn_does : (p next : Parts W) (said : Said) (s : StationState W) (b : BookState) → p.sent ≡ false → next.sent ≡ false → BeginsNext p.station p.book.state s b → TurnSteps facts s said next.station
       → next.book.state ≡ book_through (woke_up (mode_of s.link) (mode_of next.station.link) ++ book_said said) b → next.kept ≡ kept_through (reports_said said) p.kept → Follows facts p call.Turn answered.Nothing next
   unfolding TurnSteps BeginSteps DenySteps
-  turn_does p next said s b begins gives book kept = does_by_choice facts p call.Turn answered.Nothing next (λ u shows. by_begins begins (gives, book) u shows)
+  turn_does p next said s b free after begins gives book kept = does_by_choice facts p call.Turn answered.Nothing next
+      (λ u shows.
+      let none : u.pending ≡ None = none_pending u.pending p.sent (core_of p.station) u.ghost (silence_of facts p.station) free shows.out in
+      let v : Choice = record u { pending = None } in
+      let same : u ≡ v = ap (λ (x : Option Pending). record u { pending = x }) none in
+      subst After (sym same) (by_begins begins (gives, book) u.base u.ghost (subst (ShowsAt facts p.station p.sent) same shows)))
     where
       After : Choice → Type 0
       After u = (v : Choice) × Shows facts next v × CallOf (state_of facts p u) call.Turn answered.Nothing (state_of facts next v)
@@ -140,21 +148,27 @@ module _ {W : Type 0} (facts : WireFacts W) where
       at : StationState W → BookState → Type 0
       at s b = Turned s b p next said
 
-      by_begins : BeginsNext facts p.station p.book.state s b → at s b → (u : Choice) → Shows facts p u → After u
-      by_begins (inl (s_is, b_is)) turned u shows =
+      whole : ℕ → Ghost → Choice
+      whole base g = record { base = base; ghost = g; pending = None }
+
+      stood : (g : Ghost) → StandsAt facts next.station g → (base : ℕ) → Shows facts next (whole base g)
+      stood g h base = record { is_honest = h.is_honest; both = h.both; out = (after, h.attempted) }
+
+      by_begins : BeginsNext p.station p.book.state s b → at s b → (base : ℕ) (g : Ghost) → ShowsAt facts p.station p.sent (whole base g) → After (whole base g)
+      by_begins (inl (s_is, b_is)) turned base g shows =
           let (gives, posts) = subst (λ (c : BookState). at p.station c) b_is (subst (λ (x : StationState W). at x b) s_is turned) in
-          let t = gives u.ghost shows in
-          (record { base = u.base; ghost = t.given.after }, t.stands, (refl, idle_turn facts p next u.base u.ghost said (record { posts = posts; keeps = kept }) t))
-      by_begins (inr (inl (k, q, head, b_is, free, s_is, begins))) turned u shows =
+          let t = gives g (record { is_honest = shows.is_honest; both = shows.both; attempted = shows.out.1 }) in
+          (whole base t.given.after, stood t.given.after t.stands base, (refl, idle_turn facts p next base g said (record { posts = posts; keeps = kept }) t))
+      by_begins (inr (inl (k, q, head, b_is, none, s_is, begins))) turned base g shows =
           let mid : StationState W = record p.station { session = begun_in q p.station.session } in
           let (gives, posts) = subst (λ (c : BookState). at mid c) b_is (subst (λ (x : StationState W). at x b) s_is turned) in
-          let (there, taken) = subst (λ (x : StationState W). StandsAt facts x (begun_ghost u.ghost) × BeginGives (core_of p.station) (core_of x) u.ghost (far_of facts p.station) (silence_of facts p.station) q) s_is (begins u.ghost shows) in
-          let t = gives (begun_ghost u.ghost) there in
-          (record { base = u.base; ghost = t.given.after }, t.stands, (refl, taking_turn facts p next u.base u.ghost said k q head taken (record { posts = posts; keeps = kept }) t))
-      by_begins (inr (inr (k, head, b_is, free, s_is, told, denies))) turned u shows =
+          let taken = subst (λ (x : StationState W). BeginGives (core_of p.station) (core_of x) g (far_of facts p.station) (silence_of facts p.station) q) s_is (begins g (far_of facts p.station) (silence_of facts p.station) shows.both) in
+          let t = gives (begun_ghost g) (record { is_honest = shows.is_honest; both = taken.stands; attempted = shows.out.1 }) in
+          (whole base t.given.after, stood t.given.after t.stands base, (refl, taking_turn facts p next base g said k q head taken (record { posts = posts; keeps = kept }) t))
+      by_begins (inr (inr (k, head, b_is, none, s_is, told, denies))) turned base g shows =
           let (gives, posts) = subst (λ (c : BookState). at p.station c) b_is (subst (λ (x : StationState W). at x b) s_is turned) in
-          let t = gives u.ghost shows in
-          (record { base = u.base; ghost = t.given.after }, t.stands, (refl, denying_turn facts p next u.base u.ghost said k head (λ m page. denies u.ghost shows m k.0 page) (record { posts = posts; keeps = kept }) t))
+          let t = gives g (record { is_honest = shows.is_honest; both = shows.both; attempted = shows.out.1 }) in
+          (whole base t.given.after, stood t.given.after t.stands base, (refl, denying_turn facts p next base g said k head (λ m page. denies g (far_of facts p.station) (silence_of facts p.station) shows.both m k.0 page) (record { posts = posts; keeps = kept }) t))
 
 -- a turn gives no ticket
 last_after : (step : Step) (b : BookState) → (book_after step b).last ≡ b.last
@@ -164,6 +178,6 @@ last_through : (steps : List Step) (b : BookState) → (book_through steps b).la
 last_through [] b = refl
 last_through (step ∷ steps) b = last_through steps (book_after step b) ∙ last_after step b
 
-module _ {W : Type 0} (facts : WireFacts W) where
-  pub turn_gives_none : (s next : StationState W) (b mid after : BookState) (steps : List Step) → BeginsNext facts s b next mid → after ≡ book_through steps mid → after.last ≡ b.last
+module _ {W : Type 0} where
+  pub turn_gives_none : (s next : StationState W) (b mid after : BookState) (steps : List Step) → BeginsNext s b next mid → after ≡ book_through steps mid → after.last ≡ b.last
   turn_gives_none s next b mid after steps given given2 = grind (arith, common_steps, last_through)

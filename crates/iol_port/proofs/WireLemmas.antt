@@ -1,12 +1,19 @@
--- on every wire a run is its calls, one after another, and its wire comes from the first by calls and by what it was told alone
-use Rattle.std.proofs.Common.{◌<◌, ◌+◌, ◌∷◌, ◌++◌, [], List, ℕ, Option, Some, None, Result, Ok, Err, IfOk, IfErr, ◌≡◌, sym, length, take, get_or, refl, subst, arith}
+-- on every wire a run is its calls, one after another, and its wire comes from the first by calls alone
+use Rattle.std.proofs.Common.{◌<◌, ◌+◌, ◌∷◌, ◌++◌, [], List, ℕ, Option, Result, false, ◌≡◌, ◌∙◌, sym, inl, inr, length, take, get_or, refl, subst, arith}
 use Rattle.std.proofs.lemmas.Grind.{common_steps}
 use Rattle.std.proofs.lemmas.List.{take_more}
+use Rattle.std.specs.Prelude.{◌⊎◌, IsTrue}
 use Rattle.std.specs.Result.{result_map_both}
+use Rattle.iol_far.specs.Far.{Far}
+use Rattle.iol_mode.specs.Next.{AnyLink}
+use Rattle.iol_mode.specs.Stands.{StateStands}
+use Rattle.iol_mode.specs.declared.states.State.{State}
+use Rattle.iol_steps.specs.declared.mode.Mode.TheVariants.{Down}
+use Rattle.iol_app.specs.Asking.{IsCall}
 use Rattle.iol_link.specs.WireFacts.{WireFacts}
 use Rattle.iol_book.specs.declared.entries.Entry.{Entry}
 use Rattle.iol_app.specs.declared.asked.Asked.{Asked}
-use Rattle.iol_app.specs.StationState.{wire_of}
+use Rattle.iol_app.specs.StationState.{wire_of, mode_in, mode_of}
 use Rattle.iol_port.specs.declared.call.Call.{Call}
 use Rattle.iol_port.specs.declared.call.Call.TheVariants as call
 use Rattle.iol_port.specs.declared.call.Answered.{Answered}
@@ -15,11 +22,10 @@ use Rattle.iol_port.specs.declared.fault.PortFault.{PortFault}
 use Rattle.iol_port.specs.Asks.{asks_of}
 use Rattle.iol_port.specs.Replies.{archive_reply, reply_of}
 use Rattle.iol_port.specs.Run.{opened}
-use Rattle.iol_port.specs.WireCalls.{ComesFrom, IsChange, AreChanges}
-use Rattle.iol_port.specs.View.{Parts, Opening, OpensWell, StandsFor, Does, Runs, IsPort, IsRun}
+use Rattle.iol_port.specs.WireCalls.{ComesFrom, AreCalls}
+use Rattle.iol_port.specs.View.{Parts, Opening, OpensWell, StandsFor, Does, IsPort}
 use Rattle.iol_port.specs.EveryWire.{CallGives, RunGives}
-use Rattle.iol_port.specs.Rewire.{StandsStill}
-use Rattle.iol_port.proofs.RunLemmas.{run_kept, run_kept_by, run_new}
+use Rattle.iol_port.proofs.RunLemmas.{run_kept, run_new}
 
 -- how many entries an archive hands out
 archived_reply : {X : Type 0} (items : X → List Entry) (result : Result X PortFault)
@@ -27,7 +33,7 @@ archived_reply : {X : Type 0} (items : X → List Entry) (result : Result X Port
 archived_reply items result = grind (arith, common_steps)
 
 module _ {W : Type 0} (facts : WireFacts W) where
-  open facts use {tells}
+  open facts use {honest, far, silence}
 
   abbrev Called : Parts W → Call → Answered → Parts W → Type 0
   Called p c reply next = CallGives facts p c reply next
@@ -52,42 +58,60 @@ module _ {W : Type 0} (facts : WireFacts W) where
   abbrev Comes : W → Parts W → Type 0
   Comes first p = ComesFrom facts first (wire_of p.station.link)
 
-  -- one change of the wire more
-  changes_snoc : (first old new : W) (changes : List (Option Asked)) (change : Option Asked) → AreChanges facts changes first old → IsChange facts change old new
-      → AreChanges facts (changes ++ change ∷ []) first new
-  changes_snoc first old new [] change is one = (new, subst (λ (w : W). IsChange facts change w new) is one, refl)
-  changes_snoc first old new (c ∷ changes) change (mid, this, rest) one = (mid, this, changes_snoc mid old new changes change rest one)
+  -- one call of the wire more
+  calls_snoc : (first old new : W) (calls : List Asked) (asked : Asked) → AreCalls facts calls first old → IsCall facts asked old new
+      → AreCalls facts (calls ++ asked ∷ []) first new
+  calls_snoc first old new [] asked is one = (new, subst (λ (w : W). IsCall facts asked w new) is one, refl)
+  calls_snoc first old new (c ∷ calls) asked (mid, this, rest) one = (mid, this, calls_snoc mid old new calls asked rest one)
 
-  comes_more : (first old new : W) (change : Option Asked) → IsChange facts change old new → ComesFrom facts first old → ComesFrom facts first new
-  comes_more first old new change one (changes, are) = (changes ++ change ∷ [], changes_snoc first old new changes change are one)
+  comes_more : (first old new : W) (asked : Asked) → IsCall facts asked old new → ComesFrom facts first old → ComesFrom facts first new
+  comes_more first old new asked one (calls, are) = (calls ++ asked ∷ [], calls_snoc first old new calls asked are one)
 
   same_wire : (first : W) (p next : Parts W) → wire_of next.station.link ≡ wire_of p.station.link → Comes first p → Comes first next
   same_wire first p next same comes = subst (λ (w : W). ComesFrom facts first w) (sym same) comes
 
   -- no call but a turn touches the wire, and a turn makes one call of it
   wire_kept : (first : W) (p next : Parts W) (c : Call) (reply : Answered) → Called p c reply next → Comes first p → Comes first next
-  wire_kept first p next call.Turn reply (_, _, one) comes = comes_more first _ _ (Some (asks_of p)) one comes
+  wire_kept first p next call.Turn reply (_, _, one) comes = comes_more first _ _ (asks_of p) one comes
   wire_kept first p next c reply given comes = same_wire first p next (grind (arith, common_steps)) comes
 
-  wire_kept_by : (first : W) (p next : Parts W) (calls : List Call) (replies : List Answered) → Ran p calls replies next → Comes first p → Comes first next
-  wire_kept_by first p next [] [] run comes = subst (λ (q : Parts W). Comes first q) (sym run) comes
-  wire_kept_by first p next (c ∷ calls) (r ∷ replies) (mid, one, rest) comes =
-      wire_kept_by first mid next calls replies rest (wire_kept first p mid c r one comes)
-  wire_kept_by first p next _ _ run comes = absurd run
+  -- no call but a turn sends, and none but a restart touches the link
+  sent_kept : (p next : Parts W) (c : Call) (reply : Answered) → Called p c reply next → (c ≡ call.Turn → ⊥) → next.sent ≡ p.sent
+  sent_kept p next call.Turn reply given other = absurd (other refl)
+  sent_kept p next c reply given other = grind (arith, common_steps)
 
-  -- each call keeps what a port keeps, and so does each run
-  pub port_kept : (o : Opening W) (p next : Parts W) (c : Call) (reply : Answered) → IsPort facts o p → Does facts p c reply next → Called p c reply next
+  link_kept : (p next : Parts W) (c : Call) (reply : Answered) → Called p c reply next → (c ≡ call.Turn → ⊥) → (next.station.link ≡ p.station.link) ⊎ (mode_of next.station.link ≡ Down)
+  link_kept p next call.Turn reply given other = absurd (other refl)
+  link_kept p next call.Restart reply given other = inr given.1.mode
+  link_kept p next c reply given other = inl (grind (arith, common_steps))
+
+  abbrev Stands : AnyLink W → Type 0
+  Stands link = IsTrue (honest link.wire) → StateStands link.state (silence link.wire) (far link.wire)
+
+  down_stands : (state : State) (n : ℕ) (f : Far) → mode_in state ≡ Down → StateStands state n f
+  down_stands state n f down = grind (arith, common_steps)
+
+  stands_kept : (p next : Parts W) → (next.station.link ≡ p.station.link) ⊎ (mode_of next.station.link ≡ Down) → Stands p.station.link → Stands next.station.link
+  stands_kept p next (inl same) stands = subst Stands (sym same) stands
+  stands_kept p next (inr down) stands = λ h. down_stands next.station.link.state _ _ down
+
+  -- each call keeps what a port keeps
+  pub port_kept : (o : Opening W) (p next : Parts W) (c : Call) (reply : Answered) → IsPort facts o p → Does facts p c reply next → Called p c reply next → (c ≡ call.Turn → ⊥)
       → IsPort facts o next
-  port_kept o p next c reply is does one = record {
+  port_kept o p next c reply is does one other = record {
     run = run_kept facts o p next c reply is.run does;
     wire = wire_kept o.wire p next c reply one is.wire;
+    free = sent_kept p next c reply one other ∙ is.free;
+    stands = stands_kept p next (link_kept p next c reply one other) is.stands;
   }
 
-  port_kept_by : (o : Opening W) (p next : Parts W) (calls : List Call) (replies : List Answered) → IsPort facts o p → Runs facts p calls replies next
-      → Ran p calls replies next → IsPort facts o next
-  port_kept_by o p next calls replies is runs run = record {
-    run = run_kept_by facts o p next calls replies is.run runs;
-    wire = wire_kept_by o.wire p next calls replies run is.wire;
+  pub port_turned : (o : Opening W) (p next : Parts W) → IsPort facts o p → Does facts p call.Turn answered.Nothing next → IsCall facts (asks_of p) (wire_of p.station.link) (wire_of next.station.link) → next.sent ≡ false → Stands next.station.link
+      → IsPort facts o next
+  port_turned o p next is does one free stands = record {
+    run = run_kept facts o p next call.Turn answered.Nothing is.run does;
+    wire = comes_more o.wire _ _ (asks_of p) one is.wire;
+    free = free;
+    stands = stands;
   }
 
   pub port_archived : {X : Type 0} (items : X → List Entry) (o : Opening W) (p next : Parts W) (result : Result X PortFault) → IsPort facts o p
@@ -95,23 +119,9 @@ module _ {W : Type 0} (facts : WireFacts W) where
       → Called p call.Archive (archive_reply (result_map_both items (λ why. why) result)) next → IsPort facts o next
   port_archived items o p next result is does one =
       port_kept o p next call.Archive _ is does (subst (λ (reply : Answered). Called p call.Archive reply next) (archived_reply items result) one)
-
-  pub port_ran : {X : Type 0} (items : X → List Answered) (o : Opening W) (p next : Parts W) (calls : List Call) (result : Result X PortFault) → IsPort facts o p
-      → IfOk result (λ x. Runs facts p calls (items x) next) → IfOk result (λ x. Ran p calls (items x) next) → IfErr result (λ _. next ≡ p)
-      → IsPort facts o next
-  port_ran items o p next calls (Ok x) is runs run same = port_kept_by o p next calls (items x) is runs run
-  port_ran items o p next calls (Err why) is runs run same = subst (λ (q : Parts W). IsPort facts o q) (sym same) is
+      (λ e. absurd (let k : call.Archive ≡ call.Turn = e in cc))
 
   -- a new port
-  pub port_new : (o : Opening W) (p : Parts W) → (OpensWell o → StandsFor facts p (opened o.limits o.far o.silence)) → wire_of p.station.link ≡ o.wire
+  pub port_new : (o : Opening W) (p : Parts W) → (OpensWell o → StandsFor facts p (opened o.limits o.far o.silence)) → wire_of p.station.link ≡ o.wire → p.sent ≡ false → mode_of p.station.link ≡ Down
       → IsPort facts o p
-  port_new o p stands same = record { run = run_new facts o p stands; wire = ([], same) }
-
-  -- a port whose wire is told goes on
-  pub port_told : (o : Opening W) (p next : Parts W) → IsPort facts o p → StandsStill facts p next
-      → tells (wire_of p.station.link) (wire_of next.station.link) → IsPort facts o next
-  unfolding IsRun StandsStill
-  port_told o p next is still told = record {
-    run = λ well. let r = is.run well in (r.0, r.1, r.2, r.3, still r.2 r.4);
-    wire = comes_more o.wire _ _ None told is.wire;
-  }
+  port_new o p stands same free down = record { run = run_new facts o p stands; wire = ([], same); free = free; stands = λ h. down_stands p.station.link.state _ _ down }

@@ -16,13 +16,12 @@ use Rattle.iol_book.specs.BookModel.{BookState, posted, ended_with}
 use Rattle.iol_steps.specs.Step.{Step, Deny, Done, Unknown, Moment}
 use Rattle.iol_steps.specs.Session.{Job, Session, MaySession, session_after, session_through, marked}
 use Rattle.iol_steps.specs.Kinds.{restart_steps}
-use Rattle.iol_port.specs.declared.call.Call.{Call}
 use Rattle.iol_port.specs.declared.call.Answered.{Answered}
 use Rattle.iol_port.specs.Steps.{MayBook, book_after, book_through}
-use Rattle.iol_port.specs.Run.{PortState, CallOf, opened, moment_in, request_of}
+use Rattle.iol_port.specs.Run.{PortState, Piece, PieceOf, opened, request_of}
 use Rattle.iol_port.specs.Denials.{CarriesNone, IsDeniedWithoutIsdu}
 use Rattle.iol_port.proofs.Replaying.{steps_keep}
-use Rattle.iol_port.proofs.CallsSound.{call_leaves, run_keeps, run_told}
+use Rattle.iol_port.proofs.CallsSound.{piece_leaves, pieces_keep, pieces_told}
 use Rattle.iol_port.proofs.OwnedLists.{Each, each_removed, each_inserted, each_looked}
 
 -- Outcomes of another kind
@@ -75,8 +74,8 @@ module _ (page : List ℕ) (carried : List Carried) where
     λ knows. step_other m step b s (ap knows_isdu is ∙ knows) may (h.1 knows),
   )
 
-  call_holds : (a b : PortState) (c : Call) (reply : Answered) → CallOf a c reply b → AllHold a → AllHold b
-  call_holds a b c reply is h = call_leaves AllHold a b c reply is (record {
+  piece_holds : (a b : PortState) (c : Piece) (reply : Answered) → PieceOf a c reply b → AllHold a → AllHold b
+  piece_holds a b c reply is h = piece_leaves AllHold a b c reply is (record {
     stays = λ kept images. h;
     submit = λ q e r. h;
     urgent = λ q e r. h;
@@ -91,9 +90,9 @@ module _ (page : List ℕ) (carried : List Carried) where
       ),
     );
     archive = λ may. h;
-    turn = λ t b all work. (
-      ap (λ terms. terms.page) all.terms ∙ h.0,
-      rw (work.book, work.session) (steps_keep Holds (moment_in a t) (step_holds (moment_in a t) h.0) t.steps a.book a.session work.may_book work.may_session h.1),
+    moves = λ m steps b w. (
+      ap (λ terms. terms.page) w.terms ∙ h.0,
+      rw (w.book, w.session) (steps_keep Holds m (step_holds m (ap (λ terms. terms.page) w.at ∙ h.0)) steps a.book a.session w.may_book w.may_session h.1),
     );
   })
 
@@ -104,11 +103,11 @@ opened_holds : (limits : Limits) (far : Far) (silence : ℕ) → AllHold far.pag
 opened_holds limits far silence = (refl, ((λ none. refl), λ knows. tt))
 
 pub carries_none : CarriesNone
-carries_none limits far silence calls replies b run none =
-    let end = run_keeps (AllHold far.page far.carried) (call_holds far.page far.carried) (opened limits far silence) b calls replies run (opened_holds limits far silence) in
+carries_none limits far silence pieces replies b run none =
+    let end = pieces_keep (AllHold far.page far.carried) (piece_holds far.page far.carried) (opened limits far silence) b pieces replies run (opened_holds limits far silence) in
     ap (λ (s : Session). s.carried) (end.1.0 none)
 
 pub denied_without_isdu : IsDeniedWithoutIsdu
-denied_without_isdu limits far silence calls replies b run ticket happens =
-    let (mid, holds, told) = run_told (AllHold far.page far.carried) (call_holds far.page far.carried) (opened limits far silence) b calls replies run (opened_holds limits far silence) ticket NoIsdu happens in
+denied_without_isdu limits far silence pieces replies b run ticket happens =
+    let (mid, holds, told) = pieces_told (AllHold far.page far.carried) (piece_holds far.page far.carried) (opened limits far silence) b pieces replies run (opened_holds limits far silence) ticket NoIsdu happens in
     not_true (knows_isdu far.page) (λ knows. each_looked IsOther mid.book.standing.outcomes ticket NoIsdu told (holds.1.1 knows) refl)

@@ -6,25 +6,25 @@ use Rattle.iol_far.specs.Far.{Far}
 use Rattle.iol_book.specs.declared.entries.Limits.{Limits}
 use Rattle.iol_book.specs.declared.entries.Outcome.TheVariants.{NoIsdu}
 use Rattle.iol_book.specs.declared.entries.Ticket.{Ticket}
-use Rattle.iol_port.specs.declared.call.Call.{Call}
 use Rattle.iol_port.specs.declared.call.Call.TheVariants as call
 use Rattle.iol_port.specs.declared.call.Answered.{Answered}
 use Rattle.iol_port.specs.declared.call.Answered.TheVariants as answered
-use Rattle.iol_port.specs.Run.{PortState, Run, opened}
+use Rattle.iol_port.specs.Run.{PortState, Piece, Whole, Pieces, opened}
 use Rattle.iol_port.specs.Owned.{Happens}
 
 -- in no run of a port that is opened, across losses, restarts and archives, does a
 -- device without ISDU carry anything out
 abbrev pub CarriesNone : Type 0
 CarriesNone =
-    (limits : Limits) (far : Far) (silence : ℕ) (calls : List Call) (replies : List Answered)
-    (b : PortState) → Run (opened limits far silence) calls replies b
+    (limits : Limits) (far : Far) (silence : ℕ) (pieces : List Piece) (replies : List Answered)
+    (b : PortState) → Pieces (opened limits far silence) pieces replies b
     → knows_isdu far.page ≡ false → b.session.carried ≡ far.carried
 
 -- and each outcome NoIsdu that was collected is that of such a device
 abbrev pub IsDeniedWithoutIsdu : Type 0
 IsDeniedWithoutIsdu =
-    (limits : Limits) (far : Far) (silence : ℕ) (calls : List Call) (replies : List Answered)
-    (b : PortState) → Run (opened limits far silence) calls replies b
-    → (ticket : Ticket) → Happens calls replies (call.Collect ticket) (answered.Outcome NoIsdu)
+    (limits : Limits) (far : Far) (silence : ℕ) (pieces : List Piece) (replies : List Answered)
+    (b : PortState) → Pieces (opened limits far silence) pieces replies b
+    → (ticket : Ticket)
+    → Happens pieces replies (Whole (call.Collect ticket)) (answered.Outcome NoIsdu)
     → knows_isdu far.page ≡ false

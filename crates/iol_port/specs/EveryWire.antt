@@ -140,6 +140,7 @@ module _ {W : Type 0} where
     pub book : new.book.state
         ≡ book_through (restart_steps (request_taken old.book.state.standing.taken)) old.book.state
     pub kept : new.kept ≡ old.kept
+    pub sent : new.sent ≡ old.sent
 
   -- whether the next turn would send IDLE 1, so that it takes or denies the next request
   abbrev pub takes_next : Parts W → Bool

@@ -12,4 +12,4 @@ pub mod Turns
 pub mod Clean
 pub mod Owned
 pub mod Denials
-pub mod Rewire
+pub mod CorePort

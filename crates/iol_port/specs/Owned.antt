@@ -13,11 +13,10 @@ use Rattle.iol_book.specs.declared.entries.Ticket.{Ticket}
 use Rattle.iol_book.specs.BookModel.{leaves_unsure}
 use Rattle.iol_book.specs.Replay.{same_ticket}
 use Rattle.iol_steps.specs.declared.mode.Mode.TheVariants.{Down}
-use Rattle.iol_port.specs.declared.call.Call.{Call}
 use Rattle.iol_port.specs.declared.call.Call.TheVariants as call
 use Rattle.iol_port.specs.declared.call.Answered.{Answered}
 use Rattle.iol_port.specs.declared.call.Answered.TheVariants as answered
-use Rattle.iol_port.specs.Run.{PortState, TurnOf, Run, opened}
+use Rattle.iol_port.specs.Run.{PortState, Piece, Whole, PieceOf, Pieces, opened}
 
 -- a request that the device carried out: the ticket under which it was submitted,
 -- itself, and the answer
@@ -40,80 +39,81 @@ AreApart low [] = Unit {0}
 AreApart low (o ∷ owned) = (low < o.ticket.0)
     × ((p : Owned) → IsOneOf p owned → p.ticket ≡ o.ticket → ⊥) × AreApart low owned
 
--- the run has this call, with this reply
-abbrev pub Happens : List Call → List Answered → Call → Answered → Type 0
-Happens [] replies call reply = ⊥
-Happens (c ∷ calls) [] call reply = ⊥
-Happens (c ∷ calls) (r ∷ replies) call reply = ((c ≡ call) × (r ≡ reply))
-    ⊎ Happens calls replies call reply
+-- the run has this piece, with this reply
+abbrev pub Happens : List Piece → List Answered → Piece → Answered → Type 0
+Happens [] replies piece reply = ⊥
+Happens (p ∷ pieces) [] piece reply = ⊥
+Happens (p ∷ pieces) (r ∷ replies) piece reply = ((p ≡ piece) × (r ≡ reply))
+    ⊎ Happens pieces replies piece reply
 
 -- a request was submitted under this ticket, as an urgent one or as one of the others
-abbrev pub IsSubmitted : List Call → List Answered → Ticket → Request → Type 0
-IsSubmitted calls replies ticket request =
-    Happens calls replies (call.Submit request) (answered.Ticket ticket)
-    ⊎ Happens calls replies (call.SubmitUrgent request) (answered.Ticket ticket)
+abbrev pub IsSubmitted : List Piece → List Answered → Ticket → Request → Type 0
+IsSubmitted pieces replies ticket request =
+    Happens pieces replies (Whole (call.Submit request)) (answered.Ticket ticket)
+    ⊎ Happens pieces replies (Whole (call.SubmitUrgent request)) (answered.Ticket ticket)
 
 -- The record grew by the pairs of these, in this order. Each was submitted in the run under its
 -- ticket, and no two have one ticket; each outcome Done that was collected is that of one of them
-pub record CarriesOut (given : ℕ) (before : List Carried) (calls : List Call)
+pub record CarriesOut (given : ℕ) (before : List Carried) (pieces : List Piece)
     (replies : List Answered) (carried : List Carried) (owned : List Owned) : Type 0 where
   pub record_is : carried ≡ before ++ pairs_of owned
   pub apart : AreApart given owned
-  pub asked : (o : Owned) → IsOneOf o owned → IsSubmitted calls replies o.ticket o.request
+  pub asked : (o : Owned) → IsOneOf o owned → IsSubmitted pieces replies o.ticket o.request
   pub done : (ticket : Ticket) (answer : Answer)
-      → Happens calls replies (call.Collect ticket) (answered.Outcome (Done answer))
+      → Happens pieces replies (Whole (call.Collect ticket)) (answered.Outcome (Done answer))
       → (o : Owned) × IsOneOf o owned × (o.ticket ≡ ticket) × (o.answer ≡ answer)
 
 -- so it is in every run of a port that is opened, across losses, restarts and archives
 abbrev pub EachDoneHasItsPair : Type 0
 EachDoneHasItsPair =
-    (limits : Limits) (far : Far) (silence : ℕ) (calls : List Call) (replies : List Answered)
-    (b : PortState) → Run (opened limits far silence) calls replies b
+    (limits : Limits) (far : Far) (silence : ℕ) (pieces : List Piece) (replies : List Answered)
+    (b : PortState) → Pieces (opened limits far silence) pieces replies b
     → (owned : List Owned)
-    × CarriesOut limits.given far.carried calls replies b.session.carried owned
+    × CarriesOut limits.given far.carried pieces replies b.session.carried owned
 
 -- the request of a ticket was cut off: that is its outcome, which was collected in
 -- the run, or may still be
-abbrev pub IsCutOff : List Call → List Answered → PortState → Ticket → Type 0
-IsCutOff calls replies a ticket =
+abbrev pub IsCutOff : List Piece → List Answered → PortState → Ticket → Type 0
+IsCutOff pieces replies a ticket =
     (cause : Cause)
-    × (Happens calls replies (call.Collect ticket) (answered.Outcome (Unknown cause))
+    × (Happens pieces replies (Whole (call.Collect ticket)) (answered.Outcome (Unknown cause))
     ⊎ (lookup (same_ticket ticket) a.book.standing.outcomes ≡ Some (Unknown cause)))
 
 -- and it was so, with the device's word that it has the request no more: for any
 -- cause but the loss of the link and a restart
-abbrev pub IsCutForGood : List Call → List Answered → PortState → Ticket → Type 0
-IsCutForGood calls replies a ticket =
+abbrev pub IsCutForGood : List Piece → List Answered → PortState → Ticket → Type 0
+IsCutForGood pieces replies a ticket =
     (cause : Cause) × (leaves_unsure (Unknown cause) ≡ false)
-    × (Happens calls replies (call.Collect ticket) (answered.Outcome (Unknown cause))
+    × (Happens pieces replies (Whole (call.Collect ticket)) (answered.Outcome (Unknown cause))
     ⊎ (lookup (same_ticket ticket) a.book.standing.outcomes ≡ Some (Unknown cause)))
 
 -- A run comes to `a`, and goes on to `c`: of what is carried out from `a` on,
 -- nothing was cut off for good before
 abbrev pub CutForGoodStaysOut : Type 0
 CutForGoodStaysOut =
-    (limits : Limits) (far : Far) (silence : ℕ) (calls more : List Call)
+    (limits : Limits) (far : Far) (silence : ℕ) (pieces more : List Piece)
     (replies others : List Answered) (a c : PortState)
-    → Run (opened limits far silence) calls replies a → Run a more others c
+    → Pieces (opened limits far silence) pieces replies a → Pieces a more others c
     → (owned later : List Owned) × (a.session.carried ≡ far.carried ++ pairs_of owned)
-    × CarriesOut limits.given far.carried (calls ++ more) (replies ++ others) c.session.carried
+    × CarriesOut limits.given far.carried (pieces ++ more) (replies ++ others) c.session.carried
     (owned ++ later)
-    × ((o : Owned) → IsOneOf o later → IsCutForGood calls replies a o.ticket → ⊥)
+    × ((o : Owned) → IsOneOf o later → IsCutForGood pieces replies a o.ticket → ⊥)
 
--- a turn whose wake had success: it leads out of down
-pub record Wakes (a b : PortState) : Type 0 where
-  pub turn : TurnOf a b
+-- a wake that had success, in a whole turn or as it is taken up: it leads out of down
+pub record Wakes (piece : Piece) (a b : PortState) : Type 0 where
+  pub is : PieceOf a piece answered.Nothing b
   pub down : a.session.mode ≡ Down
   pub up : b.session.mode ≡ Down → ⊥
 
--- A run comes to `a`, by such a turn to `b`, and goes on to `c`: of what is carried
+-- A run comes to `a`, by such a piece to `b`, and goes on to `c`: of what is carried
 -- out from `b` on, nothing was cut off before
 abbrev pub LateEnds : Type 0
 LateEnds =
-    (limits : Limits) (far : Far) (silence : ℕ) (calls more : List Call)
+    (limits : Limits) (far : Far) (silence : ℕ) (pieces more : List Piece) (piece : Piece)
     (replies others : List Answered) (a b c : PortState)
-    → Run (opened limits far silence) calls replies a → Wakes a b → Run b more others c
+    → Pieces (opened limits far silence) pieces replies a → Wakes piece a b
+    → Pieces b more others c
     → (owned later : List Owned) × (b.session.carried ≡ far.carried ++ pairs_of owned)
-    × CarriesOut limits.given far.carried (calls ++ call.Turn ∷ more)
+    × CarriesOut limits.given far.carried (pieces ++ piece ∷ more)
     (replies ++ answered.Nothing ∷ others) c.session.carried (owned ++ later)
-    × ((o : Owned) → IsOneOf o later → IsCutOff calls replies a o.ticket → ⊥)
+    × ((o : Owned) → IsOneOf o later → IsCutOff pieces replies a o.ticket → ⊥)

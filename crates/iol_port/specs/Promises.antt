@@ -12,7 +12,7 @@ use Rattle.iol_port.specs.declared.call.Call.{Call}
 use Rattle.iol_port.specs.declared.call.Call.TheVariants as call
 use Rattle.iol_port.specs.declared.call.Answered.{Answered}
 use Rattle.iol_port.specs.declared.call.Answered.TheVariants as answered
-use Rattle.iol_port.specs.Run.{PortState, TurnOf, CallOf, Run, opened}
+use Rattle.iol_port.specs.Run.{PortState, TurnOf, SendOf, ReceiveOf, Piece, Whole, PieceOf, Pieces, Run, opened}
 use Rattle.iol_port.specs.Sound.{IsSound, RecordFits}
 
 -- a port that is opened is sound
@@ -22,6 +22,12 @@ OpensSound = (limits : Limits) (far : Far) (silence : ℕ) → IsSound (opened l
 -- and every run keeps it so
 abbrev pub RunsSound : Type 0
 RunsSound = (a b : PortState) (calls : List Call) (replies : List Answered) → Run a calls replies b
+    → IsSound a → IsSound b
+
+-- in pieces as well
+abbrev pub PiecesSound : Type 0
+PiecesSound =
+    (a b : PortState) (pieces : List Piece) (replies : List Answered) → Pieces a pieces replies b
     → IsSound a → IsSound b
 
 -- of a sound port the record fits the journal
@@ -44,6 +50,17 @@ RunsJoin =
     → Run a calls replies b → Run b more others c
     → Run a (calls ++ more) (replies ++ others) c
 
+-- in pieces as well
+abbrev pub PiecesJoin : Type 0
+PiecesJoin =
+    (a b c : PortState) (pieces more : List Piece) (replies others : List Answered)
+    → Pieces a pieces replies b → Pieces b more others c
+    → Pieces a (pieces ++ more) (replies ++ others) c
+
+-- the two halves of a turn, with no call between them, are that turn
+abbrev pub HalvesAreTurns : Type 0
+HalvesAreTurns = (a m b : PortState) → SendOf a m → ReceiveOf m b → TurnOf a b
+
 -- whether the program asked to cut off the request under way
 abbrev pub is_asked : Option Job → Bool
 is_asked None = false
@@ -63,8 +80,8 @@ CancelledWasAsked = (moment : Moment) (steps : List Step) (s : Session)
 -- and a request has that mark only by a cancel of its ticket, which was answered
 abbrev pub AskedByCancel : Type 0
 AskedByCancel =
-    (a b : PortState) (c : Call) (reply : Answered) → CallOf a c reply b
+    (a b : PortState) (piece : Piece) (reply : Answered) → PieceOf a piece reply b
     → is_asked b.session.job ≡ true
     → (is_asked a.session.job ≡ true)
-    ⊎ ((ticket : Ticket) × (c ≡ call.Cancel ticket) × (reply ≡ answered.Nothing)
+    ⊎ ((ticket : Ticket) × (piece ≡ Whole (call.Cancel ticket)) × (reply ≡ answered.Nothing)
     × (is_taken a.book.standing ticket ≡ true))

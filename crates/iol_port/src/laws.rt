@@ -1,5 +1,6 @@
 //! What a client may conclude of a whole run of a port: laws, without code.
 ghost use Rattle.iol_port.specs.Promises.{OpensSound, RunsSound, SoundFits, GoodLinkStays, NothingIsNoTurn, RunsJoin};
+ghost use Rattle.iol_port.specs.Promises.{PiecesSound, PiecesJoin, HalvesAreTurns};
 ghost use Rattle.iol_port.specs.Promises.{CancelledWasAsked, AskedByCancel};
 ghost use Rattle.iol_port.specs.Clean.{CleanLaws};
 ghost use Rattle.iol_port.specs.Denials.{CarriesNone, IsDeniedWithoutIsdu};
@@ -14,12 +15,14 @@ use iol_segment::{cut_is_whole, segments_join, texts_join};
 /// record fits the journal.
 ///
 /// A port is sound when it is opened, and each run keeps it so, whatever calls and
-/// turns it has. Of a sound port the journal says where each ticket stands, and the
-/// record has, in the order in which requests were taken, at most one pair for
-/// each, and exactly one, with that answer, for each that is done.
+/// turns it has, whole or in two pieces with calls between them. Of a sound port the
+/// journal says where each ticket stands, and the record has, in the order in which
+/// requests were taken, at most one pair for each, and exactly one, with that answer,
+/// for each that is done.
 pub fn record_fits_journal()
     ensures opens { OpensSound }
     ensures runs { RunsSound }
+    ensures pieces { PiecesSound }
     ensures fits { SoundFits }
 {
     records_fit();
@@ -36,10 +39,16 @@ pub fn turns_rule_out()
     ensures nothing { NothingIsNoTurn }
 {}
 
+/// A law of the definitions: the two pieces of a turn, with no call between, are that turn.
+pub fn pieces_are_turns()
+    ensures { HalvesAreTurns }
+{}
+
 /// A law of the definitions: a run, and one that goes on from where it led, are one run.
-#[tactic(auto, using(crate::proofs::RunLemmas::runs_join))]
+#[tactic(auto, using(crate::proofs::RunLemmas::runs_join, crate::proofs::RunLemmas::pieces_join))]
 pub fn runs_join()
-    ensures { RunsJoin }
+    ensures runs { RunsJoin }
+    ensures pieces { PiecesJoin }
 {}
 
 /// A law of the definitions, over whole runs of a port that is opened: each pair by which
@@ -57,10 +66,11 @@ pub fn each_done_has_its_pair()
 /// A law of the definitions, over whole runs of a port that is opened: a request that
 /// was cut off is carried out once at most, and not after a wake that had success.
 ///
-/// The run has a turn that leads out of down. Over the whole of it each request that
-/// the device carries out has a ticket of its own; and none that it carries out after
-/// that turn had been cut off before it. One that was cut off for another cause than
-/// a lost link or a restart, as a cancelled one, isn't carried out after that at all.
+/// The run has a turn, or the second piece of one, that leads out of down. Over the whole
+/// of it each request that the device carries out has a ticket of its own; and none that
+/// it carries out after that had been cut off before it. One that was cut off for another
+/// cause than a lost link or a restart, as a cancelled one, isn't carried out after that
+/// at all.
 #[tactic(auto, using(crate::proofs::OwnedRuns::late_ends, crate::proofs::OwnedRuns::cut_for_good_stays_out))]
 pub fn late_requests_end()
     ensures wakes { LateEnds }

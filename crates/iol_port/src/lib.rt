@@ -13,18 +13,21 @@
 //! leaves it to the master how requests are queued: that part is this project's profile.
 #![tactic(auto)]
 
+mod awaited;
 mod call;
 mod copies;
 mod fault;
 mod laws;
-mod parts;
 mod port;
+mod port_core;
 mod settle;
 
+pub use awaited::Awaited;
 pub use call::{Answered, Call};
 pub use fault::PortFault;
 pub use laws::{
     cancelled_requests_were_asked, denied_requests_stay_out, each_done_has_its_pair,
-    late_requests_end, record_fits_journal, runs_join, turns_rule_out,
+    late_requests_end, pieces_are_turns, record_fits_journal, runs_join, turns_rule_out,
 };
 pub use port::Port;
+pub use port_core::PortCore;

@@ -8,12 +8,10 @@ ghost use Rattle.iol_port.specs.declared.fault.PortFault.TheVariants as fault;
 ghost use Rattle.iol_port.specs.declared.call.Call.TheVariants as call;
 ghost use Rattle.iol_port.specs.declared.call.Answered.TheVariants as answered;
 ghost use Rattle.iol_port.specs.Run.{opened};
-ghost use Rattle.iol_link.specs.WireFacts.{Replaces};
 ghost use Rattle.iol_app.specs.StationState.{wire_of};
 ghost use Rattle.iol_app.specs.Asking.{IsCall};
 ghost use Rattle.iol_port.specs.Asks.{asks_of, IsWireCall};
 ghost use Rattle.iol_port.specs.EveryWire.{SubmitGives, CollectGives, WithdrawGives, CancelGives, ArchiveGives};
-ghost use Rattle.iol_port.specs.Rewire.{rewired_parts, StandsStill};
 ghost use Rattle.iol_port.specs.EveryWire.{TakeEventGives, SetOutputGives, ClearOutputGives, RestartGives};
 ghost use Rattle.iol_port.specs.EveryWire.{TurnGives, CallGives, RunGives};
 ghost use Rattle.iol_port.specs.WireCalls.{ComesFrom};
@@ -22,10 +20,12 @@ ghost use Rattle.iol_port.specs.View.{KeepsRecord, shown_in, status_of};
 ghost use Rattle.iol_port.specs.Clean.{CleanTurn, CleanRuns, CleanServes, IsLevelBetween};
 ghost use Rattle.iol_port.specs.Replies.{ticket_reply, outcome_reply, nothing_reply, event_reply, reply_of};
 
-use crate::parts::Parts;
+use crate::copies::{copy_of_image, copy_of_request};
+use crate::laws::clean_laws;
+use crate::port_core::PortCore;
 use crate::{Answered, Call, PortFault, record_fits_journal};
 use iol_app::{Asked, Status};
-use iol_book::{Book, Entry, Limits, Outcome, Ticket};
+use iol_book::{BookFault, Entry, Limits, Outcome, Ticket};
 use iol_cell::{Handle, ImageWriter};
 use iol_event::Event;
 use iol_far::{ends_stay_level, modes_have_layouts};
@@ -48,7 +48,8 @@ use std::sync::Wait;
 /// that they see with what the port was opened, and what it published.
 #[derive(Drop)]
 pub struct Port<W: Wire, A: Handle = Global> {
-    parts: Parts<W, A>,
+    core: PortCore<A>,
+    wire: W,
     wire_then: Snapshot<W>,
     limits: Snapshot<Limits>,
     writer: Option<ImageWriter<A>>,
@@ -56,17 +57,18 @@ pub struct Port<W: Wire, A: Handle = Global> {
 
 impl<W: Wire, A: Handle> Model for Port<W, A> {
     ghost use Rattle.iol_port.specs.View.{Port, IsPort, opening_of};
+    ghost use Rattle.iol_port.specs.CorePort.{parts_over};
 
     ghost Value = { Port W };
 
     ghost view = { λ p. record {
-      parts = p.parts;
+      parts = parts_over p.wire p.core;
       opening = opening_of W.facts p.limits.value p.wire_then.value;
       writer = p.writer;
     } };
 
     ghost invariant = { λ p. IsPort W.facts
-        (opening_of W.facts p.limits.value p.wire_then.value) p.parts };
+        (opening_of W.facts p.limits.value p.wire_then.value) (parts_over p.wire p.core) };
 }
 
 impl<W: Wire, A: Handle> Port<W, A> {
@@ -84,14 +86,15 @@ impl<W: Wire, A: Handle> Port<W, A> {
         ensures back { IfErr result (λ e. e.1 ≡ wire) }
     {
         let wire_then = Snapshot::of(&wire);
-        match Book::open(alloc, limits) {
-            Ok(book) => Ok(Port {
-                parts: Parts::with_book(book, wire, limits),
+        match PortCore::open(alloc, limits) {
+            Ok(core) => Ok(Port {
+                core,
+                wire,
                 wire_then,
                 limits: Snapshot::of(limits),
                 writer: None,
             }),
-            Err(fault) => Err((PortFault::Book(fault), wire)),
+            Err(fault) => Err((fault, wire)),
         }
     }
 
@@ -110,7 +113,7 @@ impl<W: Wire, A: Handle> Port<W, A> {
             self.old.parts (submitted self.old.parts.book.state request) result self.new.parts }
         ensures rest { self.new ≡ record self.old { parts = self.new.parts } }
     {
-        self.parts.submit(request)
+        self.core.submit(request)
     }
 
     /// Enters an urgent request, which then waits behind the other urgent ones and before
@@ -127,7 +130,7 @@ impl<W: Wire, A: Handle> Port<W, A> {
             (submitted_urgent self.old.parts.book.state request) result self.new.parts }
         ensures rest { self.new ≡ record self.old { parts = self.new.parts } }
     {
-        self.parts.submit_urgent(request)
+        self.core.submit_urgent(request)
     }
 
     /// Hands out the outcome of a ticket, which is outstanding no more.
@@ -140,7 +143,7 @@ impl<W: Wire, A: Handle> Port<W, A> {
         ensures gives { CollectGives self.old.parts ticket result self.new.parts }
         ensures rest { self.new ≡ record self.old { parts = self.new.parts } }
     {
-        self.parts.collect(ticket)
+        self.core.collect(ticket)
     }
 
     /// Hands out the outcome of a ticket as [`collect`](Port::collect) does, into a place of the
@@ -153,7 +156,7 @@ impl<W: Wire, A: Handle> Port<W, A> {
         ensures kept { IfErr result (λ _. into.new ≡ into.old) }
         ensures rest { self.new ≡ record self.old { parts = self.new.parts } }
     {
-        self.parts.collect_into(ticket, into)
+        self.core.collect_into(ticket, into)
     }
 
     /// Takes back a request that waits, urgent or not. Its outcome is then that it was withdrawn.
@@ -166,7 +169,7 @@ impl<W: Wire, A: Handle> Port<W, A> {
         ensures gives { WithdrawGives self.old.parts ticket result self.new.parts }
         ensures rest { self.new ≡ record self.old { parts = self.new.parts } }
     {
-        self.parts.withdraw(ticket)
+        self.core.withdraw(ticket)
     }
 
     /// Asks to cut off the request of a ticket, which is under way.
@@ -184,7 +187,7 @@ impl<W: Wire, A: Handle> Port<W, A> {
         ensures gives { CancelGives self.old.parts ticket result self.new.parts }
         ensures rest { self.new ≡ record self.old { parts = self.new.parts } }
     {
-        self.parts.cancel(ticket)
+        self.core.cancel(ticket)
     }
 
     /// Cuts off the request under way, if any, and leaves the link in down, without an image.
@@ -196,7 +199,7 @@ impl<W: Wire, A: Handle> Port<W, A> {
         ensures gives { RestartGives self.old.parts self.new.parts }
         ensures rest { self.new ≡ record self.old { parts = self.new.parts } }
     {
-        self.parts.restart();
+        self.core.restart();
     }
 
     /// Wants this output of the device, from the next message made in OPERATE on.
@@ -209,7 +212,7 @@ impl<W: Wire, A: Handle> Port<W, A> {
         ensures gives { SetOutputGives self.old.parts image.now result self.new.parts }
         ensures rest { self.new ≡ record self.old { parts = self.new.parts } }
     {
-        self.parts.set_output(image)
+        self.core.set_output(image)
     }
 
     /// Wants no output of the device.
@@ -219,7 +222,7 @@ impl<W: Wire, A: Handle> Port<W, A> {
         ensures gives { ClearOutputGives self.old.parts self.new.parts }
         ensures rest { self.new ≡ record self.old { parts = self.new.parts } }
     {
-        self.parts.clear_output();
+        self.core.clear_output();
     }
 
     /// The device's input by the last good reply in OPERATE: one whole image, or
@@ -229,7 +232,7 @@ impl<W: Wire, A: Handle> Port<W, A> {
             self.now.parts call.Look (answered.Image (option_copied result)) self.now.parts }
         ensures value { option_copied result ≡ self.now.parts.station.session.image }
     {
-        self.parts.image()
+        self.core.image()
     }
 
     /// Hands out the event that was kept longest. Refused by 30 where none is kept.
@@ -239,7 +242,7 @@ impl<W: Wire, A: Handle> Port<W, A> {
         ensures gives { TakeEventGives self.old.parts result self.new.parts }
         ensures rest { self.new ≡ record self.old { parts = self.new.parts } }
     {
-        self.parts.take_event()
+        self.core.take_event()
     }
 
     /// The mode of the link, and why it is down.
@@ -248,7 +251,7 @@ impl<W: Wire, A: Handle> Port<W, A> {
             self.now.parts call.Status (answered.Status result) self.now.parts }
         ensures value { result ≡ status_of self.now.parts.station }
     {
-        self.parts.status()
+        self.core.status()
     }
 
     /// Hands the journal out and begins a new one, which is empty. Tickets go on.
@@ -264,7 +267,7 @@ impl<W: Wire, A: Handle> Port<W, A> {
             (result_map_both (λ entries. entries.items) (λ why. why) result) self.new.parts }
         ensures rest { self.new ≡ record self.old { parts = self.new.parts } }
     {
-        self.parts.archive()
+        self.core.archive()
     }
 
     /// What the one call of the wire in the next turn will be.
@@ -273,7 +276,7 @@ impl<W: Wire, A: Handle> Port<W, A> {
     pub fn asks(&self) -> Asked
         ensures { result ≡ asks_of self.now.parts }
     {
-        self.parts.asks()
+        self.core.asks()
     }
 
     /// One turn: one wake-up request where the link is down, else one exchange with the device.
@@ -290,7 +293,7 @@ impl<W: Wire, A: Handle> Port<W, A> {
         ensures asked { IsCall W.facts (asks_of self.old.parts)
             (wire_of self.old.parts.station.link) (wire_of self.new.parts.station.link) }
     {
-        self.parts.turn();
+        self.core.turn(&mut self.wire);
     }
 
     /// One call by its name, with what it answered.
@@ -305,7 +308,41 @@ impl<W: Wire, A: Handle> Port<W, A> {
         ensures clean { asked.now ≡ call.Turn → CleanTurn W.facts self.old.parts self.new.parts }
         ensures rest { self.new ≡ record self.old { parts = self.new.parts } }
     {
-        self.parts.answer(asked)
+        match asked {
+            Call::Submit(request) => ticket_or(self.submit(copy_of_request(request))),
+            Call::SubmitUrgent(request) => {
+                ticket_or(self.submit_urgent(copy_of_request(request)))
+            }
+            Call::Collect(ticket) => match self.collect(*ticket) {
+                Ok(outcome) => Answered::Outcome(outcome),
+                Err(fault) => Answered::Refused(fault),
+            },
+            Call::Withdraw(ticket) => nothing_or(self.withdraw(*ticket)),
+            Call::Cancel(ticket) => nothing_or(self.cancel(*ticket)),
+            Call::Restart => {
+                self.restart();
+                Answered::Nothing
+            }
+            Call::SetOutput(image) => nothing_or(self.set_output(image)),
+            Call::ClearOutput => {
+                self.clear_output();
+                Answered::Nothing
+            }
+            Call::Look => Answered::Image(copy_of_image(self.image())),
+            Call::TakeEvent => match self.take_event() {
+                Ok(event) => Answered::Event(event),
+                Err(fault) => Answered::Refused(fault),
+            },
+            Call::Status => Answered::Status(self.status()),
+            Call::Archive => match self.archive() {
+                Ok(entries) => Answered::Archived(entries.len() as u32),
+                Err(fault) => Answered::Refused(fault),
+            },
+            Call::Turn => {
+                self.turn();
+                Answered::Nothing
+            }
+        }
     }
 
     /// The calls in order, each made once, with what it answered. A call that is
@@ -330,7 +367,17 @@ impl<W: Wire, A: Handle> Port<W, A> {
         ensures refused { IfErr result (λ e. e ≡ fault.Book OutOfMemory) }
         ensures unchanged { IfErr result (λ _. self.new ≡ self.old) }
     {
-        self.parts.run(alloc, calls)
+        clean_laws();
+        let Ok(mut replies) = Vec::with_capacity(alloc, calls.len()) else {
+            return Err(PortFault::Book(BookFault::OutOfMemory));
+        };
+        for call in calls {
+            let answer = self.call(call);
+            if replies.push(answer).is_err() {
+                unreachable!();
+            }
+        }
+        Ok(replies)
     }
 
     /// From now on the image is published there after each `turn_shown` and
@@ -375,7 +422,7 @@ impl<W: Wire, A: Handle> Port<W, A> {
         } }
     {
         if let Some(writer) = &mut self.writer {
-            writer.publish(rt, self.parts.image());
+            writer.publish(rt, self.core.image());
         }
     }
 
@@ -383,7 +430,7 @@ impl<W: Wire, A: Handle> Port<W, A> {
     pub fn wire(&self) -> &W
         ensures { result.now ≡ wire_of self.now.parts.station.link }
     {
-        self.parts.wire()
+        &self.wire
     }
 
     /// Ends the port, and hands its wire back.
@@ -391,12 +438,13 @@ impl<W: Wire, A: Handle> Port<W, A> {
         ensures { result ≡ wire_of self.parts.station.link }
     {
         let Port {
-            parts,
+            core: _,
+            wire,
             wire_then: _,
             limits: _,
             writer: _,
         } = self;
-        parts.into_wire()
+        wire
     }
 
     /// A law of each port, without code: at every moment the journal says where each
@@ -415,24 +463,24 @@ impl<W: Wire, A: Handle> Port<W, A> {
         record_fits_journal();
         ends_stay_level();
         modes_have_layouts();
-        let _ = self.parts.journal();
+        let _ = self.core.journal();
     }
+}
 
-    /// Goes on over this wire, which is the one before, told from outside what its
-    /// next call brings; that one is handed back.
-    ///
-    /// It is no call of the abstract port: the port stands for the same ones as
-    /// before, and asks for the same.
-    pub fn rewire(&mut self, wire: W) -> W
-        requires told { W.facts.tells (wire_of self.old.parts.station.link) wire }
-        requires like { Replaces W.facts (wire_of self.old.parts.station.link) wire }
-        ensures parts { self.new.parts ≡ rewired_parts wire self.old.parts }
-        ensures rest { self.new ≡ record self.old { parts = self.new.parts } }
-        ensures before { result ≡ wire_of self.old.parts.station.link }
-        ensures wire { wire_of self.new.parts.station.link ≡ wire }
-        ensures asks { asks_of self.new.parts ≡ asks_of self.old.parts }
-        ensures stands { StandsStill W.facts self.old.parts self.new.parts }
-    {
-        self.parts.rewire(wire)
+fn ticket_or(given: Result<Ticket, PortFault>) -> Answered
+    ensures { result ≡ ticket_reply given }
+{
+    match given {
+        Ok(ticket) => Answered::Ticket(ticket),
+        Err(fault) => Answered::Refused(fault),
+    }
+}
+
+fn nothing_or(given: Result<(), PortFault>) -> Answered
+    ensures { result ≡ nothing_reply given }
+{
+    match given {
+        Ok(()) => Answered::Nothing,
+        Err(fault) => Answered::Refused(fault),
     }
 }

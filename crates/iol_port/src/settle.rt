@@ -5,9 +5,10 @@ ghost use Rattle.iol_isdu.specs.Texts.{IsRequest};
 ghost use Rattle.iol_book.specs.BookModel.{next_taken, took};
 ghost use Rattle.iol_app.specs.Asking.{prepared};
 ghost use Rattle.iol_app.specs.Due.{is_ready};
-ghost use Rattle.iol_app.specs.Seen.{BeginSteps};
+ghost use Rattle.iol_app.specs.Seen.{BeginSteps, core_of};
+ghost use Rattle.iol_port.specs.CorePort.{bare};
 ghost use Rattle.iol_app.specs.State.{begun_in};
-ghost use Rattle.iol_app.specs.StationState.{is_operating, mode_of};
+ghost use Rattle.iol_app.specs.StationState.{operates, mode_in};
 ghost use Rattle.iol_port.specs.Asks.{lacks_isdu, to_begin};
 ghost use Rattle.iol_port.specs.EveryWire.{taken_where};
 ghost use Rattle.iol_steps.specs.Step.{Reset, is_down as is_down_mode, book_said, reports_said};
@@ -17,10 +18,9 @@ ghost use Rattle.iol_port.specs.View.{BeginsNext, TakesNext, Asks, HasRoom};
 
 use crate::PortFault;
 use arrayvec::ArrayVec;
-use iol_app::{OutputFault, Station};
+use iol_app::{Core, OutputFault};
 use iol_book::{Book, BookFault, Outcome};
 use iol_event::{Event, EventList};
-use iol_link::Wire;
 use iol_steps::{Mode, Said};
 use std::alloc::Allocator;
 
@@ -77,51 +77,49 @@ pub(crate) fn lacks_isdu(told: Option<bool>) -> bool
 }
 
 /// The next request is taken and begun, or denied where the device has no ISDU,
-/// where the turn would have nothing else to send.
-pub(crate) fn begin_next<W: Wire, A: Allocator + Copy>(
-    station: &mut Station<W>,
-    book: &mut Book<A>,
-    room: bool,
-)
-    ensures next { BeginsNext W.facts station.old book.old.state station.new book.new.state }
-    ensures exact { station.new ≡ prepared
-        (to_begin (lacks_isdu station.old.session.isdu) (next_taken book.old.state.standing))
-        station.old room }
+/// where nothing else is to be sent.
+pub(crate) fn begin_next<A: Allocator + Copy>(core: &mut Core, book: &mut Book<A>, room: bool)
+    ensures next { BeginsNext (bare core.old) book.old.state
+        (bare core.new) book.new.state }
+    ensures exact { core.new ≡ core_of (prepared
+        (to_begin (lacks_isdu core.old.session.isdu) (next_taken book.old.state.standing))
+        (bare core.old) room) }
     ensures taken { book.new.state ≡ taken_where
-        (is_operating station.old.link && is_ready station.old.session room)
-        (lacks_isdu station.old.session.isdu) (next_taken book.old.state.standing) book.old.state }
-    ensures takes { TakesNext W.facts room station.old book.old.state station.new book.new.state }
+        (operates core.old.state && is_ready core.old.session room)
+        (lacks_isdu core.old.session.isdu) (next_taken book.old.state.standing) book.old.state }
+    ensures takes { TakesNext room (bare core.old) book.old.state
+        (bare core.new) book.new.state }
 {
     // Most turns find no request that waits.
-    if book.next().is_none() || !station.ready(room) {
+    if book.next().is_none() || !core.ready(room) {
         return;
     }
-    if lacks_isdu(station.isdu()) {
-        station.may_deny();
+    if lacks_isdu(core.isdu()) {
+        core.may_deny();
         let _denied = book.deny();
     } else {
-        take_next(station, book);
+        take_next(core, book);
     }
 }
 
 /// The request that is next is taken and begun. Out of line, since most turns take
 /// none, and a request is large.
 #[inline(never)]
-fn take_next<W: Wire, A: Allocator + Copy>(station: &mut Station<W>, book: &mut Book<A>)
-    requires operate { mode_of station.old.link ≡ Mode.Operate }
-    requires free { station.old.session.current ≡ None }
-    requires isdu { station.old.session.isdu ≢ Some false }
+fn take_next<A: Allocator + Copy>(core: &mut Core, book: &mut Book<A>)
+    requires operate { mode_in core.old.state ≡ Mode.Operate }
+    requires free { core.old.session.current ≡ None }
+    requires isdu { core.old.session.isdu ≢ Some false }
     requires waits { IsSome (next_taken book.old.state.standing) }
-    ensures station { IfSome (next_taken book.old.state.standing) (λ next. station.new
-        ≡ record station.old { session = begun_in next.1 station.old.session }) }
+    ensures core { IfSome (next_taken book.old.state.standing) (λ next. core.new
+        ≡ record core.old { session = begun_in next.1 core.old.session }) }
     ensures book { IfSome (next_taken book.old.state.standing) (λ next. book.new.state
         ≡ took book.old.state next) }
     ensures steps { IfSome (next_taken book.old.state.standing) (λ next.
-        BeginSteps W.facts next.1 station.old station.new) }
+        BeginSteps next.1 core.old core.new) }
     ensures request { IfSome (next_taken book.old.state.standing) (λ next. IsRequest next.1) }
 {
     let (_, request) = book.take().unwrap();
-    station.begin(request);
+    core.begin(request);
 }
 
 /// What a turn says goes to the book and to the kept events.

@@ -129,5 +129,4 @@ sim_facts gives = record {
   clean = is_clean;
   wake_gives = IsWake gives;
   exchange_gives = IsExchange gives;
-  tells = λ sim next. ⊥;
 }

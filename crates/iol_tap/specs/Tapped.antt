@@ -45,7 +45,6 @@ module _ {W : Type 0} (facts : WireFacts W) where
     clean = through facts.clean;
     wake_gives = TapWakes;
     exchange_gives = TapGives;
-    tells = λ tap next. ⊥;
   }
 
   -- a note is of one call of a wire, which led from the one state of it to the other

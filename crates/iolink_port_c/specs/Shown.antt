@@ -12,7 +12,7 @@ use Rattle.iol_mode.specs.declared.why.Why.{Why}
 use Rattle.iol_mode.specs.Why.{why_number}
 use Rattle.iol_steps.specs.declared.mode.Mode.{Mode}
 use Rattle.iol_steps.specs.declared.mode.Mode.TheVariants.{Down, Startup, Preoperate, Operate}
-use Rattle.iol_app.specs.declared.station.Status.{Status}
+use Rattle.iol_app.specs.declared.core_data.Status.{Status}
 use Rattle.iolink_handle.specs.Shown.{AreShown, IsRequest}
 use Rattle.iolink_port_c.specs.declared.state.IolStatus.{IolStatus}
 use Rattle.iolink_port_c.specs.declared.outcome.IolOutcome.{IolOutcome}

@@ -1,7 +1,7 @@
 //! Calls of a station by their names, and what they say.
 use super::{parameter, turns};
 use crate::asked::Asked;
-use crate::station::{Station, Status};
+use crate::{Station, Status};
 use iol_isdu::{Answer, Cause, Octets};
 use iol_link::Wire;
 use iol_mode::Why;

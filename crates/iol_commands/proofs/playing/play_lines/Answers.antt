@@ -21,5 +21,5 @@ loop-line-preserved-in-Call-1 g c =
       so_far.2 ∙ ap (λ (l : List Call). so_far.0 ++ l) (calls_in-first (lines_left c.loop-line.line-iterator) (lines_left c.next.new.self) c.in-Some.field-0-0 c.in-Some.line.now c.in-Some-Call.call c.in-Some.ensures.steps (search rules))
           ∙ sym (append_assoc so_far.0 calls (calls_in (lines_left c.next.new.self))),
       more.1 ∙ ap (λ (l : List ℕ). l ++ more.0) so_far.3 ∙ append_assoc (string_bytes c.args.output.now) so_far.1 more.0,
-      port_plays_join g.W.Wire.facts c.runs_join.ensures c.args.port.now.parts c.loop-line.port.parts c.play_line.new.port.parts so_far.0 calls so_far.1 more.0 so_far.4 more.2,
+      port_plays_join g.W.Wire.facts c.runs_join.ensures.runs c.args.port.now.parts c.loop-line.port.parts c.play_line.new.port.parts so_far.0 calls so_far.1 more.0 so_far.4 more.2,
     )

@@ -16,7 +16,7 @@ loop-made-preserved g c =
       played = (
         so_far.0 ++ more.0,
         more.1 ∙ ap (λ (l : List ℕ). l ++ more.0) so_far.1 ∙ append_assoc (string_bytes c.args.output.now) so_far.0 more.0,
-        turns_more g.W.Wire.facts c.runs_join.ensures c.args.port.now.parts c.loop-made.port.parts c.play.new.port.parts c.loop-made.made c.min-piece.result PIECE c.args.turns.now _ so_far.0 more.0
+        turns_more g.W.Wire.facts c.runs_join.ensures.runs c.args.port.now.parts c.loop-made.port.parts c.play.new.port.parts c.loop-made.made c.min-piece.result PIECE c.args.turns.now _ so_far.0 more.0
             c.requires refl (omega arith) so_far.2 more.2,
       );
     }

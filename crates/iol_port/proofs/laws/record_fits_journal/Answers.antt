@@ -1,5 +1,5 @@
 use Rattle.iol_port.proofs.Replaying.{BookLaws}
-use Rattle.iol_port.proofs.CallsSound.{opened_sound, run_sound, sound_fits}
+use Rattle.iol_port.proofs.CallsSound.{opened_sound, pieces_sound, sound_fits}
 use Rattle.iol_port.proofs.laws.record_fits_journal.Goals as goal
 
 pub returns : goal.returns
@@ -19,4 +19,4 @@ returns c =
       taken = c.records_fit.ensures.taken;
       archived = c.records_fit.ensures.archived;
     } in
-    record { opens = opened_sound laws; runs = run_sound laws; fits = sound_fits laws }
+    record { opens = opened_sound laws; runs = λ a b calls replies run sound. pieces_sound laws a b _ replies run sound; pieces = pieces_sound laws; fits = sound_fits laws }

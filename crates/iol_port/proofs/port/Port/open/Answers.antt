@@ -1,9 +1,17 @@
-use Rattle.iol_port.specs.View.{opening_of}
+use Rattle.iol_port.specs.View.{Parts, IsOpened, opening_of}
+use Rattle.iol_port.proofs.CorePorts.{new_over, opens_over}
 use Rattle.iol_port.proofs.WireLemmas.{port_new}
 use Rattle.iol_port.proofs.port.Port.open.Goals as goal
 
 pub invariant_of-result : goal.invariant_of-result
 invariant_of-result g c =
-    rw (c.of.ensures, c.of-wire_then.ensures)
-    (port_new g.W.Wire.facts (opening_of g.W.Wire.facts c.args.limits.now c.args.wire) c.with_book.result
-    c.with_book.ensures.stands c.with_book.ensures.parts.wire_is)
+    let facts = g.W.Wire.facts in
+    let limits = c.args.limits.now in
+    let new = new_over facts c.args.wire limits c.in-Ok.core c.in-Ok.ensures.parts in
+    rw (c.of.ensures, c.of-wire_then.ensures) (port_new facts (opening_of facts limits c.args.wire) _ (opens_over facts c.args.wire limits c.in-Ok.core c.in-Ok.ensures.opens) new.wire_is new.sent new.mode)
+
+pub returns-in-Ok-clause-parts : goal.returns-in-Ok-clause-parts
+returns-in-Ok-clause-parts g c = rw (c.of.ensures, c.of-wire_then.ensures) (new_over g.W.Wire.facts c.args.wire c.args.limits.now c.in-Ok.core c.in-Ok.ensures.parts)
+
+pub returns-in-Ok-clause-stands : goal.returns-in-Ok-clause-stands
+returns-in-Ok-clause-stands g c = rw c.of-wire_then.ensures (opens_over g.W.Wire.facts c.args.wire c.args.limits.now c.in-Ok.core c.in-Ok.ensures.opens)

@@ -1,0 +1,94 @@
+-- The two pieces of a turn, without the wire: what goes out, and what is made of what comes back.
+use Rattle.std.specs.Prelude.{◌≡◌, ◌⊎◌, ℕ, Bool, true, List, Option, Some, None, IsTrue}
+use Rattle.arrayvec.specs.ArrayVec.{ArrayVec}
+use Rattle.iol_octets.specs.Checksum.{has_checksum}
+use Rattle.iol_mseq.specs.Master.{HasMasterParts}
+use Rattle.iol_mseq.specs.declared.master.MasterMsg.{MasterMsg}
+use Rattle.iol_far.specs.Far.{Far}
+use Rattle.iol_page.specs.declared.page.Layouts.{Layouts}
+use Rattle.iol_link.specs.Attempts.{Sending}
+use Rattle.iol_link.specs.Honest.{HonestWake, HonestExchange}
+use Rattle.iol_mode.specs.declared.states.State.{State}
+use Rattle.iol_mode.specs.declared.states.State.TheVariants.{Operate as AtOperate}
+use Rattle.iol_mode.specs.Exchanges.{IsSending, text_out}
+use Rattle.iol_mode.specs.Messages.{unsent}
+use Rattle.iol_mode.specs.States.{IsDown}
+use Rattle.iol_steps.specs.Step.{no_make}
+use Rattle.iol_steps.specs.declared.said.Said.{Said}
+use Rattle.iol_steps.specs.declared.said.Said.TheVariants.{Idle}
+use Rattle.iol_app.specs.declared.asked.Asked.{Asked}
+use Rattle.iol_app.specs.declared.asked.Asked.TheVariants.{Wake, Exchange}
+use Rattle.iol_app.specs.Due.{due_of}
+use Rattle.iol_app.specs.Outputs.{carried_by}
+use Rattle.iol_app.specs.Reports.{is_reading}
+use Rattle.iol_app.specs.State.{SessionState, sending, IsMessageFor}
+use Rattle.iol_app.specs.Core.{Core, Ghost, Stands, IsAttempted, CallGives, SendGives, core_out, made_ghost, ordered}
+
+-- What is out
+
+-- the octets of the message that is out, with the right checksum; in down a wake
+abbrev pub IsAskedOut : Asked → State → Type 0
+IsAskedOut Wake state = IsDown state
+IsAskedOut (Exchange octets) state =
+    IsSending state × (octets.items ≡ text_out state) × IsTrue (has_checksum 1 octets.items)
+
+-- a new message for what is due is out from now on
+pub record NewOut (layouts : Layouts) (t : SessionState) (room : Bool) (new : Core) : Type 0 where
+  pub message : MasterMsg
+  pub is : new ≡ core_out layouts (unsent message) (sending (due_of t room) t) (due_of t room) t.current
+  pub due : IsMessageFor (due_of t room) (sending (due_of t room) t) message
+  pub parts : HasMasterParts layouts.run message
+  pub carries : message.out.items ≡ carried_by t.output
+
+abbrev pub OutAfter : Option Sending → Layouts → SessionState → Bool → Core → Core → Type 0
+OutAfter None layouts t room old new = NewOut layouts t room new
+OutAfter (Some out) layouts t room old new = new ≡ old
+
+abbrev pub SentBy : State → Bool → Core → Core → Type 0
+SentBy (AtOperate s) room old new = OutAfter s.out s.layouts old.session room old new
+SentBy s room old new = new ≡ old
+
+-- In OPERATE, where no message is out, a new one is; else nothing changes: what goes out
+-- a second time is what went out
+abbrev pub IsSent : Bool → Core → Core → Type 0
+IsSent room old new = SentBy old.state room old new
+
+-- a reading of events is begun only where there is room
+abbrev pub ReadsOn : Bool → Core → Core → Type 0
+ReadsOn room old new =
+    is_reading new.session ≡ true → (is_reading old.session ≡ true) ⊎ (room ≡ true)
+
+-- Over an honest wire
+
+-- what went out before goes out again: it asks for what is wanted, where it was sent and the
+-- far end isn't silent
+pub record SendsAgain (old new : Core) (silence : ℕ) : Type 0 where
+  pub same : new ≡ old
+  pub asks : IsAttempted old.state → silence ≡ 0
+      → ordered old.state old.session ≡ old.session.output.wanted
+
+-- both ends stand on, and no step but Make is taken
+unfoldable pub SendSteps : Core → Core → Type 0
+SendSteps old new =
+    (g : Ghost) (far : Far) (silence : ℕ) → Stands old g far silence
+    → SendsAgain old new silence ⊎ SendGives old new g (made_ghost old.session g) far silence
+
+-- what comes back is taken up: no message is made, and one that is out afterwards was sent
+pub record Received (old : Core) (g : Ghost) (far : Far) (silence : ℕ) (said : Said) (new : Core)
+    (far_new : Far) (silence_new : ℕ) : Type 0 where
+  pub given : CallGives old g far silence said new far_new silence_new
+  pub unmade : no_make given.steps ≡ true
+  pub attempted : IsAttempted new.state
+
+-- this came of a wake
+unfoldable pub WakeSteps : Core → Bool → Core → Type 0
+WakeSteps old answered new =
+    (g : Ghost) (far far_new : Far) (silence : ℕ) → Stands old g far silence
+    → HonestWake far answered far_new → Received old g far silence Idle new far_new silence
+
+-- this came back to the message that is out
+unfoldable pub ReceiveSteps : Core → Option (List ℕ) → Said → Core → Type 0
+ReceiveSteps old came said new =
+    (g : Ghost) (far far_new : Far) (silence silence_new : ℕ) → Stands old g far silence
+    → HonestExchange far silence (text_out old.state) came far_new silence_new
+    → Received old g far silence said new far_new silence_new

@@ -1,0 +1,408 @@
+//! A core: the link in its mode, and the session over it, without the wire.
+ghost use Rattle.std.specs.Prelude.{◌≡◌, None, Some, Bool, true, false, is_some, IsSome, IsTrue, OnOk, OnErr, ◌&&◌, ◌≢◌};
+ghost use Rattle.std.specs.Result.{result_err};
+ghost use Rattle.std.specs.Option.{option_copied};
+ghost use Rattle.iol_far.specs.Octets.{octets_in};
+ghost use Rattle.iol_link.specs.WireFacts.{Wakes, Passes};
+ghost use Rattle.iol_mode.specs.States.{IsDown, OutcomeFits, outcome_with};
+ghost use Rattle.iol_mode.specs.Stands.{StateStands};
+ghost use Rattle.iol_mode.specs.Exchanges.{IsSending, AreFew, ExchangeGives, StandsOn, WakeStands, judged};
+ghost use Rattle.iol_app.specs.EventReading.{is_refused};
+ghost use Rattle.iol_app.specs.State.{aborted_in, begun_in, wanting, output_refusal, IsSession};
+ghost use Rattle.iol_app.specs.Requests.{request_in, request_after, EndsRequest};
+ghost use Rattle.iol_app.specs.Due.{is_ready};
+ghost use Rattle.iol_app.specs.Reports.{is_reading, ReadingAfter};
+ghost use Rattle.iol_app.specs.StationState.{mode_in, why_in, operates, settled_session, NextFits, IsSettledSaid, IsTurn, StateFits as Joined};
+ghost use Rattle.iol_app.specs.Asking.{asked_in, beginning_in, asked_of, IsCall};
+ghost use Rattle.iol_app.specs.AskedCalls.{asked_facts};
+ghost use Rattle.iol_app.specs.Core.{after_exchange, after_wake, opened_core, restarted_core, wanting_core};
+ghost use Rattle.iol_app.specs.Pieces.{IsAskedOut, IsSent, ReadsOn, SendSteps, WakeSteps, ReceiveSteps};
+ghost use Rattle.iol_app.specs.Seen.{station_of, NewSteps, BeginSteps, DenySteps, AbortSteps, CancelSteps, WantSteps, RestartSteps, TurnSteps};
+
+use crate::asked::Asked;
+use crate::laws::{calls_give, station_laws};
+use crate::output::OutputFault;
+use crate::session::Session;
+use iol_image::Image;
+use iol_isdu::{Cause, Request};
+use iol_link::{Attempt, Rate, Wire};
+use iol_mode::{Down, State, Why};
+use iol_mseq::{Message, encode_master};
+use iol_steps::{Mode, Said};
+use std::marker::Model;
+
+/// How the master's end of a port is.
+#[derive(Clone, Copy, Debug, PartialEq, Eq)]
+pub struct Status {
+    pub mode: Mode,
+    /// Why the link is down, where a turn led there.
+    pub why: Option<Why>,
+    /// Whether a StatusCode was refused since the last start-up.
+    pub event_form: bool,
+}
+
+/// The master's end of one port without the wire: it never calls out. It gives the octets to
+/// send, and takes what came.
+///
+/// A turn is two calls: [`send`](Core::send), and one of [`receive`](Core::receive) and
+/// [`receive_wake`](Core::receive_wake). Between them every other call may come. What comes back
+/// is judged by what was sent, whatever was called meanwhile.
+///
+/// A clause sees the mode and the session. It says exactly what becomes of them, and how both
+/// ends stand afterwards where they stood together: with any far end, by any honest exchange.
+#[derive(Drop)]
+pub struct Core {
+    state: State,
+    session: Session,
+}
+
+impl Model for Core {
+    ghost use Rattle.iol_mode.specs.States.{StateFits};
+    ghost use Rattle.iol_app.specs.StationState.{StateFits as Joined};
+    ghost use Rattle.iol_app.specs.Core.{Core};
+
+    ghost Value = { Core };
+
+    ghost view = { λ c. record { state = c.state; session = c.session } };
+
+    ghost invariant = { λ c. StateFits c.state × Joined c.state c.session };
+}
+
+impl Core {
+    /// A core whose link is down; a request is cut off at the busy reply of this number.
+    pub fn new(busy: u16) -> Core
+        ensures core { result ≡ opened_core busy }
+        ensures steps { NewSteps result }
+    {
+        calls_give();
+        Core {
+            state: State::Down(Down { why: None }),
+            session: Session::new(busy),
+        }
+    }
+
+    /// The mode, why the link is down, and whether a StatusCode was refused since
+    /// the last start-up.
+    pub fn status(&self) -> Status
+        ensures mode { result.mode ≡ mode_in self.now.state }
+        ensures why { result.why ≡ why_in self.now.state }
+        ensures event_form { result.event_form ≡ is_refused self.now.session.events.reading }
+    {
+        let (mode, why) = match &self.state {
+            State::Down(down) => (Mode::Down, down.why),
+            State::Startup(_) => (Mode::Startup, None),
+            State::Preoperate(_) => (Mode::Preoperate, None),
+            State::Operate(_) => (Mode::Operate, None),
+        };
+        Status {
+            mode,
+            why,
+            event_form: self.session.event_form(),
+        }
+    }
+
+    /// The process data in of the last good reply in OPERATE, none where it was invalid.
+    pub fn image(&self) -> Option<&Image>
+        ensures { option_copied result ≡ self.now.session.image }
+    {
+        self.session.image()
+    }
+
+    /// Whether no message is out and the next one is IDLE 1, where there is room for events or
+    /// not: then a request may be begun.
+    pub fn ready(&self, room: bool) -> bool
+        ensures value { result ≡ (operates self.now.state && is_ready self.now.session room) }
+        ensures free { IsTrue result → (mode_in self.now.state ≡ Mode.Operate)
+            × (self.now.session.current ≡ None) }
+    {
+        matches!(self.state, State::Operate(_)) && self.session.ready(room)
+    }
+
+    /// What `send` will give, if this request is begun before it where it may be.
+    pub fn asks(&self, room: bool, next: Option<&Request>) -> Asked
+        ensures { result ≡ asked_in self.now.state
+            (beginning_in (option_copied next.entry) self.now.state self.now.session room) room }
+    {
+        match &self.state {
+            State::Down(_) => Asked::Wake,
+            State::Startup(startup) => Asked::Exchange(startup.octets()),
+            State::Preoperate(preoperate) => Asked::Exchange(preoperate.octets()),
+            State::Operate(operate) => {
+                let layout = &operate.layouts.run;
+                Asked::Exchange(match operate.out() {
+                    Some(message) => encode_master(layout, message),
+                    None => encode_master(layout, &self.session.message_due(room, next)),
+                })
+            }
+        }
+    }
+
+    /// Whether the device has ISDU, as the last start-up that read a good page told; none before.
+    pub fn isdu(&self) -> Option<bool>
+        ensures { result ≡ self.now.session.isdu }
+    {
+        self.session.isdu()
+    }
+
+    /// A law, without code: what may happen in a turn in which a request is denied,
+    /// because the device has no ISDU.
+    pub fn may_deny(&self)
+        requires operate { mode_in self.now.state ≡ Mode.Operate }
+        requires free { self.now.session.current ≡ None }
+        requires isdu { self.now.session.isdu ≡ Some false }
+        ensures steps { DenySteps self.now }
+    {
+        calls_give();
+    }
+
+    /// Begins a request, in OPERATE, while none is under way, at a device that has ISDU.
+    pub fn begin(&mut self, request: Request)
+        requires operate { mode_in self.old.state ≡ Mode.Operate }
+        requires free { self.old.session.current ≡ None }
+        requires isdu { self.old.session.isdu ≢ Some false }
+        ensures core { self.new ≡ record self.old { session = begun_in request self.old.session } }
+        ensures steps { BeginSteps request self.old self.new }
+    {
+        calls_give();
+        self.session.begin(request);
+    }
+
+    /// Lets an abort of the request under way wait. A second one changes nothing:
+    /// the first cause stays.
+    ///
+    /// A message that is out is repeated first, and may yet bring the answer. Then an ABORT
+    /// goes out, behind an output command that is due; its good reply cuts off the request.
+    ///
+    /// Both ends stand as before where the cause is `BusyTooLong`, and the device was busy as
+    /// often as it may be; where it is `Cancelled` the request has the mark that the program
+    /// asked to cut it off. No clause says what becomes of an abort for another cause there.
+    pub fn abort(&mut self, cause: Cause)
+        requires { IsSome self.old.session.current }
+        ensures core { self.new
+            ≡ record self.old { session = aborted_in cause self.old.session } }
+        ensures steps { AbortSteps cause self.old self.new }
+        ensures cancel { CancelSteps cause self.old self.new }
+    {
+        calls_give();
+        self.session.abort(cause);
+    }
+
+    /// Wants this output. Refused, with nothing changed, by the first of these that holds:
+    /// - 34 `NoLayout`: no start-up has told the lengths yet;
+    /// - 29 `WrongImageLength`: the image has not the length that was told last.
+    pub fn set_output(&mut self, image: &Image) -> Result<(), OutputFault>
+        ensures refused { result_err result ≡ output_refusal image.now self.old.session.layout }
+        ensures ok { OnOk result (self.new ≡ wanting_core (Some image.now) self.old) }
+        ensures err { OnErr result (self.new ≡ self.old) }
+        ensures steps { OnOk result (WantSteps self.old self.new) }
+    {
+        calls_give();
+        self.session.set_output(image)
+    }
+
+    /// Wants no output.
+    pub fn clear_output(&mut self)
+        ensures core { self.new ≡ wanting_core None self.old }
+        ensures steps { WantSteps self.old self.new }
+    {
+        calls_give();
+        self.session.clear_output();
+    }
+
+    /// Takes the link down. Answers whether a request was under way, which is cut off.
+    ///
+    /// What was sent before and isn't answered yet has to be answered first: else the device
+    /// might be handed a request by octets of which nobody keeps that they went out.
+    pub fn restart(&mut self) -> bool
+        ensures core { self.new ≡ restarted_core self.old }
+        ensures cut { result ≡ is_some self.old.session.current }
+        ensures steps { RestartSteps self.old self.new }
+    {
+        calls_give();
+        self.state = State::Down(Down { why: None });
+        self.session.leave()
+    }
+
+    /// What goes out: in down a wake; else the message that is out, unchanged; where none is, a
+    /// new one for what is due, which is out from now on. `room` says whether events may be read.
+    ///
+    /// Until it is answered the same octets are given again, and nothing changes.
+    pub fn send(&mut self, room: bool) -> Asked
+        ensures sent { IsSent room self.old self.new }
+        ensures says { IsAskedOut result self.new.state }
+        ensures asked { result ≡ asked_in self.old.state self.old.session room }
+        ensures reads { ReadsOn room self.old self.new }
+        ensures on { StandsOn self.old.state self.new.state }
+        ensures steps { SendSteps self.old self.new }
+    {
+        station_laws();
+        self.session.is_valid();
+        if matches!(self.state, State::Operate(_)) {
+            self.put_due(room);
+        }
+        if self.state.sends_wake() {
+            Asked::Wake
+        } else {
+            Asked::Exchange(self.state.sends())
+        }
+    }
+
+    /// In OPERATE: a message for what is due is out, where none was.
+    fn put_due(&mut self, room: bool)
+        requires { operates self.old.state ≡ true }
+        ensures sent { IsSent room self.old self.new }
+        ensures sending { IsSending self.new.state }
+        ensures on { StandsOn self.old.state self.new.state }
+        ensures steps { SendSteps self.old self.new }
+    {
+        station_laws();
+        self.session.is_valid();
+        let State::Operate(operate) = &self.state else {
+            unreachable!()
+        };
+        if operate.out.is_none() {
+            let message = self.session.new_message(room);
+            self.state.put_out(&message);
+        }
+    }
+
+    /// Takes what a wake brought: a start-up begins, or the link is still down.
+    pub fn receive_wake(&mut self, rate: Option<Rate>)
+        requires { IsDown self.old.state }
+        ensures core { self.new ≡ after_wake (is_some rate) self.old.session }
+        ensures request { request_in self.new.session.current
+            ≡ request_in self.old.session.current }
+        ensures reading { ReadingAfter false (is_reading self.old.session) Said.Idle
+            (is_reading self.new.session) }
+        ensures steps { WakeSteps self.old (is_some rate) self.new }
+    {
+        station_laws();
+        self.take_wake(rate);
+    }
+
+    fn take_wake(&mut self, rate: Option<Rate>)
+        requires { IsDown self.old.state }
+        ensures core { self.new ≡ after_wake (is_some rate) self.old.session }
+        ensures still { Joined self.old.state self.old.session }
+        ensures stands { WakeStands (is_some rate) }
+    {
+        self.state.receives_wake(rate);
+        match rate {
+            Some(_) => self.session.start(),
+            None => {
+                self.session.leave();
+            }
+        }
+    }
+
+    /// Takes what came back to the message that is out: octets, or nothing. It is judged by the
+    /// message that was sent; without a good reply that stays out, and the third attempt in a
+    /// row has lost the link.
+    ///
+    /// It says `Reported`, `Answered` or `Cut` where that happened, else `Busy` where a request
+    /// is under way afterwards, else `Idle`, and then writes nothing.
+    pub fn receive(&mut self, came: &Option<Message>, said: &mut Said)
+        requires idle { said.old ≡ Said.Idle }
+        requires out { IsSending self.old.state }
+        ensures core { self.new
+            ≡ after_exchange (judged self.old.state (octets_in came.now)) self.old.session }
+        ensures said { IsSettledSaid (judged self.old.state (octets_in came.now))
+            self.old.session said.new }
+        ensures request { request_in self.new.session.current
+            ≡ request_after (request_in self.old.session.current) said.new }
+        ensures ends { EndsRequest said.new (request_in self.old.session.current) }
+        ensures reading { ReadingAfter false (is_reading self.old.session) said.new
+            (is_reading self.new.session) }
+        ensures steps { ReceiveSteps self.old (octets_in came.now) said.new self.new }
+    {
+        station_laws();
+        self.take(came, said);
+    }
+
+    fn take(&mut self, came: &Option<Message>, said: &mut Said)
+        requires idle { said.old ≡ Said.Idle }
+        requires out { IsSending self.old.state }
+        ensures core { self.new
+            ≡ after_exchange (judged self.old.state (octets_in came.now)) self.old.session }
+        ensures said { IsSettledSaid (judged self.old.state (octets_in came.now))
+            self.old.session said.new }
+        ensures request { request_in self.new.session.current
+            ≡ request_after (request_in self.old.session.current) said.new }
+        ensures few { AreFew self.old.state }
+        ensures fits { OutcomeFits (judged self.old.state (octets_in came.now)) }
+        ensures valid { IsSession self.old.session }
+        ensures joined { Joined self.old.state self.old.session }
+        ensures gives { ExchangeGives self.old.state (octets_in came.now)
+            (judged self.old.state (octets_in came.now)) }
+    {
+        self.session.is_valid();
+        let attempt = self.state.receives(came);
+        settled(&self.state, &attempt, &mut self.session, said)
+    }
+
+    /// One turn over this wire: `send`, one call of the wire, and `receive` or `receive_wake`.
+    ///
+    /// On every wire an answer and a cut end the request under way, and a report ends a reading
+    /// of events that an earlier turn began; `room` says whether this turn may begin one. Over an
+    /// honest wire the turn is one call of the wire and one list of steps, each allowed where it
+    /// is taken.
+    pub fn turn<W: Wire>(&mut self, wire: &mut W, room: bool, said: &mut Said)
+        requires idle { said.old ≡ Said.Idle }
+        requires stands { IsTrue (W.facts.honest wire.old)
+            → StateStands self.old.state (W.facts.silence wire.old) (W.facts.far wire.old) }
+        ensures request { request_in self.new.session.current
+            ≡ request_after (request_in self.old.session.current) said.new }
+        ensures turn { IsTurn W.facts room
+            (station_of wire.old self.old) said.new (station_of wire.new self.new) }
+        ensures ends { EndsRequest said.new (request_in self.old.session.current) }
+        ensures reading { ReadingAfter room (is_reading self.old.session) said.new
+            (is_reading self.new.session) }
+        ensures steps { TurnSteps W.facts
+            (station_of wire.old self.old) said.new (station_of wire.new self.new) }
+        ensures asked { IsCall W.facts (asked_in self.old.state self.old.session room)
+            wire.old wire.new }
+        ensures exact { IsTurn (asked_facts W.facts (asked_in self.old.state self.old.session room))
+            room (station_of wire.old self.old) said.new (station_of wire.new self.new) }
+        ensures honest { W.facts.honest wire.new ≡ W.facts.honest wire.old }
+        ensures stands { IsTrue (W.facts.honest wire.new)
+            → StateStands self.new.state (W.facts.silence wire.new) (W.facts.far wire.new) }
+    {
+        station_laws();
+        self.session.is_valid();
+        match self.send(room) {
+            Asked::Wake => {
+                let rate = wire.wake();
+                self.take_wake(rate);
+            }
+            Asked::Exchange(sent) => {
+                let came = wire.exchange(sent.as_slice());
+                self.take(&came, said);
+            }
+        }
+    }
+}
+
+/// Takes up the mode after an exchange, in OPERATE with the good reply that it brought.
+fn settled(state: &State, attempt: &Attempt, session: &mut Session, said: &mut Said)
+    requires idle { said.old ≡ Said.Idle }
+    requires fits { NextFits (outcome_with attempt.now state.now) session.old }
+    ensures session { session.new
+        ≡ settled_session (outcome_with attempt.now state.now) session.old }
+    ensures said { IsSettledSaid (outcome_with attempt.now state.now) session.old said.new }
+    ensures request { request_in session.new.current
+        ≡ request_after (request_in session.old.current) said.new }
+{
+    match state {
+        State::Down(_) => session.lose(said),
+        State::Startup(startup) => {
+            if let Some(layouts) = startup.told() {
+                session.take_layout(&layouts.run, layouts.isdu);
+            }
+        }
+        State::Preoperate(_) => {}
+        State::Operate(_) => match attempt {
+            Attempt::Got(first) => session.hear(first, said),
+            Attempt::Again | Attempt::Lost => session.quiet(said),
+        },
+    }
+}

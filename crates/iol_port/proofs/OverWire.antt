@@ -1,0 +1,47 @@
+-- What a call of a port without the wire leaves, over a wire.
+use Rattle.std.proofs.Common.{◌≡◌, List, Bool, true, false, Option, Result, Ok, Err, OnOk, OnErr, refl, ap, ◌∙◌, sym, subst, arith}
+use Rattle.std.specs.Prelude.{IsTrue}
+use Rattle.std.proofs.lemmas.Grind.{common_steps}
+use Rattle.iol_isdu.specs.declared.values.Request.{Request}
+use Rattle.iol_event.specs.declared.event.Event.{Event}
+use Rattle.iol_book.specs.declared.entries.Ticket.{Ticket}
+use Rattle.iol_book.specs.declared.entries.Entry.{Entry}
+use Rattle.iol_book.specs.declared.entries.Outcome.{Outcome}
+use Rattle.iol_book.specs.BookModel.{BookState}
+use Rattle.iol_steps.specs.Step.{Image}
+use Rattle.iol_port.specs.declared.fault.PortFault.{PortFault}
+use Rattle.iol_port.specs.View.{Parts}
+use Rattle.iol_port.specs.CorePort.{parts_over}
+use Rattle.iol_port.specs.EveryWire.{SubmitGives, CollectGives, WithdrawGives, CancelGives, ArchiveGives, TakeEventGives, SetOutputGives, ClearOutputGives, RestartGives}
+use Rattle.iol_port.proofs.CallLemmas.{on_ok, on_err}
+
+module _ {W : Type 0} (wire : W) (p next : Parts (Unit {0})) where
+  abbrev over : Parts (Unit {0}) → Parts W
+  over q = parts_over wire q
+
+  pub submit_over : {b : BookState} {r : Result Ticket PortFault} → SubmitGives p b r next → SubmitGives (over p) b r (over next)
+  submit_over h = record { allowed = h.allowed; ticket = h.ticket; entered = h.entered; refused = h.refused; unchanged = h.unchanged; rest = ap over h.rest }
+
+  pub collect_over : {t : Ticket} {r : Result Outcome PortFault} → CollectGives p t r next → CollectGives (over p) t r (over next)
+  collect_over h = record { answer = h.answer; book = h.book; rest = ap over h.rest }
+
+  pub withdraw_over : {t : Ticket} {r : Result (Unit {0}) PortFault} → WithdrawGives p t r next → WithdrawGives (over p) t r (over next)
+  withdraw_over h = record { answer = h.answer; book = h.book; rest = ap over h.rest }
+
+  pub cancel_over : {t : Ticket} {r : Result (Unit {0}) PortFault} → CancelGives p t r next → CancelGives (over p) t r (over next)
+  cancel_over {r = r} h = record { answer = h.answer; waits = on_ok _ _ r (ap over) h.waits; unchanged = on_err _ _ r (ap over) h.unchanged }
+
+  pub archive_over : {r : Result (List Entry) PortFault} → ArchiveGives p r next → ArchiveGives (over p) r (over next)
+  archive_over h = record { allowed = h.allowed; journal = h.journal; refused = h.refused; book = h.book; rest = ap over h.rest }
+
+  pub take_event_over : {r : Result Event PortFault} → TakeEventGives p r next → TakeEventGives (over p) r (over next)
+  take_event_over h = record { answer = h.answer; rest = ap over h.rest }
+
+  pub set_output_over : {image : Image} {r : Result (Unit {0}) PortFault} → SetOutputGives p image r next → SetOutputGives (over p) image r (over next)
+  set_output_over {r = r} h = record { answer = h.answer; wanted = on_ok _ _ r (ap over) h.wanted; unchanged = on_err _ _ r (ap over) h.unchanged }
+
+  pub clear_output_over : ClearOutputGives p next → ClearOutputGives (over p) (over next)
+  clear_output_over h = ap over h
+
+  pub restart_over : RestartGives p next → RestartGives (over p) (over next)
+  restart_over h = record { wire = refl; mode = h.mode; why = h.why; session_is = h.session_is; book = h.book; kept = h.kept; sent = h.sent }

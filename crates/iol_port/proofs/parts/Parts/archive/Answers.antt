@@ -1,7 +1,0 @@
-use Rattle.iol_port.proofs.CallLemmas.{archive_does}
-use Rattle.iol_port.proofs.parts.Parts.archive.Goals as goal
-
-pub returns-clause-does : goal.returns-clause-does
-returns-clause-does g c =
-    rw (← c.self.view_is, c.by_book.ensures)
-    (record { follows = archive_does g.W.Wire.facts (λ entries. entries.items) _ c.archive.result c.archive.new.self c.archive.ensures.allowed c.archive.ensures.journal c.archive.ensures.err c.archive.ensures.state; book = c.archive.ensures.state })

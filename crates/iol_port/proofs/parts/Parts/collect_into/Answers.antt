@@ -1,8 +1,0 @@
-use Rattle.std.specs.Result.{result_map_both}
-use Rattle.iol_port.proofs.CallLemmas.{collect_does, by_book_put}
-use Rattle.iol_port.proofs.parts.Parts.collect_into.Goals as goal
-
-pub returns-clause-does : goal.returns-clause-does
-returns-clause-does g c =
-    rw (← c.self.view_is, c.by_book.ensures, by_book_put c.collect_into.result c.collect_into.new.into)
-    (record { follows = collect_does g.W.Wire.facts _ c.args.ticket (result_map_both (λ _. c.collect_into.new.into) (λ why. why) c.collect_into.result) c.collect_into.new.self c.collect_into.ensures.answer c.collect_into.ensures.state; book = c.collect_into.ensures.state })

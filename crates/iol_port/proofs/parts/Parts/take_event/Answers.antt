@@ -1,8 +1,0 @@
-use Rattle.std.proofs.Common.{refl}
-use Rattle.iol_port.proofs.CallLemmas.{take_event_does, part_kept}
-use Rattle.iol_port.proofs.parts.Parts.take_event.Goals as goal
-
-pub returns-clause-does : goal.returns-clause-does
-returns-clause-does g c =
-    rw (← c.self.view_is, c.ok_or.ensures.value)
-    (record { follows = take_event_does g.W.Wire.facts (record { station = c.self.inside.station; book = c.self.inside.book; kept = c.self.inside.kept.items }) c.pop_at.result c.pop_at.new.self.items c.pop_at.ensures.value c.pop_at.ensures.items (part_kept (λ kept. kept.items) c.pop_at.result _ _ c.pop_at.ensures.absent); book = refl })

@@ -1,6 +1,0 @@
-use Rattle.iol_port.proofs.WireLemmas.{port_kept}
-use Rattle.iol_port.proofs.port.Port.call.Goals as goal
-
-pub invariant_of-self : goal.invariant_of-self
-invariant_of-self g c =
-    port_kept g.W.Wire.facts _ _ _ _ _ c.self.invariant c.answer.ensures.does c.answer.ensures.called

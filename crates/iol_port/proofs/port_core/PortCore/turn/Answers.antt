@@ -1,0 +1,98 @@
+-- A turn of a port: what goes out, one call of the wire, and what is made of what came.
+use Rattle.std.proofs.Common.{◌≡◌, refl, Bool, ◌&&◌, Option, false, ap, sym, ◌∙◌, subst, cond, ◌∷◌, [], ◌++◌, arith}
+use Rattle.std.proofs.lemmas.Grind.{common_steps}
+use Rattle.iol_steps.specs.Step.{Reset, woke_up, book_said}
+use Rattle.iol_app.specs.Core.{Core}
+use Rattle.iol_app.specs.Due.{is_ready}
+use Rattle.iol_app.specs.StationState.{StationState, wire_of, mode_of, is_operating, operates, mode_in}
+use Rattle.iol_app.specs.Asking.{asked_of, prepared, IsCall}
+use Rattle.iol_app.specs.Seen.{core_of, station_of}
+use Rattle.iol_isdu.specs.declared.values.Request.{Request}
+use Rattle.iol_book.specs.BookModel.{BookState, next_taken}
+use Rattle.iol_port.specs.Asks.{has_room, lacks_isdu, to_begin}
+use Rattle.iol_port.specs.View.{Parts, BeginsNext, TakesNext}
+use Rattle.iol_port.specs.CorePort.{bare, parts_over}
+use Rattle.iol_port.specs.EveryWire.{taken_where}
+use Rattle.iol_port.specs.Steps.{book_through}
+use Rattle.iol_port.proofs.AskLemmas.{book_told, turn_begun_asked}
+use Rattle.iol_port.proofs.CorePorts.{begins_over, takes_over}
+use Rattle.iol_port.proofs.Denying.{turn_denies}
+use Rattle.iol_port.proofs.TieLemmas.{begun_same, ends_ask, turn_tied, turn_limit}
+use Rattle.iol_port.proofs.TurnLemmas.{turn_does, turn_gives_none}
+use Rattle.iol_port.proofs.CleanTurns.{clean_turn, none_woke}
+use Rattle.iol_port.proofs.port_core.PortCore.turn.Given as given
+use Rattle.iol_port.proofs.port_core.PortCore.turn.Goals as goal
+
+pub settle-requires-clause-asked : goal.settle-requires-clause-asked
+settle-requires-clause-asked g c =
+    ends_ask _ _ _ (begun_same _ _ _ _ c.begin_next.ensures.next c.self.invariant.same) c.turn.ensures.ends
+
+pub invariant_of-self : goal.invariant_of-self
+invariant_of-self g c =
+    let p : Parts (Unit {0}) = record { station = bare c.self.inside.core; book = c.self.inside.book; kept = c.self.inside.kept.items; sent = c.self.inside.sent } in
+    let free : p.sent ≡ false = ap (λ (q : Parts (Unit {0})). q.sent) c.self.view_is ∙ c.requires.free in
+    rw free
+    (turn_tied p (bare c.begin_next.new.core) (bare c.turn.new.self) c.begin_next.new.book.state c.settle.new.kept.items c.settle.new.book _ _ c.turn.new.said c.self.invariant c.begin_next.ensures.next
+    (turn_limit g.W.Wire.facts _ (station_of c.args.wire.now c.begin_next.new.core) c.turn.new.said (station_of c.turn.new.wire c.turn.new.self) c.turn.ensures.turn)
+    c.turn.ensures.request c.turn.ensures.reading (λ room. grind (arith, common_steps)) c.settle.ensures.book c.settle.ensures.kept)
+
+-- the parts before the turn, and what was begun, over the wire
+abbrev inside : (g : given.Over) (c : goal.After-settle g) → Parts (Unit {0})
+inside g c = record { station = bare c.self.inside.core; book = c.self.inside.book; kept = c.self.inside.kept.items; sent = c.self.inside.sent }
+
+abbrev before : (g : given.Over) (c : goal.After-settle g) → Parts g.row.W.Denot
+before g c = parts_over c.args.wire.now (inside g c)
+
+abbrev after : (g : given.Over) (c : goal.After-settle g) → Parts g.row.W.Denot
+after g c = record { station = station_of c.turn.new.wire c.turn.new.self; book = c.settle.new.book; kept = c.settle.new.kept.items; sent = c.self.inside.sent }
+
+abbrev mid : (g : given.Over) (c : goal.After-settle g) → StationState g.row.W.Denot
+mid g c = station_of c.args.wire.now c.begin_next.new.core
+
+begins : (g : given.Over) (c : goal.After-settle g) → BeginsNext (before g c).station (before g c).book.state (mid g c) c.begin_next.new.book.state
+begins g c = begins_over c.args.wire.now c.self.inside.core c.begin_next.new.core c.self.inside.book.state c.begin_next.new.book.state c.begin_next.ensures.next
+
+free : (g : given.Over) (c : goal.After-settle g) → c.self.inside.sent ≡ false
+free g c = ap (λ (q : Parts (Unit {0})). q.sent) c.self.view_is ∙ c.requires.free
+
+pub returns-clause-does : goal.returns-clause-does
+returns-clause-does g c =
+    rw (← c.self.view_is)
+    (record {
+      follows = turn_does g.W.Wire.facts (before g c) (after g c) c.turn.new.said (mid g c) c.begin_next.new.book.state (free g c) (free g c) (begins g c) c.turn.ensures.steps (cc) c.settle.ensures.kept;
+      book = turn_gives_none _ _ _ _ _ (cond c.woke_up-woke.result (Reset ∷ []) [] ++ book_said c.turn.new.said) (begins g c) c.settle.ensures.book;
+    })
+
+pub returns-clause-clean : goal.returns-clause-clean
+returns-clause-clean g c =
+    rw (← c.self.view_is)
+    (clean_turn g.W.Wire.facts c.clean_laws.ensures g.met.W.Wire.clean_exchanges (before g c) (after g c)
+    (mid g c) c.begin_next.new.book.state _ c.woke_up-woke.result c.turn.new.said (begins g c)
+    (takes_over c.args.wire.now c.has_room-room.result c.self.inside.core c.begin_next.new.core c.self.inside.book.state c.begin_next.new.book.state c.begin_next.ensures.takes) c.turn.ensures.turn c.self.invariant.busy
+    (none_woke g.W.Wire.facts (mid g c).link _ _ c.woke_up-woke.result c.status-began.ensures.mode c.woke_up-woke.ensures)
+    c.settle.ensures.book)
+
+pub returns-clause-gives : goal.returns-clause-gives
+returns-clause-gives g c =
+    let facts = g.W.Wire.facts in
+    let p : Parts g.row.W.Denot = before g c in
+    let next : Option Request = to_begin (lacks_isdu p.station.session.isdu) (next_taken p.book.state.standing) in
+    let room : c.has_room-room.result ≡ has_room p.kept = c.has_room-room.ensures ∙ ap (λ (q : Parts (Unit {0})). has_room q.kept) (sym c.self.view_is) in
+    let exact : mid g c ≡ prepared next p.station c.has_room-room.result = ap (λ (k : Core). station_of c.args.wire.now k) c.begin_next.ensures.exact in
+    rw (← c.self.view_is)
+    (record {
+      said = c.turn.new.said;
+      turn = turn_begun_asked facts p.station (mid g c) (after g c).station next c.has_room-room.result _ c.turn.new.said room exact c.turn.ensures.exact;
+      book = c.settle.ensures.book
+          ∙ book_told p.station (mid g c) (after g c).station next c.has_room-room.result c.woke_up-woke.result c.status-began.result.mode c.status.result.mode c.turn.new.said c.begin_next.new.book.state
+          exact c.status-began.ensures.mode c.status.ensures.mode c.woke_up-woke.ensures
+          ∙ ap (λ (b : BookState). book_through (woke_up (mode_of p.station.link) (mode_of (after g c).station.link) ++ book_said c.turn.new.said) b)
+          (c.begin_next.ensures.taken ∙ ap (λ (r : Bool). taken_where (operates p.station.link.state && is_ready p.station.session r) (lacks_isdu p.station.session.isdu) (next_taken p.book.state.standing) p.book.state) room);
+      kept = c.settle.ensures.kept;
+      denies = λ ticket has. turn_denies p (after g c)
+          c.begin_next.new.book.state c.woke_up-woke.result c.turn.new.said
+          (ends_ask _ _ _ (begun_same _ _ _ _ c.begin_next.ensures.next c.self.invariant.same) c.turn.ensures.ends)
+          c.settle.ensures.book ticket has (is_operating p.station.link && is_ready p.station.session c.has_room-room.result) c.begin_next.ensures.taken
+          (λ ready. none_woke facts (mid g c).link _ _ c.woke_up-woke.result c.status-began.ensures.mode c.woke_up-woke.ensures
+          (ap (λ (s : StationState g.row.W.Denot). is_operating s.link) exact ∙ (grind (arith, common_steps))));
+    })

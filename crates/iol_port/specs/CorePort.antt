@@ -1,0 +1,132 @@
+-- A port without a wire: its parts over none, and what its calls are to whoever has the line.
+use Rattle.std.specs.Prelude.{◌≡◌, ℕ, Bool, true, false, cond, List, [], ◌∷◌, Option, IsTrue, ⊤}
+use Rattle.iol_far.specs.Far.{Far}
+use Rattle.iol_link.specs.WireFacts.{WireFacts}
+use Rattle.iol_link.specs.Honest.{HonestWake, HonestExchange}
+use Rattle.iol_mode.specs.declared.states.State.{State}
+use Rattle.iol_mode.specs.declared.states.State.TheVariants.{Down as AtDown}
+use Rattle.iol_mode.specs.Exchanges.{judged, text_out}
+use Rattle.iol_book.specs.declared.entries.Limits.{Limits}
+use Rattle.iol_steps.specs.declared.said.Said.{Said}
+use Rattle.iol_steps.specs.Step.{Reset, book_said, reports_said}
+use Rattle.iol_app.specs.StationState.{StationState, IsSettledSaid}
+use Rattle.iol_app.specs.Core.{Core, after_exchange, after_wake}
+use Rattle.iol_app.specs.Pieces.{IsSent}
+use Rattle.iol_app.specs.Seen.{core_of, station_of}
+use Rattle.iol_port.specs.declared.awaited.Awaited.{Awaited}
+use Rattle.iol_port.specs.declared.awaited.Awaited.TheVariants.{Nothing, Wake, Reply}
+use Rattle.iol_port.specs.declared.call.Call.{Call}
+use Rattle.iol_port.specs.declared.call.Answered.{Answered}
+use Rattle.iol_port.specs.declared.call.Answered.TheVariants as answered
+use Rattle.iol_port.specs.Asks.{has_room}
+use Rattle.iol_port.specs.EveryWire.{station_begun, book_begun}
+use Rattle.iol_port.specs.Run.{PortState, Piece, Send, Receive, PieceOf, opened}
+use Rattle.iol_port.specs.Steps.{book_through, kept_through}
+use Rattle.iol_port.specs.View.{Parts, Opening, OpensWell, IsOpened, StandsFor, Does, opening_of}
+
+-- its parts over a wire
+abbrev pub parts_over : {W : Type 0} → W → Parts (Unit {0}) → Parts W
+parts_over wire p = record {
+  station = station_of wire (core_of p.station);
+  book = p.book;
+  kept = p.kept;
+  sent = p.sent;
+}
+
+-- a core as a station over no wire
+abbrev pub bare : Core → StationState (Unit {0})
+bare c = let none : Unit {0} = tt in station_of none c
+
+-- what waits for its answer
+abbrev pub awaited_in : State → Awaited
+awaited_in (AtDown s) = Wake
+awaited_in s = Reply
+
+abbrev pub awaited : Parts (Unit {0}) → Awaited
+awaited p = cond p.sent (awaited_in p.station.link.state) Nothing
+
+-- The line, as whoever has it knows it: an honest one to this far end, silent for so long
+
+abbrev pub at_end : Far → ℕ → WireFacts (Unit {0})
+at_end far silence = record {
+  honest = λ w. true;
+  far = λ w. far;
+  silence = λ w. silence;
+  clean = λ w. false;
+  wake_gives = λ w answer next. ⊤;
+  exchange_gives = λ w sent answer next. ⊤;
+}
+
+abbrev pub opened_at : Limits → Far → ℕ → Opening (Unit {0})
+opened_at limits far silence =
+    let none : Unit {0} = tt in opening_of (at_end far silence) limits none
+
+-- a call is one of each abstract port that the port stands for, with whatever far end
+abbrev pub CoreDoes : Parts (Unit {0}) → Call → Answered → Parts (Unit {0}) → Type 0
+CoreDoes p c reply next = (far : Far) (silence : ℕ) → Does (at_end far silence) p c reply next
+
+-- a port that is new
+abbrev pub IsNew : Limits → Parts (Unit {0}) → Type 0
+IsNew limits p = (far : Far) (silence : ℕ) → IsOpened (opened_at limits far silence) p
+
+-- it stands for the abstract port that is opened, with each far end that was handed no request
+abbrev pub CoreOpens : Limits → Parts (Unit {0}) → Type 0
+CoreOpens limits p = (far : Far) (silence : ℕ)
+    → OpensWell (opened_at limits far silence)
+    → StandsFor (at_end far silence) p (opened limits far silence)
+
+-- one piece, after which the far end and the silence are these
+abbrev pub PieceDoes : Parts (Unit {0}) → Far → ℕ → Piece → Parts (Unit {0}) → Far → ℕ → Type 0
+PieceDoes p far silence piece next far_new silence_new =
+    (a : PortState) → StandsFor (at_end far silence) p a
+    → (b : PortState) × PieceOf a piece answered.Nothing b
+    × StandsFor (at_end far_new silence_new) next b
+
+-- what goes out
+unfoldable pub SendDoes : Parts (Unit {0}) → Parts (Unit {0}) → Type 0
+SendDoes p next = (far : Far) (silence : ℕ) → PieceDoes p far silence Send next far silence
+
+-- what came back, where an honest exchange with that far end could bring it
+unfoldable pub ReceiveDoes : Parts (Unit {0}) → Option (List ℕ) → Parts (Unit {0}) → Type 0
+ReceiveDoes p came next =
+    (far far_new : Far) (silence silence_new : ℕ)
+    → HonestExchange far silence (text_out p.station.link.state) came far_new silence_new
+    → PieceDoes p far silence Receive next far_new silence_new
+
+-- what came of a wake, where an honest one could bring it
+unfoldable pub WakeDoes : Parts (Unit {0}) → Bool → Parts (Unit {0}) → Type 0
+WakeDoes p answered next =
+    (far far_new : Far) (silence : ℕ) → HonestWake far answered far_new
+    → PieceDoes p far silence Receive next far_new silence
+
+-- On every line, honest or not
+
+-- the next request is begun or denied where nothing was out, and a message is out: the one
+-- that was, or a new one for what is due
+pub record SendGives (old new : Parts (Unit {0})) : Type 0 where
+  pub core : old.sent ≡ false
+      → IsSent (has_room old.kept) (core_of (station_begun old)) (core_of new.station)
+  pub book : old.sent ≡ false → new.book.state ≡ book_begun old
+  pub kept : new.kept ≡ old.kept
+  pub sent : new.sent ≡ true
+
+-- what came back is judged by what was sent, and what that says goes to the book and to the
+-- kept events
+pub record ReceiveGives (old : Parts (Unit {0})) (came : Option (List ℕ)) (new : Parts (Unit {0})) :
+    Type 0 where
+  pub said : Said
+  pub core : core_of new.station
+      ≡ after_exchange (judged old.station.link.state came) old.station.session
+  pub said_is : IsSettledSaid (judged old.station.link.state came) old.station.session said
+  pub book : new.book.state ≡ book_through (book_said said) old.book.state
+  pub kept : new.kept ≡ kept_through (reports_said said) old.kept
+  pub sent : new.sent ≡ false
+
+-- a start-up begins where the wake was answered, which ends what a request that was cut off
+-- may still do; else the link is still down
+pub record WakeGives (old : Parts (Unit {0})) (answered : Bool) (new : Parts (Unit {0})) :
+    Type 0 where
+  pub core : core_of new.station ≡ after_wake answered old.station.session
+  pub book : new.book.state ≡ book_through (cond answered (Reset ∷ []) []) old.book.state
+  pub kept : new.kept ≡ old.kept
+  pub sent : new.sent ≡ false

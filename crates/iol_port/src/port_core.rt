@@ -1,0 +1,393 @@
+//! A port without the wire: it gives the octets to send, and takes what came.
+ghost use Rattle.std.specs.Prelude.{◌≡◌, ◌≢◌, ◌<◌, ◌≤◌, None, true, false, IfOk, IfErr, IsTrue, length, is_some};
+ghost use Rattle.std.specs.Option.{option_copied};
+ghost use Rattle.std.specs.Result.{result_map_both};
+ghost use Rattle.iol_far.specs.Octets.{octets_in};
+ghost use Rattle.iol_mode.specs.Stands.{StateStands};
+ghost use Rattle.iol_book.specs.declared.fault.BookFault.TheVariants.{OutOfMemory};
+ghost use Rattle.iol_book.specs.BookModel.{AreLimits, IsReplayed, submitted, submitted_urgent};
+ghost use Rattle.iol_app.specs.Asking.{IsCall};
+ghost use Rattle.iol_app.specs.Pieces.{IsAskedOut};
+ghost use Rattle.iol_port.specs.declared.fault.PortFault.TheVariants as fault;
+ghost use Rattle.iol_port.specs.declared.call.Call.TheVariants as call;
+ghost use Rattle.iol_port.specs.declared.call.Answered.TheVariants as answered;
+ghost use Rattle.iol_port.specs.declared.awaited.Awaited.{Awaited};
+ghost use Rattle.iol_port.specs.View.{Does, OpensWell, IsOpened, opening_of, status_of};
+ghost use Rattle.iol_port.specs.Asks.{asks_of, has_room};
+ghost use Rattle.iol_port.specs.EveryWire.{SubmitGives, CollectGives, WithdrawGives, CancelGives, ArchiveGives};
+ghost use Rattle.iol_port.specs.EveryWire.{TakeEventGives, SetOutputGives, ClearOutputGives, RestartGives, TurnGives};
+ghost use Rattle.iol_port.specs.Clean.{CleanTurn};
+ghost use Rattle.iol_port.specs.CorePort.{CoreDoes, CoreOpens, IsNew, awaited, parts_over, SendGives, SendDoes, ReceiveGives, ReceiveDoes, WakeGives, WakeDoes};
+ghost use Rattle.iol_port.specs.Replies.{ticket_reply, outcome_reply, nothing_reply, event_reply, reply_of};
+
+use crate::awaited::Awaited;
+use crate::laws::clean_laws;
+use crate::settle::{KEPT, ROOM, begin_next, by_book, by_output, lacks_isdu, settle, woke_up};
+use crate::PortFault;
+use arrayvec::ArrayVec;
+use iol_app::{Asked, Core, Status};
+use iol_book::{Book, Entry, Limits, Outcome, Ticket};
+use iol_event::Event;
+use iol_image::Image;
+use iol_isdu::{Cause, Request};
+use iol_link::{Rate, Wire};
+use iol_mseq::Message;
+use iol_steps::{Mode, Said};
+use std::alloc::{Allocator, Global};
+use std::marker::Model;
+
+/// A port of an IO-Link master that owns no wire and calls none, for a line of one's own.
+///
+/// [`send`](PortCore::send) gives what goes out: the octets of one message, or a wake-up
+/// request. The line is used without the port, and [`receive`](PortCore::receive) or
+/// [`receive_wake`](PortCore::receive_wake) takes what came of it, or that nothing did. Between the
+/// two every other call may come, but a restart: what came is judged by what was sent. Until it
+/// is answered `send` gives the same octets again, and changes nothing.
+///
+/// ```text
+///            send                           receive, receive_wake
+///   nothing ------> out: a wake, or octets ----------------------> nothing
+///                   |   ^
+///                   +---+ send (the same again), submit, cancel, ..
+/// ```
+///
+/// Clauses see the port's parts, over no wire. They say exactly what each call leaves, whatever
+/// comes. And they say, of each far end of the line and each abstract port that the port stands
+/// for with it, that the call is one piece of a run of the abstract port: of what comes back,
+/// where an honest exchange with that far end could bring it.
+#[derive(Drop)]
+pub struct PortCore<A: Allocator + Copy = Global> {
+    core: Core,
+    book: Book<A>,
+    kept: ArrayVec<Event, KEPT>,
+    /// What was sent last waits for its answer.
+    sent: bool,
+}
+
+impl<A: Allocator + Copy> Model for PortCore<A> {
+    ghost use Rattle.iol_port.specs.View.{Parts, IsTied};
+    ghost use Rattle.iol_port.specs.CorePort.{bare};
+
+    ghost Value = { Parts (Unit {0}) };
+
+    ghost view = { λ p. record {
+      station = bare p.core;
+      book = p.book;
+      kept = p.kept.items;
+      sent = p.sent;
+    } };
+
+    ghost invariant = { λ p. IsTied (record {
+      station = bare p.core;
+      book = p.book;
+      kept = p.kept.items;
+      sent = p.sent;
+    }) };
+}
+
+impl<A: Allocator + Copy> PortCore<A> {
+    /// A port whose link is down, and whose first ticket is `given` + 1. Refused by 24 where
+    /// there is no memory for its book.
+    pub fn open(alloc: A, limits: &Limits) -> Result<PortCore<A>, PortFault>
+        requires limits { AreLimits limits.now }
+        ensures parts { IfOk result (λ p. IsNew limits.now p) }
+        ensures opens { IfOk result (λ p. CoreOpens limits.now p) }
+        ensures refused { IfErr result (λ e. e ≡ fault.Book OutOfMemory) }
+    {
+        match Book::open(alloc, limits) {
+            Ok(book) => Ok(PortCore {
+                core: Core::new(limits.busy),
+                book,
+                kept: ArrayVec::new(),
+                sent: false,
+            }),
+            Err(fault) => Err(PortFault::Book(fault)),
+        }
+    }
+
+    /// What the port waits for: nothing, where nothing is out.
+    pub fn awaits(&self) -> Awaited
+        ensures { result ≡ awaited self.now }
+    {
+        if !self.sent {
+            return Awaited::Nothing;
+        }
+        match self.core.status().mode {
+            Mode::Down => Awaited::Wake,
+            Mode::Startup | Mode::Preoperate | Mode::Operate => Awaited::Reply,
+        }
+    }
+
+    /// Enters a request and answers its ticket. The request then waits behind all
+    /// that wait already; an urgent one that is submitted later goes before it.
+    ///
+    /// Refused, with nothing changed, by the first of 21 where 64 tickets are
+    /// outstanding, 22 where the journal has no room for the request's entries, 23
+    /// where the last ticket was 2^64 - 1, and 24 where a growth was refused.
+    pub fn submit(&mut self, request: Request) -> Result<Ticket, PortFault>
+        ensures does { CoreDoes self.old (call.Submit request) (ticket_reply result) self.new }
+        ensures lacks { IfErr result (λ e. e ≡ fault.Book OutOfMemory → self.old.book.room ≡ 0) }
+        ensures gives { SubmitGives self.old (submitted self.old.book.state request) result
+            self.new }
+    {
+        by_book(self.book.submit(request))
+    }
+
+    /// Enters an urgent request, which then waits behind the other urgent ones and before
+    /// all others, and answers its ticket. A request that is under way isn't stopped by it.
+    ///
+    /// Refused, with nothing changed, as `submit` is: 21, 22 and 23 count both kinds.
+    pub fn submit_urgent(&mut self, request: Request) -> Result<Ticket, PortFault>
+        ensures does { CoreDoes
+            self.old (call.SubmitUrgent request) (ticket_reply result) self.new }
+        ensures lacks { IfErr result (λ e. e ≡ fault.Book OutOfMemory → self.old.book.room ≡ 0) }
+        ensures gives { SubmitGives self.old (submitted_urgent self.old.book.state request) result
+            self.new }
+    {
+        by_book(self.book.submit_urgent(request))
+    }
+
+    /// Hands out the outcome of a ticket, which is outstanding no more.
+    ///
+    /// Refused, with nothing changed, by 25 where no such ticket is outstanding,
+    /// and by 26 where it has no outcome yet.
+    pub fn collect(&mut self, ticket: Ticket) -> Result<Outcome, PortFault>
+        ensures does { CoreDoes self.old (call.Collect ticket) (outcome_reply result) self.new }
+        ensures gives { CollectGives self.old ticket result self.new }
+    {
+        by_book(self.book.collect(ticket))
+    }
+
+    /// Hands out the outcome of a ticket as [`collect`](Port::collect) does, into a place of the
+    /// caller, which a refusal leaves as it was. Most asks come before the outcome, and cost little.
+    pub fn collect_into(
+        &mut self,
+        ticket: Ticket,
+        into: &mut Outcome,
+    ) -> Result<(), PortFault>
+        ensures does { CoreDoes self.old (call.Collect ticket)
+            (outcome_reply (result_map_both (λ _. into.new) (λ why. why) result)) self.new }
+        ensures gives { CollectGives self.old ticket
+            (result_map_both (λ _. into.new) (λ why. why) result) self.new }
+        ensures kept { IfErr result (λ _. into.new ≡ into.old) }
+    {
+        by_book(self.book.collect_into(ticket, into))
+    }
+
+    /// Takes back a request that waits, urgent or not. Its outcome is then that it was withdrawn.
+    ///
+    /// Refused, with nothing changed, by 25 where no such ticket is outstanding,
+    /// and by 27 where it waits no longer.
+    pub fn withdraw(&mut self, ticket: Ticket) -> Result<(), PortFault>
+        ensures does { CoreDoes self.old (call.Withdraw ticket)
+            (nothing_reply result) self.new }
+        ensures gives { WithdrawGives self.old ticket result self.new }
+    {
+        by_book(self.book.withdraw(ticket))
+    }
+
+    /// Asks to cut off the request of a ticket, which is under way.
+    ///
+    /// An ABORT waits then, unless one waits already; a message that is out comes before
+    /// it. The outcome follows in a later turn: that it was cancelled, with the good reply
+    /// to the ABORT; its answer, where that is whole before the ABORT is sent; or that it
+    /// was cut off for another cause. Takes no memory, and writes nothing into the journal.
+    ///
+    /// Refused, with nothing changed, by 25 where no such ticket is outstanding,
+    /// and by 36 where it waits, or has an outcome.
+    pub fn cancel(&mut self, ticket: Ticket) -> Result<(), PortFault>
+        ensures does { CoreDoes self.old (call.Cancel ticket) (nothing_reply result) self.new }
+        ensures gives { CancelGives self.old ticket result self.new }
+    {
+        match self.book.in_flight(ticket) {
+            Ok(()) => {
+                self.core.abort(Cause::Cancelled);
+                Ok(())
+            }
+            Err(fault) => Err(PortFault::Book(fault)),
+        }
+    }
+
+    /// Cuts off the request under way, if any, and leaves the link in down, without an image.
+    ///
+    /// What waits goes on waiting. The device may still carry the request that was
+    /// cut off out, once, until a wake succeeds.
+    ///
+    /// What was sent has to be answered first; the answer may be that nothing came.
+    pub fn restart(&mut self)
+        requires { awaited self.old ≡ Awaited.Nothing }
+        ensures does { CoreDoes self.old call.Restart answered.Nothing self.new }
+        ensures gives { RestartGives self.old self.new }
+    {
+        if self.core.restart() {
+            self.book.post(Outcome::Unknown(Cause::Restarted));
+        }
+    }
+
+    /// Wants this output of the device, from the next message made in OPERATE on.
+    ///
+    /// Refused, with nothing changed, by the first of 34 where no start-up has told the lengths
+    /// of the process data yet, and 29 where the image has not the length that was told last.
+    pub fn set_output(&mut self, image: &Image) -> Result<(), PortFault>
+        ensures does { CoreDoes
+            self.old (call.SetOutput image.now) (nothing_reply result) self.new }
+        ensures gives { SetOutputGives self.old image.now result self.new }
+    {
+        by_output(self.core.set_output(image))
+    }
+
+    /// Wants no output of the device.
+    pub fn clear_output(&mut self)
+        ensures does { CoreDoes self.old call.ClearOutput answered.Nothing self.new }
+        ensures gives { ClearOutputGives self.old self.new }
+    {
+        self.core.clear_output();
+    }
+
+    /// The device's input by the last good reply in OPERATE: one whole image, or
+    /// none where it was not valid. None in every other mode.
+    pub fn image(&self) -> Option<&Image>
+        ensures does { CoreDoes
+            self.now call.Look (answered.Image (option_copied result)) self.now }
+        ensures value { option_copied result ≡ self.now.station.session.image }
+    {
+        self.core.image()
+    }
+
+    /// Hands out the event that was kept longest. Refused by 30 where none is kept.
+    pub fn take_event(&mut self) -> Result<Event, PortFault>
+        ensures does { CoreDoes self.old call.TakeEvent (event_reply result) self.new }
+        ensures gives { TakeEventGives self.old result self.new }
+    {
+        self.kept.pop_at(0).ok_or(PortFault::NoEvent)
+    }
+
+    /// The mode of the link, and why it is down.
+    pub fn status(&self) -> Status
+        ensures does { CoreDoes self.now call.Status (answered.Status result) self.now }
+        ensures value { result ≡ status_of self.now.station }
+    {
+        self.core.status()
+    }
+
+    /// Hands the journal out and begins a new one, which is empty. Tickets go on.
+    ///
+    /// Refused, with nothing changed, by 28 where a ticket is outstanding, or where
+    /// a request was cut off by a lost link or a restart and no wake succeeded
+    /// since, as the device may still carry that request out.
+    pub fn archive(&mut self) -> Result<Vec<Entry, A>, PortFault>
+        ensures does { CoreDoes self.old call.Archive
+            (reply_of (λ entries. answered.Archived (length entries.items)) result) self.new }
+        ensures within { IfOk result (λ entries. length entries.items ≤ 1000000) }
+        ensures gives { ArchiveGives self.old
+            (result_map_both (λ entries. entries.items) (λ why. why) result) self.new }
+    {
+        by_book(self.book.archive())
+    }
+
+    /// What the one call of the wire in the next turn will be.
+    ///
+    /// Each call but this and the others that only look may change it: ask right before the turn.
+    pub fn asks(&self) -> Asked
+        ensures { result ≡ asks_of self.now }
+    {
+        let next = if lacks_isdu(self.core.isdu()) {
+            None
+        } else {
+            self.book.next()
+        };
+        self.core.asks(self.has_room(), next)
+    }
+
+    /// Whether a turn may begin to read events.
+    fn has_room(&self) -> bool
+        ensures { result ≡ has_room self.now.kept }
+    {
+        self.kept.len() <= ROOM
+    }
+
+    /// What goes out: the octets of one message, or a wake-up request, where the link is down.
+    ///
+    /// In OPERATE, where nothing else is to be sent, the next request is taken: the urgent one that
+    /// waits longest, or where none is urgent the other one that does. Its first segment goes out
+    /// then; where the device has no ISDU it is denied, never taken, and IDLE 1 goes out. At most
+    /// 64 events are kept, and a list of events is read only where there is room for it.
+    ///
+    /// Until what goes out is answered it is given again, and nothing changes.
+    pub fn send(&mut self) -> Asked
+        ensures says { IsAskedOut result self.new.station.link.state }
+        ensures asked { result ≡ asks_of self.old }
+        ensures again { IsTrue self.old.sent → self.new ≡ self.old }
+        ensures gives { SendGives self.old self.new }
+        ensures does { SendDoes self.old self.new }
+    {
+        let room = self.has_room();
+        if !self.sent {
+            begin_next(&mut self.core, &mut self.book, room);
+            self.sent = true;
+        }
+        self.core.send(room)
+    }
+
+    /// Takes what came back to the octets that were sent, in the time of a reply, or that
+    /// nothing did. Of a reply of more than 66 octets give the first 66: it is of a wrong length
+    /// as it is.
+    ///
+    /// Without a good reply the message stays out, and the next `send` gives it again; the third
+    /// time in a row has lost the link.
+    pub fn receive(&mut self, came: &Option<Message>)
+        requires { awaited self.old ≡ Awaited.Reply }
+        ensures gives { ReceiveGives self.old (octets_in came.now) self.new }
+        ensures does { ReceiveDoes self.old (octets_in came.now) self.new }
+    {
+        let mut said = Said::Idle;
+        self.core.receive(came, &mut said);
+        self.sent = false;
+        settle(&mut self.book, &mut self.kept, false, said);
+    }
+
+    /// Takes what came of a wake-up request: the rate of the device that answered it, or that
+    /// none did.
+    pub fn receive_wake(&mut self, rate: Option<Rate>)
+        requires { awaited self.old ≡ Awaited.Wake }
+        ensures gives { WakeGives self.old (is_some rate) self.new }
+        ensures does { WakeDoes self.old (is_some rate) self.new }
+    {
+        self.core.receive_wake(rate);
+        self.sent = false;
+        settle(&mut self.book, &mut self.kept, rate.is_some(), Said::Idle);
+    }
+
+    /// One turn over this wire, with no call between its pieces.
+    pub(crate) fn turn<W: Wire>(&mut self, wire: &mut W)
+        requires free { self.old.sent ≡ false }
+        requires stands { IsTrue (W.facts.honest wire.old) → StateStands
+            self.old.station.link.state (W.facts.silence wire.old) (W.facts.far wire.old) }
+        ensures free { self.new.sent ≡ false }
+        ensures stands { IsTrue (W.facts.honest wire.new) → StateStands
+            self.new.station.link.state (W.facts.silence wire.new) (W.facts.far wire.new) }
+        ensures does { Does W.facts (parts_over wire.old self.old) call.Turn answered.Nothing
+            (parts_over wire.new self.new) }
+        ensures asked { IsCall W.facts (asks_of self.old) wire.old wire.new }
+        ensures clean { CleanTurn W.facts (parts_over wire.old self.old)
+            (parts_over wire.new self.new) }
+        ensures gives { TurnGives W.facts (parts_over wire.old self.old)
+            (parts_over wire.new self.new) }
+    {
+        clean_laws();
+        let room = self.has_room();
+        begin_next(&mut self.core, &mut self.book, room);
+        let began = self.core.status().mode;
+        let mut said = Said::Idle;
+        self.core.turn(wire, room, &mut said);
+        let woke = woke_up(began, self.core.status().mode);
+        settle(&mut self.book, &mut self.kept, woke, said);
+    }
+
+    pub(crate) fn journal(&self) -> &[Entry]
+        ensures entries { result.now ≡ self.now.book.state.journal }
+        ensures replayed { IsReplayed self.now.book.state }
+    {
+        self.book.journal()
+    }
+}
