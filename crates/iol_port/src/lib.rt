@@ -6,9 +6,13 @@
 //! it was cut off, also where a client cancels it, so that nobody knows whether it
 //! was carried out; or that it was withdrawn; or that the device has no ISDU.
 //!
+//! A [`PortCore`] owns no wire and never calls out: it gives the octets to send, and takes
+//! what came. A [`Port`] is such a core and the wire that its turns call.
+//!
 //! What a port does is said by an abstract port, which knows no octets, segments or
 //! repeats (`specs/Run`). Over an honest wire each call of a [`Port`] is one call of the
-//! abstract port that it stands for, and a list of calls is a run of it. Of all such runs
+//! abstract port that it stands for, and a list of calls is a run of it; a sending and a
+//! receiving are two pieces of one, with calls between them. Of all such runs
 //! [`record_fits_journal`] says that the device's record fits the journal. IEC 61131-9
 //! leaves it to the master how requests are queued: that part is this project's profile.
 #![tactic(auto)]

@@ -44,8 +44,8 @@ use std::sync::Wait;
 /// one call. Over an honest wire they say which. On every wire no call is unsafe, the
 /// journal alone says where each ticket stands, each call answers and leaves what its
 /// clause `gives` says of the port's own parts, and the wire is what the one at the
-/// opening became by the calls of turns, and by what it was told from outside. Beside
-/// that they see with what the port was opened, and what it published.
+/// opening became by the calls of turns. Beside that they see with what the port was
+/// opened, and what it published.
 #[derive(Drop)]
 pub struct Port<W: Wire, A: Handle = Global> {
     core: PortCore<A>,
@@ -449,8 +449,7 @@ impl<W: Wire, A: Handle> Port<W, A> {
 
     /// A law of each port, without code: at every moment the journal says where each
     /// ticket stands, and the wire is what the one at the opening became by wakes and
-    /// exchanges, and, where it is one that is told its answers from outside, by being
-    /// told, and by nothing else; and the device's record fits the journal, if the wire
+    /// exchanges, and by nothing else; and the device's record fits the journal, if the wire
     /// was honest and the device had been handed no request when the port was opened.
     pub fn keeps_record(&self)
         ensures replayed { IsReplayed self.now.parts.book.state }
