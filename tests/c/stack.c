@@ -1,5 +1,5 @@
 /* How much stack each call takes: what lies below it is painted, the call is made, and what it overwrote is counted.
- * Each line says that a call stays below the bound of docs/USING.md, in whatever the runs below lead it to, and this is
+ * Each line says that a call stays below the bound of docs/guide.md, in whatever the runs below lead it to, and this is
  * compared with stack.stdout. `stack measure` prints the octets instead, which differ from one machine to another; 256
  * means 256 or less. */
 #include "iolink_port.h"

@@ -1,4 +1,4 @@
-//! The device's end of the line (docs/PROMISES.md, section 3.3).
+//! The device's end of the line (docs/protocol.md, DEV).
 
 use crate::event::{Event, EventMemory};
 use crate::image::Image;

@@ -1,4 +1,4 @@
-//! The rules of docs/FORMATS.md and docs/PROMISES.md once more, in plain Rust with nothing but its standard library.
+//! The rules of docs/protocol.md once more, in plain Rust with nothing but its standard library.
 //!
 //! `plain run` and `plain trace` read a script on standard input, and print what `iolink run` and `iolink trace` print.
 //! `plain CASE COUNT` does the work of a case so many times, and prints what `iol_bench CASE COUNT` prints.

@@ -1,4 +1,4 @@
-//! Messages: their checksum, their layouts, and how they are written and read (docs/FORMATS.md, sections 1 and 2).
+//! Messages: their checksum, their layouts, and how they are written and read (docs/protocol.md, OCT to LAY).
 
 use crate::bounded::Bounded;
 use crate::refusal::Refusal;

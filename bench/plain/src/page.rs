@@ -1,4 +1,4 @@
-//! Direct parameter page 1 (docs/FORMATS.md, section 3).
+//! Direct parameter page 1 (docs/protocol.md, PAGE).
 
 use crate::message::Layout;
 use crate::refusal::Refusal;

@@ -1,4 +1,4 @@
-//! The parameters' store of the simulated device (docs/FORMATS.md, section 7).
+//! The parameters' store of the simulated device (docs/guide.md).
 
 use crate::isdu::{Answer, Data, Place, Request};
 use crate::refusal::Refusal;

@@ -1,4 +1,4 @@
-//! Why a call is refused (docs/FORMATS.md, section 9).
+//! Why a call is refused (docs/guide.md).
 
 /// A refusal; its number is its discriminant, its name that of the variant.
 #[derive(Clone, Copy, Debug, PartialEq, Eq)]

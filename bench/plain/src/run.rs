@@ -1,4 +1,4 @@
-//! `run` and `trace`: the calls of a script, and what is printed for them (docs/FORMATS.md, sections 8.4 and 8.6).
+//! `run` and `trace`: the calls of a script, and what is printed for them (docs/guide.md).
 
 use crate::book::Outcome;
 use crate::device::{Carried, Device};

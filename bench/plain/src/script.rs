@@ -1,4 +1,4 @@
-//! The lines of `run` (docs/FORMATS.md, sections 8.2 and 8.4).
+//! The lines of `run` (docs/guide.md).
 
 use crate::event::Event;
 use crate::image::Image;

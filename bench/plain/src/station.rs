@@ -1,4 +1,4 @@
-//! The master's end of the line (docs/FORMATS.md, section 4; docs/MAP.md, sections 4.2 to 4.5).
+//! The master's end of the line (docs/protocol.md, LINK, REQ and PD).
 
 use crate::bounded::Bounded;
 use crate::event::{EventList, EventReader};

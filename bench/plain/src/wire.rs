@@ -1,4 +1,4 @@
-//! The wire between a port and its device, simulated (docs/FORMATS.md, section 8.4).
+//! The wire between a port and its device, simulated (docs/protocol.md, WIRE; docs/guide.md).
 
 use crate::device::Device;
 use crate::event::Event;

@@ -88,6 +88,7 @@ module _ {W : Type 0} where
   module _ (facts : WireFacts W) where
     open facts use {wake_gives, exchange_gives}
 
+    -- PORT-2
     abbrev pub IsCall : Asked → W → W → Type 0
     IsCall Wake old new = (answer : Option Rate) × wake_gives old answer new
     IsCall (Exchange octets) old new = (answer : Option (ArrayVec ℕ))

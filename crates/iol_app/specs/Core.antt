@@ -291,6 +291,7 @@ moment_of c g silence call = record {
 
 -- one call of the wire, and one list of steps, each allowed where it is taken, whose effects on the
 -- three parts of the abstract port are what happened; and both ends stand together afterwards
+-- PORT-4
 pub record CallGives (c : Core) (g : Ghost) (far : Far) (silence : ℕ) (said : Said) (next : Core)
     (far_new : Far) (silence_new : ℕ) : Type 0 where
   pub call : WireCall

@@ -25,6 +25,7 @@ is_resting Resting = true
 is_resting other = false
 
 -- what the next new message is for, where there is room for events or not
+-- EVT-5, PD-5, REQ-1
 abbrev pub due_of : SessionState → Bool → Exchange
 due_of s room = first_of (
     (is_some s.output.wanted && not s.output.told, TellOutput) ∷
@@ -40,5 +41,6 @@ is_idle Idle = true
 is_idle other = false
 
 -- no message is out, and the next one is IDLE 1
+-- REQ-2
 abbrev pub is_ready : SessionState → Bool → Bool
 is_ready s room = is_none s.exchange && is_idle (due_of s room)

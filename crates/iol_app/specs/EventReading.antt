@@ -21,11 +21,13 @@ reader_of (UnderWay reader) = reader
 reader_of other = []
 
 -- a StatusCode was refused since the last start-up
+-- EVT-7
 abbrev pub is_refused : Reading → Bool
 is_refused Refused = true
 is_refused other = false
 
 -- goes on, ends with a list that is to be confirmed, or is refused
+-- EVT-7
 abbrev pub reading_by : Result (Option (List Event)) EventForm → List ℕ → Reading
 reading_by (Ok None) reader = UnderWay reader
 reading_by (Ok (Some list)) reader = ConfirmDue
@@ -50,11 +52,13 @@ read_on ConfirmEvents od _ = Resting
 read_on any od so_far = so_far
 
 -- and the list that became whole
+-- EVT-8
 abbrev pub list_read : Exchange → List ℕ → Reading → Option (List Event)
 list_read ReadEvent od reading = list_after reading (slice_index od 0)
 list_read any od _ = None
 
 -- the event work after that reply
+-- EVT-8
 abbrev pub events_after : Exchange → Reply → Events → Events
 events_after exchange reply events =
     record { flag = reply.event; reading = read_on exchange reply.od.items events.reading }

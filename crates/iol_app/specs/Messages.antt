@@ -38,12 +38,14 @@ abbrev pub ask_of : Flow → Head
 ask_of flow = read_of Isdu (flow_address flow)
 
 -- the request's next message: the segment, START until the answer begins, then COUNT
+-- REQ-4
 abbrev pub progress_head : Progress → Head
 progress_head (Sending flow segment) = write_of Isdu (flow_address flow)
 progress_head (Asking busy) = ask_of Start
 progress_head (Receiving joining had) = ask_of (Count ((had + 1) % 16))
 progress_head Refused = ask_of Idle1
 
+-- REQ-4
 abbrev pub progress_data : Progress → List ℕ
 progress_data (Sending flow segment) = segment.items
 progress_data any = []
@@ -57,6 +59,7 @@ request_data None = []
 request_data (Some current) = progress_data current.progress
 
 -- a new message for this
+-- REQ-1
 abbrev pub head_for : Exchange → Reading → Option Current → Head
 head_for TellOutput _ current = write_of Page 0
 head_for DropOutput _ current = write_of Page 0
@@ -67,6 +70,7 @@ head_for Request _ current = request_head current
 head_for Idle _ current = ask_of Idle1
 
 -- and its on-request data, of this size in a write
+-- REQ-1
 abbrev pub data_for : Exchange → ℕ → Option Current → List ℕ
 data_for TellOutput size current = first_of_zeros size (command_octet ProcessDataOutputOperate)
 data_for DropOutput size current = first_of_zeros size (command_octet DeviceOperate)

@@ -50,6 +50,7 @@ SentBy s room old new = new ≡ old
 
 -- In OPERATE, where no message is out, a new one is; else nothing changes: what goes out
 -- a second time is what went out
+-- PORT-8
 abbrev pub IsSent : Bool → Core → Core → Type 0
 IsSent room old new = SentBy old.state room old new
 

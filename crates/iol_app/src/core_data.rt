@@ -213,6 +213,8 @@ impl Core {
     ///
     /// What was sent before and isn't answered yet has to be answered first: else the device
     /// might be handed a request by octets of which nobody keeps that they went out.
+    ///
+    /// Rules PORT-6, REQ-11.
     pub fn restart(&mut self) -> bool
         ensures core { self.new ≡ restarted_core self.old }
         ensures cut { result ≡ is_some self.old.session.current }
@@ -227,6 +229,8 @@ impl Core {
     /// new one for what is due, which is out from now on. `room` says whether events may be read.
     ///
     /// Until it is answered the same octets are given again, and nothing changes.
+    ///
+    /// Rule PORT-8.
     pub fn send(&mut self, room: bool) -> Asked
         ensures sent { IsSent room self.old self.new }
         ensures says { IsAskedOut result self.new.state }
@@ -346,6 +350,8 @@ impl Core {
     /// of events that an earlier turn began; `room` says whether this turn may begin one. Over an
     /// honest wire the turn is one call of the wire and one list of steps, each allowed where it
     /// is taken.
+    ///
+    /// Rule PD-7.
     pub fn turn<W: Wire>(&mut self, wire: &mut W, room: bool, said: &mut Said)
         requires idle { said.old ≡ Said.Idle }
         requires stands { IsTrue (W.facts.honest wire.old)

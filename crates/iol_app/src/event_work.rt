@@ -52,6 +52,8 @@ impl Events {
     }
 
     /// Takes up a good reply, and answers the list that became whole with it.
+    ///
+    /// Rules EVT-7, EVT-8.
     pub(crate) fn absorb(&mut self, exchange: Exchange, reply: &Reply) -> Option<EventList>
         ensures events { self.new ≡ events_after exchange reply.now self.old }
         ensures list { result ≡ list_read exchange reply.now.od.items self.old.reading }
@@ -68,6 +70,8 @@ impl Events {
     }
 
     /// Takes an octet of the event memory.
+    ///
+    /// Rules EVT-6, EVT-7.
     fn take(&mut self, octet: u8) -> Option<EventList>
         ensures events { self.new
             ≡ record self.old { reading = reading_after self.old.reading octet } }

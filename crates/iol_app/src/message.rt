@@ -23,6 +23,8 @@ pub(crate) struct Body {
 }
 
 /// What a new message for this says, on-request data having that size.
+///
+/// Rule REQ-1.
 pub(crate) fn body_for(
     exchange: Exchange,
     size: u8,

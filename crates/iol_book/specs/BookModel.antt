@@ -33,14 +33,17 @@ pub record BookValue : Type 0 where
   pub room : ℕ
 
 -- the journal alone says where every ticket stands
+-- BOOK-9
 abbrev pub IsReplayed : BookState → Type 0
 IsReplayed book = book.standing ≡ replay book.journal
 
 -- what a book may be opened with
+-- BOOK-11
 abbrev pub AreLimits : Limits → Type 0
 AreLimits limits = (4 ≤ limits.journal) × (limits.journal ≤ 1000000) × (2 ≤ limits.busy)
 
 -- an empty book
+-- BOOK-11
 abbrev pub opened : Limits → BookState
 opened limits =
     record {
@@ -52,6 +55,7 @@ opened limits =
     }
 
 -- the book after one more entry
+-- BOOK-9
 abbrev pub entered : BookState → Entry → BookState
 entered book entry =
     record book { journal = book.journal ++ entry ∷ []; standing = step book.standing entry }
@@ -65,15 +69,18 @@ abbrev pub waiting_count : Standing → ℕ
 waiting_count standing = length standing.urgent + length standing.waiting
 
 -- how many tickets are outstanding
+-- BOOK-2
 abbrev pub outstanding : Standing → ℕ
 outstanding standing = waiting_count standing + taken_count standing + length standing.outcomes
 
 -- the entries that the outstanding tickets will still get: taken, answered and
 -- collected, or withdrawn and collected
+-- BOOK-3
 abbrev pub owed : Standing → ℕ
 owed standing = 3 * waiting_count standing + 2 * taken_count standing + length standing.outcomes
 
 -- the first reason why a request can't be submitted, where it can't
+-- BOOK-2, BOOK-3
 abbrev pub submit_refusal : BookState → Option BookFault
 submit_refusal book =
     if nat_le 64 (outstanding book.standing) then Some Full
@@ -82,6 +89,7 @@ submit_refusal book =
     else None
 
 -- the ticket of the next submit
+-- BOOK-1
 abbrev pub next_ticket : BookState → Ticket
 next_ticket book = record { 0 = book.last + 1 }
 
@@ -96,23 +104,27 @@ submitted_urgent book request =
     record (entered book (Urgent (next_ticket book) request)) { last = book.last + 1 }
 
 -- a submit that is refused says the first of its reasons that holds, or that a growth was refused
+-- BOOK-2
 abbrev pub RefusesFor : Option BookFault → BookFault → ℕ → Type 0
 RefusesFor (Some why) fault room = fault ≡ why
 RefusesFor None fault room = (fault ≡ OutOfMemory) × (room ≡ 0)
 
 -- the request that is taken next: the first urgent one, and where no urgent one
 -- waits the first of the others
+-- BOOK-4
 abbrev pub next_taken : Standing → Option (Ticket × Request)
 next_taken standing =
     if is_some standing.taken then None else slice_get (standing.urgent ++ standing.waiting) 0
 
 -- the others, once that request has left the list that it heads
+-- BOOK-4
 abbrev pub others_behind : List (Ticket × Request) → List (Ticket × Request)
     → List (Ticket × Request)
 others_behind [] waiting = drop 1 waiting
 others_behind (first ∷ urgent) waiting = waiting
 
 -- the book after that request is taken
+-- BOOK-4
 abbrev pub took : BookState → Ticket × Request → BookState
 took book taken = record book {
   journal = book.journal ++ Taken taken.0 ∷ [];
@@ -124,6 +136,7 @@ took book taken = record book {
 }
 
 -- the book after that request, which has this ticket, is denied
+-- REQ-3
 abbrev pub denied : BookState → Ticket → BookState
 denied book ticket = record book {
   journal = book.journal ++ Answered ticket NoIsdu ∷ [];
@@ -135,6 +148,7 @@ denied book ticket = record book {
 }
 
 -- whether the request may still be carried out, though it has its outcome
+-- BOOK-8
 abbrev pub leaves_unsure : Outcome → Bool
 leaves_unsure (Done answer) = false
 leaves_unsure (Unknown LinkLost) = true
@@ -158,6 +172,7 @@ ended_with book (Some taken) outcome = record book {
       };
 }
 
+-- BOOK-8
 abbrev pub posted : BookState → Outcome → BookState
 posted book outcome =
     record (ended_with book book.standing.taken outcome) {
@@ -178,16 +193,19 @@ outcome_or None fault = Err fault
 outcome_or (Some outcome) fault = Ok outcome
 
 -- what a collect answers: the outcome of the ticket, or why there is none
+-- BOOK-5
 abbrev pub collect_answer : Standing → Ticket → Result Outcome BookFault
 collect_answer standing ticket = outcome_or (lookup (same_ticket ticket) standing.outcomes)
     (if waits standing ticket || is_taken standing ticket then NotYet else UnknownTicket)
 
 -- the book after a collect
+-- BOOK-5
 abbrev pub collected : BookState → Ticket → BookState
 collected book ticket =
     if is_ok (collect_answer book.standing ticket) then entered book (Collected ticket) else book
 
 -- why a ticket can't be withdrawn, where it can't
+-- BOOK-6
 abbrev pub withdraw_refusal : Standing → Ticket → Option BookFault
 withdraw_refusal standing ticket =
     if waits standing ticket then None
@@ -196,11 +214,13 @@ withdraw_refusal standing ticket =
     else Some UnknownTicket
 
 -- the book after a withdraw
+-- BOOK-6
 abbrev pub withdrawn : BookState → Ticket → BookState
 withdrawn book ticket = if is_some (withdraw_refusal book.standing ticket) then book
     else entered book (WithdrawnEntry ticket)
 
 -- why the request of a ticket can't be cut off, where it can't: it is not the one that is taken
+-- BOOK-7
 abbrev pub flight_refusal : Standing → Ticket → Option BookFault
 flight_refusal standing ticket =
     if is_taken standing ticket then None
@@ -209,13 +229,16 @@ flight_refusal standing ticket =
     else Some UnknownTicket
 
 -- the book after a wake of the device
+-- BOOK-8
 abbrev pub reset : BookState → BookState
 reset book = record book { unsure = false }
 
 -- whether nothing is outstanding, and no request that was cut off may still be carried out
+-- BOOK-8
 abbrev pub may_archive : BookState → Bool
 may_archive book = nat_eq (outstanding book.standing) 0 && not book.unsure
 
 -- the book after an archive
+-- BOOK-8
 abbrev pub archived : BookState → BookState
 archived book = if may_archive book then record book { journal = [] } else book

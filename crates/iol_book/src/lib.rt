@@ -11,6 +11,9 @@
 //! which requests are taken is that of the `Taken` entries, and no longer that of the tickets
 //! once an urgent request overtook another. One that is taken is never overtaken. IEC 61131-9
 //! leaves it to the master how requests are queued: all of this is this project's profile.
+//!
+//! Definitions begin in `specs/Replay`; then `BookModel` and `Takings`. A book is the replay of its
+//! journal, and each call answers and leaves exactly what its definition says.
 #![tactic(auto)]
 
 mod book;

@@ -2,6 +2,8 @@
 //!
 //! [`serve_clients`] opens a master whose ports stand over clean wires, lets clients in threads
 //! of their own submit while its workers make turns, and counts what became of the tickets.
+//!
+//! Its definitions are `specs/Counts`: the tickets of a port are those done, unknown and waiting.
 #![tactic(auto)]
 
 mod client;

@@ -4,6 +4,9 @@
 //! Each reads its input whole, up to 1,048,576 bytes, judges its lines from first
 //! to last (crate iol_script), and prints what it makes of them; the clauses of
 //! each say which input is refused, by which fault, and what text is printed.
+//!
+//! Definitions begin in `specs/Input`; then `Checked`, `RunPlayed`, `TracePrinted` and
+//! `ManyPrinted`.
 #![tactic(auto)]
 
 mod check_command;

@@ -102,6 +102,8 @@ impl<R: Record> FarEnd<R> {
     }
 
     /// The layout of a mode.
+    ///
+    /// Rule DEV-2.
     fn layout_in(&self, mode: Mode) -> Layout
         ensures { result ≡ layout_in self.now.page mode }
     {
@@ -113,6 +115,8 @@ impl<R: Record> FarEnd<R> {
     }
 
     /// The mode into which the octets would take it.
+    ///
+    /// Rules DEV-3, DEV-4.
     fn new_mode(&self, octets: &[u8]) -> Option<Mode>
         ensures { result ≡ new_mode self.now.waits octets.now }
     {
@@ -123,6 +127,8 @@ impl<R: Record> FarEnd<R> {
     }
 
     /// Takes the layout of a mode.
+    ///
+    /// Rule DEV-3.
     fn move_into(&mut self, mode: Mode)
         ensures { self.new ≡ moved self.old mode }
     {
@@ -134,6 +140,8 @@ impl<R: Record> FarEnd<R> {
     }
 
     /// The message that the octets are, once it is in the layout in which it accepts them.
+    ///
+    /// Rules DEV-2, DEV-4.
     fn accept<'a>(&mut self, octets: &'a [u8]) -> Option<MasterView<'a>>
         ensures length { OnSome result (length octets.now ≤ 66) }
         ensures accepts { far.accepted self.old octets.now
@@ -155,6 +163,8 @@ impl<R: Record> FarEnd<R> {
 
     /// What the far end does on hearing these octets. Answers whether it replies;
     /// the reply is put into the buffer.
+    ///
+    /// Rule DEV-2.
     pub fn hear(&mut self, octets: &[u8], reply: &mut Message) -> bool
         requires { reply.old.items ≡ [] }
         ensures far { self.new ≡ (far.hear self.old octets.now).far }
@@ -171,6 +181,7 @@ impl<R: Record> FarEnd<R> {
         true
     }
 
+    /// Rule DEV-9.
     fn work_message(&mut self, octets: &[u8], message: &MasterView<'_>)
         requires { length octets.now ≤ 66 }
         ensures { self.new ≡ far.worked self.old octets.now message.now }
@@ -183,6 +194,8 @@ impl<R: Record> FarEnd<R> {
     }
 
     /// The mode asked for, where a device of this page has it.
+    ///
+    /// Rule DEV-5.
     fn known_mode(&self, asked: Option<Mode>) -> Option<Mode>
         ensures { result ≡ far.known_mode self.now.page asked }
     {
@@ -192,6 +205,7 @@ impl<R: Record> FarEnd<R> {
         }
     }
 
+    /// Rule DEV-3.
     fn work_command(&mut self, octets: &[u8], command: Option<MasterCommand>)
         requires { length octets.now ≤ 66 }
         ensures { self.new ≡ record self.old {
@@ -217,6 +231,7 @@ impl<R: Record> FarEnd<R> {
         }
     }
 
+    /// Rule DEV-10.
     fn work_isdu(&mut self, message: &MasterView<'_>)
         ensures { self.new ≡ record self.old {
           isdu = far.isdu_after (knows_isdu self.old.page) (layout_of self.old).od self.old.isdu
@@ -252,6 +267,7 @@ impl<R: Record> FarEnd<R> {
         }
     }
 
+    /// Rule DEV-6.
     fn work_output(&mut self, out: &[u8])
         requires { length out.now ≤ 32 }
         ensures { self.new
@@ -262,6 +278,7 @@ impl<R: Record> FarEnd<R> {
         }
     }
 
+    /// Rule DEV-9.
     fn work_cycle_time(&mut self, message: &MasterView<'_>)
         ensures { self.new ≡ record self.old {
           cycle_time = far.cycle_time_after self.old.cycle_time
@@ -276,6 +293,8 @@ impl<R: Record> FarEnd<R> {
     }
 
     /// The reply, read off the far end as it is after the message.
+    ///
+    /// Rule DEV-8.
     #[tactic(auto, unfolding(iol_far::specs::Codec::octets_of))]
     fn reply(&self, message: &MasterView<'_>, reply: &mut Message)
         requires { reply.old.items ≡ [] }
@@ -292,6 +311,8 @@ impl<R: Record> FarEnd<R> {
     }
 
     /// Puts the on-request data of the reply to a read at the end.
+    ///
+    /// Rule DEV-7.
     fn append_data(&self, octets: &mut Message, size: u8, channel: Channel, address: u8)
         requires size { size ≡ (layout_of self.now).od }
         requires some { 1 ≤ size }
@@ -310,6 +331,8 @@ impl<R: Record> FarEnd<R> {
     }
 
     /// The octet at a page address.
+    ///
+    /// Rule DEV-7.
     fn page_octet(&self, address: u8) -> u8
         ensures { result ≡ far.page_octet self.now address }
     {
@@ -321,6 +344,8 @@ impl<R: Record> FarEnd<R> {
     }
 
     /// Puts the process data in at the end.
+    ///
+    /// Rule DEV-8.
     fn append_input(&self, octets: &mut Message, size: u8)
         requires size { size ≡ (layout_of self.now).pd_in }
         requires most { size ≤ 32 }
@@ -342,6 +367,8 @@ impl<R: Record> FarEnd<R> {
     }
 
     /// A handed request is carried out, where the record has room.
+    ///
+    /// Rule DEV-15.
     pub fn work<P: App>(&mut self, app: &mut P)
         ensures { IsCarriedOut P.carry_out_gives
             (handed self.old.isdu) self.old app.old self.new app.new }
@@ -353,6 +380,8 @@ impl<R: Record> FarEnd<R> {
     }
 
     /// The same, in a function of its own, whose locals are large.
+    ///
+    /// Rule DEV-15.
     #[inline(never)]
     fn carry_out<P: App>(&mut self, app: &mut P)
         ensures { IsCarriedOut P.carry_out_gives
@@ -371,6 +400,8 @@ impl<R: Record> FarEnd<R> {
 
     /// A handed request has this answer, where it fits and the record has room.
     /// Answers whether it had.
+    ///
+    /// Rule DEV-15.
     pub fn answer(&mut self, answer: Answer) -> bool
         ensures far { self.new ≡ local self.old (LocalStep.Carry answer) }
         ensures took { result ≡ takes_answer self.old answer }
@@ -387,6 +418,8 @@ impl<R: Record> FarEnd<R> {
     }
 
     /// An event is raised.
+    ///
+    /// Rule DEV-16.
     pub fn raise(&mut self, event: Event) -> Result<(), DeviceFault>
         ensures far { self.new ≡ local self.old (LocalStep.Raise event) }
         ensures full { IsErr result ↔ IsTrue (is_full self.old.events) }
@@ -399,6 +432,8 @@ impl<R: Record> FarEnd<R> {
     }
 
     /// Whether an image can be the input.
+    ///
+    /// Rule DEV-17.
     fn is_input(&self, image: &Image) -> bool
         ensures { result ≡ is_input self.now image.now }
     {
@@ -406,6 +441,8 @@ impl<R: Record> FarEnd<R> {
     }
 
     /// The process data in.
+    ///
+    /// Rules DEV-16, DEV-17.
     #[tactic(auto, using(crate::proofs::Pages::input_sized))]
     pub fn set_input(&mut self, image: &Image) -> Result<(), DeviceFault>
         ensures far { self.new ≡ local self.old (LocalStep.Input image.now) }
@@ -421,6 +458,8 @@ impl<R: Record> FarEnd<R> {
     }
 
     /// No process data in.
+    ///
+    /// Rule DEV-16.
     pub fn clear_input(&mut self)
         ensures { self.new ≡ local self.old LocalStep.NoInput }
     {
@@ -428,6 +467,8 @@ impl<R: Record> FarEnd<R> {
     }
 
     /// The power fails and comes back.
+    ///
+    /// Rule DEV-16.
     pub fn power_cycle(&mut self)
         ensures { self.new ≡ local self.old LocalStep.Power }
     {
@@ -439,6 +480,8 @@ impl<R: Record> FarEnd<R> {
     }
 
     /// A wake-up request came.
+    ///
+    /// Rule DEV-1.
     pub fn wake(&mut self)
         ensures { self.new ≡ woken self.old }
     {
@@ -466,6 +509,8 @@ impl<R: Record> FarEnd<R> {
     }
 
     /// The process data out, only while it is valid.
+    ///
+    /// Rule DEV-6.
     pub fn output(&self) -> Option<&Image>
         ensures { option_copied result ≡ far.output_of self.now }
     {

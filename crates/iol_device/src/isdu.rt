@@ -64,6 +64,8 @@ impl IsduSide {
     }
 
     /// The request is dropped.
+    ///
+    /// Rule DEV-14.
     pub fn clear(&mut self)
         ensures { self.new ≡ record self.old { state = Empty } }
     {
@@ -71,6 +73,8 @@ impl IsduSide {
     }
 
     /// A write under this flow.
+    ///
+    /// Rules DEV-11, DEV-14.
     pub fn write(&mut self, flow: Flow, octets: &[u8])
         ensures { self.new
             ≡ record self.old { state = isdu_written self.old.state flow octets.now } }
@@ -79,6 +83,8 @@ impl IsduSide {
     }
 
     /// A read under this flow.
+    ///
+    /// Rule DEV-14.
     pub fn read(&mut self, flow: Flow)
         ensures { self.new
             ≡ record self.old { state = isdu_read self.old.size self.old.state flow } }
@@ -87,6 +93,8 @@ impl IsduSide {
     }
 
     /// Puts the on-request data of the reply to a read at the end.
+    ///
+    /// Rule DEV-12.
     pub fn append_data(&self, octets: &mut Message)
         requires { length octets.old.items ≤ 32 }
         ensures value { octets.new.items
@@ -130,6 +138,8 @@ impl IsduSide {
 }
 
 /// Whether an answer fits a request: Read answers a read, Written a write, Refused both.
+///
+/// Rule ISDU-8.
 pub(crate) fn is_kind_of(request: &Request, answer: &Answer) -> bool
     ensures { result ≡ fits request.now answer.now }
 {
@@ -159,6 +169,8 @@ pub(crate) fn answer_of<P: App>(app: &mut P, request: &Request) -> Answer
 
 /// No request is under way from now on. Where none is, nothing is written: most
 /// messages find it so.
+///
+/// Rule DEV-14.
 fn empty(stage: &mut Stage)
     ensures { stage.new ≡ Stage.Empty }
 {
@@ -184,6 +196,8 @@ fn write_to(stage: &mut Stage, size: u8, flow: Flow, octets: &[u8])
 }
 
 /// A write under COUNT.
+///
+/// Rule DEV-11.
 fn write_count(stage: &mut Stage, size: u8, count: u8, octets: &[u8])
     requires { IsKept size stage.old }
     ensures state { state_of stage.new
@@ -202,6 +216,8 @@ fn write_count(stage: &mut Stage, size: u8, count: u8, octets: &[u8])
 }
 
 /// One more segment of the request.
+///
+/// Rule DEV-11.
 fn take_into(stage: &mut Stage, size: u8, flow: Flow, octets: &[u8])
     requires receiving { IsReceiving stage.old }
     requires goes_on { GoesOn flow (joining_in stage.old) }
@@ -221,6 +237,8 @@ fn take_into(stage: &mut Stage, size: u8, flow: Flow, octets: &[u8])
 }
 
 /// The text is whole: a request, the last of whose segments came under this flow.
+///
+/// Rule DEV-11.
 fn complete(stage: &mut Stage, size: u8, flow: Flow)
     requires receiving { IsReceiving stage.old }
     requires whole { is_whole (joining_in stage.old).text ≡ true }
@@ -255,6 +273,8 @@ fn read_from(stage: &mut Stage, size: u8, flow: Flow)
 }
 
 /// A read under START.
+///
+/// Rules DEV-12, DEV-13.
 fn read_start(stage: &mut Stage, size: u8)
     requires { IsKept size stage.old }
     ensures state { state_of stage.new ≡ isdu_read size (state_of stage.old) Flow.Start }
@@ -272,6 +292,8 @@ fn read_start(stage: &mut Stage, size: u8)
 }
 
 /// A whole request is handed over.
+///
+/// Rule DEV-12.
 fn hand_over(stage: &mut Stage)
     ensures { stage.new ≡ handed_over stage.old }
 {
@@ -293,6 +315,8 @@ fn sent_flow(cutter: &Cutter<Reaction>) -> Option<Flow>
 }
 
 /// A read under COUNT.
+///
+/// Rule DEV-13.
 fn read_count(stage: &mut Stage, size: u8, count: u8)
     requires { IsKept size stage.old }
     ensures state { state_of stage.new ≡ isdu_read size (state_of stage.old) (Flow.Count count) }
@@ -310,6 +334,8 @@ fn read_count(stage: &mut Stage, size: u8, count: u8)
 }
 
 /// Whether the last segment given went under this COUNT.
+///
+/// Rule DEV-13.
 fn is_sent(sent: Option<Flow>, count: u8) -> bool
     ensures { (given : ℕ) → sent ≡ sent_flow given → result ≡ is_sent given count }
 {
@@ -317,6 +343,8 @@ fn is_sent(sent: Option<Flow>, count: u8) -> bool
 }
 
 /// Whether the next one does.
+///
+/// Rule DEV-13.
 fn is_next(sent: Option<Flow>, count: u8) -> bool
     requires { IfSome sent IsFlow }
     ensures { (given : ℕ) → sent ≡ sent_flow given → result ≡ is_next given count }

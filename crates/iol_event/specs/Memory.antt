@@ -4,6 +4,7 @@ use Rattle.std.specs.Prelude.{◌≡◌, ℕ, ◌+◌, ◌-◌, ◌/◌, ◌%◌
 use Rattle.iol_event.specs.declared.event.Event.{Event}
 
 -- an event memory
+-- EVT-1
 pub record Events : Type 0 where
   -- what the diagnosis channel shows, in the order raised
   pub frozen : List Event
@@ -20,14 +21,17 @@ is_empty [] = true
 is_empty (event ∷ events) = false
 
 -- whether an event raised now is frozen at once
+-- EVT-1
 abbrev pub freezes_at_once : Events → Bool
 freezes_at_once memory = is_empty memory.frozen && not memory.held
 
 -- whether an event raised now finds no room
+-- EVT-1
 abbrev pub is_full : Events → Bool
 is_full memory = not (freezes_at_once memory) && nat_le 32 (length memory.waiting)
 
 -- the memory after an event is raised
+-- EVT-1
 abbrev pub raised : Events → Event → Events
 raised memory event =
     if freezes_at_once memory then record memory { frozen = event ∷ [] } else
@@ -35,12 +39,14 @@ raised memory event =
     record memory { waiting = memory.waiting ++ event ∷ [] }
 
 -- the memory after a confirm: a confirm directly after a confirm does nothing
+-- EVT-2
 abbrev pub confirmed : Events → Events
 confirmed memory =
     if memory.held then memory else record { frozen = []; waiting = memory.waiting; held = true }
 
 -- the memory after any other message, or a wake: the hold ends, and where nothing
 -- is frozen up to six waiting events are
+-- EVT-3
 abbrev pub released : Events → Events
 released memory =
     if is_empty memory.frozen
@@ -48,6 +54,7 @@ released memory =
     else record memory { held = false }
 
 -- a memory that some calls lead to
+-- EVT-1
 pub record IsEventMemory (memory : Events) : Type 0 where
   pub frozen : length memory.frozen ≤ 6
   pub waiting : length memory.waiting ≤ 32
@@ -57,6 +64,7 @@ pub record IsEventMemory (memory : Events) : Type 0 where
   pub waits : memory.frozen ≡ [] → IsTrue (not memory.held) → memory.waiting ≡ []
 
 -- StatusCode: bit 7, and a bit for each filled place, bit 0 for place 1
+-- EVT-4
 abbrev pub status_code : List Event → ℕ
 status_code frozen = 128 + (2 ^ length frozen - 1)
 
@@ -65,11 +73,13 @@ abbrev pub octets_of : Event → List ℕ
 octets_of event = event.qualifier ∷ (event.code / 256) ∷ (event.code % 256) ∷ []
 
 -- an octet of a place, 0 where the place is not filled
+-- EVT-4
 abbrev pub place_octet : Option Event → ℕ → ℕ
 place_octet None part = 0
 place_octet (Some event) part = slice_index (octets_of event) part
 
 -- the octet at a diagnosis address: StatusCode at 0, place n at 3n - 2, 3n - 1 and 3n
+-- EVT-4
 unfoldable pub event_octet : List Event → ℕ → ℕ
 event_octet frozen address =
     if address == 0 then status_code frozen else

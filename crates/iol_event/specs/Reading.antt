@@ -12,10 +12,12 @@ abbrev pub marks : ℕ → ℕ → Bool
 marks status place = bit_at status (place - 1) == 1
 
 -- the places that a StatusCode marks, in rising order
+-- EVT-6
 abbrev pub marked_places : ℕ → List ℕ
 marked_places status = filter (marks status) (1 ∷ 2 ∷ 3 ∷ 4 ∷ 5 ∷ 6 ∷ [])
 
 -- whether a StatusCode is one with details, by its bit 7, that marks a place; bit 6 is ignored
+-- EVT-7
 abbrev pub is_readable : ℕ → Bool
 is_readable status = bit_at status 7 == 1 && nat_lt 0 (length (marked_places status))
 
@@ -25,6 +27,7 @@ places_size status = 3 * length (marked_places status)
 
 -- the events whose octets these are, three for each: the qualifier, the code's high
 -- octet, its low octet
+-- EVT-6
 abbrev pub events_of : List ℕ → List Event
 events_of (qualifier ∷ high ∷ low ∷ rest) =
     record { qualifier = qualifier; code = 256 * high + low } ∷ events_of rest
@@ -41,6 +44,7 @@ abbrev pub place_address : ℕ → ℕ → ℕ
 place_address status index = 3 * slice_index (marked_places status) (index / 3) - 2 + index % 3
 
 -- the diagnosis address that is read next: 0, then those of the marked places
+-- EVT-6
 abbrev pub next_address : List ℕ → ℕ
 next_address [] = 0
 next_address (status ∷ octets) = place_address status (length octets)
@@ -52,6 +56,7 @@ pub record Taken : Type 0 where
 
 -- by all octets of the reading: a StatusCode that is refused, more to come, or the
 -- list; then the reader is new
+-- EVT-7
 abbrev pub taken_all : List ℕ → Taken
 taken_all [] = record { answer = Ok None; reader = [] }
 taken_all (status ∷ octets) =
@@ -61,6 +66,7 @@ taken_all (status ∷ octets) =
     record { answer = Ok (Some (events_of octets)); reader = [] }
 
 -- what a reader does with the next octet
+-- EVT-6
 abbrev pub taken : List ℕ → ℕ → Taken
 taken reader octet = taken_all (reader ++ octet ∷ [])
 

@@ -4,6 +4,9 @@
 //! A device freezes up to six events where the master can read them, and keeps up
 //! to 32 more waiting until the master confirms. The master reads the StatusCode,
 //! then the octets of each place that it marks (IEC 61131-9, A.6 and 7.3.8).
+//!
+//! Definitions begin in `specs/Memory`; then `Reading`. Reading a memory's octets gives its frozen
+//! list after 1 + 3n octets, in the order of the places.
 #![tactic(auto)]
 
 mod event;

@@ -42,6 +42,8 @@ impl EventReader {
     }
 
     /// The diagnosis address that is to be read next.
+    ///
+    /// Rule EVT-6.
     pub fn address(&self) -> u8
         ensures value { result ≡ next_address self.now }
         ensures small { result ≤ 18 }
@@ -61,6 +63,8 @@ impl EventReader {
     ///
     /// Refused with 17 EventForm is a StatusCode whose bit 7 is 0, or whose bits 5
     /// to 0 mark no place (bit 6 is ignored). The reader is then new.
+    ///
+    /// Rule EVT-6.
     pub fn take(&mut self, octet: u8) -> Result<Option<EventList>, EventForm>
         ensures answer { result ≡ (taken self.old octet).answer }
         ensures reader { self.new ≡ (taken self.old octet).reader }

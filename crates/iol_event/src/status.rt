@@ -18,6 +18,8 @@ const PLACES: [u8; 6] = [1, 2, 3, 4, 5, 6];
 pub(crate) type Places = ArrayVec<u8, 6>;
 
 /// The StatusCode that marks the first `count` places.
+///
+/// Rule EVT-4.
 pub(crate) fn status_with(count: usize) -> u8
     requires { count ≤ 6 }
     ensures { result ≡ 128 + (2 ^ count - 1) }
@@ -41,6 +43,8 @@ pub(crate) fn marked_places(status: u8) -> Places
 }
 
 /// Whether the StatusCode is one with details, and marks a place.
+///
+/// Rule EVT-7.
 pub(crate) fn is_readable(status: u8) -> bool
     ensures { result ≡ is_readable status }
 {

@@ -19,6 +19,7 @@ use Rattle.iol_far.specs.Isdu.{IsduState, Empty, isdu_written, isdu_read, isdu_d
 use Rattle.iol_far.specs.Codec.{layout_in, message_in, octets_of, flow_of}
 
 -- a mode command that waits, with its octets
+-- DEV-4
 pub record WaitingCommand : Type 0 where
   pub into : Mode
   pub octets : List ℕ
@@ -43,6 +44,7 @@ pub record Far : Type 0 where
   pub room : Option ℕ
 
 -- the layout that it speaks
+-- DEV-2
 abbrev pub layout_of : Far → Shape
 layout_of far = layout_in far.page far.mode
 
@@ -66,14 +68,17 @@ opened page room = record {
 -- Accepted
 
 -- the far end in its new layout
+-- DEV-3
 abbrev pub moved : Far → Mode → Far
 moved far into = record far { mode = into; waits = None; isdu = Empty; valid = false }
 
 -- a message in the present layout
+-- DEV-2
 abbrev pub accepted_now : Far → List ℕ → Option (Far × MasterMsg)
 accepted_now far octets = option_map (λ message. (far, message)) (message_in (layout_of far) octets)
 
 -- while a command waits: its very octets, in the old layout, or a message in the new one
+-- DEV-3, DEV-4
 abbrev pub accepted_by : Option WaitingCommand → Far → List ℕ → Option (Far × MasterMsg)
 accepted_by None far octets = accepted_now far octets
 accepted_by (Some command) far octets =
@@ -82,6 +87,7 @@ accepted_by (Some command) far octets =
 
 -- the far end in the layout in which it accepts the octets, and the message that
 -- they are there; none where they are not accepted
+-- DEV-2
 abbrev pub accepted : Far → List ℕ → Option (Far × MasterMsg)
 accepted far octets = if far.awake then accepted_by far.waits far octets else None
 
@@ -92,18 +98,21 @@ abbrev pub command_at : Bool → Channel → ℕ → ℕ → Option MasterComman
 command_at false Page address octet = if address == 0 then command_of octet else None
 command_at read channel address octet = None
 
+-- DEV-5
 abbrev pub command_in : MasterMsg → Option MasterCommand
 command_in message =
     command_at message.mc.read message.mc.channel message.mc.address
     (slice_index message.od.items 0)
 
 -- the mode that a command asks for
+-- DEV-3
 abbrev pub mode_asked : Option MasterCommand → Option Mode
 mode_asked (Some DeviceStartup) = Some Startup
 mode_asked (Some DevicePreoperate) = Some Preoperate
 mode_asked (Some DeviceOperate) = Some Operate
 mode_asked command = None
 
+-- DEV-5
 abbrev pub is_mode : Mode → Mode → Bool
 is_mode Startup Startup = true
 is_mode Preoperate Preoperate = true
@@ -111,23 +120,27 @@ is_mode Operate Operate = true
 is_mode mode other = false
 
 -- the mode asked for, where a device of this page has it: one of V1.0 has no PREOPERATE
+-- DEV-5
 abbrev pub known_mode : List ℕ → Option Mode → Option Mode
 known_mode page (Some Preoperate) = if sheet.is_old page then None else Some Preoperate
 known_mode page asked = asked
 
 -- a command for another mode waits
+-- DEV-3
 abbrev pub waits_after : Mode → Option WaitingCommand → List ℕ → Option Mode → Option WaitingCommand
 waits_after mode waits octets None = waits
 waits_after mode waits octets (Some into) =
     if is_mode mode into then waits else Some (record { into = into; octets = octets })
 
 -- in OPERATE two commands say whether the output is valid
+-- DEV-6
 abbrev pub valid_after : Mode → Bool → Option MasterCommand → Bool
 valid_after Operate valid (Some ProcessDataOutputOperate) = true
 valid_after Operate valid (Some DeviceOperate) = false
 valid_after mode valid command = valid
 
 -- in OPERATE each message brings output octets
+-- DEV-6
 abbrev pub out_after : Mode → List ℕ → List ℕ → List ℕ
 out_after Operate out heard = heard
 out_after mode out heard = out
@@ -137,26 +150,31 @@ isdu_moved size state true flow octets = isdu_read size state flow
 isdu_moved size state false flow octets = isdu_written state flow octets
 
 -- where the device has no ISDU, the state stays empty
+-- DEV-10
 abbrev pub isdu_after : Bool → ℕ → IsduState → Channel → Bool → Flow → List ℕ → IsduState
 isdu_after known size state Isdu read flow octets =
     if known then isdu_moved size state read flow octets else Empty
 isdu_after known size state channel read flow octets = state
 
 -- a write to diagnosis address 0x00
+-- EVT-2
 abbrev pub is_confirm : Channel → Bool → ℕ → Bool
 is_confirm Diagnosis false address = address == 0
 is_confirm channel read address = false
 
+-- EVT-2
 abbrev pub events_after : Events → Bool → Events
 events_after events true = confirmed events
 events_after events false = released events
 
 -- a write to page address 0x01; every other page write is ignored
+-- DEV-9
 abbrev pub cycle_time_after : ℕ → Channel → Bool → ℕ → ℕ → ℕ
 cycle_time_after old Page false address octet = if address == 1 then octet else old
 cycle_time_after old channel read address octet = old
 
 -- the far end once it has worked a message that it accepts in its present layout
+-- DEV-9
 abbrev pub worked : Far → List ℕ → MasterMsg → Far
 worked far octets message = record far {
   waits = waits_after far.mode far.waits octets
@@ -176,10 +194,12 @@ worked far octets message = record far {
 -- The reply, read off the far end once it has worked the message
 
 -- the octet at a page address
+-- DEV-7
 abbrev pub page_octet : Far → ℕ → ℕ
 page_octet far address = if address == 1 then far.cycle_time else sheet.page_octet far.page address
 
 -- the on-request data of the reply to a read
+-- DEV-7
 abbrev pub data_of : Far → ℕ → Channel → ℕ → List ℕ
 data_of far size Process address = replicate size 0
 data_of far size Page address = first_of_zeros size (page_octet far address)
@@ -187,9 +207,11 @@ data_of far size Diagnosis address = first_of_zeros size (event_octet far.events
 data_of far size Isdu address = isdu_data size far.isdu
 
 -- the process data in, zeros where there is none
+-- DEV-8
 abbrev pub input_of : Far → ℕ → List ℕ
 input_of far size = if size == 0 then [] else unwrap_or far.input (replicate size 0)
 
+-- DEV-8
 abbrev pub reply_to : Far → Shape → MasterMsg → Reply
 reply_to far layout message = record {
   od = record {
@@ -209,14 +231,17 @@ abbrev pub replied : Far → MasterMsg → Heard
 replied far message =
     record { far = far; reply = Some (octets_of (reply_to far (layout_of far) message)) }
 
+-- DEV-2
 abbrev pub heard_as : Far → List ℕ → Option (Far × MasterMsg) → Heard
 heard_as far octets None = record { far = far; reply = None }
 heard_as far octets (Some (there, message)) = replied (worked there octets message) message
 
 -- what the far end is after these octets came, and what it answers
+-- DEV-2
 abbrev pub hear : Far → List ℕ → Heard
 hear far octets = heard_as far octets (accepted far octets)
 
 -- the process data that it has for its outputs
+-- DEV-6
 abbrev pub output_of : Far → Option (List ℕ)
 output_of far = if far.valid && nat_lt 0 (length far.out) then Some far.out else None

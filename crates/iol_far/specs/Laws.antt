@@ -52,6 +52,7 @@ IsSized far = IfSome far.input (λ image. length image ≡ input_size far)
 
 -- the parts of a far end as they can be: its page has the ten octets of 0x02 to 0x0B, its input the
 -- page's length, which is 1 to 32, and its event memory is one that events and messages lead to
+-- WIRE-6
 pub record IsRegular (far : Far) : Type 0 where
   pub page : length far.page ≡ 10
   pub sized : IsSized far

@@ -18,6 +18,7 @@ pub record IsAt (page : List ℕ) (link : Link) (far : Far) : Type 0 where
 
 -- The far end sleeps, or it comes from there by local steps and at most that many
 -- hearings of the message that is out
+-- LINK-9
 abbrev pub IsLinked : List ℕ → Link → List ℕ → ℕ → Far → Type 0
 IsLinked page link octets most far =
     ((far.awake ≡ false) × (far.page ≡ page))
@@ -47,6 +48,7 @@ pub record LinkSays (page : List ℕ) (link : Link) (octets : List ℕ) (message
       ≡ Some (octets_of
       (reply_to heard.far (layout_in page (turned page link octets message).mode) message))
 
+-- LINK-9
 pub record LinkLaws : Type 0 where
   pub stays : (page : List ℕ) (link : Link) (octets : List ℕ) → LinkStays page link octets
   -- octets that spell the message in the layout in which the far end accepts them

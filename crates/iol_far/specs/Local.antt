@@ -10,6 +10,7 @@ use Rattle.iol_far.specs.Codec.{layout_in}
 use Rattle.iol_far.specs.Record.{takes_more}
 use Rattle.iol_far.specs.Far.{Far}
 
+-- DEV-16
 pub data LocalStep : Type 0 where
   -- the application answers the handed request
   Carry : Answer → LocalStep
@@ -20,10 +21,12 @@ pub data LocalStep : Type 0 where
   Power : LocalStep
 
 -- whether the record takes one more pair
+-- DEV-15
 abbrev pub has_room : Far → Bool
 has_room far = takes_more far.room far.carried
 
 -- a handed request is answered, and the pair goes to the end of the record
+-- DEV-15
 abbrev pub carried_by : IsduState → Far → Answer → Far
 carried_by (Handed request) far answer =
     if has_room far && fits request answer
@@ -41,18 +44,22 @@ is_answer None answer = false
 is_answer (Some request) answer = fits request answer
 
 -- whether an answer is taken from elsewhere
+-- DEV-15
 abbrev pub takes_answer : Far → Answer → Bool
 takes_answer far answer = has_room far && is_answer (handed far.isdu) answer
 
 -- how many octets an input has, 0 where the page has no process data in
+-- DEV-17
 abbrev pub input_size : Far → ℕ
 input_size far = (layout_in far.page Operate).pd_in
 
 -- whether these octets can be the input
+-- DEV-17
 abbrev pub is_input : Far → List ℕ → Bool
 is_input far image = not (input_size far == 0) && (length image == input_size far)
 
 -- the far end after the step, unchanged where that can't be done
+-- DEV-16
 abbrev pub local : Far → LocalStep → Far
 local far (Carry answer) = carried_by far.isdu far answer
 local far (Raise event) = record far { events = raised far.events event }
@@ -66,6 +73,7 @@ locals far [] = far
 locals far (step ∷ steps) = locals (local far step) steps
 
 -- the far end after a wake
+-- DEV-1
 abbrev pub woken : Far → Far
 woken far =
     record far {

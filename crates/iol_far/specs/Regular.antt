@@ -4,6 +4,7 @@ use Rattle.iol_far.specs.Far.{Far, hear}
 use Rattle.iol_far.specs.Local.{LocalStep, local, woken}
 use Rattle.iol_far.specs.Laws.{IsRegular}
 
+-- WIRE-6
 pub record RegularStays : Type 0 where
   pub hears : (far : Far) (octets : List ℕ) → IsRegular far → IsRegular (hear far octets).far
   pub steps : (far : Far) (step : LocalStep) → IsRegular far → IsRegular (local far step)

@@ -78,6 +78,8 @@ pub fn events_stay_until_confirmed()
 
 /// What a master may conclude of the device's mode while a message is out, and from
 /// one good reply, whatever is under way on the ISDU channel.
+///
+/// Rule LINK-9.
 #[tactic(auto, using(crate::proofs::Linking::link_laws))]
 pub fn links_stay_level()
     ensures { LinkLaws }
@@ -94,6 +96,8 @@ pub fn texts_are_heard()
 /// The parts of a device stay as they can be, whatever it hears or does by itself,
 /// and at a wake-up request: the page has ten octets, the input the page's length,
 /// and the event memory is one that events and messages lead to.
+///
+/// Rule WIRE-6.
 #[tactic(auto, using(crate::proofs::Regularly::regular_stays))]
 pub fn parts_stay_regular()
     ensures { RegularStays }

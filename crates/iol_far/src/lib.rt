@@ -5,6 +5,10 @@
 //! carried by a function that does nothing. The master's crates and the device's
 //! stand on them alike (IEC 61131-9, 7.3 and Annexes A and B; the behaviour that
 //! the standard leaves open is a profile of this project).
+//!
+//! Definitions begin in `specs/Far`, with `hear`; then `Isdu`, `Local` and `Record`, and `Level`:
+//! how far a request has come between both ends. The laws say what hearing, repeating and losing
+//! leave.
 #![tactic(auto)]
 
 mod carried;

@@ -31,6 +31,8 @@ impl Image {
     /// The image of these octets.
     ///
     /// 29 WrongImageLength: there is no octet, or there are more than 32.
+    ///
+    /// Rule PD-3.
     pub fn new(octets: &[u8]) -> Result<Image, ImageFault>
         ensures octets { IfOk result (λ image. image ≡ octets.now) }
         ensures length { IsOk result ↔ IsImage octets.now }

@@ -15,18 +15,21 @@ is_read (request.Read place) = true
 is_read (request.Write place octets) = false
 
 -- the answer fits a read (or a write): Read only a read, Written only a write, Refused both
+-- ISDU-8
 abbrev pub AnswersKind : Bool → Answer → Type 0
 AnswersKind read (answer.Read octets) = read ≡ true
 AnswersKind read answer.Written = read ≡ false
 AnswersKind read (answer.Refused error additional) = Unit {0}
 
 -- the service of an answer to a read (or to a write)
+-- ISDU-4
 abbrev pub answer_service : Bool → Answer → ℕ
 answer_service read (answer.Read octets) = 13
 answer_service read answer.Written = 5
 answer_service read (answer.Refused error additional) = if read then 12 else 4
 
 -- what stands between the total length and the CHKPDU
+-- ISDU-4
 abbrev pub answer_body : Answer → List ℕ
 answer_body (answer.Read octets) = octets.items
 answer_body answer.Written = []
@@ -60,6 +63,7 @@ pub record BeginsWithAnswer (read : Bool) (octets : List ℕ) (a : Answer) : Typ
   pub whole : octets ≡ text ++ rest
 
 -- the table of the answers' services and their total lengths; 16 is never one
+-- ISDU-4
 abbrev pub answer_accepts : ℕ → ℕ → Bool
 answer_accepts service total =
     (service == 4 && total == 4) || (service == 5 && total == 2) || (service == 12 && total == 4)
@@ -70,6 +74,7 @@ abbrev pub answers_read : ℕ → Bool
 answers_read service = service == 12 || service == 13
 
 -- an answer to a read where a write was sent, or the other way round
+-- ISDU-8
 abbrev pub kind_fault : Bool → Bool → Option IsduFault
 kind_fault true true = None
 kind_fault false false = None
@@ -77,6 +82,7 @@ kind_fault true false = Some WrongAnswerKind
 kind_fault false true = Some WrongAnswerKind
 
 -- the first refusal of an answer to a read (or to a write): as a text, then by its kind
+-- ISDU-9
 abbrev pub answer_fault : Bool → List ℕ → Option IsduFault
 answer_fault read octets =
     first_of (isdu_fault answer_accepts octets)

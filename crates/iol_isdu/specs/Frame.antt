@@ -5,20 +5,24 @@ use Rattle.iol_isdu.specs.declared.fault.IsduFault.{IsduFault}
 use Rattle.iol_isdu.specs.declared.fault.IsduFault.TheVariants.{Truncated, BadIsduLength, BadService, BadChkpdu}
 
 -- the XOR of all octets
+-- ISDU-1
 abbrev pub xor_of : List ℕ → ℕ
 xor_of octets = fold bit_xor 0 octets
 
 -- what stands before a body of this length: the service and the total length, which
 -- from 17 on is in an ExtLength
+-- ISDU-1
 abbrev pub head : ℕ → ℕ → List ℕ
 head service size = if (nat_lt size 14) then (16 * service + (size + 2)) ∷ []
     else (16 * service + 1) ∷ (size + 3) ∷ []
 
 -- the total length of the text of a body of this length
+-- ISDU-2
 abbrev pub total_of : ℕ → ℕ
 total_of size = if (nat_lt size 14) then size + 2 else size + 3
 
 -- the text of a service and a body; the CHKPDU makes the XOR of all octets 0
+-- ISDU-1
 pub record IsFrame (service : ℕ) (body text : List ℕ) : Type 0 where
   pub chkpdu : ℕ
   pub parts : text ≡ head service (length body) ++ body ++ chkpdu ∷ []
@@ -26,6 +30,7 @@ pub record IsFrame (service : ℕ) (body text : List ℕ) : Type 0 where
 
 -- the total length that the octets begin with: 2 to 15 in the first octet, 17 to
 -- 238 in the ExtLength
+-- ISDU-2
 abbrev pub total_at : List ℕ → Result ℕ IsduFault
 total_at [] = Err Truncated
 total_at (first ∷ rest) =
@@ -38,6 +43,7 @@ total_at (first ∷ rest) =
         if (nat_le 17 total && nat_le total 238) then Ok total else Err BadIsduLength
 
 -- why the octets don't begin with as many as their total length
+-- ISDU-9
 abbrev pub frame_fault : List ℕ → Option IsduFault
 frame_fault octets = fault_by (total_at octets) (length octets)
   where
@@ -51,6 +57,7 @@ front_by (Err fault) octets = []
 front_by (Ok total) octets = take total octets
 
 -- the front of the octets that is as long as it says
+-- ISDU-10
 abbrev pub text_at : List ℕ → List ℕ
 text_at octets = front_by (total_at octets) octets
 
@@ -69,6 +76,7 @@ first_of (Some fault) other = Some fault
 
 -- the first refusal: no whole text, no service of this direction with this total
 -- length, a wrong XOR
+-- ISDU-9
 abbrev pub isdu_fault : (ℕ → ℕ → Bool) → List ℕ → Option IsduFault
 isdu_fault accepts octets =
     first_of (frame_fault octets) (

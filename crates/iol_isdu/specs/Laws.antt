@@ -9,12 +9,14 @@ use Rattle.iol_isdu.specs.Texts.{IsRequest, FitsAnswer, request_text, answer_tex
 use Rattle.iol_isdu.specs.Parse.{request_of}
 
 -- octets begin with at most one text of a request
+-- ISDU-10
 abbrev pub OneRequestInFront : Type 0
 OneRequestInFront =
     (q r : Request) (text other rest more : List ℕ) → IsRequestText q text → IsRequestText r other
     → text ++ rest ≡ other ++ more → (text ≡ other) × (q ≡ r)
 
 -- octets begin with at most one text of an answer to a read (or to a write)
+-- ISDU-10
 abbrev pub OneAnswerInFront : Type 0
 OneAnswerInFront =
     (read : Bool) (a b : Answer) (text other rest more : List ℕ) → IsAnswerText read a text
@@ -41,6 +43,7 @@ AnswerHoldsLength = (read : Bool) (a : Answer) → FitsAnswer read a
     → total_at (answer_text read a) ≡ Ok (length (answer_text read a))
 
 -- a text, whatever octets follow it, is found to be its request's
+-- ISDU-10
 abbrev pub EachTextIsFound : Type 0
 EachTextIsFound = (r : Request) (text rest : List ℕ) → IsRequestText r text
     → request_of (text ++ rest) ≡ Some r

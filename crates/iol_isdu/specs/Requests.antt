@@ -6,30 +6,35 @@ use Rattle.iol_isdu.specs.declared.values.Request.TheVariants.{Read, Write}
 use Rattle.iol_isdu.specs.Frame.{IsFrame}
 
 -- how a text says a place: an 8-bit index, that and a subindex, or a 16-bit index and a subindex
+-- ISDU-5
 pub data Form : Type 0 where
   Index : Form
   IndexSub : Form
   WideIndexSub : Form
 
 -- the services of the writes are 1 to 3, those of the reads 9 to 11, in the order of their forms
+-- ISDU-3
 abbrev pub form_number : Form → ℕ
 form_number Index = 0
 form_number IndexSub = 1
 form_number WideIndexSub = 2
 
 -- the form says the place
+-- ISDU-5
 abbrev pub Holds : Form → Place → Type 0
 Holds Index p = (p.sub ≡ 0) × (p.index < 256)
 Holds IndexSub p = p.index < 256
 Holds WideIndexSub p = p.index < 65536
 
 -- the index part: the place in this form, a 16-bit index with its high octet first
+-- ISDU-5
 abbrev pub index_part : Form → Place → List ℕ
 index_part Index p = p.index ∷ []
 index_part IndexSub p = p.index ∷ p.sub ∷ []
 index_part WideIndexSub p = (p.index / 256) ∷ (p.index % 256) ∷ p.sub ∷ []
 
 -- the service of a request, its place in this form
+-- ISDU-3
 abbrev pub request_service : Request → Form → ℕ
 request_service (Read p) form = 9 + form_number form
 request_service (Write p octets) form = 1 + form_number form
@@ -64,6 +69,7 @@ pub record IsRequestTextIn (form : Form) (request : Request) (text : List ℕ) :
   pub frame : IsFrame service body text
 
 -- a text of the request, in some form
+-- ISDU-6
 abbrev pub IsRequestText : Request → List ℕ → Type 0
 IsRequestText request text = (form : Form) × IsRequestTextIn form request text
 
@@ -75,11 +81,13 @@ pub record BeginsWithRequest (octets : List ℕ) (request : Request) : Type 0 wh
   pub whole : octets ≡ text ++ rest
 
 -- the shortest form that says a place
+-- ISDU-6
 abbrev pub shortest : Place → Form
 shortest p =
     if (nat_lt p.index 256) then (if (p.sub == 0) then Index else IndexSub) else WideIndexSub
 
 -- a text of the request in the shortest form, which is the one that is sent
+-- ISDU-6
 abbrev pub IsShortText : Request → List ℕ → Type 0
 IsShortText request text = IsRequestTextIn (shortest (place_of request)) request text
 
@@ -88,6 +96,7 @@ abbrev pub within : ℕ → ℕ → ℕ → Bool
 within low high n = nat_le low n && nat_le n high
 
 -- the table of the requests' services and their total lengths; 16 is never one
+-- ISDU-3
 abbrev pub request_accepts : ℕ → ℕ → Bool
 request_accepts service total =
     (service == 1 && within 3 236 total) || (service == 2 && within 4 237 total)

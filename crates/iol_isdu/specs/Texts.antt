@@ -21,6 +21,7 @@ request_front r =
     (index_part (shortest (place_of r)) (place_of r) ++ written r)
 
 -- the text that is sent for a request
+-- ISDU-6
 abbrev pub request_text : Request → List ℕ
 request_text r = sealed (request_front r)
 
@@ -33,11 +34,13 @@ abbrev pub answer_text : Bool → Answer → List ℕ
 answer_text read a = sealed (answer_front read a)
 
 -- a request that the Rust type holds: numbers and lists are unbounded here
+-- ISDU-7
 pub record IsRequest (r : Request) : Type 0 where
   pub index : (place_of r).index < 65536
   pub fits : length (written r) ≤ 232
 
 -- an answer that the Rust type holds, and that fits a read (or a write)
+-- ISDU-7
 pub record FitsAnswer (read : Bool) (a : Answer) : Type 0 where
   pub kind : AnswersKind read a
   pub fits : length (answer_body a) ≤ 232

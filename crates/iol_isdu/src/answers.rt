@@ -15,6 +15,8 @@ use crate::values::{Answer, Request, Text};
 /// The text of the answer to this request (IEC 61131-9, A.5.1 to A.5.6).
 ///
 /// Only a read is answered by `Read`, and only a write by `Written`.
+///
+/// Rule ISDU-4.
 pub fn encode_answer(request: &Request, answer: &Answer) -> Text
     requires { AnswersKind (is_read request.now) answer.now }
     ensures spells { IsAnswerText (is_read request.now) answer.now result.items }
@@ -35,6 +37,8 @@ pub fn encode_answer(request: &Request, answer: &Answer) -> Text
 /// - 12 `BadService`: the service is no answer's, or its texts don't have this total length;
 /// - 13 `BadChkpdu`: the XOR of all octets of the text is not 0;
 /// - 14 `WrongAnswerKind`: it answers a write and the request is a read, or the other way round.
+///
+/// Rule ISDU-4.
 pub fn read_answer(request: &Request, octets: &[u8]) -> Result<Answer, IsduFault>
     ensures refused { result_err result ≡ answer_fault (is_read request.now) octets.now }
     ensures found { IfOk result (BeginsWithAnswer (is_read request.now) octets.now) }
@@ -66,6 +70,8 @@ fn is_read(request: &Request) -> bool
 }
 
 /// Puts in place the answer to a read or to a write whose text the octets begin with.
+///
+/// Rules ISDU-8, ISDU-9.
 fn put_answer_to(read: bool, octets: &[u8], into: &mut Answer) -> Result<(), IsduFault>
     ensures refused { result_err result ≡ answer_fault read octets.now }
     ensures found { OnOk result (IsAnswerText read into.new (text_at octets.now)) }
@@ -79,6 +85,8 @@ fn put_answer_to(read: bool, octets: &[u8], into: &mut Answer) -> Result<(), Isd
 
 /// Puts in place the answer of the frame that the octets begin with. Answers whether it is to
 /// a read.
+///
+/// Rule ISDU-9.
 fn put_framed(octets: &[u8], into: &mut Answer) -> Result<bool, IsduFault>
     ensures refused { result_err result ≡ isdu_fault answer_accepts octets.now }
     ensures kind { IfOk result (λ read. read ≡ answers_read (slice_index octets.now 0 / 16)) }

@@ -13,6 +13,8 @@ pub(crate) const LONGEST_PLAIN: usize = 15;
 pub(crate) const EXTENDED: u8 = 1;
 
 /// The XOR of all octets.
+///
+/// Rule ISDU-1.
 pub(crate) fn xor_of(octets: &[u8]) -> u8
     ensures { result ≡ xor_of octets.now }
 {
@@ -31,6 +33,8 @@ pub(crate) fn xor_on(sum: u8, octets: &[u8]) -> u8
 ///
 /// Refused with 10 `Truncated` where the octets are too few to hold a total length, and with
 /// 11 `BadIsduLength` where they hold one that no text has. Service and CHKPDU are not looked at.
+///
+/// Rule ISDU-2.
 pub fn total_of(octets: &[u8]) -> Result<usize, IsduFault>
     ensures { result ≡ total_at octets.now }
 {
@@ -60,6 +64,8 @@ pub(crate) struct Frame<'a> {
 }
 
 /// The frame that the octets begin with.
+///
+/// Rules ISDU-1, ISDU-9.
 pub(crate) fn frame_of(octets: &[u8]) -> Result<Frame<'_>, IsduFault>
     ensures refused { result_err result ≡ frame_fault octets.now }
     ensures found { IfOk result (λ f. Frames octets.now f.service f.body.now f.text.now) }

@@ -44,6 +44,8 @@ impl Front<'_> {
     }
 
     /// The CHKPDU that ends the text, the XOR of all octets before it (IEC 61131-9, A.5.6).
+    ///
+    /// Rule ISDU-1.
     pub fn chkpdu(&self) -> u8
         ensures { result ≡ xor_of (self.now.head.items ++ self.now.octets.now) }
     {
@@ -129,6 +131,8 @@ fn front_of<'a>(service: Service, part: &[u8], octets: &'a [u8]) -> Front<'a>
 }
 
 /// The head of a body of this size, of which this part stands in it.
+///
+/// Rule ISDU-1.
 fn head_of(service: Service, part: &[u8], size: usize) -> ArrayVec<u8, 5>
     requires part { length part.now ≤ 3 }
     requires size { size ≤ 235 }

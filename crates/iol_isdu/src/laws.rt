@@ -4,6 +4,8 @@ ghost use Rattle.iol_isdu.specs.Laws.{OneRequestInFront, OneAnswerInFront, OneSh
 /// A text, whatever octets follow it, is the only text that they begin with.
 ///
 /// A law of the definitions; it does nothing when it runs.
+///
+/// Rule ISDU-10.
 pub fn one_text_in_front()
     ensures request { OneRequestInFront }
     ensures answer { OneAnswerInFront }
@@ -13,6 +15,8 @@ pub fn one_text_in_front()
 ///
 /// Each is the one text there is, holds its own length, and is found again in front of any octets;
 /// an answer's is refused by nothing. A law of the definitions; it does nothing when it runs.
+///
+/// Rule ISDU-10.
 pub fn one_text_each()
     ensures request { OneShortText }
     ensures answer { OneAnswerText }

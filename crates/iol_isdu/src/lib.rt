@@ -4,6 +4,10 @@
 //! An ISDU is the text that carries one request of the master to a parameter of the device, or
 //! the device's answer to it. Both are read and written here as whole texts; how a text is cut
 //! into messages is no concern of this crate. Nothing allocates.
+//!
+//! Definitions begin in `specs/Texts`; then `Requests`, `Answers` and `Frame`. A text is read
+//! exactly where octets begin with one, as the one that it is, else refused by the first reason; no
+//! text is the beginning of another.
 #![tactic(auto)]
 
 mod answers;

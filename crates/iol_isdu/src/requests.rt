@@ -15,6 +15,8 @@ use crate::values::{Place, Request, Text};
 
 /// The text that the master sends for a request, in the shortest form that says its place
 /// (IEC 61131-9, A.5.1 to A.5.6).
+///
+/// Rule ISDU-6.
 pub fn encode_request(request: &Request) -> Text
     ensures short { IsShortText request.now result.items }
     ensures text { result.items ≡ request_text request.now }
@@ -34,6 +36,8 @@ pub fn encode_request(request: &Request) -> Text
 /// - 10 `Truncated`: fewer octets than the total length;
 /// - 12 `BadService`: the service is no request's, or its texts don't have this total length;
 /// - 13 `BadChkpdu`: the XOR of all octets of the text is not 0.
+///
+/// Rule ISDU-3.
 pub fn read_request(octets: &[u8]) -> Result<Request, IsduFault>
     ensures refused { result_err result ≡ isdu_fault request_accepts octets.now }
     ensures found { IfOk result (BeginsWithRequest octets.now) }
@@ -59,6 +63,8 @@ pub fn request_into(octets: &[u8], into: &mut Request) -> Result<(), IsduFault>
 }
 
 /// Puts in place the request of the frame that the octets begin with.
+///
+/// Rule ISDU-9.
 fn put_framed(octets: &[u8], into: &mut Request) -> Result<(), IsduFault>
     ensures refused { result_err result ≡ isdu_fault request_accepts octets.now }
     ensures found { OnOk result (IsRequestText into.new (text_at octets.now)) }

@@ -37,6 +37,8 @@ pub(crate) enum Service {
 
 impl Service {
     /// The service of the high four bits of a first octet, where they are one.
+    ///
+    /// Rule ISDU-3.
     pub fn from_bits(bits: u8) -> Option<Service>
         ensures known { IfSome result (λ service. service_number service ≡ bits) }
         ensures no_request { IfNone result ((total : ℕ) → request_accepts bits total ≡ false) }
@@ -58,6 +60,8 @@ impl Service {
     }
 
     /// The high four bits of its first octet.
+    ///
+    /// Rule ISDU-3.
     pub fn bits(self) -> u8
         ensures value { result ≡ service_number self }
         ensures small { result < 16 }
@@ -79,6 +83,8 @@ impl Service {
 
 impl Form {
     /// The shortest form that says this place.
+    ///
+    /// Rule ISDU-6.
     pub fn shortest(place: &Place) -> Form
         ensures value { form_of result ≡ shortest place.now }
         ensures holds { Holds (form_of result) place.now }
@@ -91,6 +97,8 @@ impl Form {
     }
 
     /// The index part of a place that this form says.
+    ///
+    /// Rule ISDU-5.
     pub fn index_part(self, place: &Place) -> ArrayVec<u8, 3>
         requires { Holds (form_of self) place.now }
         ensures { result.items ≡ index_part (form_of self) place.now }

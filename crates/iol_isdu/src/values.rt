@@ -72,6 +72,8 @@ impl Request {
     /// A write of these octets to the parameter at this place.
     ///
     /// Refused with 9 `DataTooLong` where there are more than 232.
+    ///
+    /// Rule ISDU-7.
     pub fn write(place: Place, octets: &[u8]) -> Result<Request, IsduFault>
         ensures long { IsErr result ↔ (232 < length octets.now) }
         ensures refused { IfErr result (λ why. why ≡ IsduFault.DataTooLong) }

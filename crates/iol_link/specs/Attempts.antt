@@ -13,15 +13,18 @@ pub record Sending : Type 0 where
   pub tries : ℕ
 
 -- the reply that the answer spells, where it is well-formed in the layout as a reply to the message
+-- LINK-2
 abbrev pub good_reply : Shape → MasterMsg → Option (List ℕ) → Option Reply
 good_reply layout message answer = option_and_then (reply_in layout message.mc.read) answer
 
 -- how an attempt ends after so many before it: without a good reply the third loses the link
+-- LINK-2, LINK-3
 abbrev pub attempt_of : ℕ → Option Reply → Attempt
 attempt_of tries (Some reply) = Got reply
 attempt_of tries None = if tries == 2 then Lost else Again
 
 -- after a good reply, and after a loss, the attempts count from 0
+-- LINK-3
 abbrev pub tries_after : ℕ → Option Reply → ℕ
 tries_after tries (Some reply) = 0
 tries_after tries None = if tries == 2 then 0 else tries + 1

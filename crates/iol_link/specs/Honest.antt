@@ -10,6 +10,7 @@ use Rattle.iol_far.specs.Local.{LocalStep, locals, woken, IsWorkedOff}
 use Rattle.iol_far.specs.Laws.{IsRegular}
 
 -- nothing, or octets that are well-formed in no layout in which the sent octets spell a message
+-- WIRE-2
 abbrev pub IsUnread : List ℕ → Option (List ℕ) → Type 0
 IsUnread sent None = Unit {0}
 IsUnread sent (Some answer) =
@@ -17,6 +18,7 @@ IsUnread sent (Some answer) =
     → reply_in layout message.mc.read answer ≡ None
 
 -- how far an exchange comes
+-- WIRE-1
 pub data Passage : Type 0 where
   -- the sent octets are lost, or the far end hears others, which it doesn't accept:
   -- nothing changes there
@@ -27,28 +29,33 @@ pub data Passage : Type 0 where
   Clean : Passage
 
 -- the far end after it
+-- WIRE-1
 abbrev pub far_after : Passage → Far → List ℕ → Far
 far_after OutLost far sent = far
 far_after BackLost far sent = (hear far sent).far
 far_after Clean far sent = (hear far sent).far
 
 -- what comes back
+-- WIRE-2
 abbrev pub IsAnswer : Passage → Far → List ℕ → Option (List ℕ) → Type 0
 IsAnswer Clean far sent answer = answer ≡ (hear far sent).reply
 IsAnswer passage far sent answer = IsUnread sent answer
 
 -- the unaltered reply that an exchange brings, none where it brings none
+-- WIRE-4
 abbrev pub brought : Passage → Far → List ℕ → Option (List ℕ)
 brought Clean far sent = (hear far sent).reply
 brought passage far sent = None
 
 -- how many exchanges in a row, up to now, brought no unaltered reply, counted up to 3
+-- WIRE-4
 abbrev pub silence_after : ℕ → Option (List ℕ) → ℕ
 silence_after silence None = min 3 (silence + 1)
 silence_after silence (Some reply) = 0
 
 -- one exchange: some steps of the far end by itself, then the octets come as far as
 -- they do; the far end is one that can be
+-- WIRE-1
 pub record HonestExchange (far : Far) (silence : ℕ) (sent : List ℕ) (answer : Option (List ℕ))
     (far_new : Far) (silence_new : ℕ) : Type 0 where
   pub regular : IsRegular far
@@ -60,6 +67,7 @@ pub record HonestExchange (far : Far) (silence : ℕ) (sent : List ℕ) (answer 
 
 -- one wake: some steps of the far end by itself, then the wake's effect or nothing;
 -- a rate is answered only where it took effect
+-- WIRE-3
 pub record HonestWake (far : Far) (answered : Bool) (far_new : Far) : Type 0 where
   pub steps : List LocalStep
   pub wakes : Bool
@@ -69,6 +77,7 @@ pub record HonestWake (far : Far) (answered : Bool) (far_new : Far) : Type 0 whe
 -- one exchange on a clean wire: a handed request is carried out where the record
 -- has room, and the far end does nothing else by itself; the octets are heard, and
 -- what it answers comes back unaltered
+-- WIRE-5
 pub record CleanExchange (far : Far) (sent : List ℕ) (answer : Option (List ℕ))
     (far_new : Far) : Type 0 where
   pub ready : Far

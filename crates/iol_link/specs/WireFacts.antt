@@ -6,6 +6,7 @@ use Rattle.iol_far.specs.Far.{Far, opened}
 use Rattle.iol_link.specs.Honest.{HonestExchange, HonestWake}
 use Rattle.iol_link.specs.declared.wire.Rate.{Rate}
 
+-- WIRE-5
 pub record WireFacts (W : Type 0) : Type 1 where
   -- whether the wire is honest: it loses messages and replies, and alters none into
   -- another good one

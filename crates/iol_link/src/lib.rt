@@ -4,6 +4,10 @@
 //! reply come back or nothing does. Its contract speaks of the device at its far
 //! end, as far as the wire is honest. A [`Handler`] holds the message that is out,
 //! and sends it up to three times in a row (IEC 61131-9, 7.3.3).
+//!
+//! Definitions begin in `specs/WireFacts` and `specs/Honest`: what a wire is to a contract, and
+//! what an honest one may do. An attempt makes one exchange of the message's octets and is judged
+//! by what came back alone.
 #![tactic(auto)]
 
 mod handler;

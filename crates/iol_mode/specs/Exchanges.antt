@@ -37,6 +37,7 @@ text_out (AtPreoperate s) = master_text s.pre s.sent.message
 text_out (AtOperate s) = text_in s.layouts.run s.out
 
 -- in OPERATE the message that is out stays so, else this one is out from now on
+-- LINK-2
 abbrev pub putting : MasterMsg → State → State
 putting message (AtOperate s) =
     AtOperate (record { out = Some (sending_of s.out message); layouts = s.layouts })

@@ -70,6 +70,7 @@ module _ {W : Type 0} (facts : WireFacts W) where
   IsStartTried wire (AtPreoperate s) attempt new = IsTried wire s.pre s.sent attempt new
   IsStartTried wire s attempt new = ⊥
 
+  -- LINK-1
   abbrev pub IsStartTurn : W → State → Outcome → W → Type 0
   IsStartTurn wire (AtStartup s) outcome new =
       IsRise wire startup_shape s.sent.message (startup_turned s) outcome new
@@ -89,6 +90,7 @@ module _ {W : Type 0} (facts : WireFacts W) where
     pub accepted : IsTrue (honest wire) → (link : FarLink) → IsOperating s.layouts link
         → IsAccepted s.layouts (far wire).page link (sending_of s.out message).message
 
+  -- LINK-1
   abbrev pub IsOperateTurn : W → State → MasterMsg → Outcome → W → Type 0
   IsOperateTurn wire (AtOperate s) message outcome new = IsCycle wire s message outcome new
   IsOperateTurn wire s message outcome new = ⊥

@@ -66,6 +66,8 @@ impl State {
     ///
     /// Without a good reply the message stays out, and the third attempt in a row has lost
     /// the link. What comes back alone says what becomes of the mode.
+    ///
+    /// Rule LINK-2.
     pub fn receives(&mut self, came: &Option<Message>) -> Attempt
         requires fits { StateFits self.old }
         requires sends { IsSending self.old }
@@ -90,6 +92,8 @@ impl State {
 
     /// Takes what a wake brought: STARTUP, where the device answered it, else Down
     /// with `NoWake`.
+    ///
+    /// Rule LINK-1.
     pub fn receives_wake(&mut self, rate: Option<Rate>)
         requires { IsDown self.old }
         ensures state { self.new ≡ state_of (waked (is_some rate)) }

@@ -5,6 +5,7 @@ use Rattle.iol_mseq.specs.declared.fault.MseqFault.{MseqFault}
 use Rattle.iol_mseq.specs.declared.fault.MseqFault.TheVariants.{UnsupportedCode, BadLength}
 
 -- a layout: the two bits of the M-sequence type, and how many octets each part has
+-- LAY-1
 pub record Shape : Type 0 where
   pub kind : ℕ
   pub od : ℕ
@@ -12,19 +13,23 @@ pub record Shape : Type 0 where
   pub pd_out : ℕ
 
 -- the M-sequence type of these lengths: 0 and 1 without process data, 2 with it
+-- LAY-1
 abbrev pub kind_of : ℕ → ℕ → ℕ → ℕ
 kind_of od pd_in pd_out = if (pd_in + pd_out == 0) then (if (od == 1) then 0 else 1) else 2
 
 -- the layout with these lengths
+-- LAY-1
 abbrev pub shape : ℕ → ℕ → ℕ → Shape
 shape od pd_in pd_out =
     record { kind = kind_of od pd_in pd_out; od = od; pd_in = pd_in; pd_out = pd_out }
 
 -- a number of octets that on-request data has
+-- LAY-1
 abbrev pub is_size : ℕ → Bool
 is_size od = od == 1 || od == 2 || od == 8 || od == 32
 
 -- a layout that some mode has
+-- LAY-1
 pub record IsLayout (l : Shape) : Type 0 where
   pub kind : l.kind ≡ kind_of l.od l.pd_in l.pd_out
   pub od : IsTrue (is_size l.od)
@@ -32,10 +37,12 @@ pub record IsLayout (l : Shape) : Type 0 where
   pub pd_out : l.pd_out ≤ 32
 
 -- STARTUP
+-- LAY-2
 abbrev pub startup_shape : Shape
 startup_shape = shape 1 0 0
 
 -- PREOPERATE: 1, 2, 8 or 32 octets by the code, without process data
+-- LAY-3
 abbrev pub preoperate_shape : ℕ → Result Shape MseqFault
 preoperate_shape code =
     if (code == 0) then Ok (shape 1 0 0) else
@@ -44,6 +51,7 @@ preoperate_shape code =
     if (code == 3) then Ok (shape 32 0 0) else Err UnsupportedCode
 
 -- the octets of on-request data in OPERATE, by the code and whether there is process data
+-- LAY-4
 abbrev pub operate_od : ℕ → Bool → Option ℕ
 operate_od code process =
     if (code == 0 || code == 4) then Some 1 else
@@ -53,6 +61,7 @@ operate_od code process =
     if (code == 1) then (if process then None else Some 2) else None
 
 -- OPERATE: the code is looked at first, then the lengths
+-- LAY-4
 abbrev pub operate_shape : ℕ → ℕ → ℕ → Result Shape MseqFault
 operate_shape code pd_in pd_out =
     operate_with (operate_od code (nat_lt 0 (pd_in + pd_out))) pd_in pd_out

@@ -8,6 +8,7 @@ use Rattle.iol_mseq.specs.declared.master.MasterMsg.{MasterMsg}
 use Rattle.iol_mseq.specs.declared.reply.Reply.{Reply}
 
 -- the octets of a master message
+-- MSG-1
 abbrev pub master_text : Shape → MasterMsg → List ℕ
 master_text layout message =
     with_checksum 1
@@ -18,6 +19,7 @@ abbrev pub closed_by : List ℕ → ℕ → List ℕ
 closed_by octets bits = octets ++ (bits + checksum_of (octets ++ bits ∷ [])) ∷ []
 
 -- the octets of a reply
+-- MSG-2
 abbrev pub reply_text : Reply → List ℕ
 reply_text reply =
     closed_by (reply.od.items ++ reply.input.items) (status_bits reply.event reply.invalid)

@@ -8,6 +8,8 @@ use iol_octets::{checksums_fit, control_octets_are_read_back, one_flip_is_seen};
 ///
 /// A well-formed master message with any one bit flipped is a well-formed master message
 /// in no layout, a well-formed reply with any one bit flipped a well-formed reply in none.
+///
+/// Rule CHK-3.
 pub fn one_flip_is_refused()
     ensures master { MasterFlipIsRefused }
     ensures reply { ReplyFlipIsRefused }

@@ -49,6 +49,8 @@ impl Model for Layout {
 
 impl Layout {
     /// The layout of STARTUP: type 0, one octet of on-request data.
+    ///
+    /// Rule LAY-2.
     pub fn startup() -> Layout
         ensures value { result ≡ startup_shape }
         ensures valid { IsLayout result }
@@ -59,6 +61,8 @@ impl Layout {
     /// The layout of PREOPERATE with this code of the M-sequence Capability (IEC
     /// 61131-9, B.1.4): codes 0 to 3 have 1, 2, 8 and 32 octets of on-request data.
     /// Refusal 2 UnsupportedCode: a code above 3.
+    ///
+    /// Rule LAY-3.
     pub fn preoperate(code: u8) -> Result<Layout, MseqFault>
         ensures { result ≡ preoperate_shape code }
     {
@@ -78,6 +82,8 @@ impl Layout {
     /// Codes 0 and 4 have one octet of on-request data, 5 has two, 6 has 8, 7 has 32; 1 has two
     /// and goes without process data alone. Refusals, the first that holds: 2 UnsupportedCode,
     /// any other code, or 1 with process data; 3 BadLength, a length above 32.
+    ///
+    /// Rule LAY-4.
     pub fn operate(code: u8, pd_in: u8, pd_out: u8) -> Result<Layout, MseqFault>
         ensures { result ≡ operate_shape code pd_in pd_out }
     {
@@ -95,6 +101,7 @@ impl Layout {
         Ok(Layout::of_sizes(od, pd_in, pd_out))
     }
 
+    /// Rule LAY-1.
     fn of_sizes(od: u8, pd_in: u8, pd_out: u8) -> Layout
         requires size { IsTrue (is_size od) }
         requires pd_in { pd_in ≤ 32 }
@@ -116,6 +123,8 @@ impl Layout {
     }
 
     /// The M-sequence type.
+    ///
+    /// Rule LAY-1.
     pub fn kind(&self) -> SequenceType
         ensures value { type_bits result ≡ self.now.kind }
         ensures valid { IsLayout self.now }

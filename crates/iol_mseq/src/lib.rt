@@ -4,6 +4,10 @@
 //! each part of them has. A master message is the control octet, the checksum / M-sequence
 //! type octet, the process data out and, in a write, the on-request data. A reply is, to a
 //! read, the on-request data, then the process data in and the checksum / status octet.
+//!
+//! Definitions begin in `specs/Shape`, the layouts; then `Master` and `Replies`. A message is read
+//! exactly where it is good, as the one that it spells; what is written is read back; one flipped
+//! bit makes a message bad in every layout.
 #![tactic(auto)]
 
 mod fault;

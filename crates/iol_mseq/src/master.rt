@@ -76,6 +76,8 @@ impl<'a> MasterView<'a> {
 ///
 /// Octets that are well-formed in the layout spell one message, and that is the
 /// answer. Refusals, the first that holds: 4 WrongLength; 5 WrongType; 6 BadChecksum.
+///
+/// Rule MSG-3.
 pub fn read_master(layout: &Layout, octets: &[u8]) -> Result<MasterMsg, MseqFault>
     ensures good { IsOk result ↔ IsGoodMaster layout.now octets.now }
     ensures refused { result_err result ≡ master_fault layout.now octets.now }
@@ -95,6 +97,8 @@ pub fn read_master(layout: &Layout, octets: &[u8]) -> Result<MasterMsg, MseqFaul
 }
 
 /// Reads a master message in a layout, as [`read_master`] does, and copies nothing.
+///
+/// Rule MSG-3.
 pub fn view_master<'a>(layout: &Layout, octets: &'a [u8]) -> Result<MasterView<'a>, MseqFault>
     ensures good { IsOk result ↔ IsGoodMaster layout.now octets.now }
     ensures refused { result_err result ≡ master_fault layout.now octets.now }
@@ -109,6 +113,8 @@ pub fn view_master<'a>(layout: &Layout, octets: &'a [u8]) -> Result<MasterView<'
 }
 
 /// Writes a master message in a layout, whose parts have the layout's sizes.
+///
+/// Rule MSG-1.
 pub fn encode_master(layout: &Layout, message: &MasterMsg) -> Message
     requires { HasMasterParts layout.now message.now }
     ensures spelled { SpellsMaster layout.now message.now result.items }
@@ -120,6 +126,8 @@ pub fn encode_master(layout: &Layout, message: &MasterMsg) -> Message
 }
 
 /// Writes a master message in a layout, as [`encode_master`] does, into a buffer that is empty.
+///
+/// Rule MSG-1.
 #[inline(always)]
 pub fn write_master(layout: &Layout, message: &MasterMsg, octets: &mut Message)
     requires parts { HasMasterParts layout.now message.now }
@@ -135,6 +143,8 @@ pub fn write_master(layout: &Layout, message: &MasterMsg, octets: &mut Message)
 }
 
 /// The first part of being well-formed that fails.
+///
+/// Rule MSG-5.
 fn fault_of(layout: &Layout, octets: &[u8]) -> Option<MseqFault>
     ensures { result ≡ master_fault layout.now octets.now }
 {

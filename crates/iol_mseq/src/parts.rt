@@ -49,6 +49,8 @@ pub fn zeros(size: u8) -> Part
 
 /// The on-request data of the page and diagnosis channels, 1 to 32 octets: the
 /// first is meant, the others are 0 (profile).
+///
+/// Rule MSG-6.
 pub fn first_of_zeros(size: u8, octet: u8) -> Part
     requires most { size ≤ 32 }
     requires some { 1 ≤ size }
@@ -60,6 +62,8 @@ pub fn first_of_zeros(size: u8, octet: u8) -> Part
 }
 
 /// The octet that is meant on the page and diagnosis channels: the first, 0 where there is none.
+///
+/// Rule MSG-6.
 pub fn first(octets: &[u8]) -> u8
     ensures { result ≡ slice_index octets.now 0 }
 {
@@ -90,6 +94,8 @@ pub fn append_zeros(message: &mut Message, size: u8)
 
 /// Puts the on-request data of the page and diagnosis channels at the end: the
 /// first octet is meant, the others are 0.
+///
+/// Rule MSG-6.
 pub fn append_first(message: &mut Message, size: u8, octet: u8)
     requires most { array_vec_len message.old + size ≤ 66 }
     requires some { 1 ≤ size }

@@ -90,6 +90,8 @@ impl<'a> ReplyView<'a> {
 ///
 /// Octets that are well-formed there spell one reply, and that is the answer.
 /// Refusals, the first that holds: 4 WrongLength; 6 BadChecksum.
+///
+/// Rule MSG-4.
 pub fn read_reply(layout: &Layout, read: bool, octets: &[u8]) -> Result<Reply, MseqFault>
     ensures good { IsOk result ↔ IsGoodReply layout.now read octets.now }
     ensures refused { result_err result ≡ reply_fault layout.now read octets.now }
@@ -110,6 +112,8 @@ pub fn read_reply(layout: &Layout, read: bool, octets: &[u8]) -> Result<Reply, M
 }
 
 /// Reads a reply in a layout, as [`read_reply`] does, and copies nothing.
+///
+/// Rule MSG-4.
 pub fn view_reply<'a>(
     layout: &Layout,
     read: bool,
@@ -129,6 +133,8 @@ pub fn view_reply<'a>(
 
 /// Writes a reply in a layout, whose parts have the layout's sizes: to a read if
 /// there is on-request data, to a write if there is none.
+///
+/// Rule MSG-2.
 pub fn encode_reply(layout: &Layout, reply: &Reply) -> Message
     requires { FitsReply layout.now reply.now }
     ensures spelled { (read : Bool) → HasReplyParts layout.now read reply.now
@@ -143,6 +149,8 @@ pub fn encode_reply(layout: &Layout, reply: &Reply) -> Message
 }
 
 /// Puts the check octet of a reply behind its on-request data and its process data in.
+///
+/// Rule MSG-2.
 pub fn close_reply(octets: &mut Message, event: bool, invalid: bool)
     requires { array_vec_len octets.old < 66 }
     ensures text { octets.new.items ≡ closed_by octets.old.items (status_bits event invalid) }
@@ -174,6 +182,8 @@ fn answered_od(layout: &Layout, read: bool) -> usize
 }
 
 /// The first part of being well-formed that fails.
+///
+/// Rule MSG-5.
 fn fault_of(layout: &Layout, read: bool, octets: &[u8]) -> Option<MseqFault>
     ensures { result ≡ reply_fault layout.now read octets.now }
 {

@@ -3,10 +3,12 @@ use Rattle.std.specs.Prelude.{◌≡◌, ℕ, ◌+◌, ◌*◌, ◌/◌, ◌%◌
 use Rattle.std.specs.Int.{bit_at}
 
 -- the XOR of 0x52 and all octets
+-- CHK-1
 abbrev pub folded : List ℕ → ℕ
 folded octets = fold bit_xor 0x52 octets
 
 -- six bits from eight, the highest first: each is the XOR of the bits that are named
+-- CHK-1
 unfoldable pub compressed : ℕ → ℕ
 compressed sum =
     32 * ((bit_at sum 7 + bit_at sum 5 + bit_at sum 3 + bit_at sum 1) % 2)
@@ -17,14 +19,17 @@ compressed sum =
     + (bit_at sum 1 + bit_at sum 0) % 2
 
 -- the checksum of octets whose own six checksum bits are 0
+-- CHK-1
 unfoldable pub checksum_of : List ℕ → ℕ
 checksum_of octets = compressed (folded octets)
 
 -- the octets with the six checksum bits of the octet at a place as 0
+-- CHK-2
 abbrev pub cleared : ℕ → List ℕ → List ℕ
 cleared place octets = slice_set octets place (64 * (slice_index octets place / 64))
 
 -- whether the low six bits of the octet at a place are the checksum of the octets
+-- CHK-2
 unfoldable pub has_checksum : ℕ → List ℕ → Bool
 has_checksum place octets = slice_index octets place % 64 == checksum_of (cleared place octets)
 
@@ -50,6 +55,7 @@ abbrev pub AreOctets : List ℕ → Type 0
 AreOctets octets = (i : ℕ) → slice_index octets i < 256
 
 -- octets that have their checksum and of which one bit is flipped, wherever it is, don't have it
+-- CHK-3
 abbrev pub FlipIsSeen : Type 0
 FlipIsSeen =
     (octets : List ℕ) (checked place bit : ℕ) → AreOctets octets → checked < length octets

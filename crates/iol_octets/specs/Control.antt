@@ -6,6 +6,7 @@ use Rattle.iol_octets.specs.declared.control.Mc.{Mc}
 use Rattle.std.proofs.Math.Nat.{le-pred_of_lt, mod-lt, zero-lt-suc}
 
 -- the number of a channel, in bits 6 and 5
+-- OCT-1
 abbrev pub channel_code : Channel → ℕ
 channel_code Process = 0
 channel_code Page = 1
@@ -13,10 +14,12 @@ channel_code Diagnosis = 2
 channel_code Isdu = 3
 
 -- bit 7 is 1 for a read, bits 6 and 5 are the channel, bits 4 to 0 the address
+-- OCT-1
 abbrev pub control_octet : Mc → ℕ
 control_octet mc = (if mc.read then 128 else 0) + 32 * channel_code mc.channel + mc.address
 
 -- the channel of a number
+-- OCT-1
 abbrev pub channel_of : ℕ → Channel
 channel_of zero = Process
 channel_of (suc zero) = Page
@@ -24,6 +27,7 @@ channel_of (suc (suc zero)) = Diagnosis
 channel_of (suc (suc (suc n))) = Isdu
 
 -- the one control octet that an octet is
+-- OCT-1
 unfoldable pub control_of : ℕ → Mc
 control_of octet = record {
   read = nat_le 128 octet;

@@ -4,6 +4,7 @@ use Rattle.iol_octets.specs.declared.flow_control.Flow.{Flow}
 use Rattle.iol_octets.specs.declared.flow_control.Flow.TheVariants.{Start, Count, Idle1, Idle2, Abort, Reserved}
 
 -- the address that stands for a flow
+-- OCT-2
 abbrev pub flow_address : Flow → ℕ
 flow_address Start = 0x10
 flow_address (Count n) = n
@@ -13,6 +14,7 @@ flow_address Abort = 0x1F
 flow_address (Reserved n) = n
 
 -- the numbers that a flow may hold
+-- OCT-2
 abbrev pub IsFlow : Flow → Type 0
 IsFlow Start = Unit {0}
 IsFlow (Count n) = n ≤ 15

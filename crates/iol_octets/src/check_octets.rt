@@ -18,6 +18,8 @@ impl SequenceType {
     ghost use Rattle.iol_octets.specs.CheckOctets.{type_bits};
 
     /// The two bits: 0, 1 or 2.
+    ///
+    /// Rule OCT-3.
     pub fn bits(self) -> u8
         ensures { result ≡ type_bits self }
     {
@@ -28,6 +30,8 @@ impl SequenceType {
 /// The checksum / M-sequence type octet, the second of a master message (IEC 61131-9, A.1.3).
 ///
 /// Bits 7 and 6 are the M-sequence type, bits 5 to 0 the checksum of the message.
+///
+/// Rule OCT-3.
 #[derive(Clone, Copy, Debug, PartialEq, Eq)]
 pub struct Ckt {
     /// The M-sequence type.
@@ -61,6 +65,8 @@ impl Ckt {
 /// The checksum / status octet, the last of a reply (IEC 61131-9, A.1.5).
 ///
 /// Bit 7 is the Event flag, bit 6 the process data status, bits 5 to 0 the checksum of the reply.
+///
+/// Rule OCT-4.
 #[derive(Clone, Copy, Debug, PartialEq, Eq)]
 pub struct Cks {
     /// Whether the device has an event to be read.

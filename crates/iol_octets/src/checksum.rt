@@ -9,6 +9,8 @@ const SEED: u8 = 0x52;
 ///
 /// `octets` is the whole of it, with the six bits where the checksum goes as 0. One
 /// pass, nothing copied.
+///
+/// Rule CHK-1.
 #[tactic(auto, unfolding(crate::specs::Checksum::checksum_of))]
 pub fn checksum6(octets: &[u8]) -> u8
     ensures value { result ≡ checksum_of octets.now }
@@ -22,6 +24,8 @@ pub fn checksum6(octets: &[u8]) -> u8
 /// (IEC 61131-9, A.1.6).
 ///
 /// `octets` is a whole message or reply as it came. One pass, nothing copied.
+///
+/// Rule CHK-2.
 pub fn has_checksum6(octets: &[u8], place: usize) -> bool
     requires { place < length octets.now }
     ensures { result ≡ has_checksum place octets.now }
@@ -32,6 +36,8 @@ pub fn has_checksum6(octets: &[u8], place: usize) -> bool
 }
 
 /// The XOR of the seed and all octets.
+///
+/// Rule CHK-1.
 fn fold(octets: &[u8]) -> u8
     ensures { result ≡ folded octets.now }
 {
@@ -60,6 +66,8 @@ static SIX_BITS: [u8; 256] = [
 ];
 
 /// Eight bits to six, each the parity of some of the eight.
+///
+/// Rule CHK-1.
 fn compress(sum: u8) -> u8
     ensures value { result ≡ compressed sum }
     ensures small { result < 64 }

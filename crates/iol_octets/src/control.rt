@@ -31,6 +31,8 @@ impl Mc {
     ghost use Rattle.iol_octets.specs.declared.control.Mc.{Mc};
 
     /// Reads a control octet. Each octet is one.
+    ///
+    /// Rule OCT-1.
     pub fn from_octet(octet: u8) -> Mc
         ensures value { control_octet result ≡ octet }
         ensures only { (mc : Mc) → control_octet mc ≡ octet → result ≡ mc }
@@ -50,6 +52,8 @@ impl Mc {
     }
 
     /// Writes the control octet.
+    ///
+    /// Rule OCT-1.
     pub fn octet(self) -> u8
         ensures { result ≡ control_octet self }
     {

@@ -23,6 +23,8 @@ impl Flow {
     ghost use Rattle.iol_octets.specs.declared.flow_control.Flow.{Flow};
 
     /// Reads the address, 0 to 31, of a control octet.
+    ///
+    /// Rule OCT-2.
     pub fn from_address(address: u8) -> Flow
         requires { address ≤ 31 }
         ensures valid { IsFlow result }
@@ -41,6 +43,8 @@ impl Flow {
 
     /// Writes the address, 0 to 31. A COUNT has a number of at most 15, a reserved
     /// flow one of 0x13 to 0x1E.
+    ///
+    /// Rule OCT-2.
     pub fn address(self) -> u8
         requires { IsFlow self }
         ensures value { result ≡ flow_address self }

@@ -4,6 +4,10 @@
 //! checksum / M-sequence type octet ([`Ckt`]); a reply ends with the checksum /
 //! status octet ([`Cks`]). On the ISDU channel the address of the control octet is
 //! the flow control ([`Flow`]). IEC 61131-9, A.1 and 7.3.6.
+//!
+//! Definitions begin in `specs/Checksum`; then `Control`, `CheckOctets` and `Flow`. Each octet is
+//! read as it was written, the checksum is exactly the standard's, and one flipped bit is always
+//! seen.
 #![tactic(auto)]
 
 mod check_octets;

@@ -4,6 +4,7 @@ use Rattle.iol_page.specs.declared.master_command.MasterCommand.{MasterCommand}
 use Rattle.iol_page.specs.declared.master_command.MasterCommand.TheVariants.{Fallback, MasterIdent, DeviceIdent, DeviceStartup, ProcessDataOutputOperate, DeviceOperate, DevicePreoperate}
 
 -- the octet of a command
+-- PAGE-6
 abbrev pub command_octet : MasterCommand → ℕ
 command_octet Fallback = 0x5A
 command_octet MasterIdent = 0x95
@@ -14,6 +15,7 @@ command_octet DeviceOperate = 0x99
 command_octet DevicePreoperate = 0x9A
 
 -- the command of an octet
+-- PAGE-6
 abbrev pub command_of : ℕ → Option MasterCommand
 command_of octet =
     if octet == 0x5A then Some Fallback else

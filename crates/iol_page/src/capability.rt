@@ -18,6 +18,8 @@ impl Capability {
     ghost use Rattle.iol_page.specs.Page.{has_isdu, operate_code, preoperate_code};
 
     /// Reads the octet. Each octet is a capability.
+    ///
+    /// Rule PAGE-2.
     pub fn from_octet(octet: u8) -> Capability
         ensures isdu { result.isdu ≡ has_isdu octet }
         ensures run { result.run ≡ operate_code octet }

@@ -16,6 +16,8 @@ impl PdLength {
     /// Bit 7 (BYTE) 0: bits 4 to 0 are a length in bits, 0 to 16, which is rounded up
     /// to octets (profile). Bit 7 1: they are 2 to 31, which means 3 to 32 octets. Bits
     /// 6 (SIO) and 5 are ignored. Refusal 7 BadPdLength: any other length (profile).
+    ///
+    /// Rule PAGE-4.
     pub fn from_octet(octet: u8) -> Result<PdLength, PageFault>
         ensures value { option_map (λ l. l.0) (result_ok result) ≡ length_of octet }
         ensures refused { result_err result ≡ length_fault octet }

@@ -1,5 +1,8 @@
 //! Direct parameter page 1: what a device says of itself before it is used, and the commands that a
 //! master writes there (IEC 61131-9, B.1).
+//!
+//! Definitions stand in `specs/Page` and `specs/Commands`. A page gives its layouts, or the first
+//! of its faults; what it gives are layouts that exist.
 #![tactic(auto)]
 
 mod capability;

@@ -24,6 +24,8 @@ impl MasterCommand {
     ghost use Rattle.iol_page.specs.Commands.{command_of, command_octet};
 
     /// Reads a MasterCommand. None: the standard names no command of this octet.
+    ///
+    /// Rule PAGE-6.
     pub fn from_octet(octet: u8) -> Option<MasterCommand>
         ensures value { result ≡ command_of octet }
         ensures written { IfSome result (λ command. command_octet command ≡ octet) }
@@ -41,6 +43,8 @@ impl MasterCommand {
     }
 
     /// Writes the MasterCommand.
+    ///
+    /// Rule PAGE-6.
     pub fn octet(self) -> u8
         ensures value { result ≡ command_octet self }
         ensures read { command_of result ≡ Some self }

@@ -53,6 +53,8 @@ impl Page {
     ghost use Rattle.iol_page.specs.Page.{layouts_of, page_octet};
 
     /// The page with these octets, that of address 0x02 first.
+    ///
+    /// Rule PAGE-1.
     pub fn from_octets(octets: &[u8; 10]) -> Page
         ensures { result ≡ octets.now }
     {
@@ -68,6 +70,8 @@ impl Page {
     }
 
     /// The octet at an address. What lies outside 0x02 to 0x0B reads as 0 (profile).
+    ///
+    /// Rule PAGE-1.
     pub fn octet(&self, address: u8) -> u8
         ensures { result ≡ page_octet self.now address }
     {
@@ -82,6 +86,8 @@ impl Page {
     ///
     /// Refusals, the first that holds: 8 Revision, the RevisionID is neither 0x11 nor
     /// 0x10; 7 BadPdLength, of ProcessDataIn, then of ProcessDataOut; 2 UnsupportedCode.
+    ///
+    /// Rules PAGE-3, PAGE-5.
     pub fn layouts(&self) -> Result<Layouts, PageFault>
         ensures { result ≡ layouts_of self.now }
     {

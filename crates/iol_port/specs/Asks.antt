@@ -13,6 +13,7 @@ use Rattle.iol_port.specs.declared.call.Call.{Call}
 use Rattle.iol_port.specs.declared.call.Call.TheVariants.{Turn}
 
 -- events are read only where at most 58 are kept
+-- EVT-5
 abbrev pub has_room : List Event → Bool
 has_room kept = nat_le (length kept) 58
 
@@ -27,16 +28,19 @@ to_begin lacks next = if lacks then None else option_map (λ t. t.1) next
 
 module _ {W : Type 0} where
   -- that of a port
+  -- PORT-2
   abbrev pub begun_next : Parts W → Option Request
   begun_next p = to_begin (lacks_isdu p.station.session.isdu) (next_taken p.book.state.standing)
 
   -- the one call of the wire in the next turn: that request is begun first, where
   -- nothing else is due
+  -- PORT-2
   abbrev pub asks_of : Parts W → Asked
   asks_of p = asked_of (prepared (begun_next p) p.station (has_room p.kept)) (has_room p.kept)
 
   -- a turn makes the call of the wire that was asked, and no other call of the port
   -- touches the wire
+  -- PORT-2
   abbrev pub IsWireCall : WireFacts W → Call → Asked → W → W → Type 0
   IsWireCall facts Turn asked old new = IsCall facts asked old new
   IsWireCall facts other asked old new = new ≡ old

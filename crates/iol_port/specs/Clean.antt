@@ -134,6 +134,7 @@ module _ {W : Type 0} (facts : WireFacts W) where
   -- wire, and its next turn would send IDLE 1, with room for events; both ends are level, the
   -- device awake; it has ISDU, as the port was told, and no events, and its record has room;
   -- the request is the next to be taken: no urgent one waits, or it is the first of them
+  -- REQ-13
   pub record MayStart (layouts : Layouts) (ticket : Ticket) (request : Request)
       (p : Parts W) : Type 0 where
     pub wire : W
@@ -154,6 +155,7 @@ module _ {W : Type 0} (facts : WireFacts W) where
   -- how the request stands after so many turns: it is taken, and nothing entered
   -- the record; its answer did, and it is not done; it is done with that answer,
   -- after as many turns as are needed; more turns were made
+  -- REQ-13
   abbrev pub IsOnTime : Layouts → Ticket → Request → Parts W → ℕ → Parts W → Type 0
   IsOnTime layouts ticket request old n new =
       ((n ≤ segments layouts.run.od (request_text request) + 1)
@@ -171,6 +173,7 @@ module _ {W : Type 0} (facts : WireFacts W) where
 
   -- From here requests that wait take the sum of their turns: the first may start, they wait in
   -- this order before all others, and the device's record has room for the pairs of all of them
+  -- REQ-13
   pub record MayServe (layouts : Layouts) (first : Ticket × Request)
       (rest : List (Ticket × Request)) (p : Parts W) : Type 0 where
     pub starts : MayStart layouts first.0 first.1 p
@@ -194,6 +197,7 @@ module _ {W : Type 0} (facts : WireFacts W) where
   -- the first of them is on its way; or it is done with an answer, after as many turns as are
   -- needed, and the others stand so after the turns that are left. Where none is left more turns
   -- may have been made, of which only the record is said.
+  -- REQ-13
   abbrev pub AreServed :
       Layouts → ℕ → List (Ticket × Request) → List Carried → BookState → Parts W → Type 0
   AreServed layouts zero requests base book new =
@@ -216,6 +220,7 @@ module _ {W : Type 0} (facts : WireFacts W) where
 
   -- one turn: the next request begins, or goes one stage on; on an honest wire the record only
   -- grows, and may grow as far as before
+  -- REQ-13
   pub record CleanTurn (p next : Parts W) : Type 0 where
     pub starts : (layouts : Layouts) (ticket : Ticket) (request : Request)
         → MayStart layouts ticket request p
@@ -233,6 +238,7 @@ module _ {W : Type 0} (facts : WireFacts W) where
         → (far (wire_of next.station.link)).room ≡ (far (wire_of p.station.link)).room
 
   -- so many turns and no other call: a request stands as it is to then
+  -- REQ-13
   abbrev pub CleanRuns : Parts W → List Call → Parts W → Type 0
   CleanRuns p calls next =
       (n : ℕ) → calls ≡ replicate (suc n) call.Turn
@@ -241,6 +247,7 @@ module _ {W : Type 0} (facts : WireFacts W) where
       → IsOnTime layouts ticket request p (suc n) next
 
   -- and requests that wait are served one behind the other
+  -- REQ-13
   abbrev pub CleanServes : Parts W → List Call → Parts W → Type 0
   CleanServes p calls next =
       (n : ℕ) → calls ≡ replicate n call.Turn → (layouts : Layouts) (first : Ticket × Request)

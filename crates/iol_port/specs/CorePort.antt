@@ -62,6 +62,7 @@ opened_at limits far silence =
     let none : Unit {0} = tt in opening_of (at_end far silence) limits none
 
 -- a call is one of each abstract port that the port stands for, with whatever far end
+-- PORT-4
 abbrev pub CoreDoes : Parts (Unit {0}) → Call → Answered → Parts (Unit {0}) → Type 0
 CoreDoes p c reply next = (far : Far) (silence : ℕ) → Does (at_end far silence) p c reply next
 
@@ -83,10 +84,12 @@ PieceDoes p far silence piece next far_new silence_new =
     × StandsFor (at_end far_new silence_new) next b
 
 -- what goes out
+-- PORT-4
 unfoldable pub SendDoes : Parts (Unit {0}) → Parts (Unit {0}) → Type 0
 SendDoes p next = (far : Far) (silence : ℕ) → PieceDoes p far silence Send next far silence
 
 -- what came back, where an honest exchange with that far end could bring it
+-- PORT-4
 unfoldable pub ReceiveDoes : Parts (Unit {0}) → Option (List ℕ) → Parts (Unit {0}) → Type 0
 ReceiveDoes p came next =
     (far far_new : Far) (silence silence_new : ℕ)
@@ -94,6 +97,7 @@ ReceiveDoes p came next =
     → PieceDoes p far silence Receive next far_new silence_new
 
 -- what came of a wake, where an honest one could bring it
+-- PORT-4
 unfoldable pub WakeDoes : Parts (Unit {0}) → Bool → Parts (Unit {0}) → Type 0
 WakeDoes p answered next =
     (far far_new : Far) (silence : ℕ) → HonestWake far answered far_new
@@ -103,6 +107,7 @@ WakeDoes p answered next =
 
 -- the next request is begun or denied where nothing was out, and a message is out: the one
 -- that was, or a new one for what is due
+-- PORT-1, PORT-8
 pub record SendGives (old new : Parts (Unit {0})) : Type 0 where
   pub core : old.sent ≡ false
       → IsSent (has_room old.kept) (core_of (station_begun old)) (core_of new.station)
@@ -112,6 +117,7 @@ pub record SendGives (old new : Parts (Unit {0})) : Type 0 where
 
 -- what came back is judged by what was sent, and what that says goes to the book and to the
 -- kept events
+-- PORT-1, PORT-9
 pub record ReceiveGives (old : Parts (Unit {0})) (came : Option (List ℕ)) (new : Parts (Unit {0})) :
     Type 0 where
   pub said : Said
@@ -124,6 +130,7 @@ pub record ReceiveGives (old : Parts (Unit {0})) (came : Option (List ℕ)) (new
 
 -- a start-up begins where the wake was answered, which ends what a request that was cut off
 -- may still do; else the link is still down
+-- PORT-1, PORT-9
 pub record WakeGives (old : Parts (Unit {0})) (answered : Bool) (new : Parts (Unit {0})) :
     Type 0 where
   pub core : core_of new.station ≡ after_wake answered old.station.session

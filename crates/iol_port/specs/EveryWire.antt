@@ -43,6 +43,7 @@ RefusesSubmit b other = ⊥
 
 -- the book once the next request is taken, or denied where the device has no ISDU:
 -- where the station is ready for one, and one waits
+-- REQ-3
 abbrev pub taken_where : Bool → Bool → Option (Ticket × Request) → BookState → BookState
 taken_where ready lacks None b = b
 taken_where ready lacks (Some next) b =
@@ -59,6 +60,7 @@ module _ {W : Type 0} where
   IsBookCall old new = new ≡ record old { book = new.book }
 
   -- a request is entered, which leaves this book
+  -- PORT-7
   pub record SubmitGives (old : Parts W) (book : BookState) (result : Result Ticket PortFault)
       (new : Parts W) : Type 0 where
     pub allowed : OnOk result (submit_refusal old.book.state ≡ None)
@@ -69,12 +71,14 @@ module _ {W : Type 0} where
     pub rest : IsBookCall old new
 
   -- the outcome that was posted for the ticket, or why there is none
+  -- PORT-7
   pub record CollectGives (old : Parts W) (ticket : Ticket) (result : Result Outcome PortFault)
       (new : Parts W) : Type 0 where
     pub answer : result ≡ by_book (collect_answer old.book.state.standing ticket)
     pub book : new.book.state ≡ collected old.book.state ticket
     pub rest : IsBookCall old new
 
+  -- PORT-7
   pub record WithdrawGives (old : Parts W) (ticket : Ticket) (result : Result (Unit {0}) PortFault)
       (new : Parts W) : Type 0 where
     pub answer : result_err result
@@ -84,6 +88,7 @@ module _ {W : Type 0} where
 
   -- refused as long as it isn't the request under way; else an abort waits, for
   -- this cause unless one waits already
+  -- PORT-7, REQ-8
   pub record CancelGives (old : Parts W) (ticket : Ticket) (result : Result (Unit {0}) PortFault)
       (new : Parts W) : Type 0 where
     pub answer : result_err result
@@ -96,6 +101,7 @@ module _ {W : Type 0} where
     pub unchanged : OnErr result (new ≡ old)
 
   -- these entries are the journal as it was, and the new one is empty
+  -- PORT-7
   pub record ArchiveGives (old : Parts W) (result : Result (List Entry) PortFault)
       (new : Parts W) : Type 0 where
     pub allowed : is_ok result ≡ may_archive old.book.state
@@ -105,12 +111,14 @@ module _ {W : Type 0} where
     pub rest : IsBookCall old new
 
   -- the event kept longest
+  -- PORT-5
   pub record TakeEventGives (old : Parts W) (result : Result Event PortFault)
       (new : Parts W) : Type 0 where
     pub answer : result ≡ ok_or (slice_get old.kept 0) fault.NoEvent
     pub rest : new ≡ record old { kept = drop 1 old.kept }
 
   -- refused by the layout that was told last; else it is wanted
+  -- PORT-7
   pub record SetOutputGives (old : Parts W) (image : Image) (result : Result (Unit {0}) PortFault)
       (new : Parts W) : Type 0 where
     pub answer : result_err result
@@ -132,6 +140,7 @@ module _ {W : Type 0} where
 
   -- the wire stays, the link is down and has no fault; the request under way is cut
   -- off, and there is no image
+  -- PORT-6, REQ-11
   pub record RestartGives (old new : Parts W) : Type 0 where
     pub wire : wire_of new.station.link ≡ wire_of old.station.link
     pub mode : mode_of new.station.link ≡ Down
@@ -143,13 +152,16 @@ module _ {W : Type 0} where
     pub sent : new.sent ≡ old.sent
 
   -- whether the next turn would send IDLE 1, so that it takes or denies the next request
+  -- REQ-2
   abbrev pub takes_next : Parts W → Bool
   takes_next p = is_operating p.station.link && is_ready p.station.session (has_room p.kept)
 
   -- the station and the book with which a turn begins: that request is taken and begun, or denied
+  -- REQ-2
   abbrev pub station_begun : Parts W → StationState W
   station_begun p = prepared (begun_next p) p.station (has_room p.kept)
 
+  -- REQ-2
   abbrev pub book_begun : Parts W → BookState
   book_begun p =
       taken_where (takes_next p) (lacks_isdu p.station.session.isdu)
@@ -157,6 +169,7 @@ module _ {W : Type 0} where
 
   -- The ticket's request waited, none was taken, and a start-up told that the device has no
   -- ISDU; all that the turn does in the book is to give it this outcome, without a taking
+  -- REQ-3
   pub record IsDenied (old new : Parts W) (ticket : Ticket) : Type 0 where
     pub told : old.station.session.isdu ≡ Some false
     pub waited : IsTrue (waits old.book.state.standing ticket)
@@ -167,6 +180,7 @@ module _ {W : Type 0} where
     -- A turn: the next request is begun or denied; the station makes its own one, with room
     -- for events where at most 58 are kept, and what that says goes to the book and to the
     -- kept events; a wake that had success ends what a request that was cut off may still do
+    -- PORT-1
     pub record TurnGives (old new : Parts W) : Type 0 where
       pub said : Said
       -- its one call of the wire is the one that the port asks for
@@ -182,6 +196,7 @@ module _ {W : Type 0} where
           → HasNoIsdu old.book.state ticket ⊎ IsDenied old new ticket
 
     -- One call, with the answer that a list of calls has for it
+    -- PORT-3
     abbrev pub CallGives : Parts W → Call → Answered → Parts W → Type 0
     CallGives old (call.Submit request) reply new =
         (result : Result Ticket PortFault) × (reply ≡ ticket_reply result)
@@ -218,6 +233,7 @@ module _ {W : Type 0} where
         × IsCall facts (asks_of old) (wire_of old.station.link) (wire_of new.station.link)
 
     -- a run: each call in order, once, with its answer
+    -- PORT-3
     abbrev pub RunGives : Parts W → List Call → List Answered → Parts W → Type 0
     RunGives old [] [] new = new ≡ old
     RunGives old (call ∷ calls) (reply ∷ replies) new = (mid : Parts W)

@@ -89,6 +89,7 @@ IsCutForGood pieces replies a ticket =
 
 -- A run comes to `a`, and goes on to `c`: of what is carried out from `a` on,
 -- nothing was cut off for good before
+-- REQ-12
 abbrev pub CutForGoodStaysOut : Type 0
 CutForGoodStaysOut =
     (limits : Limits) (far : Far) (silence : ℕ) (pieces more : List Piece)
@@ -107,6 +108,7 @@ pub record Wakes (piece : Piece) (a b : PortState) : Type 0 where
 
 -- A run comes to `a`, by such a piece to `b`, and goes on to `c`: of what is carried
 -- out from `b` on, nothing was cut off before
+-- REQ-12
 abbrev pub LateEnds : Type 0
 LateEnds =
     (limits : Limits) (far : Far) (silence : ℕ) (pieces more : List Piece) (piece : Piece)

@@ -53,5 +53,6 @@ IsSound a = Sound a.book a.session a.base
 
 -- the record from where the journal begins has, in the order taken, at most one pair
 -- for each request taken, and exactly one, with its answer, for each that is done
+-- BOOK-10
 abbrev pub RecordFits : PortState → Type 0
 RecordFits a = FitsJournal a.book.journal (pairs_from a.base a.session.carried)

@@ -19,6 +19,8 @@ use iol_segment::{cut_is_whole, segments_join, texts_join};
 /// journal says where each ticket stands, and the record has, in the order in which
 /// requests were taken, at most one pair for each, and exactly one, with that answer,
 /// for each that is done.
+///
+/// Rule BOOK-10.
 pub fn record_fits_journal()
     ensures opens { OpensSound }
     ensures runs { RunsSound }
@@ -71,6 +73,8 @@ pub fn each_done_has_its_pair()
 /// it carries out after that had been cut off before it. One that was cut off for another
 /// cause than a lost link or a restart, as a cancelled one, isn't carried out after that
 /// at all.
+///
+/// Rule REQ-12.
 #[tactic(auto, using(crate::proofs::OwnedRuns::late_ends, crate::proofs::OwnedRuns::cut_for_good_stays_out))]
 pub fn late_requests_end()
     ensures wakes { LateEnds }

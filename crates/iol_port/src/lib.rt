@@ -15,6 +15,9 @@
 //! receiving are two pieces of one, with calls between them. Of all such runs
 //! [`record_fits_journal`] says that the device's record fits the journal. IEC 61131-9
 //! leaves it to the master how requests are queued: that part is this project's profile.
+//!
+//! Definitions begin in `specs/Run`, the abstract port; then `Sound`, `View`, `EveryWire` and
+//! `CorePort`.
 #![tactic(auto)]
 
 mod awaited;

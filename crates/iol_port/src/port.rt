@@ -273,6 +273,8 @@ impl<W: Wire, A: Handle> Port<W, A> {
     /// What the one call of the wire in the next turn will be.
     ///
     /// Each call but this and the others that only look may change it: ask right before the turn.
+    ///
+    /// Rule PORT-2.
     pub fn asks(&self) -> Asked
         ensures { result ≡ asks_of self.now.parts }
     {
@@ -285,6 +287,8 @@ impl<W: Wire, A: Handle> Port<W, A> {
     /// waits longest, or where none is urgent the other one that does. Its first segment goes out
     /// in this turn; where the device has no ISDU it is denied, never taken, and IDLE 1 goes out.
     /// At most 64 events are kept, and a list of events is read only where there is room for it.
+    ///
+    /// Rules PORT-4, REQ-13.
     pub fn turn(&mut self)
         ensures does { Does W.facts self.old.parts call.Turn answered.Nothing self.new.parts }
         ensures clean { CleanTurn W.facts self.old.parts self.new.parts }
@@ -300,6 +304,8 @@ impl<W: Wire, A: Handle> Port<W, A> {
     ///
     /// A turn makes the one call of the wire that the port `asks` for, and no other
     /// call touches the wire.
+    ///
+    /// Rules PORT-2, PORT-3, PORT-4.
     pub fn call(&mut self, asked: &Call) -> Answered
         ensures does { Does W.facts self.old.parts asked.now result self.new.parts }
         ensures gives { CallGives W.facts self.old.parts asked.now result self.new.parts }
@@ -350,6 +356,8 @@ impl<W: Wire, A: Handle> Port<W, A> {
     ///
     /// Refused by 24 where there is no memory for the list of answers, before the
     /// first call and with nothing done.
+    ///
+    /// Rules PORT-3, PORT-4, REQ-13.
     pub fn run<B: Allocator>(
         &mut self,
         alloc: B,
@@ -451,6 +459,8 @@ impl<W: Wire, A: Handle> Port<W, A> {
     /// ticket stands, and the wire is what the one at the opening became by wakes and
     /// exchanges, and by nothing else; and the device's record fits the journal, if the wire
     /// was honest and the device had been handed no request when the port was opened.
+    ///
+    /// Rule PORT-2.
     pub fn keeps_record(&self)
         ensures replayed { IsReplayed self.now.parts.book.state }
         ensures run { IsRun W.facts self.now.opening self.now.parts }

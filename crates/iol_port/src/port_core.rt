@@ -124,6 +124,8 @@ impl<A: Allocator + Copy> PortCore<A> {
     /// Refused, with nothing changed, by the first of 21 where 64 tickets are
     /// outstanding, 22 where the journal has no room for the request's entries, 23
     /// where the last ticket was 2^64 - 1, and 24 where a growth was refused.
+    ///
+    /// Rule PORT-7.
     pub fn submit(&mut self, request: Request) -> Result<Ticket, PortFault>
         ensures does { CoreDoes self.old (call.Submit request) (ticket_reply result) self.new }
         ensures lacks { IfErr result (λ e. e ≡ fault.Book OutOfMemory → self.old.book.room ≡ 0) }
@@ -137,6 +139,8 @@ impl<A: Allocator + Copy> PortCore<A> {
     /// all others, and answers its ticket. A request that is under way isn't stopped by it.
     ///
     /// Refused, with nothing changed, as `submit` is: 21, 22 and 23 count both kinds.
+    ///
+    /// Rule PORT-7.
     pub fn submit_urgent(&mut self, request: Request) -> Result<Ticket, PortFault>
         ensures does { CoreDoes
             self.old (call.SubmitUrgent request) (ticket_reply result) self.new }
@@ -151,6 +155,8 @@ impl<A: Allocator + Copy> PortCore<A> {
     ///
     /// Refused, with nothing changed, by 25 where no such ticket is outstanding,
     /// and by 26 where it has no outcome yet.
+    ///
+    /// Rule PORT-7.
     pub fn collect(&mut self, ticket: Ticket) -> Result<Outcome, PortFault>
         ensures does { CoreDoes self.old (call.Collect ticket) (outcome_reply result) self.new }
         ensures gives { CollectGives self.old ticket result self.new }
@@ -178,6 +184,8 @@ impl<A: Allocator + Copy> PortCore<A> {
     ///
     /// Refused, with nothing changed, by 25 where no such ticket is outstanding,
     /// and by 27 where it waits no longer.
+    ///
+    /// Rule PORT-7.
     pub fn withdraw(&mut self, ticket: Ticket) -> Result<(), PortFault>
         ensures does { CoreDoes self.old (call.Withdraw ticket)
             (nothing_reply result) self.new }
@@ -195,6 +203,8 @@ impl<A: Allocator + Copy> PortCore<A> {
     ///
     /// Refused, with nothing changed, by 25 where no such ticket is outstanding,
     /// and by 36 where it waits, or has an outcome.
+    ///
+    /// Rules PORT-7, REQ-8.
     pub fn cancel(&mut self, ticket: Ticket) -> Result<(), PortFault>
         ensures does { CoreDoes self.old (call.Cancel ticket) (nothing_reply result) self.new }
         ensures gives { CancelGives self.old ticket result self.new }
@@ -214,6 +224,8 @@ impl<A: Allocator + Copy> PortCore<A> {
     /// cut off out, once, until a wake succeeds.
     ///
     /// What was sent has to be answered first; the answer may be that nothing came.
+    ///
+    /// Rules PORT-6, PORT-9, REQ-11.
     pub fn restart(&mut self)
         requires { awaited self.old ≡ Awaited.Nothing }
         ensures does { CoreDoes self.old call.Restart answered.Nothing self.new }
@@ -228,6 +240,8 @@ impl<A: Allocator + Copy> PortCore<A> {
     ///
     /// Refused, with nothing changed, by the first of 34 where no start-up has told the lengths
     /// of the process data yet, and 29 where the image has not the length that was told last.
+    ///
+    /// Rule PORT-7.
     pub fn set_output(&mut self, image: &Image) -> Result<(), PortFault>
         ensures does { CoreDoes
             self.old (call.SetOutput image.now) (nothing_reply result) self.new }
@@ -255,6 +269,8 @@ impl<A: Allocator + Copy> PortCore<A> {
     }
 
     /// Hands out the event that was kept longest. Refused by 30 where none is kept.
+    ///
+    /// Rules PORT-5, PORT-7.
     pub fn take_event(&mut self) -> Result<Event, PortFault>
         ensures does { CoreDoes self.old call.TakeEvent (event_reply result) self.new }
         ensures gives { TakeEventGives self.old result self.new }
@@ -275,6 +291,8 @@ impl<A: Allocator + Copy> PortCore<A> {
     /// Refused, with nothing changed, by 28 where a ticket is outstanding, or where
     /// a request was cut off by a lost link or a restart and no wake succeeded
     /// since, as the device may still carry that request out.
+    ///
+    /// Rule PORT-7.
     pub fn archive(&mut self) -> Result<Vec<Entry, A>, PortFault>
         ensures does { CoreDoes self.old call.Archive
             (reply_of (λ entries. answered.Archived (length entries.items)) result) self.new }
@@ -288,6 +306,8 @@ impl<A: Allocator + Copy> PortCore<A> {
     /// What the one call of the wire in the next turn will be.
     ///
     /// Each call but this and the others that only look may change it: ask right before the turn.
+    ///
+    /// Rule PORT-2.
     pub fn asks(&self) -> Asked
         ensures { result ≡ asks_of self.now }
     {
@@ -300,6 +320,8 @@ impl<A: Allocator + Copy> PortCore<A> {
     }
 
     /// Whether a turn may begin to read events.
+    ///
+    /// Rule EVT-5.
     fn has_room(&self) -> bool
         ensures { result ≡ has_room self.now.kept }
     {
@@ -314,6 +336,8 @@ impl<A: Allocator + Copy> PortCore<A> {
     /// 64 events are kept, and a list of events is read only where there is room for it.
     ///
     /// Until what goes out is answered it is given again, and nothing changes.
+    ///
+    /// Rules PORT-1, PORT-4, PORT-8, REQ-2.
     pub fn send(&mut self) -> Asked
         ensures says { IsAskedOut result self.new.station.link.state }
         ensures asked { result ≡ asks_of self.old }
@@ -335,6 +359,8 @@ impl<A: Allocator + Copy> PortCore<A> {
     ///
     /// Without a good reply the message stays out, and the next `send` gives it again; the third
     /// time in a row has lost the link.
+    ///
+    /// Rules PD-7, PORT-1, PORT-4, PORT-9.
     pub fn receive(&mut self, came: &Option<Message>)
         requires { awaited self.old ≡ Awaited.Reply }
         ensures gives { ReceiveGives self.old (octets_in came.now) self.new }
@@ -348,6 +374,8 @@ impl<A: Allocator + Copy> PortCore<A> {
 
     /// Takes what came of a wake-up request: the rate of the device that answered it, or that
     /// none did.
+    ///
+    /// Rules PORT-1, PORT-4, PORT-9.
     pub fn receive_wake(&mut self, rate: Option<Rate>)
         requires { awaited self.old ≡ Awaited.Wake }
         ensures gives { WakeGives self.old (is_some rate) self.new }
@@ -359,6 +387,8 @@ impl<A: Allocator + Copy> PortCore<A> {
     }
 
     /// One turn over this wire, with no call between its pieces.
+    ///
+    /// Rule PORT-1.
     pub(crate) fn turn<W: Wire>(&mut self, wire: &mut W)
         requires free { self.old.sent ≡ false }
         requires stands { IsTrue (W.facts.honest wire.old) → StateStands

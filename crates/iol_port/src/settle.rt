@@ -67,6 +67,8 @@ pub(crate) fn woke_up(began: Mode, ended: Mode) -> bool
 }
 
 /// Whether a start-up told that the device has no ISDU.
+///
+/// Rule REQ-3.
 pub(crate) fn lacks_isdu(told: Option<bool>) -> bool
     ensures { result ≡ lacks_isdu told }
 {
@@ -78,6 +80,8 @@ pub(crate) fn lacks_isdu(told: Option<bool>) -> bool
 
 /// The next request is taken and begun, or denied where the device has no ISDU,
 /// where nothing else is to be sent.
+///
+/// Rules REQ-2, REQ-3.
 pub(crate) fn begin_next<A: Allocator + Copy>(core: &mut Core, book: &mut Book<A>, room: bool)
     ensures next { BeginsNext (bare core.old) book.old.state
         (bare core.new) book.new.state }
@@ -104,6 +108,8 @@ pub(crate) fn begin_next<A: Allocator + Copy>(core: &mut Core, book: &mut Book<A
 
 /// The request that is next is taken and begun. Out of line, since most turns take
 /// none, and a request is large.
+///
+/// Rule REQ-2.
 #[inline(never)]
 fn take_next<A: Allocator + Copy>(core: &mut Core, book: &mut Book<A>)
     requires operate { mode_in core.old.state ≡ Mode.Operate }
@@ -123,6 +129,8 @@ fn take_next<A: Allocator + Copy>(core: &mut Core, book: &mut Book<A>)
 }
 
 /// What a turn says goes to the book and to the kept events.
+///
+/// Rule PORT-1.
 pub(crate) fn settle<A: Allocator + Copy>(
     book: &mut Book<A>,
     kept: &mut ArrayVec<Event, KEPT>,
@@ -145,6 +153,8 @@ pub(crate) fn settle<A: Allocator + Copy>(
 }
 
 /// Out of line, since most turns say nothing, and what the others say is large.
+///
+/// Rule PORT-1.
 #[inline(never)]
 fn tell<A: Allocator + Copy>(book: &mut Book<A>, kept: &mut ArrayVec<Event, KEPT>, said: Said)
     requires asked { Asks said book.old.state.standing.taken }
@@ -161,6 +171,7 @@ fn tell<A: Allocator + Copy>(book: &mut Book<A>, kept: &mut ArrayVec<Event, KEPT
     }
 }
 
+/// Rules EVT-8, PORT-5.
 fn keep(kept: &mut ArrayVec<Event, KEPT>, events: &EventList)
     requires { length kept.old.items + 6 ≤ 64 }
     ensures { kept.new.items ≡ kept.old.items ++ events.now }

@@ -5,6 +5,9 @@
 //! port, makes steps of the wire between them, or makes calls of the port, and a [`Script`] is
 //! what all the lines of a text set up. A [`Plan`] is what the lines of a text say that many
 //! ports and their clients are to do. All of this is this project's own format (profile).
+//!
+//! Definitions begin in `specs/Text`; then `CheckLines`, `RunLines`, `Script` and `Plan`. A text is
+//! read exactly where each line is good; else its first bad line is named.
 #![tactic(auto)]
 
 mod call_check;

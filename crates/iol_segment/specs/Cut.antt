@@ -5,14 +5,17 @@ use Rattle.iol_octets.specs.declared.flow_control.Flow.{Flow}
 use Rattle.iol_octets.specs.declared.flow_control.Flow.TheVariants.{Start, Count}
 
 -- segment i: the octets from i * size up to (i + 1) * size, filled up with 0
+-- SEG-1
 unfoldable pub segment : ℕ → List ℕ → ℕ → List ℕ
 segment size text i = take size (drop (i * size) text ++ replicate size 0)
 
 -- the flow of segment i: START, then COUNT 1, 2 and on, where 15 is followed by 0
+-- SEG-2
 abbrev pub flow_at : ℕ → Flow
 flow_at i = if i == 0 then Start else Count (i % 16)
 
 -- how many segments a text has
+-- SEG-1
 abbrev pub segments : ℕ → List ℕ → ℕ
 segments size text = (length text + (size - 1)) / size
 
@@ -26,6 +29,7 @@ pairs_from size text i zero = []
 pairs_from size text i (suc n) = pair size text i ∷ pairs_from size text (suc i) n
 
 -- the cut of a text: its segments in order, each with its flow
+-- SEG-1
 abbrev pub cut : ℕ → List ℕ → List (Flow × ArrayVec ℕ)
 cut size text = pairs_from size text 0 (segments size text)
 

@@ -12,6 +12,7 @@ use Rattle.iol_segment.specs.declared.took.JoinFault.TheVariants.{WrongCount, Ba
 
 -- what joined octets are: too few yet, a text with octets behind it or none, or of
 -- a total length that no text has
+-- SEG-5
 pub data Stage : Type 0 where
   Open : Stage
   Complete : List ℕ → Stage
@@ -23,6 +24,7 @@ stage_by (Err isdu.Truncated) octets = Open
 stage_by (Err any) octets = Wrong
 stage_by (Ok n) octets = if nat_le n (length octets) then Complete (take n octets) else Open
 
+-- SEG-5
 abbrev pub stage : List ℕ → Stage
 stage octets = stage_by (total_at octets) octets
 
@@ -38,6 +40,7 @@ is_whole_by (Err fault) text = false
 is_whole_by (Ok n) text = nat_le n (length text)
 
 -- the text is as long as it says
+-- SEG-3
 abbrev pub is_whole : List ℕ → Bool
 is_whole text = is_whole_by (total_at text) text
 
@@ -59,6 +62,7 @@ pub record Taken : Type 0 where
   pub joining : Joining
 
 -- a segment was taken under START, or under a COUNT, and the octets are these
+-- SEG-3, SEG-5
 abbrev pub staged : Bool → Option ℕ → List ℕ → Stage → Taken
 staged requests count octets Open =
     record {
@@ -73,16 +77,19 @@ staged requests count octets (Complete text) =
 staged requests count octets Wrong = record { took = Err BadIsduLength; joining = empty requests }
 
 -- 1 behind START, 0 behind 15
+-- SEG-2
 abbrev pub next_count : Option ℕ → ℕ
 next_count None = 1
 next_count (Some c) = (c + 1) % 16
 
 -- the COUNT was the last one taken; right behind START there is none
+-- SEG-4
 abbrev pub is_last : Option ℕ → ℕ → Bool
 is_last None c = false
 is_last (Some d) c = d == c
 
 -- a COUNT once START was taken: the same again, the next, or a wrong one
+-- SEG-3, SEG-4
 abbrev pub counted : Joining → ℕ → List ℕ → Taken
 counted j c octets =
     if is_last j.count c then record { took = Ok Repeat; joining = j } else
@@ -91,6 +98,7 @@ counted j c octets =
     record { took = Err WrongCount; joining = empty j.requests }
 
 -- a segment under its flow
+-- SEG-3
 abbrev pub taken : Joining → Flow → List ℕ → Taken
 taken j Start octets = staged j.requests None octets (stage octets)
 taken j (Count c) octets = if j.started then counted j c octets

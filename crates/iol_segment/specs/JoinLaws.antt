@@ -60,6 +60,7 @@ abbrev pub took_at : ℕ → List ℕ → ℕ → Took
 took_at size text i = if nat_le (length text) (suc i * size) then Whole else More
 
 -- for a text that holds its own length, in segments of this size
+-- SEG-6
 pub record JoinLaws (size : ℕ) : Type 0 where
   -- the whole cut, each pair one or more times running, given to any joiner
   pub answers : (j : Joining) (text more : List ℕ) → HoldsLength text

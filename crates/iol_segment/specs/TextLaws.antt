@@ -27,6 +27,7 @@ abbrev pub IsLast : ℕ → List ℕ → ℕ → Type 0
 IsLast size text i = (i * size < length text) × (length text ≤ suc i * size)
 
 -- for segments of this size
+-- ISDU-11, SEG-6
 pub record TextLaws (size : ℕ) : Type 0 where
   -- the segments of a text are those that begin within it
   pub within : (text : List ℕ) (i : ℕ) → i < segments size text → i * size < length text

@@ -78,6 +78,8 @@ impl Joiner {
     /// Either refusal leaves the joiner empty, so that only START is taken then (profile):
     /// - 15 `WrongCount`: any other flow;
     /// - 11 `BadIsduLength`: the octets so far hold a total length that no text has.
+    ///
+    /// Rule SEG-3.
     pub fn take(&mut self, flow: Flow, octets: &[u8]) -> Result<Took, JoinFault>
         ensures took { result ≡ (taken self.old flow octets.now).took }
         ensures joining { self.new ≡ (taken self.old flow octets.now).joining }
@@ -205,6 +207,7 @@ impl Joiner {
         }
     }
 
+    /// Rules SEG-3, SEG-5.
     fn refuse(&mut self) -> Result<Took, JoinFault>
         ensures took { result ≡ Err WrongCount }
         ensures joining { self.new ≡ empty self.old.requests }
@@ -214,6 +217,8 @@ impl Joiner {
     }
 
     /// Takes a segment under COUNT.
+    ///
+    /// Rules SEG-3, SEG-4.
     fn take_count(&mut self, count: u8, octets: &[u8]) -> Result<Took, JoinFault>
         ensures took { result ≡ (counted self.old count octets.now).took }
         ensures joining { self.new ≡ (counted self.old count octets.now).joining }
@@ -230,6 +235,7 @@ impl Joiner {
         }
     }
 
+    /// Rule SEG-2.
     fn next_count(&self) -> u8
         ensures value { result ≡ next_count self.now.count }
         ensures small { result < 16 }
@@ -273,6 +279,8 @@ fn is_whole(octets: &[u8]) -> bool
 }
 
 /// Takes the octets of a segment, as far as they belong to the text.
+///
+/// Rule SEG-5.
 fn grow(text: &mut Text, octets: &[u8]) -> Result<Took, JoinFault>
     ensures grown { Grown (stage (text.old.items ++ octets.now)) (text.old.items ++ octets.now)
         result text.new.items }

@@ -5,6 +5,9 @@
 //! as it takes, one segment each, under START and then COUNT 1, 2 and on. [`Cutter`]
 //! gives the segments of a text, of which it keeps no copy; [`Joiner`] takes them, tells
 //! a repeated one from the next, and gives the request or the answer. Nothing allocates.
+//!
+//! Definitions begin in `specs/Cut` and `specs/Join`. The segments of a text, joined, give that
+//! text; a repeated segment changes nothing, and every other flow is refused.
 #![tactic(auto)]
 
 mod append;

@@ -4,6 +4,9 @@
 //! A [`Sim`] loses and damages messages as its script says, and it is an honest wire
 //! whatever the script. A [`Raw`] answers given messages in order, and is not honest.
 //! [`Params`] is an application for the device: parameters that are read and written.
+//!
+//! Definitions begin in `specs/Script` and `specs/Sim`. A script whose steps have ended is a clean
+//! wire.
 #![tactic(auto)]
 
 mod fault;

@@ -21,6 +21,7 @@ use Rattle.iol_steps.specs.declared.said.Said.TheVariants.{Answered, Cut, Report
 abbrev pub Image : Type 0
 Image = List ℕ
 
+-- PORT-4
 pub data Step : Type 0 where
   -- a request, under the number of its ticket, is under way
   Take : ℕ → Request → Step
@@ -71,6 +72,7 @@ silence_by (Exchanged true) silence = 0
 silence_by (Exchanged false) silence = min 3 (silence + 1)
 
 -- a port that is down wakes its device, any other makes an exchange
+-- LINK-1
 abbrev pub CallFits : Mode → WireCall → Type 0
 CallFits Down (Woke answered) = ⊤
 CallFits Startup (Exchanged replied) = ⊤
@@ -111,6 +113,7 @@ silence_left moment = silence_by moment.call moment.silence
 
 -- two steps that don't stand in one turn: a second of a kind, a denial beside a
 -- taking, and a busy reply beside the taking or the carrying out of its request
+-- PORT-4
 abbrev pub clash : Step → Step → Bool
 clash (Take ticket request) (Take other next) = true
 clash (Take ticket request) (Deny other) = true

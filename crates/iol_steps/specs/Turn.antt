@@ -12,6 +12,7 @@ is_calm step = not (clash Busy step)
 
 -- a turn that began in OPERATE and leaves no silence leaves the image equal to the device's
 -- input; one that ends in another mode leaves none; any other leaves the image as it was
+-- PD-2
 abbrev pub ImageIsLast : Moment → Mode → Images → Images → Type 0
 ImageIsLast moment ended i next =
     ((moment.began ≡ Operate) × (silence_by moment.call moment.silence ≡ 0)
@@ -21,6 +22,7 @@ ImageIsLast moment ended i next =
     → next.image ≡ i.image)
 
 -- a turn that began in OPERATE without silence and leaves none leaves the device's output as wanted
+-- PD-7
 abbrev pub OutputIsWanted : Moment → Images → Images → Type 0
 OutputIsWanted moment i next = (moment.began ≡ Operate) × (moment.silence ≡ 0)
     × (silence_by moment.call moment.silence ≡ 0) → next.output ≡ i.wanted

@@ -6,6 +6,8 @@
 //!
 //! It is as honest as the wire within, and has its device, its silence and its cleanness:
 //! what is proved over an honest wire holds over that wire with a tap round it.
+//!
+//! Its definition is `specs/Tapped`: the wire within, with the note.
 #![tactic(auto)]
 
 mod tap;

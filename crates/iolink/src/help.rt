@@ -6,7 +6,7 @@ pub(crate) const VERSION: &str = "0.1.0";
 /// Where the help of each command stands, and where the formats are.
 pub(crate) const PROGRAM: &str = "\
 'iolink COMMAND --help' has the lines that a command reads, an example, its limits and the exit statuses.
-Every line, and what is printed for it, is in docs/FORMATS.md, section 8.";
+Every line, and what is printed for it, is in docs/guide.md.";
 
 pub(crate) const CHECK: &str = "\
 Reads standard input to its end, a line at a time:
@@ -29,7 +29,7 @@ Limits: 1,048,576 bytes of input, 1,024 bytes a line, 1 to 128 octets a message;
 Exit status: 0, all is printed; 1, the command failed, and a line on standard error says why; 2, the words of
 the command line are wrong, or ask for this help. After 1 and 2 nothing is printed, but where a write failed.
 
-Every line, and what is printed for it: docs/FORMATS.md, sections 8.2 and 8.3.";
+Every line, and what is printed for it: docs/guide.md.";
 
 pub(crate) const RUN: &str = "\
 Reads standard input to its end, a line at a time. First the device and the port:
@@ -67,7 +67,7 @@ Limits: 1,048,576 bytes of input, 1,024 bytes a line, 32 parameters, N up to 100
 Exit status: 0, all is printed; 1, the command failed, and a line on standard error says why; 2, the words of
 the command line are wrong, or ask for this help. After 1 and 2 nothing is printed, but where a write failed.
 
-Every line, and what is printed for it: docs/FORMATS.md, sections 8.2 and 8.4.";
+Every line, and what is printed for it: docs/guide.md.";
 
 pub(crate) const TRACE: &str = "\
 Reads standard input to its end: the lines of 'iolink run'. It prints what 'iolink run' prints, and for each call of the
@@ -94,7 +94,7 @@ Exit status: 0, all is printed; 1, the command failed, and a line on standard er
 the command line are wrong, or ask for this help. After 1 and 2 nothing is printed, but where a write failed or
 memory ran out.
 
-Every line, and what is printed for it: docs/FORMATS.md, sections 8.2, 8.4 and 8.6.";
+Every line, and what is printed for it: docs/guide.md.";
 
 pub(crate) const MANY: &str = "\
 Reads standard input to its end: four lines in this order.
@@ -117,4 +117,4 @@ a line.
 Exit status: 0, all is printed; 1, the command failed, and a line on standard error says why; 2, the words of
 the command line are wrong, or ask for this help. After 1 and 2 nothing is printed, but where a write failed.
 
-Every line, and what is printed for it: docs/FORMATS.md, sections 8.2 and 8.5.";
+Every line, and what is printed for it: docs/guide.md.";

@@ -3,6 +3,8 @@
 //! It ends with status 0; with status 1 and one line on standard error where the
 //! command fails; or with status 2 and the text of `clap` on standard error where
 //! the command line is refused, or asks for help or the version.
+//!
+//! Definitions: `specs/Command`, `specs/Performed` and `specs/Ending`.
 #![tactic(auto)]
 
 mod command;

@@ -3,6 +3,9 @@
 //!
 //! A handle of C is a `#[repr(C)]` struct of the library that it belongs to, with one pointer. Such
 //! a struct can have no type parameter, so each library has its own, and makes it of a [`Loose`].
+//!
+//! Definitions stand in `specs/Heap` and `specs/Shown`. A box comes back from its pointer as it
+//! was.
 #![tactic(auto)]
 
 mod image;
