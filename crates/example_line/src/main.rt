@@ -14,8 +14,7 @@ use anyhow::Result;
 use iol_app::Asked;
 use iol_book::{Limits, Ticket};
 use iol_isdu::{Place, Request};
-use iol_line::{Line, turn_answered, turn_woken};
-use iol_port::Port;
+use iol_port::PortCore;
 
 /// The temperature in tenths of a degree.
 const TEMPERATURE: Place = Place { index: 40, sub: 0 };
@@ -34,23 +33,23 @@ const LIMITS: Limits = Limits {
     given: 0,
 };
 
-/// One turn: what the port asks for is sent, and the port is told what came back.
-fn turn(rt: &(impl Input + Print + AllocGlobal), port: &mut Port<Line>) -> Result<()> {
-    match port.asks() {
+/// One turn: what the port sends goes out, and the port is told what came back.
+fn turn(rt: &(impl Input + Print + AllocGlobal), port: &mut PortCore) -> Result<()> {
+    match port.send() {
         Asked::Wake => {
             let rate = wake(rt)?;
-            turn_woken(port, rate);
+            port.receive_wake(rate);
         }
         Asked::Exchange(sent) => {
             let came = exchange(rt, sent.as_slice())?;
-            turn_answered(port, sent, came);
+            port.receive(&came);
         }
     }
     Ok(())
 }
 
 /// Prints an event, where the device told one, and each outcome that is there.
-fn report(rt: &impl Eprint, port: &mut Port<Line>, tickets: &[Ticket]) -> Result<()> {
+fn report(rt: &impl Eprint, port: &mut PortCore, tickets: &[Ticket]) -> Result<()> {
     if let Ok(event) = port.take_event() {
         eprintln!(rt; "event {:02X} {:04X}", event.qualifier, event.code)?;
     }
@@ -63,7 +62,7 @@ fn report(rt: &impl Eprint, port: &mut Port<Line>, tickets: &[Ticket]) -> Result
 }
 
 fn main(rt: HostRuntime) -> Result<()> {
-    let mut port = Port::open(rt.alloc(), Line::new(), &LIMITS).map_err(|(fault, _)| fault)?;
+    let mut port = PortCore::open(rt.alloc(), &LIMITS)?;
     let tickets = [
         port.submit(Request::read(TEMPERATURE))?,
         port.submit(Request::write(LIMIT, &NEW_LIMIT.to_be_bytes())?)?,

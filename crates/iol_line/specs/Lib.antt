@@ -1,4 +1,2 @@
 pub mod Standing
-pub mod Told
-pub mod HonestTold
-pub mod Driving
+pub mod Honestly

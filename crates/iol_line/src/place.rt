@@ -1,6 +1,6 @@
 //! Where a line stands, as clauses alone know it: the device at its far end is in no memory.
 ghost use Rattle.std.specs.Prelude.{◌≡◌};
-ghost use Rattle.iol_line.specs.Standing.{Standing, unheard, woken_to};
+ghost use Rattle.iol_line.specs.Standing.{Standing};
 ghost use base.Fml.{ftrue};
 
 use std::marker::{Model, PhantomData, Send, Sync};
@@ -25,20 +25,6 @@ impl Place {
         Place {
             marker: PhantomData,
         }
-    }
-
-    /// The same place.
-    pub(crate) fn same(&self) -> Place
-        ensures { result.at ≡ self.now.at }
-    {
-        Place::of(self)
-    }
-
-    /// The place after an exchange in which nothing came through.
-    pub(crate) fn unheard(&self) -> Place
-        ensures { result.at ≡ unheard self.now.at }
-    {
-        Place::of(self)
     }
 }
 

@@ -1,0 +1,55 @@
+-- A port without a wire, and where the line stands: one that loses and never lies.
+use Rattle.std.specs.Prelude.{◌≡◌, ℕ, List, Option}
+use Rattle.iol_link.specs.WireFacts.{WireFacts}
+use Rattle.iol_link.specs.Honest.{HonestExchange}
+use Rattle.iol_mode.specs.Exchanges.{text_out}
+use Rattle.iol_book.specs.declared.entries.Limits.{Limits}
+use Rattle.iol_port.specs.declared.call.Call.{Call}
+use Rattle.iol_port.specs.declared.call.Answered.{Answered}
+use Rattle.iol_port.specs.Run.{PortState, Piece, Pieces, opened}
+use Rattle.iol_port.specs.View.{Parts, OpensWell, StandsFor, KeepsRecord}
+use Rattle.iol_port.specs.CorePort.{CoreDoes, at_end, opened_at}
+use Rattle.iol_line.specs.Standing.{Standing}
+
+pub record HonestPort : Type 0 where
+  pub parts : Parts (Unit {0})
+  -- where the line stands
+  pub at : Standing
+  -- with what it was opened: its limits, and where the line stood then
+  pub limits : Limits
+  pub from : Standing
+
+-- the line, as one that is honest
+abbrev pub line_at : Standing → WireFacts (Unit {0})
+line_at at = at_end at.far at.silence
+
+-- the device had been handed no request when the port was opened
+abbrev pub BeganWell : HonestPort → Type 0
+BeganWell p = OpensWell (opened_at p.limits p.from.far p.from.silence)
+
+-- What every such port keeps: where it began well, it stands, with the device that the line
+-- stands at, for an abstract port that is a run, in pieces, of the one that was opened
+unfoldable pub IsRun : HonestPort → Type 0
+IsRun p =
+    BeganWell p → (pieces : List Piece) × (replies : List Answered) × (b : PortState)
+    × Pieces (opened p.limits p.from.far p.from.silence) pieces replies b
+    × StandsFor (line_at p.at) p.parts b
+
+-- for some choice both ends stand together, and the record fits the journal
+abbrev pub Keeps : HonestPort → Type 0
+Keeps p = KeepsRecord (line_at p.at) p.parts
+
+-- the line stands there afterwards, and with what the port was opened stays
+abbrev pub Moves : HonestPort → Standing → HonestPort → Type 0
+Moves p after next = next ≡ record p { parts = next.parts; at = after }
+
+-- a call of the port within, which leaves the line where it stands
+abbrev pub Calls : HonestPort → Call → Answered → HonestPort → Type 0
+Calls p c reply next = CoreDoes p.parts c reply next.parts × Moves p p.at next
+
+-- The premise: this is what an honest exchange of the octets that are out could bring, and the
+-- line stands there then
+abbrev pub Exchanges : HonestPort → Option (List ℕ) → Standing → Type 0
+Exchanges p came after =
+    HonestExchange p.at.far p.at.silence (text_out p.parts.station.link.state) came after.far
+    after.silence

@@ -1,0 +1,273 @@
+//! A port without a wire, whose line is claimed to be honest.
+ghost use Rattle.std.specs.Prelude.{◌≡◌, ◌≤◌, IfOk, IfErr, IsTrue, length, is_some};
+ghost use Rattle.std.specs.Result.{result_map_both};
+ghost use Rattle.iol_far.specs.Octets.{octets_in};
+ghost use Rattle.iol_far.specs.Far.{Far};
+ghost use Rattle.iol_link.specs.Honest.{HonestWake};
+ghost use Rattle.iol_book.specs.declared.fault.BookFault.TheVariants.{OutOfMemory};
+ghost use Rattle.iol_book.specs.BookModel.{AreLimits, submitted, submitted_urgent};
+ghost use Rattle.iol_app.specs.Pieces.{IsAskedOut};
+ghost use Rattle.iol_port.specs.declared.fault.PortFault.TheVariants as fault;
+ghost use Rattle.iol_port.specs.declared.call.Call.TheVariants as call;
+ghost use Rattle.iol_port.specs.declared.call.Answered.TheVariants as answered;
+ghost use Rattle.iol_port.specs.declared.awaited.Awaited.{Awaited};
+ghost use Rattle.iol_port.specs.Asks.{asks_of};
+ghost use Rattle.iol_port.specs.EveryWire.{SubmitGives, CollectGives, WithdrawGives, CancelGives};
+ghost use Rattle.iol_port.specs.EveryWire.{ArchiveGives, TakeEventGives, SetOutputGives};
+ghost use Rattle.iol_port.specs.EveryWire.{ClearOutputGives, RestartGives};
+ghost use Rattle.iol_port.specs.CorePort.{IsNew, CoreOpens, awaited, SendGives, SendDoes};
+ghost use Rattle.iol_port.specs.CorePort.{ReceiveGives, ReceiveDoes, WakeGives, WakeDoes};
+ghost use Rattle.iol_port.specs.Replies.{ticket_reply, outcome_reply, nothing_reply, event_reply};
+ghost use Rattle.iol_port.specs.Replies.{reply_of};
+ghost use Rattle.iol_line.specs.Standing.{Standing};
+
+use crate::place::Place;
+use iol_app::Asked;
+use iol_book::{Entry, Limits, Outcome, Ticket};
+use iol_event::Event;
+use iol_image::Image;
+use iol_isdu::Request;
+use iol_link::Rate;
+use iol_mseq::Message;
+use iol_port::{PortCore, PortFault, record_fits_journal};
+use std::alloc::{Allocator, Global};
+use std::marker::Model;
+use std::snapshot::Snapshot;
+
+/// A port without a wire, and where its line stands: a line that is claimed to lose and
+/// never to lie.
+///
+/// Each call is that of the [`PortCore`] within. Two have a condition more, the premise: what
+/// came is what an honest exchange, or wake, could bring, with the device at the far end as it
+/// was, and as it is then. So
+/// - the octets that were sent reached the device unaltered, or the device took nothing
+///   for them: they were lost, or what it heard in their place it didn't accept;
+/// - what came back is the device's reply unaltered, or nothing, or octets that are damaged so
+///   that it shows: they are well-formed in no layout in which the sent octets are a message;
+/// - between two exchanges the device did what a device does by itself, and no one
+///   else had the line.
+///
+/// The checksum of a message has six bits. It shows each single altered bit, but of
+/// octets at random one in 64 passes it. Such a damage that looks like another good
+/// message is what the premise rules out, and no code can tell.
+///
+/// Where the line stands, at which device and how long without a reply, is a value that no
+/// code holds: whoever says what came names it in his proof. A clause sees it beside the
+/// port's parts, and with what the port was opened.
+#[derive(Drop)]
+pub struct HonestPort<A: Allocator + Copy = Global> {
+    core: PortCore<A>,
+    at: Place,
+    limits: Snapshot<Limits>,
+    from: Place,
+}
+
+impl<A: Allocator + Copy> Model for HonestPort<A> {
+    ghost use Rattle.iol_line.specs.Honestly.{HonestPort, IsRun};
+
+    ghost Value = { HonestPort };
+
+    ghost view = { λ p. record {
+      parts = p.core;
+      at = p.at.at;
+      limits = p.limits.value;
+      from = p.from.at;
+    } };
+
+    ghost invariant = { λ p. IsRun (record {
+      parts = p.core;
+      at = p.at.at;
+      limits = p.limits.value;
+      from = p.from.at;
+    }) };
+}
+
+impl<A: Allocator + Copy> HonestPort<A> {
+    ghost use Rattle.iol_line.specs.Honestly.{IsRun, BeganWell, Keeps, Moves, Calls, Exchanges};
+
+    /// A port as [`PortCore::open`] gives it, whose line stands there.
+    ///
+    /// `at` is a value that no code holds; what names it may speak of `near`.
+    pub fn open<T>(alloc: A, limits: &Limits, near: &T) -> Result<HonestPort<A>, PortFault>
+        ghost at: { Standing }
+        requires limits { AreLimits limits.now }
+        ensures parts { IfOk result (λ p. IsNew limits.now p.parts) }
+        ensures opens { IfOk result (λ p. CoreOpens limits.now p.parts) }
+        ensures stands { IfOk result (λ p. p
+            ≡ record { parts = p.parts; at = at; limits = limits.now; from = at }) }
+        ensures refused { IfErr result (λ e. e ≡ fault.Book OutOfMemory) }
+    {
+        let at = Place::of(near);
+        let from = Place::of(near);
+        match PortCore::open(alloc, limits) {
+            Ok(core) => Ok(HonestPort {
+                core,
+                at,
+                limits: Snapshot::of(limits),
+                from,
+            }),
+            Err(fault) => Err(fault),
+        }
+    }
+
+    /// The port within, for the calls that only look: what it waits for and asks, its image and
+    /// its status.
+    pub fn core(&self) -> &PortCore<A>
+        ensures { result.now ≡ self.now.parts }
+    {
+        &self.core
+    }
+
+    /// As [`PortCore::submit`].
+    pub fn submit(&mut self, request: Request) -> Result<Ticket, PortFault>
+        ensures does { Calls self.old (call.Submit request) (ticket_reply result) self.new }
+        ensures lacks { IfErr result (λ e. e ≡ fault.Book OutOfMemory → self.old.parts.book.room
+            ≡ 0) }
+        ensures gives { SubmitGives self.old.parts
+            (submitted self.old.parts.book.state request) result self.new.parts }
+    {
+        self.core.submit(request)
+    }
+
+    /// As [`PortCore::submit_urgent`].
+    pub fn submit_urgent(&mut self, request: Request) -> Result<Ticket, PortFault>
+        ensures does { Calls self.old (call.SubmitUrgent request) (ticket_reply result) self.new }
+        ensures lacks { IfErr result (λ e. e ≡ fault.Book OutOfMemory → self.old.parts.book.room
+            ≡ 0) }
+        ensures gives { SubmitGives self.old.parts
+            (submitted_urgent self.old.parts.book.state request) result self.new.parts }
+    {
+        self.core.submit_urgent(request)
+    }
+
+    /// As [`PortCore::collect`].
+    pub fn collect(&mut self, ticket: Ticket) -> Result<Outcome, PortFault>
+        ensures does { Calls self.old (call.Collect ticket) (outcome_reply result) self.new }
+        ensures gives { CollectGives self.old.parts ticket result self.new.parts }
+    {
+        self.core.collect(ticket)
+    }
+
+    /// As [`PortCore::collect_into`].
+    pub fn collect_into(&mut self, ticket: Ticket, into: &mut Outcome) -> Result<(), PortFault>
+        ensures does { Calls self.old (call.Collect ticket)
+            (outcome_reply (result_map_both (λ _. into.new) (λ why. why) result)) self.new }
+        ensures gives { CollectGives self.old.parts ticket
+            (result_map_both (λ _. into.new) (λ why. why) result) self.new.parts }
+        ensures kept { IfErr result (λ _. into.new ≡ into.old) }
+    {
+        self.core.collect_into(ticket, into)
+    }
+
+    /// As [`PortCore::withdraw`].
+    pub fn withdraw(&mut self, ticket: Ticket) -> Result<(), PortFault>
+        ensures does { Calls self.old (call.Withdraw ticket) (nothing_reply result) self.new }
+        ensures gives { WithdrawGives self.old.parts ticket result self.new.parts }
+    {
+        self.core.withdraw(ticket)
+    }
+
+    /// As [`PortCore::cancel`].
+    pub fn cancel(&mut self, ticket: Ticket) -> Result<(), PortFault>
+        ensures does { Calls self.old (call.Cancel ticket) (nothing_reply result) self.new }
+        ensures gives { CancelGives self.old.parts ticket result self.new.parts }
+    {
+        self.core.cancel(ticket)
+    }
+
+    /// As [`PortCore::restart`]: what was sent has to be answered first.
+    pub fn restart(&mut self)
+        requires { awaited self.old.parts ≡ Awaited.Nothing }
+        ensures does { Calls self.old call.Restart answered.Nothing self.new }
+        ensures gives { RestartGives self.old.parts self.new.parts }
+    {
+        self.core.restart();
+    }
+
+    /// As [`PortCore::set_output`].
+    pub fn set_output(&mut self, image: &Image) -> Result<(), PortFault>
+        ensures does { Calls self.old (call.SetOutput image.now) (nothing_reply result) self.new }
+        ensures gives { SetOutputGives self.old.parts image.now result self.new.parts }
+    {
+        self.core.set_output(image)
+    }
+
+    /// As [`PortCore::clear_output`].
+    pub fn clear_output(&mut self)
+        ensures does { Calls self.old call.ClearOutput answered.Nothing self.new }
+        ensures gives { ClearOutputGives self.old.parts self.new.parts }
+    {
+        self.core.clear_output();
+    }
+
+    /// As [`PortCore::take_event`].
+    pub fn take_event(&mut self) -> Result<Event, PortFault>
+        ensures does { Calls self.old call.TakeEvent (event_reply result) self.new }
+        ensures gives { TakeEventGives self.old.parts result self.new.parts }
+    {
+        self.core.take_event()
+    }
+
+    /// As [`PortCore::archive`].
+    pub fn archive(&mut self) -> Result<Vec<Entry, A>, PortFault>
+        ensures does { Calls self.old call.Archive
+            (reply_of (λ entries. answered.Archived (length entries.items)) result) self.new }
+        ensures within { IfOk result (λ entries. length entries.items ≤ 1000000) }
+        ensures gives { ArchiveGives self.old.parts
+            (result_map_both (λ entries. entries.items) (λ why. why) result) self.new.parts }
+    {
+        self.core.archive()
+    }
+
+    /// What goes out, as [`PortCore::send`] gives it.
+    pub fn send(&mut self) -> Asked
+        ensures says { IsAskedOut result self.new.parts.station.link.state }
+        ensures asked { result ≡ asks_of self.old.parts }
+        ensures again { IsTrue self.old.parts.sent → self.new ≡ self.old }
+        ensures gives { SendGives self.old.parts self.new.parts }
+        ensures does { SendDoes self.old.parts self.new.parts }
+        ensures moves { Moves self.old self.old.at self.new }
+    {
+        self.core.send()
+    }
+
+    /// Takes what came back, as [`PortCore::receive`] does. The line stands at `after` then, which
+    /// may speak of `near`: an honest exchange of what was sent could bring this, and lead there.
+    pub fn receive<T>(&mut self, came: &Option<Message>, near: &T)
+        ghost after: { Standing }
+        requires awaited { awaited self.old.parts ≡ Awaited.Reply }
+        requires premise { Exchanges self.old (octets_in came.now) after }
+        ensures gives { ReceiveGives self.old.parts (octets_in came.now) self.new.parts }
+        ensures does { ReceiveDoes self.old.parts (octets_in came.now) self.new.parts }
+        ensures moves { Moves self.old after self.new }
+    {
+        self.core.receive(came);
+        self.at = Place::of(near);
+    }
+
+    /// Takes what came of a wake-up request, as [`PortCore::receive_wake`] does. The device is
+    /// `after` then, which may speak of `near`: an honest wake could bring this, and leave it so.
+    pub fn receive_wake<T>(&mut self, rate: Option<Rate>, near: &T)
+        ghost after: { Far }
+        requires awaited { awaited self.old.parts ≡ Awaited.Wake }
+        requires premise { HonestWake self.old.at.far (is_some rate) after }
+        ensures gives { WakeGives self.old.parts (is_some rate) self.new.parts }
+        ensures does { WakeDoes self.old.parts (is_some rate) self.new.parts }
+        ensures moves { Moves self.old (record self.old.at { far = after }) self.new }
+    {
+        let _ = near;
+        self.core.receive_wake(rate);
+        self.at = Place::of(&self.at);
+    }
+
+    /// A law of each such port, without code: it is a run, in pieces, of the one that was
+    /// opened; and the device's record fits the journal, if the device had been handed no
+    /// request when the port was opened.
+    pub fn keeps_record(&self)
+        ensures run { IsRun self.now }
+        ensures record_fits { BeganWell self.now → Keeps self.now }
+    {
+        record_fits_journal();
+        let _ = &self.core;
+    }
+}
