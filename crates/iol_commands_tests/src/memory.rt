@@ -11,7 +11,8 @@ use std::test::Fail;
 static TRACE: Case = Case {
     command: Command::Trace,
     input: READING,
-    output: "18 < D4 41 42 D7 00 00 00 00 2D: od D4 41 42 D7 00 00 00 00 event 0 pd valid\nticket 1 done read 41 42\nrecord 1\ncarried read 16 0: read 41 42\n",
+    output: "18 < D4 41 42 D7 00 00 00 00 2D: od D4 41 42 D7 00 00 00 00 event 0 pd valid\n\
+        ticket 1 done read 41 42\nrecord 1\ncarried read 16 0: read 41 42\n",
 };
 
 /// Whether a case was refused memory under this order: then it has to say so, and to write
