@@ -1,0 +1,120 @@
+//! The commands and the reading of scripts where a request for memory is refused.
+use crate::streams::{CHECK, Case, Command, READING, RUN, failing};
+use iol_commands::ProgramFault;
+use iol_script::{Script, ScriptFault};
+use scarce::{Refusal, Scarce};
+use std::alloc::Global;
+use std::process::Abort;
+use std::test::Fail;
+
+/// What a trace ends with is compared: its last exchange, and what follows.
+static TRACE: Case = Case {
+    command: Command::Trace,
+    input: READING,
+    output: "18 < D4 41 42 D7 00 00 00 00 2D: od D4 41 42 D7 00 00 00 00 event 0 pd valid\n\
+        ticket 1 done read 41 42\nrecord 1\ncarried read 16 0: read 41 42\n",
+};
+
+/// Whether a case was refused memory under this order: then it has to say so, and to write
+/// nothing. A trace is written as it comes.
+fn is_refused(
+    rt: &impl Abort,
+    alloc: Global,
+    scarce: &Scarce,
+    case: &Case,
+    refusal: Refusal,
+) -> bool {
+    let (mut source, mut sink) = failing(alloc, case.input, u32::MAX, u32::MAX);
+    scarce.order(refusal);
+    let result = case.command.perform(scarce, &mut source, &mut sink);
+    let refused = scarce.has_refused();
+    if refused {
+        assert_eq!(rt; result, Err(ProgramFault::OutOfMemory));
+        let is_trace = matches!(case.command, Command::Trace);
+        assert!(rt; is_trace || sink.held.is_empty());
+    } else {
+        assert_eq!(rt; result, Ok(()));
+        assert!(rt; is_whole(case, sink.held.as_slice()));
+    }
+    refused
+}
+
+/// Whether a case prints this; of a trace the end is compared.
+fn is_whole(case: &Case, printed: &[u8]) -> bool {
+    match case.command {
+        Command::Trace => printed.ends_with(case.output.as_bytes()),
+        Command::Check | Command::Run => printed == case.output.as_bytes(),
+    }
+}
+
+/// Refuses each request of a case in turn, alone and with all that follow, until it makes no
+/// further one.
+fn refuse_each(rt: &impl Abort, alloc: Global, case: &Case) -> Result<(), Fail> {
+    let scarce = Scarce::new(alloc);
+    for number in 0..1000 {
+        if !is_refused(rt, alloc, &scarce, case, Refusal::Only(number)) {
+            assert!(rt; number > 1);
+            return Ok(());
+        }
+        assert!(rt; is_refused(rt, alloc, &scarce, case, Refusal::From(number)));
+    }
+    Err(Fail::from("no end"))
+}
+
+#[test]
+fn fails_at_each_request_for_memory(rt: HostRuntime) -> Result<(), Fail> {
+    refuse_each(&rt, rt.alloc(), &CHECK)?;
+    refuse_each(&rt, rt.alloc(), &RUN)?;
+    refuse_each(&rt, rt.alloc(), &TRACE)
+}
+
+/// Lines of each kind, and four steps of the wire.
+const SCRIPT: &[u8] = b"limits 3 4
+param 16 0 ro 4142
+page 17 01 11 10 08 12 34 00 01 07
+wire auto off
+read 16 0
+wire clean 2
+turn 20
+wire silent";
+
+/// Whether the reading of a script was refused memory under this order: then it has to say so.
+fn is_script_refused(rt: &impl Abort, scarce: &Scarce, refusal: Refusal) -> bool {
+    scarce.order(refusal);
+    let result = Script::read(scarce, SCRIPT);
+    let refused = scarce.has_refused();
+    match result {
+        Ok(script) => assert!(rt; !refused && script.steps.len() == 4),
+        Err(fault) => assert!(rt; refused && fault == ScriptFault::OutOfMemory),
+    }
+    refused
+}
+
+#[test]
+fn a_script_fails_at_each_request_for_memory(rt: HostRuntime) -> Result<(), Fail> {
+    let scarce = Scarce::new(rt.alloc());
+    for number in 0..100 {
+        if !is_script_refused(&rt, &scarce, Refusal::Only(number)) {
+            assert!(rt; number > 0);
+            return Ok(());
+        }
+        assert!(rt; is_script_refused(&rt, &scarce, Refusal::From(number)));
+    }
+    Err(Fail::from("no end"))
+}
+
+#[test]
+fn finds_bad_lines_without_memory(rt: HostRuntime) {
+    let scarce = Scarce::new(rt.alloc());
+    scarce.order(Refusal::From(0));
+    let page = b"page 17 01 11 10 08 12 34 00 01 07\nturn 1\nturn 0".as_slice();
+    assert_eq!(rt;
+        Script::read(&scarce, page).err(),
+        Some(ScriptFault::Line(3))
+    );
+    let turns = b"turn 100000\nturn 100000\nparam 16 0 ro 41".as_slice();
+    assert_eq!(rt;
+        Script::read(&scarce, turns).err(),
+        Some(ScriptFault::Line(3))
+    );
+}
