@@ -18,7 +18,7 @@
 //! page OCTETS                octet AA (of the page)  capability OO   length OO   command OO
 //! total OCTETS               request OCTETS          answer read|write OCTETS
 //! encode REQUEST             encode answer read|write ANSWER
-//! cut request N REQUEST      cut answer N read|write ANSWER           cut next|again
+//! cut request N REQUEST      cut answer N read|write ANSWER           cut next|again|source
 //! join requests|answers      join take FLOW OCTETS   join whole|request|answer read|write
 //! memory new|raise QQ CCCC|octet AA|confirm|other|clear|flag
 //! reader new|address|take OO image OCTETS

@@ -3,7 +3,9 @@ ghost use Rattle.std.specs.Prelude.{◌≡◌, ◌≤◌, true, false, IfOk};
 
 use crate::fault::LineFault;
 use crate::isdus::{asked, print_read_answer, print_read_request, reaction};
-use crate::printing::{print_flow, print_octets, print_ok, print_refused, yes_or_no};
+use crate::printing::{
+    print_answer, print_flow, print_octets, print_ok, print_refused, print_request, yes_or_no,
+};
 use crate::reading::{direction_of, end, flow, is, number, octets, request, word};
 use iol_isdu::Request;
 use iol_octets::Flow;
@@ -159,6 +161,9 @@ fn answer_cut(output: &mut String, cut: &mut Cut, words: &mut Words<'_>) -> Resu
     } else if is(name, b"again") {
         end(words)?;
         print_segment(output, again(cut))?;
+    } else if is(name, b"source") {
+        end(words)?;
+        print_source(output, cut)?;
     } else {
         return Err(LineFault::Bad);
     }
@@ -191,6 +196,22 @@ fn again(cut: &Cut) -> Option<(Flow, Segment)> {
         Cut::Request(cutter) => cutter.again(),
         Cut::Answer(cutter) => cutter.again(),
     }
+}
+
+/// What is cut: a request, and the answer to it where that is cut.
+fn print_source(output: &mut String, cut: &Cut) -> Result<(), AllocError> {
+    output.push_str("source")?;
+    match cut {
+        Cut::Nothing => output.push_str(" none")?,
+        Cut::Request(cutter) => print_request(output, cutter.source())?,
+        Cut::Answer(cutter) => {
+            let reaction = cutter.source();
+            print_request(output, &reaction.request)?;
+            output.push_str(" answer")?;
+            print_answer(output, &reaction.answer)?;
+        }
+    }
+    output.push_str("\n")
 }
 
 fn print_segment(output: &mut String, segment: Option<(Flow, Segment)>) -> Result<(), AllocError> {
