@@ -254,7 +254,7 @@ fn print_archived(output: &mut String, book: &mut Book) -> Result<(), AllocError
 }
 
 /// How many entries there are, and each of them behind a semicolon.
-fn print_entries(output: &mut String, entries: &[Entry]) -> Result<(), AllocError> {
+pub(crate) fn print_entries(output: &mut String, entries: &[Entry]) -> Result<(), AllocError> {
     let count = entries.len();
     write!(output, " {count}")?;
     for entry in entries {

@@ -25,11 +25,19 @@
 //! book open JOURNAL BUSY GIVEN
 //! book submit|urgent REQUEST|take|deny|next|post T OUTCOME|collect T|withdraw T|flight T
 //! book reset|archive|journal
+//! device param INDEX SUB ro|rw WORD                  device open|apart ROOM OCTETS (a page)
+//! device hear OCTETS|raise QQ CCCC|input OCTETS|clear|wake|work|power
+//! device handed|answer ANSWER (where apart)|output|record|page
+//! port open JOURNAL BUSY GIVEN
+//! port send|asks|awaits|receive OCTETS|silence|woken com1|com2|com3|none
+//! port submit|urgent REQUEST|collect T|withdraw T|cancel T|archive
+//! port restart|output OCTETS|clear|image|event|status
 //! ```
 #![tactic(auto)]
 
 mod books;
 mod buffers;
+mod devices;
 mod events;
 mod fault;
 mod images;
@@ -37,6 +45,7 @@ mod isdus;
 mod messages;
 mod octets;
 mod pages;
+mod ports;
 mod printing;
 mod probe;
 mod reading;

@@ -1,6 +1,7 @@
 //! All that the lines speak to.
 use crate::books::answer_book;
 use crate::buffers::answer_buffers;
+use crate::devices::Devices;
 use crate::events::Events;
 use crate::fault::{LineFault, ProbeFault};
 use crate::images::answer_image;
@@ -8,11 +9,13 @@ use crate::isdus::answer_isdus;
 use crate::messages::answer_messages;
 use crate::octets::answer_octets;
 use crate::pages::answer_pages;
+use crate::ports::answer_port;
 use crate::reading::is;
 use crate::segments::Segments;
 use iol_book::Book;
 use iol_mseq::{Layout, Message};
 use iol_page::Page;
+use iol_port::PortCore;
 use iol_script::{Lines, Words};
 use std::alloc::Global;
 
@@ -26,6 +29,8 @@ pub(crate) struct Probe {
     segments: Segments,
     events: Events,
     book: Option<Book>,
+    devices: Devices,
+    port: Option<PortCore>,
 }
 
 impl Probe {
@@ -38,6 +43,8 @@ impl Probe {
             segments: Segments::new(),
             events: Events::new(),
             book: None,
+            devices: Devices::new(alloc),
+            port: None,
         }
     }
 
@@ -94,6 +101,10 @@ impl Probe {
             answer_image(output, words)
         } else if is(name, b"book") {
             answer_book(output, self.alloc, &mut self.book, words)
+        } else if is(name, b"device") {
+            self.devices.answer(output, words)
+        } else if is(name, b"port") {
+            answer_port(output, self.alloc, &mut self.port, words)
         } else {
             Err(LineFault::Bad)
         }
