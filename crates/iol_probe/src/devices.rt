@@ -9,7 +9,7 @@ use crate::printing::{
     print_answer, print_named, print_octets, print_ok, print_refused, print_request, yes_or_no,
 };
 use crate::reading::{answer, end, is, number, octets, packed, place, word};
-use iol_device::{Apart, App, Carried, Device, DeviceFault};
+use iol_device::{Apart, App, Carried, Device, DeviceFault, Record, Unkept};
 use iol_event::Event;
 use iol_image::Image;
 use iol_isdu::{Octets, Request};
@@ -26,6 +26,8 @@ enum Held {
     Nothing,
     /// Its application has parameters.
     Store(Device<Params>),
+    /// The same, which keeps no record in memory.
+    Bare(Device<Params, Unkept>),
     /// Its answers come from the lines.
     Apart(Device<Apart>),
 }
@@ -54,8 +56,12 @@ impl Devices {
             add(output, &mut self.params, words)
         } else if is(name, b"open") {
             self.open(output, words)
+        } else if is(name, b"bare") {
+            self.open_bare(output, words)
         } else if is(name, b"apart") {
             self.open_apart(output, words)
+        } else if is(name, b"record") {
+            self.print_record(output, words)
         } else if is(name, b"answer") {
             self.take_answer(output, words)
         } else {
@@ -76,6 +82,19 @@ impl Devices {
             return Err(LineFault::OutOfMemory);
         };
         self.held = Held::Store(device);
+        print_ok(output)?;
+        Ok(())
+    }
+
+    /// A page: a device with the parameters so far, which keeps no record in memory.
+    fn open_bare(&mut self, output: &mut String, words: &mut Words<'_>) -> Result<(), LineFault> {
+        let page = page_of(words)?;
+        if let Err(fault) = page.layouts() {
+            print_page_fault(output, &fault)?;
+            return Ok(());
+        }
+        let params = mem::replace(&mut self.params, Params::new());
+        self.held = Held::Bare(Device::new(params, page));
         print_ok(output)?;
         Ok(())
     }
@@ -106,6 +125,17 @@ impl Devices {
         Ok(())
     }
 
+    fn print_record(&self, output: &mut String, words: &mut Words<'_>) -> Result<(), LineFault> {
+        end(words)?;
+        let carried = match &self.held {
+            Held::Nothing | Held::Bare(_) => return Err(LineFault::Bad),
+            Held::Store(device) => device.carried(),
+            Held::Apart(device) => device.carried(),
+        };
+        print_record(output, carried)?;
+        Ok(())
+    }
+
     fn call(
         &mut self,
         output: &mut String,
@@ -115,6 +145,7 @@ impl Devices {
         match &mut self.held {
             Held::Nothing => Err(LineFault::Bad),
             Held::Store(device) => answer_call(output, device, name, words),
+            Held::Bare(device) => answer_call(output, device, name, words),
             Held::Apart(device) => answer_call(output, device, name, words),
         }
     }
@@ -157,9 +188,9 @@ fn writable(words: &mut Words<'_>) -> Result<bool, LineFault> {
 }
 
 /// The lines with words behind their name.
-fn answer_call<P: App>(
+fn answer_call<P: App, R: Record>(
     output: &mut String,
-    device: &mut Device<P>,
+    device: &mut Device<P, R>,
     name: &[u8],
     words: &mut Words<'_>,
 ) -> Result<(), LineFault> {
@@ -179,9 +210,9 @@ fn answer_call<P: App>(
 }
 
 /// The lines of one word that change something. Whether this is one.
-fn act<P: App>(
+fn act<P: App, R: Record>(
     output: &mut String,
-    device: &mut Device<P>,
+    device: &mut Device<P, R>,
     name: &[u8],
 ) -> Result<bool, AllocError> {
     if is(name, b"wake") {
@@ -200,13 +231,15 @@ fn act<P: App>(
 }
 
 /// The lines of one word that look at something. Whether this is one.
-fn look<P: App>(output: &mut String, device: &Device<P>, name: &[u8]) -> Result<bool, AllocError> {
+fn look<P: App, R: Record>(
+    output: &mut String,
+    device: &Device<P, R>,
+    name: &[u8],
+) -> Result<bool, AllocError> {
     if is(name, b"handed") {
         print_handed(output, device.handed())?;
     } else if is(name, b"output") {
         print_image(output, "output", device.output())?;
-    } else if is(name, b"record") {
-        print_record(output, device.carried())?;
     } else if is(name, b"page") {
         print_named(output, "page", device.page())?;
     } else {
@@ -215,9 +248,9 @@ fn look<P: App>(output: &mut String, device: &Device<P>, name: &[u8]) -> Result<
     Ok(true)
 }
 
-fn set_input<P: App>(
+fn set_input<P: App, R: Record>(
     output: &mut String,
-    device: &mut Device<P>,
+    device: &mut Device<P, R>,
     octets: &[u8],
 ) -> Result<(), AllocError> {
     match Image::new(octets) {

@@ -25,7 +25,7 @@
 //! book open JOURNAL BUSY GIVEN
 //! book submit|urgent REQUEST|take|deny|next|post T OUTCOME|collect T|withdraw T|flight T
 //! book reset|archive|journal
-//! device param INDEX SUB ro|rw WORD                  device open|apart ROOM OCTETS (a page)
+//! device param INDEX SUB ro|rw WORD                  device open|apart ROOM OCTETS   device bare OCTETS
 //! device hear OCTETS|raise QQ CCCC|input OCTETS|clear|wake|work|power
 //! device handed|answer ANSWER (where apart)|output|record|page
 //! port open JOURNAL BUSY GIVEN
