@@ -1,5 +1,6 @@
-//! Tests of single parts, from the octets of a message up to a book, each by its
-//! public calls alone.
+//! Tests of single parts that no line of the program `iol_probe` can say: what only a Rust caller
+//! does, threads, memory refused in turn, and lists of calls that are generated. The others are
+//! rows of `tests/rows/probe`.
 //!
 //! They stand here, and not beside the code that they call, since a crate with
 //! tests of its own is proved twice.
@@ -11,15 +12,5 @@ mod book;
 mod cell;
 #[cfg(test)]
 mod event;
-#[cfg(test)]
-mod image;
-#[cfg(test)]
-mod isdu;
-#[cfg(test)]
-mod mseq;
-#[cfg(test)]
-mod octets;
-#[cfg(test)]
-mod page;
 #[cfg(test)]
 mod segment;

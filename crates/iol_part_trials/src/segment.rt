@@ -1,4 +1,4 @@
-//! Tests of segments: vectors, each length and size, repeats, each refusal.
+//! Tests of segments: texts of each length, cut and joined by each size, and laws.
 ghost use Rattle.std.specs.Prelude.{◌≡◌, ◌≤◌, IfOk};
 ghost use Rattle.iol_isdu.specs.Answers.{AnswersKind, is_read};
 
@@ -8,8 +8,8 @@ use iol_isdu::{
 };
 use iol_octets::Flow;
 use iol_segment::{
-    Cutter, JoinFault, Joiner, Reaction, Segment, Source, Took, cut_is_whole, segments_join,
-    sources_are_texts, texts_join,
+    Cutter, JoinFault, Joiner, Reaction, Source, cut_is_whole, segments_join, sources_are_texts,
+    texts_join,
 };
 use std::test::Fail;
 
@@ -29,33 +29,6 @@ fn brought(octets: &[u8]) -> Result<Reaction, Fail>
     })
 }
 
-fn cutter<S: Source + Drop>(source: S, size: usize) -> Cutter<S> {
-    Cutter::new(source, size.clamp(1, 32))
-}
-
-/// Gives a joiner each segment of a cutter, so many times running.
-fn join<S: Source + Drop>(
-    joiner: &mut Joiner,
-    mut cutter: Cutter<S>,
-    times: usize,
-) -> Result<(), JoinFault>
-    requires { 1 ≤ times }
-    ensures { joiner.new.requests ≡ joiner.old.requests }
-{
-    for step in 0..1_000 {
-        let pair = if step % times == 0 {
-            cutter.next()
-        } else {
-            cutter.again()
-        };
-        let Some((flow, segment)) = pair else {
-            break;
-        };
-        joiner.take(flow, &segment)?;
-    }
-    Ok(())
-}
-
 /// Gives a joiner a text, cut by this size.
 fn take_all(joiner: &mut Joiner, text: &[u8], size: usize) -> Result<(), JoinFault>
     requires { 1 ≤ size }
@@ -68,119 +41,6 @@ fn take_all(joiner: &mut Joiner, text: &[u8], size: usize) -> Result<(), JoinFau
         };
         joiner.take(flow, chunk)?;
     }
-    Ok(())
-}
-
-#[test]
-fn answer_by_eight(rt: HostRuntime) -> Result<(), Fail> {
-    let pairs: [(Flow, [u8; 8]); 3] = [
-        (Flow::Start, [0xD1, 0x11, 0, 0, 0, 0, 0, 0]),
-        (Flow::Count(1), [0; 8]),
-        (Flow::Count(2), [0xC0, 0, 0, 0, 0, 0, 0, 0]),
-    ];
-    let reaction = brought(&[0; 14])?;
-    let mut cutter = cutter(reaction.clone()?, 8);
-    assert!(rt; cutter.again().is_none());
-    for (flow, octets) in &pairs {
-        let segment = Segment::try_from(octets.as_slice())?;
-        assert_eq!(rt; cutter.next(), Some((*flow, segment.clone()?)));
-        assert_eq!(rt; cutter.again(), Some((*flow, segment)));
-    }
-    assert!(rt; cutter.next().is_none());
-    assert_eq!(rt; *cutter.source(), reaction);
-    sources_are_texts();
-    cut_is_whole();
-    Ok(())
-}
-
-#[test]
-fn answer_joins(rt: HostRuntime) -> Result<(), Fail> {
-    let reaction = brought(&[0; 14])?;
-    for size in SIZES {
-        for times in 1..4 {
-            let mut joiner = Joiner::answers();
-            join(&mut joiner, cutter(reaction.clone()?, size), times)?;
-            assert!(rt; joiner.is_whole());
-            if joiner.is_whole() {
-                assert_eq!(rt; joiner.into_answer(&reaction.request)?, reaction.answer);
-            }
-        }
-    }
-    texts_join();
-    segments_join();
-    Ok(())
-}
-
-#[test]
-fn refused_service_fits(rt: HostRuntime) -> Result<(), Fail> {
-    let mut text = [0; 240];
-    text[0] = 0x61;
-    text[1] = 0xEE;
-    let mut joiner = Joiner::requests();
-    take_all(&mut joiner, &text[..232], 8)?;
-    assert!(rt; !joiner.is_whole());
-    assert_eq!(rt; joiner.take(Flow::Count(13), &text[232..])?, Took::Whole);
-    assert!(rt; joiner.is_whole());
-    if joiner.is_whole() {
-        assert_eq!(rt; joiner.into_request().err(), Some(IsduFault::BadService));
-    }
-    Ok(())
-}
-
-#[test]
-fn refused_flows(rt: HostRuntime) -> Result<(), Fail> {
-    let mut joiner = Joiner::requests();
-    let early = joiner.take(Flow::Count(1), &[0x93]).err().ok_or("empty")?;
-    assert_eq!(rt; early.code(), 15);
-    let text = early.to_string(rt.alloc())?;
-    assert_eq!(rt; text.as_str(), "WrongCount");
-    let short = joiner
-        .take(Flow::Start, &[0x90, 0x10])
-        .err()
-        .ok_or("no length")?;
-    assert_eq!(rt; short.code(), 11);
-    let text = short.to_string(rt.alloc())?;
-    assert_eq!(rt; text.as_str(), "BadIsduLength");
-    assert_eq!(rt;
-        joiner.take(Flow::Count(1), &[0x83]),
-        Err(JoinFault::WrongCount)
-    );
-
-    assert_eq!(rt; joiner.take(Flow::Start, &[0x93, 0x10])?, Took::More);
-    assert_eq!(rt;
-        joiner.take(Flow::Count(0), &[0x93, 0x10]),
-        Err(JoinFault::WrongCount)
-    );
-    assert_eq!(rt;
-        joiner.take(Flow::Start, &[0x93, 0x10, 0x83, 0])?,
-        Took::Whole
-    );
-    assert_eq!(rt;
-        joiner.take(Flow::Count(1), &[0]),
-        Err(JoinFault::WrongCount)
-    );
-    assert_eq!(rt; joiner.take(Flow::Abort, &[0]), Err(JoinFault::WrongCount));
-    Ok(())
-}
-
-#[test]
-fn longest_write_by_one(rt: HostRuntime) -> Result<(), Fail> {
-    let mut cutter = cutter(Request::write(at(256, 0), &[0; 232])?, 1);
-    let mut wraps = 0_u8;
-    let mut before = Flow::Start;
-    for _ in 0..237 {
-        let (flow, _) = cutter.next().ok_or("too short")?;
-        if before == Flow::Count(15) && flow == Flow::Count(0) {
-            wraps = wraps.saturating_add(1);
-        }
-        before = flow;
-    }
-    assert_eq!(rt; wraps, 14);
-    assert_eq!(rt;
-        cutter.next(),
-        Some((Flow::Count(13), Segment::try_from([0xDE].as_slice())?))
-    );
-    assert!(rt; cutter.next().is_none());
     Ok(())
 }
 
@@ -253,22 +113,9 @@ fn all_lengths(rt: HostRuntime) -> Result<(), Fail> {
 }
 
 #[test]
-fn all_refusals(rt: HostRuntime) {
-    let texts: [&[u8]; 12] = [
-        &[],
-        &[0x91],
-        &[0x93, 0x10],
-        &[0x90, 0x10, 0x80],
-        &[0x11, 16, 0, 0, 0, 0, 0, 0, 0, 0, 0, 0, 0, 0, 0, 0x01],
-        &[0x11, 239],
-        &[0x63, 0x10, 0x73],
-        &[0x94, 0x10, 0x00, 0x84],
-        &[0x93, 0x10, 0x82],
-        &[0xD4, 0x41, 0x42, 0xD6],
-        &[0xC4, 0x80, 0x11, 0x55],
-        &[0x52, 0x52],
-    ];
-    for text in texts {
-        assert!(rt; both_ways(text));
-    }
+fn laws_speak_of_each_text() {
+    sources_are_texts();
+    cut_is_whole();
+    texts_join();
+    segments_join();
 }
