@@ -7,7 +7,7 @@
  *   252  the handle is closed
  *   253  the handle is open already
  *   254  a number is out of its range
- *   255  what was brought isn't what the port asks for
+ *   255  the call doesn't fit what waits for its answer
  * Beside each call stand its refusals, in the order in which they are tested: the first that holds is answered. What is
  * refused changed nothing of the port. Every call but iol_port_open tests 252 first, and then writes nothing at all; by
  * any other refusal a ticket or a count that a call hands out is 0, and anything else that it hands out is as it was.
@@ -57,21 +57,40 @@ uint8_t iol_port_open(iol_port *port, uint32_t journal, uint16_t busy, uint64_t 
 /* Ends the port, and gives its memory back. 252. */
 uint8_t iol_port_close(iol_port *port);
 
-/* ---- the line: ask, do it, bring what came. One of the two turns a cycle. */
+/* ---- the line: ask, use the line once, bring what came. One such turn a cycle.
+ *
+ *                          iol_port_asks
+ *     +----------------+ ------------------> +-------------------+ ---+
+ *     | nothing is out |                     | a wake is out, or |    | iol_port_asks: the same again;
+ *     +----------------+ <------------------ | a message is      |    | every other call but
+ *       |  ^        iol_port_turn_woken      +-------------------+    | iol_port_restart
+ *       |  |        for a wake,                 ^                     |
+ *       +--+        iol_port_turn_answered      +---------------------+
+ *   every other     for a message
+ *
+ * What iol_port_asks gives is out until it is answered, and what comes is taken as the answer to that and to nothing
+ * else. So every other call may come between the two but a restart, and changes nothing of what is out: a request, a
+ * cancel's ABORT and another output go with a later message.
+ *
+ * To ask again is always right: it gives the same octets, changes nothing and counts as no repeat. So a driver that
+ * starts anew, over the same handle, asks. Where it knows that the octets did not go out, it sends them. Where it
+ * doesn't know, it first answers that nothing came, and asks then: that is a lost reply, after which the port repeats
+ * the message. Never send twice for one answer. */
 
 /* A message: `length` octets. */
 typedef struct { uint8_t length; uint8_t octets[66]; } iol_message;
 
-/* What the next turn sends: a message, or a wake-up request where `length` is 0. It changes nothing; any other call may
- * change what is asked, so ask right before the line is used. 252. */
+/* What goes out: a message, or a wake-up request where `length` is 0. It waits for its answer from then on, and is given
+ * again until it is answered. 252. */
 uint8_t iol_port_asks(iol_port *port, iol_message *out);
 
-/* The turn in which the line was woken: `rate` is 1, 2, 3 for a device that answered at COM1, COM2, COM3, and 0 where
- * none answered. 252, 254 a rate above 3, 255 a message is asked for. */
+/* What came of the wake that is out: `rate` is 1, 2, 3 for a device that answered at COM1, COM2, COM3, and 0 where none
+ * answered. 252, 254 a rate above 3, 255 no wake is out. */
 uint8_t iol_port_turn_woken(iol_port *port, uint8_t rate);
 
-/* The turn in which the message was sent, and these octets came back in the time of a reply; none did where `count` is
- * 0. Of more than 66 give the first 66. 252, 254 more than 66 octets, 255 a wake is asked for. */
+/* What came back, in the time of a reply, to the message that is out: these octets, or nothing where `count` is 0. Of
+ * more than 66 give the first 66. Without a good reply the message is asked for again; the third time in a row has lost
+ * the link. 252, 254 more than 66 octets, 255 no message is out. */
 uint8_t iol_port_turn_answered(iol_port *port, const uint8_t *octets, size_t count);
 
 /* ---- requests */
@@ -111,7 +130,8 @@ uint8_t iol_port_cancel(iol_port *port, uint64_t ticket);
 
 /* ---- the link, process data, events */
 
-/* Cuts off the request under way, if any, and leaves the link in down. 252. */
+/* Cuts off the request under way, if any, and leaves the link in down. 252, 255 a wake or a message is out: answer it
+ * first. The answer may be that nothing came: a rate of 0, or no octets. */
 uint8_t iol_port_restart(iol_port *port);
 
 /* Wants this output of the device. 252, 29 not 1 to 32 octets, 34 no start-up has told the lengths yet, 29 another

@@ -1,5 +1,6 @@
-/* A million random messages to a device, and as many random replies to a port. Nothing is asked of them: the program is
- * to end, and the sanitizers are to stay silent. What is printed is compared with noise.stdout. */
+/* A million random messages to a device, and as many random replies to a port, with other calls before them and behind.
+ * Nothing is asked of them: the program is to end, and the sanitizers are to stay silent. What is printed is compared
+ * with noise.stdout. */
 #include "iolink_port.h"
 #include "iolink_device.h"
 #include <stdio.h>
@@ -61,34 +62,45 @@ static long heard(long count)
     return iol_device_close(&device) == 0 ? replies : -1;
 }
 
+/* The calls that may come at any time; whether a ticket was given. */
+static bool called(iol_port *port)
+{
+    static uint64_t ticket;
+    iol_outcome outcome;
+    iol_event event;
+    uint32_t entries;
+    bool given = iol_port_read(port, 16, 0, &ticket) == 0;
+    iol_port_cancel(port, ticket);
+    iol_port_withdraw(port, ticket);
+    iol_port_collect(port, ticket, &outcome);
+    iol_port_take_event(port, &event);
+    iol_port_archive(port, &entries);
+    if (next() % 256 == 0)
+        iol_port_restart(port);
+    return given;
+}
+
 static long turned(long count)
 {
     iol_port port = {0};
     iol_message asked;
-    iol_outcome outcome;
-    iol_event event;
     uint8_t octets[80];
-    uint64_t ticket = 0;
-    uint32_t entries;
     long tickets = 0;
     if (iol_port_open(&port, 1000, 20, 0) != 0)
         return -1;
     while (count-- > 0) {
         if (iol_port_asks(&port, &asked) != 0)
             return -1;
+        if (next() % 2)
+            tickets += called(&port);
         if (asked.length == 0)
             iol_port_turn_woken(&port, 2);
         else {
             size_t length = random_octets(octets, 79);
             iol_port_turn_answered(&port, octets, length);
         }
-        if (iol_port_read(&port, 16, 0, &ticket) == 0)
-            tickets++;
-        iol_port_cancel(&port, ticket);
-        iol_port_withdraw(&port, ticket);
-        iol_port_collect(&port, ticket, &outcome);
-        iol_port_take_event(&port, &event);
-        iol_port_archive(&port, &entries);
+        if (next() % 2)
+            tickets += called(&port);
     }
     return iol_port_close(&port) == 0 ? tickets : -1;
 }

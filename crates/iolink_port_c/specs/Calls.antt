@@ -1,37 +1,37 @@
 -- The calls of a port, as C sees them: by a handle, and with numbers in place of answers.
 use Rattle.std.specs.Prelude.{◌≡◌, ℕ, nat_eq, if◌then◌else◌, List, length, Option, Some, None, Result, Ok, Err}
-use Rattle.arrayvec.specs.ArrayVec.{ArrayVec}
 use Rattle.iol_link.specs.declared.wire.Rate.{Rate}
 use Rattle.iol_link.specs.declared.wire.Rate.TheVariants.{Com1, Com2, Com3}
-use Rattle.iol_line.specs.declared.given.Given.{Given}
-use Rattle.iol_line.specs.Told.{line_facts}
 use Rattle.iol_port.specs.declared.call.Call.{Call}
 use Rattle.iol_port.specs.declared.call.Answered.{Answered}
 use Rattle.iol_port.specs.declared.fault.PortFault.{PortFault}
 use Rattle.iol_port.specs.Faults.{fault_number}
-use Rattle.iol_port.specs.View.{Parts, Does}
+use Rattle.iol_port.specs.View.{Parts}
+use Rattle.iol_port.specs.CorePort.{CoreDoes}
 use Rattle.iolink_port_c.specs.declared.held.IolPort.{IolPort}
 
 -- the parts of the port that a handle holds
-abbrev pub parts_of : IolPort → Parts (Option Given)
-parts_of handle = handle.held.value.port.parts
+abbrev pub parts_of : IolPort → Parts (Unit {0})
+parts_of handle = handle.held.value.port
 
 -- a call of a closed handle: refused, with nothing changed
 abbrev pub IsRefused : ℕ → IolPort → IolPort → Type 0
 IsRefused result old new = (result ≡ 252) × (new ≡ old)
 
--- all stays but the port's parts: the handle is as open as it was, the port's
--- opening and the archived journal are what they were
+-- a call that doesn't fit what waits for its answer: refused, with nothing of the port changed
+abbrev pub IsNotAsked : ℕ → IolPort → IolPort → Type 0
+IsNotAsked result old new = (result ≡ 255) × (parts_of new ≡ parts_of old)
+
+-- all stays but the port's parts: the handle is as open as it was, and the archived
+-- journal is what it was
 abbrev pub Stays : IolPort → IolPort → Type 0
 Stays old new =
     (new.is_open ≡ old.is_open)
-    × (new.held.value
-    ≡ record old.held.value { port = record old.held.value.port { parts = parts_of new } })
+    × (new.held.value ≡ record old.held.value { port = parts_of new })
 
 -- the call of C is this call of the abstract port, with this answer
 abbrev pub CallDoes : IolPort → Call → Answered → IolPort → Type 0
-CallDoes old call answered new =
-    Does line_facts (parts_of old) call answered (parts_of new)
+CallDoes old call answered new = CoreDoes (parts_of old) call answered (parts_of new)
 
 -- the number of an answer: that of its refusal, or 0
 abbrev pub number_of : {X : Type 0} → Result X PortFault → ℕ
@@ -45,5 +45,5 @@ rate_of number =
     then Some Com3 else None
 
 -- what came on the line: nothing where there are no octets
-abbrev pub answer_of : List ℕ → Option (ArrayVec ℕ)
-answer_of octets = if nat_eq (length octets) 0 then None else Some (record { items = octets })
+abbrev pub answer_of : List ℕ → Option (List ℕ)
+answer_of octets = if nat_eq (length octets) 0 then None else Some octets

@@ -1,5 +1,6 @@
 pub mod Calls
 pub mod Shown
+pub mod LineCalls
 pub mod RequestCalls
 pub mod StateCalls
 pub mod JournalCalls

@@ -48,8 +48,6 @@ pub extern "C" fn iol_port_archive(alloc: Global, handle: &mut IolPort, count: &
     ensures closed { IsFalse handle.old.is_open → IsRefused result handle.old handle.new }
     ensures unwritten { IsFalse handle.old.is_open → count.new ≡ count.old }
     ensures stays { handle.new.is_open ≡ handle.old.is_open }
-    ensures opening { handle.new.held.value.port ≡
-        record handle.old.held.value.port { parts = parts_of handle.new } }
     ensures refused { IsTrue handle.old.is_open →
         IsFalse (may_archive (parts_of handle.old).book.state) →
         RefusesArchive handle.old result count.new handle.new }

@@ -3,8 +3,7 @@ ghost use Rattle.std.specs.Prelude.{◌≡◌, Bool, true, false};
 ghost use Rattle.iolink_port_c.specs.declared.held.Master.{Master};
 
 use iol_book::Entry;
-use iol_line::Line;
-use iol_port::Port;
+use iol_port::PortCore;
 use iolink_handle::Loose;
 use std::alloc::Global;
 use std::marker::Model;
@@ -14,7 +13,7 @@ use std::ptr::null_mut;
 /// last, of which C reads one entry after the other.
 #[derive(Drop)]
 pub struct Master {
-    pub port: Port<Line, Global>,
+    pub port: PortCore<Global>,
     pub journal: Vec<Entry, Global>,
     pub read: usize,
 }

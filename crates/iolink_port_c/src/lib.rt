@@ -2,8 +2,9 @@
 //!
 //! A handle is a struct of C's own, all zero before it is opened. It says itself whether it
 //! is open, so that a call of a closed one is refused, and so is a second close. Each export
-//! is the call of [`iol_port::Port`] that it names, over a [`iol_line::Line`]: C asks what
-//! goes out, makes the exchange, and brings what came. Nothing is asked of what came.
+//! is the call of [`iol_port::PortCore`] that it names: C asks what goes out, uses its line, and
+//! brings what came. Between the two every other call may come, but a restart. Nothing is asked
+//! of what came.
 //!
 //! Each export answers the number of a refusal, or 0. The numbers are those of the
 //! library, 1 to 36, and four of its own ([`iolink_handle`]).

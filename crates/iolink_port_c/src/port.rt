@@ -1,16 +1,14 @@
 //! Opening and closing.
-ghost use Rattle.std.specs.Prelude.{◌≡◌, true, false, None, IsTrue, IsFalse};
+ghost use Rattle.std.specs.Prelude.{◌≡◌, true, false, IsTrue, IsFalse};
 ghost use Rattle.iol_book.specs.BookModel.{AreLimits};
-ghost use Rattle.iol_port.specs.View.{IsOpened, opening_of};
-ghost use Rattle.iol_line.specs.Told.{line_facts};
+ghost use Rattle.iol_port.specs.CorePort.{IsNew, CoreOpens};
 ghost use Rattle.iolink_port_c.specs.Calls.{parts_of, IsRefused};
 ghost use Rattle.iolink_port_c.specs.JournalCalls.{KeepsNone};
 
 use crate::held::{IolPort, Master};
 use core::mem::replace_with;
 use iol_book::Limits;
-use iol_line::Line;
-use iol_port::Port;
+use iol_port::PortCore;
 use iolink_handle::{CLOSED, IS_OPEN, OUT_OF_MEMORY, OUT_OF_RANGE};
 use std::alloc::Global;
 
@@ -42,11 +40,10 @@ pub extern "C" fn iol_port_open(
         ¬ (result ≡ 0) → result ≡ 24 }
     ensures refused { ¬ (result ≡ 0) → handle.new ≡ handle.old }
     ensures opened { result ≡ 0 → handle.new.is_open ≡ true }
-    ensures opening { result ≡ 0 → handle.new.held.value.port.opening
-        ≡ opening_of line_facts
-        (record { journal = journal; busy = busy; given = given }) None }
-    ensures parts { result ≡ 0 → IsOpened handle.new.held.value.port.opening (parts_of handle.new) }
-    ensures writer { result ≡ 0 → handle.new.held.value.port.writer ≡ None }
+    ensures parts { result ≡ 0 →
+        IsNew (record { journal = journal; busy = busy; given = given }) (parts_of handle.new) }
+    ensures opens { result ≡ 0 →
+        CoreOpens (record { journal = journal; busy = busy; given = given }) (parts_of handle.new) }
     ensures journal { result ≡ 0 → KeepsNone handle.new }
 {
     if handle.is_open {
@@ -60,9 +57,9 @@ pub extern "C" fn iol_port_open(
         busy,
         given,
     };
-    let port = match Port::open(alloc, Line::new(), &limits) {
+    let port = match PortCore::open(alloc, &limits) {
         Ok(port) => port,
-        Err((fault, _)) => return fault.code(),
+        Err(fault) => return fault.code(),
     };
     let master = Master {
         port,

@@ -3,36 +3,51 @@ ghost use Rattle.std.specs.Prelude.{◌≡◌, unwrap_or, [], IsTrue, IsFalse};
 ghost use Rattle.iol_port.specs.declared.call.Call.TheVariants as call;
 ghost use Rattle.iol_port.specs.declared.call.Answered.TheVariants as answered;
 ghost use Rattle.iol_image.specs.Image.{IsImage};
+ghost use Rattle.iol_port.specs.declared.awaited.Awaited.{Awaited};
+ghost use Rattle.iol_port.specs.CorePort.{awaited};
 ghost use Rattle.iol_port.specs.View.{status_of};
 ghost use Rattle.iolink_handle.specs.Shown.{AreShown};
 ghost use Rattle.iolink_port_c.specs.Shown.{IsShown};
-ghost use Rattle.iolink_port_c.specs.Calls.{parts_of, IsRefused, Stays, CallDoes};
+ghost use Rattle.iolink_port_c.specs.Calls.{parts_of, IsRefused, IsNotAsked, Stays, CallDoes};
 ghost use Rattle.iolink_port_c.specs.StateCalls.{Restarts, SetsOutput, ClearsOutput, TakesEvent};
 
 use crate::held::IolPort;
 use core::mem::replace_with;
 use iol_app::{Mode, Status};
 use iol_image::Image;
-use iolink_handle::{CLOSED, IolImage, show_image};
+use iol_port::Awaited;
+use iolink_handle::{CLOSED, IolImage, NOT_ASKED, show_image};
 use std::alloc::Global;
 
-/// Cuts off the request under way, if any, and leaves the link in down: 0, or 252
-/// where the handle is closed.
+/// Cuts off the request under way, if any, and leaves the link in down.
+///
+/// 0, or the first of 252 where the handle is closed, and 255 where what was asked for waits for
+/// its answer; nothing changed then. Bring the answer first: it may be that nothing came.
 #[unsafe(no_mangle)]
 pub extern "C" fn iol_port_restart(alloc: Global, handle: &mut IolPort) -> u8
     ensures closed { IsFalse handle.old.is_open → IsRefused result handle.old handle.new }
     ensures stays { Stays handle.old handle.new }
-    ensures restarts { IsTrue handle.old.is_open → Restarts handle.old result handle.new }
+    ensures refused { IsTrue handle.old.is_open →
+        ¬ (awaited (parts_of handle.old) ≡ Awaited.Nothing) →
+        IsNotAsked result handle.old handle.new }
+    ensures restarts { IsTrue handle.old.is_open →
+        awaited (parts_of handle.old) ≡ Awaited.Nothing →
+        Restarts handle.old result handle.new }
 {
     if !handle.is_open {
         return CLOSED;
     }
     replace_with(handle, alloc, |handle, alloc| {
         let mut master = handle.into_box(alloc);
-        master.port.restart();
-        (IolPort::of(master), ())
-    });
-    0
+        let code = match master.port.awaits() {
+            Awaited::Nothing => {
+                master.port.restart();
+                0
+            }
+            Awaited::Wake | Awaited::Reply => NOT_ASKED,
+        };
+        (IolPort::of(master), code)
+    })
 }
 
 /// Wants this output of the device.
