@@ -5,16 +5,22 @@
 //! makes its turns ([`Master::serve`]). Each call on a port, while its lock is held, is one call of
 //! the abstract port that it stands for (crate iol_port), and the lock's type keeps that the port's
 //! record fits its journal.
+//!
+//! A worker of a master holds its port's lock for a whole turn, as the wire lies under it too. On a
+//! line whose exchanges take their time a [`Line`] serves better: its [`LineWorker`] owns the wire
+//! and calls it without the lock, so that no client waits for an exchange.
 #![tactic(auto)]
 
 mod accounts;
 mod fault;
 mod held;
+mod line;
 mod master;
 mod serve;
 
 pub use accounts::{Desk, Settled, Tally};
 pub use fault::MasterFault;
 pub use held::Held;
+pub use line::{Line, LinePort, LineWorker};
 pub use master::Master;
 pub use serve::Gate;

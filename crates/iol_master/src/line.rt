@@ -1,0 +1,444 @@
+//! A line whose clients wait for no exchange: its port lies under a lock, and a worker owns its
+//! wire.
+ghost use Rattle.std.specs.Prelude.{◌≡◌, ◌≤◌, IfOk, IfErr, IsTrue, is_some, length};
+ghost use Rattle.std.specs.Option.{option_copied};
+ghost use Rattle.std.specs.Result.{result_map_both};
+ghost use Rattle.iol_far.specs.Octets.{octets_in};
+ghost use Rattle.iol_book.specs.declared.fault.BookFault.TheVariants.{OutOfMemory};
+ghost use Rattle.iol_book.specs.BookModel.{submitted, submitted_urgent};
+ghost use Rattle.iol_app.specs.declared.asked.Asked.{Asked};
+ghost use Rattle.iol_app.specs.Asking.{IsCall};
+ghost use Rattle.iol_port.specs.declared.fault.PortFault.TheVariants as fault;
+ghost use Rattle.iol_port.specs.declared.call.Call.TheVariants as call;
+ghost use Rattle.iol_port.specs.declared.call.Answered.TheVariants as answered;
+ghost use Rattle.iol_port.specs.View.{status_of};
+ghost use Rattle.iol_port.specs.EveryWire.{SubmitGives, CollectGives, WithdrawGives, CancelGives};
+ghost use Rattle.iol_port.specs.EveryWire.{ArchiveGives, TakeEventGives, SetOutputGives, ClearOutputGives};
+ghost use Rattle.iol_port.specs.CorePort.{CoreDoes};
+ghost use Rattle.iol_port.specs.Replies.{ticket_reply, outcome_reply, nothing_reply, event_reply, reply_of};
+ghost use Rattle.iol_port.specs.declared.awaited.Awaited.TheVariants as Awaited;
+ghost use Rattle.iol_port.specs.CorePort.{awaited};
+ghost use Rattle.iol_master.specs.Ledgers.{IsBlankFor};
+ghost use Rattle.iol_master.specs.Line.{RestartsOnce, Sends, TakesReply, TakesRate};
+ghost use Rattle.iol_master.specs.Line.{IsWhole, IsLineTurn, IsServed, awaited_number, awaited_of};
+
+use crate::serve::Gate;
+use iol_app::{Asked, Status};
+use iol_book::{Entry, Outcome, Ticket};
+use iol_event::Event;
+use iol_image::Image;
+use iol_isdu::Request;
+use iol_link::{Rate, Wire};
+use iol_mseq::Message;
+use iol_port::{Awaited, PortCore, PortFault};
+use std::alloc::{Allocator, Global};
+use std::marker::Model;
+use std::sync::ledger::{Blank, Book, Ledger, Share};
+use std::sync::{Mutex, MutexGuard, Wait};
+
+/// How much the ledger of a line has while a wake-up request is out, and while a message is. It
+/// has nothing while nothing is.
+const WAKE: u64 = 1;
+
+const REPLY: u64 = 2;
+
+fn amount_of(asked: &Asked) -> u64
+    ensures { result ≡ awaited_number (awaited_of asked.now) }
+{
+    match asked {
+        Asked::Wake => WAKE,
+        Asked::Exchange(_) => REPLY,
+    }
+}
+
+/// The port of a line, as it lies under its lock, while a worker makes the calls of the wire.
+///
+/// Clients make every call but a turn. Each may come while an exchange is under way, and changes
+/// nothing of what is out. What came is judged by what was sent.
+///
+/// Contracts see the port's parts, and whether a restart waits: each call has the clauses of the
+/// call of that name of [`PortCore`], word for word, but a restart, which may have to wait. No call
+/// here takes a lock: who calls holds it.
+#[derive(Drop)]
+pub struct LinePort<K: Ledger, A: Allocator + Copy = Global> {
+    port: PortCore<A>,
+    /// A restart waits until what is out has been answered.
+    restart_waits: bool,
+    /// Its total says what is out.
+    out: Book<K>,
+}
+
+impl<K: Ledger, A: Allocator + Copy> Model for LinePort<K, A> {
+    ghost use Rattle.std.specs.Prelude.{◌≡◌, IsTrue};
+    ghost use Rattle.iol_port.specs.CorePort.{awaited};
+    ghost use Rattle.iol_master.specs.Line.{LineState, awaited_number};
+
+    ghost Value = { LineState };
+
+    ghost view = { λ p. record { parts = p.port; restart_waits = p.restart_waits } };
+
+    ghost invariant = { λ p. (IsTrue p.restart_waits → IsTrue p.port.sent)
+        × (p.out.total ≡ awaited_number (awaited p.port)) };
+}
+
+impl<K: Ledger, A: Allocator + Copy> LinePort<K, A> {
+    /// Enters a request and answers its ticket. The request then waits behind all that wait
+    /// already; an urgent one that is submitted later goes before it.
+    ///
+    /// Refused, with nothing changed, by the first of 21 where 64 tickets are outstanding, 22 where
+    /// the journal has no room for the request's entries, 23 where the last ticket was 2^64 - 1,
+    /// and 24 where a growth was refused.
+    pub fn submit(&mut self, request: Request) -> Result<Ticket, PortFault>
+        ensures does { CoreDoes self.old.parts
+            (call.Submit request) (ticket_reply result) self.new.parts }
+        ensures lacks { IfErr result (λ e. e ≡ fault.Book OutOfMemory
+            → self.old.parts.book.room ≡ 0) }
+        ensures gives { SubmitGives self.old.parts
+            (submitted self.old.parts.book.state request) result self.new.parts }
+        ensures rest { self.new ≡ record self.old { parts = self.new.parts } }
+    {
+        self.port.submit(request)
+    }
+
+    /// Enters an urgent request, which then waits behind the other urgent ones and before all
+    /// others, and answers its ticket. A request that is under way isn't stopped by it.
+    ///
+    /// Refused, with nothing changed, as `submit` is: 21, 22 and 23 count both kinds.
+    pub fn submit_urgent(&mut self, request: Request) -> Result<Ticket, PortFault>
+        ensures does { CoreDoes self.old.parts
+            (call.SubmitUrgent request) (ticket_reply result) self.new.parts }
+        ensures lacks { IfErr result (λ e. e ≡ fault.Book OutOfMemory
+            → self.old.parts.book.room ≡ 0) }
+        ensures gives { SubmitGives self.old.parts
+            (submitted_urgent self.old.parts.book.state request) result self.new.parts }
+        ensures rest { self.new ≡ record self.old { parts = self.new.parts } }
+    {
+        self.port.submit_urgent(request)
+    }
+
+    /// Hands out the outcome of a ticket, which is outstanding no more.
+    ///
+    /// Refused, with nothing changed, by 25 where no such ticket is outstanding, and by 26 where it
+    /// has no outcome yet.
+    pub fn collect(&mut self, ticket: Ticket) -> Result<Outcome, PortFault>
+        ensures does { CoreDoes self.old.parts
+            (call.Collect ticket) (outcome_reply result) self.new.parts }
+        ensures gives { CollectGives self.old.parts ticket result self.new.parts }
+        ensures rest { self.new ≡ record self.old { parts = self.new.parts } }
+    {
+        self.port.collect(ticket)
+    }
+
+    /// Hands out the outcome of a ticket as [`collect`](LinePort::collect) does, into a place of
+    /// the caller, which a refusal leaves as it was. Most asks come before the outcome, and cost
+    /// little.
+    pub fn collect_into(&mut self, ticket: Ticket, into: &mut Outcome) -> Result<(), PortFault>
+        ensures does { CoreDoes self.old.parts (call.Collect ticket)
+            (outcome_reply (result_map_both (λ _. into.new) (λ why. why) result))
+            self.new.parts }
+        ensures gives { CollectGives self.old.parts ticket
+            (result_map_both (λ _. into.new) (λ why. why) result) self.new.parts }
+        ensures kept { IfErr result (λ _. into.new ≡ into.old) }
+        ensures rest { self.new ≡ record self.old { parts = self.new.parts } }
+    {
+        self.port.collect_into(ticket, into)
+    }
+
+    /// Takes back a request that waits, urgent or not. Its outcome is then that it was withdrawn.
+    ///
+    /// Refused, with nothing changed, by 25 where no such ticket is outstanding, and by 27 where it
+    /// waits no longer.
+    pub fn withdraw(&mut self, ticket: Ticket) -> Result<(), PortFault>
+        ensures does { CoreDoes self.old.parts
+            (call.Withdraw ticket) (nothing_reply result) self.new.parts }
+        ensures gives { WithdrawGives self.old.parts ticket result self.new.parts }
+        ensures rest { self.new ≡ record self.old { parts = self.new.parts } }
+    {
+        self.port.withdraw(ticket)
+    }
+
+    /// Asks to cut off the request of a ticket, which is under way.
+    ///
+    /// An ABORT waits then, unless one waits already; a message that is out comes before it. The
+    /// outcome follows in a later turn: that it was cancelled, with the good reply to the ABORT;
+    /// its answer, where that is whole before the ABORT is sent; or that it was cut off for another
+    /// cause. Refused, with nothing changed, by 25 where no such ticket is outstanding, and by 36
+    /// where it waits, or has an outcome.
+    pub fn cancel(&mut self, ticket: Ticket) -> Result<(), PortFault>
+        ensures does { CoreDoes self.old.parts
+            (call.Cancel ticket) (nothing_reply result) self.new.parts }
+        ensures gives { CancelGives self.old.parts ticket result self.new.parts }
+        ensures rest { self.new ≡ record self.old { parts = self.new.parts } }
+    {
+        self.port.cancel(ticket)
+    }
+
+    /// Cuts off the request under way, if any, and leaves the link in down, without an image: at
+    /// once where nothing is out, else as soon as the worker has taken what came of that.
+    ///
+    /// A message that is out can't be taken back, and what comes is still judged by it. A request
+    /// that the answer ends is ended by it, and not cut off. A restart that waits is one restart,
+    /// however often it was wanted. What is submitted meanwhile waits on through it.
+    ///
+    /// The device may still carry the request that was cut off out, once, until a wake succeeds.
+    pub fn restart(&mut self)
+        ensures { RestartsOnce self.old self.new }
+    {
+        match self.port.awaits() {
+            Awaited::Nothing => self.port.restart(),
+            Awaited::Wake | Awaited::Reply => self.restart_waits = true,
+        }
+    }
+
+    /// Whether a restart waits until what is out has been answered.
+    pub fn is_restart_waiting(&self) -> bool
+        ensures { result ≡ self.now.restart_waits }
+    {
+        self.restart_waits
+    }
+
+    /// Wants this output of the device, from the next message made in OPERATE on.
+    ///
+    /// Refused, with nothing changed, by the first of 34 where no start-up has told the lengths of
+    /// the process data yet, and 29 where the image has not the length that was told last.
+    pub fn set_output(&mut self, image: &Image) -> Result<(), PortFault>
+        ensures does { CoreDoes self.old.parts
+            (call.SetOutput image.now) (nothing_reply result) self.new.parts }
+        ensures gives { SetOutputGives self.old.parts image.now result self.new.parts }
+        ensures rest { self.new ≡ record self.old { parts = self.new.parts } }
+    {
+        self.port.set_output(image)
+    }
+
+    /// Wants no output of the device.
+    pub fn clear_output(&mut self)
+        ensures does { CoreDoes self.old.parts call.ClearOutput
+            answered.Nothing self.new.parts }
+        ensures gives { ClearOutputGives self.old.parts self.new.parts }
+        ensures rest { self.new ≡ record self.old { parts = self.new.parts } }
+    {
+        self.port.clear_output();
+    }
+
+    /// The device's input by the last good reply in OPERATE: one whole image, or none where it was
+    /// not valid. None in every other mode.
+    pub fn image(&self) -> Option<&Image>
+        ensures does { CoreDoes self.now.parts
+            call.Look (answered.Image (option_copied result)) self.now.parts }
+        ensures value { option_copied result ≡ self.now.parts.station.session.image }
+    {
+        self.port.image()
+    }
+
+    /// Hands out the event that was kept longest. Refused by 30 where none is kept.
+    pub fn take_event(&mut self) -> Result<Event, PortFault>
+        ensures does { CoreDoes self.old.parts
+            call.TakeEvent (event_reply result) self.new.parts }
+        ensures gives { TakeEventGives self.old.parts result self.new.parts }
+        ensures rest { self.new ≡ record self.old { parts = self.new.parts } }
+    {
+        self.port.take_event()
+    }
+
+    /// The mode of the link, and why it is down.
+    pub fn status(&self) -> Status
+        ensures does { CoreDoes self.now.parts
+            call.Status (answered.Status result) self.now.parts }
+        ensures value { result ≡ status_of self.now.parts.station }
+    {
+        self.port.status()
+    }
+
+    /// Hands the journal out and begins a new one, which is empty. Tickets go on.
+    ///
+    /// Refused, with nothing changed, by 28 where a ticket is outstanding, or where a request was
+    /// cut off by a lost link or a restart and no wake succeeded since, as the device may still
+    /// carry that request out.
+    pub fn archive(&mut self) -> Result<Vec<Entry, A>, PortFault>
+        ensures does { CoreDoes self.old.parts call.Archive
+            (reply_of (λ entries. answered.Archived (length entries.items)) result)
+            self.new.parts }
+        ensures within { IfOk result (λ entries. length entries.items ≤ 1000000) }
+        ensures gives { ArchiveGives self.old.parts
+            (result_map_both (λ entries. entries.items) (λ why. why) result) self.new.parts }
+        ensures rest { self.new ≡ record self.old { parts = self.new.parts } }
+    {
+        self.port.archive()
+    }
+
+    /// What goes out, which the worker's hand knows from then on.
+    fn send(&mut self, hand: &mut Share<K>) -> Asked
+        requires whole { IsWhole hand.old.parts K.parts }
+        ensures sends { Sends self.old result self.new }
+        ensures whole { IsWhole hand.new.parts K.parts }
+        ensures out { hand.new.amount ≡ awaited_number (awaited_of result) }
+    {
+        self.out.audit(hand);
+        let before = self.port.awaits();
+        let asked = self.port.send();
+        match before {
+            Awaited::Nothing => self.out.add(hand, amount_of(&asked)),
+            Awaited::Wake | Awaited::Reply => {}
+        }
+        asked
+    }
+
+    /// Takes what came back, and makes the restart that waited.
+    fn receive(&mut self, hand: &mut Share<K>, came: &Option<Message>)
+        requires whole { IsWhole hand.old.parts K.parts }
+        requires out { hand.old.amount ≡ awaited_number Awaited.Reply }
+        ensures awaits { awaited self.old.parts ≡ Awaited.Reply }
+        ensures takes { TakesReply self.old (octets_in came.now) self.new }
+        ensures whole { IsWhole hand.new.parts K.parts }
+    {
+        self.out.audit(hand);
+        let waited = self.restart_waits;
+        self.restart_waits = false;
+        self.port.receive(came);
+        self.out.sub(hand, REPLY);
+        if waited {
+            self.port.restart();
+        }
+    }
+
+    /// Takes what came of a wake-up request, and makes the restart that waited.
+    fn receive_wake(&mut self, hand: &mut Share<K>, rate: Option<Rate>)
+        requires whole { IsWhole hand.old.parts K.parts }
+        requires out { hand.old.amount ≡ awaited_number Awaited.Wake }
+        ensures awaits { awaited self.old.parts ≡ Awaited.Wake }
+        ensures takes { TakesRate self.old (is_some rate) self.new }
+        ensures whole { IsWhole hand.new.parts K.parts }
+    {
+        self.out.audit(hand);
+        let waited = self.restart_waits;
+        self.restart_waits = false;
+        self.port.receive_wake(rate);
+        self.out.sub(hand, WAKE);
+        if waited {
+            self.port.restart();
+        }
+    }
+}
+
+/// A port whose wire a worker owns, under a lock.
+///
+/// There is one worker: only it sends and receives, so what comes is the answer to what is out.
+/// K names a ledger, by which the worker and the port agree on what that is; it takes no memory.
+#[derive(Drop)]
+pub struct Line<K: Ledger, A: Allocator + Copy = Global> {
+    port: Mutex<LinePort<K, A>>,
+}
+
+impl<K: Ledger, A: Allocator + Copy> Line<K, A> {
+    /// A line of this port, and the worker of this wire. The blank names its ledger, and is used
+    /// up.
+    pub fn open<W: Wire>(port: PortCore<A>, wire: W, hands: Blank) -> (Line<K, A>, LineWorker<W, K>)
+        requires { IsBlankFor hands K.name K.parts 1 }
+        ensures { result.1 ≡ wire }
+    {
+        let (mut out, mut hand) = hands.open::<K>();
+        match port.awaits() {
+            Awaited::Nothing => {}
+            Awaited::Wake => out.add(&mut hand, WAKE),
+            Awaited::Reply => out.add(&mut hand, REPLY),
+        }
+        let port = LinePort {
+            port,
+            restart_waits: false,
+            out,
+        };
+        let line = Line {
+            port: Mutex::new(port),
+        };
+        (line, LineWorker { wire, hand })
+    }
+
+    /// Takes the port's lock, which is let go when the guard is dropped.
+    ///
+    /// The worker waits while another holds it, and the device with it.
+    pub fn lock<R: Wait>(&self, rt: &R) -> MutexGuard<'_, LinePort<K, A>> {
+        self.port.lock(rt)
+    }
+
+    /// The port, with the restart that waits, if any.
+    pub fn into_inner(self) -> LinePort<K, A> {
+        self.port.into_inner()
+    }
+}
+
+/// The worker of a line, which owns its wire, and makes the turns of its port.
+///
+/// It holds the port's lock before and after each call of the wire, and not while that is under
+/// way: so no client waits for an exchange.
+///
+/// Contracts see the wire. What lies under the lock no clause here can name, so they say that there
+/// was such a port. The exact clauses are those of the calls on a port whose lock is held.
+#[derive(Drop)]
+pub struct LineWorker<W: Wire, K: Ledger> {
+    wire: W,
+    /// All of the ledger. Its amount says what is out.
+    hand: Share<K>,
+}
+
+impl<W: Wire, K: Ledger> Model for LineWorker<W, K> {
+    ghost use Rattle.iol_master.specs.Line.{IsWhole};
+
+    ghost Value = { W };
+
+    ghost view = { λ w. w.wire };
+
+    ghost invariant = { λ w. IsWhole w.hand.parts K.parts };
+}
+
+impl<W: Wire, K: Ledger> LineWorker<W, K> {
+    /// One turn: one wake-up request where the link is down, else one exchange with the device.
+    ///
+    /// Under the lock the port says what goes out; without it the wire is called, once; under it
+    /// again the port takes what came, and makes a restart that was wanted meanwhile.
+    pub fn turn<A: Allocator + Copy, R: Wait>(&mut self, rt: &R, line: &Line<K, A>)
+        ensures asked { (asked : Asked) × IsCall W.facts asked self.old self.new }
+        ensures turned { IsLineTurn W.facts self.old self.new }
+    {
+        let LineWorker { wire, hand } = self;
+        let asked = line.port.lock(rt).send(hand);
+        match asked {
+            Asked::Wake => {
+                let rate = wire.wake();
+                line.port.lock(rt).receive_wake(hand, rate);
+            }
+            Asked::Exchange(octets) => {
+                let came = wire.exchange(octets.as_slice());
+                line.port.lock(rt).receive(hand, &came);
+            }
+        }
+    }
+
+    /// Makes so many turns, up to one at which the gate says no.
+    ///
+    /// The gate is asked before each turn, as for the port of this number, with no lock held.
+    pub fn serve<A: Allocator + Copy, G: Gate, R: Wait>(
+        &mut self,
+        rt: &R,
+        line: &Line<K, A>,
+        gate: &G,
+        number: u32,
+        turns: u64,
+    )
+        requires { (1 ≤ number) × (number ≤ 32) }
+        ensures { IsServed W.facts turns self.old self.new }
+    {
+        for turn in 0..turns {
+            if !gate.pass(number, turn + 1) {
+                return;
+            }
+            self.turn(rt, line);
+        }
+    }
+
+    /// The wire. The line has no worker from then on.
+    pub fn into_wire(self) -> W
+        ensures { result ≡ self }
+    {
+        self.wire
+    }
+}
