@@ -187,16 +187,6 @@ fn print_collected(
     }
 }
 
-fn cause_name(cause: Cause) -> &'static str {
-    match cause {
-        Cause::LinkLost => "LinkLost",
-        Cause::Restarted => "Restarted",
-        Cause::BusyTooLong => "BusyTooLong",
-        Cause::Protocol => "Protocol",
-        Cause::Cancelled => "Cancelled",
-    }
-}
-
 /// How a request ended.
 pub(crate) fn print_outcome(output: &mut String, outcome: &Outcome) -> Result<(), AllocError> {
     match outcome {
@@ -204,10 +194,7 @@ pub(crate) fn print_outcome(output: &mut String, outcome: &Outcome) -> Result<()
             output.push_str(" done")?;
             print_answer(output, answer)
         }
-        Outcome::Unknown(cause) => {
-            output.push_str(" unknown ")?;
-            output.push_str(cause_name(*cause))
-        }
+        Outcome::Unknown(cause) => write!(output, " unknown {cause:?}"),
         Outcome::Withdrawn => output.push_str(" withdrawn"),
         Outcome::NoIsdu => output.push_str(" noisdu"),
     }

@@ -3,7 +3,7 @@ use std::alloc::{AllocError, AllocFailed};
 use thiserror::Error;
 
 /// Why the program ends with status 1. Its text is what stands on standard error.
-#[derive(Clone, Copy, Debug, PartialEq, Eq, Error)]
+#[derive(Debug, Drop, Error)]
 pub(crate) enum ProbeFault {
     /// The line of this number, counted from 1, fits no form, or has no place where it stands.
     #[error("line {0}: bad line")]
@@ -20,7 +20,7 @@ pub(crate) enum ProbeFault {
 }
 
 /// Why a line is not answered.
-#[derive(Clone, Copy, Debug, PartialEq, Eq)]
+#[derive(Drop)]
 pub(crate) enum LineFault {
     /// It fits no form, or has no place where it stands.
     Bad,

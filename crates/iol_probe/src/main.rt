@@ -18,14 +18,15 @@
 //! page OCTETS                octet AA (of the page)  capability OO   length OO   command OO
 //! total OCTETS               request OCTETS          answer read|write OCTETS
 //! encode REQUEST             encode answer read|write ANSWER
-//! cut request N REQUEST      cut answer N read|write ANSWER           cut next|again|source
+//! cut request N REQUEST      cut answer N read|write ANSWER          cut next|again|source
 //! join requests|answers      join take FLOW OCTETS   join whole|request|answer read|write
 //! memory new|raise QQ CCCC|octet AA|confirm|other|clear|flag
-//! reader new|address|take OO image OCTETS
+//! reader new|address|take OO                         image OCTETS
 //! book open JOURNAL BUSY GIVEN
 //! book submit|urgent REQUEST|take|deny|next|post T OUTCOME|collect T|withdraw T|flight T
 //! book reset|archive|journal
-//! device param INDEX SUB ro|rw WORD                  device open|apart ROOM OCTETS   device bare OCTETS
+//! device param INDEX SUB ro|rw WORD
+//! device open|apart ROOM OCTETS                      device bare OCTETS
 //! device hear OCTETS|raise QQ CCCC|input OCTETS|clear|wake|work|power
 //! device handed|answer ANSWER (where apart)|output|record|page
 //! port open JOURNAL BUSY GIVEN

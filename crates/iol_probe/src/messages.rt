@@ -127,7 +127,7 @@ fn answer_reply(
     direction: Direction,
     octets: &[u8],
 ) -> Result<(), AllocError> {
-    match read_reply(layout, direction == Direction::Read, octets) {
+    match read_reply(layout, direction.is_read(), octets) {
         Ok(reply) => print_reply(
             output,
             &reply.od,
@@ -169,7 +169,7 @@ fn view_answer(
     direction: Direction,
     octets: &[u8],
 ) -> Result<(), AllocError> {
-    match view_reply(layout, direction == Direction::Read, octets) {
+    match view_reply(layout, direction.is_read(), octets) {
         Ok(view) => print_reply(
             output,
             view.od(),
@@ -221,7 +221,7 @@ fn control(words: &mut Words<'_>, direction: Direction) -> Result<Mc, LineFault>
         return Err(LineFault::Bad);
     }
     Ok(Mc {
-        read: direction == Direction::Read,
+        read: direction.is_read(),
         channel,
         address,
     })

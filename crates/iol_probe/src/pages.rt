@@ -83,25 +83,12 @@ fn print_length(output: &mut String, octet: u8) -> Result<(), AllocError> {
     }
 }
 
-fn command_name(command: MasterCommand) -> &'static str {
-    match command {
-        MasterCommand::Fallback => "Fallback",
-        MasterCommand::MasterIdent => "MasterIdent",
-        MasterCommand::DeviceIdent => "DeviceIdent",
-        MasterCommand::DeviceStartup => "DeviceStartup",
-        MasterCommand::ProcessDataOutputOperate => "ProcessDataOutputOperate",
-        MasterCommand::DeviceOperate => "DeviceOperate",
-        MasterCommand::DevicePreoperate => "DevicePreoperate",
-    }
-}
-
 /// The command of an octet, and the octet that it is written as.
 fn print_command(output: &mut String, octet: u8) -> Result<(), AllocError> {
     match MasterCommand::from_octet(octet) {
         Some(command) => {
-            let name = command_name(command);
             let octet = command.octet();
-            writeln!(output, "command {name} octet {octet:02X}")
+            writeln!(output, "command {command:?} octet {octet:02X}")
         }
         None => output.push_str("command none\n"),
     }

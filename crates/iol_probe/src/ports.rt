@@ -5,7 +5,7 @@ use crate::events::print_event;
 use crate::fault::LineFault;
 use crate::printing::{print_named, print_ok, print_refused};
 use crate::reading::{end, is, octets, request, word};
-use iol_app::{Asked, Mode, Status};
+use iol_app::{Asked, Status};
 use iol_book::{Entry, Outcome, Ticket};
 use iol_event::Event;
 use iol_image::Image;
@@ -111,8 +111,8 @@ fn look(output: &mut String, port: &PortCore, name: &[u8]) -> Result<(), LineFau
     } else if is(name, b"status") {
         print_status(output, port.status())?;
     } else if is(name, b"awaits") {
-        let awaits = awaited_name(port.awaits());
-        writeln!(output, "awaits {awaits}")?;
+        let awaits = port.awaits();
+        writeln!(output, "awaits {awaits:?}")?;
     } else {
         return Err(LineFault::Bad);
     }
@@ -253,27 +253,10 @@ fn print_asked(output: &mut String, name: &str, asked: Asked) -> Result<(), Allo
     }
 }
 
-fn awaited_name(awaited: Awaited) -> &'static str {
-    match awaited {
-        Awaited::Nothing => "nothing",
-        Awaited::Wake => "wake",
-        Awaited::Reply => "reply",
-    }
-}
-
-fn mode_name(mode: Mode) -> &'static str {
-    match mode {
-        Mode::Down => "down",
-        Mode::Startup => "startup",
-        Mode::Preoperate => "preoperate",
-        Mode::Operate => "operate",
-    }
-}
-
 /// The mode, why the link is down, and whether a StatusCode was refused.
 fn print_status(output: &mut String, status: Status) -> Result<(), AllocError> {
-    let mode = mode_name(status.mode);
-    write!(output, "status {mode}")?;
+    let mode = status.mode;
+    write!(output, "status {mode:?}")?;
     if let Some(why) = status.why {
         write!(output, " {why}")?;
     }

@@ -12,10 +12,16 @@ use iol_script::{Words, decimal_number, hexadecimal_octet, hexadecimal_octets, p
 pub(crate) type Bytes = ArrayVec<u8, 256>;
 
 /// Whether a read or a write is spoken of.
-#[derive(Clone, Copy, Debug, PartialEq, Eq)]
+#[derive(Clone, Copy)]
 pub(crate) enum Direction {
     Read,
     Write,
+}
+
+impl Direction {
+    pub fn is_read(self) -> bool {
+        matches!(self, Direction::Read)
+    }
 }
 
 pub(crate) fn is(word: &[u8], name: &[u8]) -> bool {

@@ -138,9 +138,7 @@ impl Segments {
 
 fn print_took(output: &mut String, took: Result<Took, JoinFault>) -> Result<(), AllocError> {
     match took {
-        Ok(Took::Repeat) => output.push_str("took repeat\n"),
-        Ok(Took::More) => output.push_str("took more\n"),
-        Ok(Took::Whole) => output.push_str("took whole\n"),
+        Ok(took) => writeln!(output, "took {took:?}"),
         Err(fault) => print_refused(output, fault.code(), &fault),
     }
 }
