@@ -9,7 +9,8 @@ use iol_mode::Why;
 use iol_mseq::Message;
 use iol_port::{
     Answered, Call, Port, PortFault, cancelled_requests_were_asked, denied_requests_stay_out,
-    each_done_has_its_pair, late_requests_end, record_fits_journal, runs_join, turns_rule_out,
+    each_done_has_its_pair, late_requests_end, pieces_are_turns, record_fits_journal, runs_join,
+    turns_rule_out,
 };
 use iol_vectors::{AnyWire, Peer};
 use scarce::{Refusal, Scarce};
@@ -79,6 +80,7 @@ fn faults_of_a_port_have_numbers_and_names(rt: HostRuntime) -> Result<(), Fail> 
     denied_requests_stay_out();
     each_done_has_its_pair();
     late_requests_end();
+    pieces_are_turns();
     record_fits_journal();
     runs_join();
     turns_rule_out();

@@ -1,23 +1,20 @@
-//! Tests of ports over told lines, with a device at the far end and a loop between them.
+//! Tests of ports without a wire, with a device at the far end and a loop between them.
+mod between;
 mod honest;
 mod named;
 mod store;
-mod told;
 
 use iol_app::{Asked, Mode};
 use iol_book::{Limits, Outcome, Ticket};
 use iol_device::Device;
 use iol_isdu::{Answer, Cause, Octets, Place, Request};
-use iol_line::{Line, turn_answered, turn_woken};
 use iol_link::Rate;
 use iol_mode::Why;
-use iol_mseq::Message;
-use iol_port::Port;
+use iol_port::PortCore;
 use named::{Call, Said, reply_to};
 use std::alloc::Global;
 use std::test::Fail;
 use store::{Fate, Store, opened_device};
-use told::{Brought, LineCall, bring_both};
 
 const LIMITS: Limits = Limits {
     journal: 1_000,
@@ -27,10 +24,10 @@ const LIMITS: Limits = Limits {
 
 const PARAMETER: Place = Place { index: 16, sub: 0 };
 
-fn opened_port(alloc: Global) -> Result<Port<Line>, Fail> {
-    match Port::open(alloc, Line::new(), &LIMITS) {
+fn opened_port(alloc: Global) -> Result<PortCore, Fail> {
+    match PortCore::open(alloc, &LIMITS) {
         Ok(port) => Ok(port),
-        Err((fault, _)) => Err(Fail::from(fault)),
+        Err(fault) => Err(Fail::from(fault)),
     }
 }
 
@@ -38,28 +35,23 @@ fn octets(items: &[u8]) -> Result<Octets, Fail> {
     Octets::try_from(items).map_err(|_| Fail::from("too long"))
 }
 
-fn message(items: &[u8]) -> Result<Message, Fail> {
-    Message::try_from(items).map_err(|_| Fail::from("too long"))
+/// What comes of a wake-up request, where only a message that is lost is one.
+fn woken(device: &mut Device<Store>, fate: Fate) -> Option<Rate> {
+    match fate {
+        Fate::OutLost => None,
+        _ => {
+            device.wake();
+            Some(Rate::Com2)
+        }
+    }
 }
 
 /// One turn, with the device at the far end: what a driver of a real line does.
-fn turn(port: &mut Port<Line>, device: &mut Device<Store>, fate: Fate) {
+fn turn(port: &mut PortCore, device: &mut Device<Store>, fate: Fate) {
     device.work();
-    match port.asks() {
-        Asked::Wake => {
-            let rate = match fate {
-                Fate::OutLost => None,
-                _ => {
-                    device.wake();
-                    Some(Rate::Com2)
-                }
-            };
-            turn_woken(port, rate);
-        }
-        Asked::Exchange(sent) => {
-            let came = fate.pass(device, sent.as_slice());
-            turn_answered(port, sent, came);
-        }
+    match port.send() {
+        Asked::Wake => port.receive_wake(woken(device, fate)),
+        Asked::Exchange(sent) => port.receive(&fate.pass(device, sent.as_slice())),
     }
 }
 
@@ -151,38 +143,6 @@ fn replies_of_a_wrong_length_count_as_none(rt: HostRuntime) -> Result<(), Fail> 
         for (call, expected) in rows {
             assert_eq!(rt; reply_to(&mut port, &mut device, call), expected);
         }
-    }
-    Ok(())
-}
-
-const SENT: [u8; 2] = [0xA2, 0x00];
-
-fn told_of_an_exchange() -> Result<Line, Fail> {
-    Ok(Line::answered(message(&SENT)?, Some(message(&[0x2D])?)))
-}
-
-fn told_of_a_wake() -> Line {
-    Line::woken(Some(Rate::Com3))
-}
-
-#[test]
-fn what_was_told_is_given_once_and_to_its_call_alone(rt: HostRuntime) -> Result<(), Fail> {
-    let wake = LineCall::Wake;
-    let same = LineCall::Exchange(SENT);
-    let other = LineCall::Exchange([0xA3, 0x00]);
-    let no_rate = || Brought::Rate(None);
-    let nothing = || Brought::Octets(None);
-    let reply = Brought::Octets(Some(message(&[0x2D])?));
-    let rate = Brought::Rate(Some(Rate::Com3));
-    let rows = [
-        (told_of_an_exchange()?, same, same, [reply, nothing()]),
-        (told_of_an_exchange()?, other, same, [nothing(), nothing()]),
-        (told_of_an_exchange()?, wake, same, [no_rate(), nothing()]),
-        (told_of_a_wake(), same, wake, [nothing(), no_rate()]),
-        (told_of_a_wake(), wake, wake, [rate, no_rate()]),
-    ];
-    for (line, first, second, expected) in rows {
-        assert_eq!(rt; bring_both(line, first, second), expected);
     }
     Ok(())
 }

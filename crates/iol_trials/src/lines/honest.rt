@@ -1,15 +1,11 @@
-//! A port over a line that claims, with a real device at its far end: the premise
+//! A port whose line is claimed to be honest, with a real device at its far end: the premise
 //! can be met, and is at every turn.
-ghost use Rattle.std.specs.Prelude.{◌≡◌, ℕ, Some, true};
-ghost use Rattle.iol_app.specs.declared.asked.Asked.{Asked};
+ghost use Rattle.std.specs.Prelude.{◌≡◌, ℕ, IfOk, true};
 ghost use Rattle.iol_far.specs.Octets.{octets_in};
 ghost use Rattle.iol_link.specs.Honest.{HonestExchange, HonestWake, silence_after};
-ghost use Rattle.iol_port.specs.declared.call.Call.TheVariants as call;
-ghost use Rattle.iol_port.specs.declared.call.Answered.TheVariants as answered;
-ghost use Rattle.iol_port.specs.View.{Does};
-ghost use Rattle.iol_port.specs.Asks.{asks_of};
-ghost use Rattle.iol_line.specs.HonestTold.{honest_facts, standing, ExchangePremise};
-ghost use Rattle.iol_line.specs.Driving.{line_of};
+ghost use Rattle.iol_port.specs.declared.awaited.Awaited.{Awaited};
+ghost use Rattle.iol_port.specs.CorePort.{awaited};
+ghost use Rattle.iol_line.specs.Honestly.{Exchanges};
 
 use super::store::{Fate, Store, opened_device};
 use super::{LIMITS, PARAMETER};
@@ -17,18 +13,18 @@ use iol_app::{Asked, Mode};
 use iol_book::{Outcome, Ticket};
 use iol_device::Device;
 use iol_isdu::{Answer, Octets, Request};
-use iol_line::{HonestLine, honest_turn_answered, honest_turn_woken};
+use iol_line::HonestPort;
 use iol_link::Rate;
 use iol_mseq::Message;
-use iol_port::Port;
+use iol_port::PortFault;
+use std::alloc::Global;
 use std::test::Fail;
 
-/// A line to this device.
-fn line_to(device: &Device<Store>) -> HonestLine
-    ensures { result ≡ standing (record { far = device.now.far; silence = 0 }) }
+/// A port whose line stands at this device.
+fn port_to(alloc: Global, device: &Device<Store>) -> Result<HonestPort, PortFault>
+    ensures { IfOk result (λ p. p.at.far ≡ device.now.far) }
 {
-    device.parts_are_regular();
-    HonestLine::open(device)
+    HonestPort::open(alloc, &LIMITS, device)
 }
 
 /// The device works, and a wake-up request comes to it.
@@ -84,58 +80,47 @@ fn exchange(device: &mut Device<Store>, sent: &[u8], fate: Fate) -> Option<Messa
 }
 
 /// One turn of a port with this device at the far end of its line.
-fn meet(port: &mut Port<HonestLine>, device: &mut Device<Store>, fate: Fate)
-    requires { (line_of port.old).at.far ≡ device.old.far }
-    ensures does { Does honest_facts port.old.parts call.Turn answered.Nothing port.new.parts }
-    ensures far { (line_of port.new).at.far ≡ device.new.far }
+fn meet(port: &mut HonestPort, device: &mut Device<Store>, fate: Fate)
+    requires { port.old.at.far ≡ device.old.far }
+    ensures { port.new.at.far ≡ device.new.far }
 {
-    match port.asks() {
+    match port.send() {
         Asked::Wake => {
             wake(device);
             woken_by(port, device);
         }
         Asked::Exchange(sent) => {
             let came = exchange(device, sent.as_slice(), fate);
-            answered_by(port, sent, came, device);
+            answered_by(port, &came, device);
         }
     }
 }
 
-/// The turn in which the device answered a wake-up request.
-fn woken_by(port: &mut Port<HonestLine>, device: &Device<Store>)
-    requires asked { asks_of port.old.parts ≡ Asked.Wake }
-    requires premise { HonestWake (line_of port.old).at.far true device.now.far }
-    ensures does { Does honest_facts port.old.parts call.Turn answered.Nothing port.new.parts }
-    ensures far { (line_of port.new).at.far ≡ device.now.far }
+/// The device answered a wake-up request.
+fn woken_by(port: &mut HonestPort, device: &Device<Store>)
+    requires awaited { awaited port.old.parts ≡ Awaited.Wake }
+    requires premise { HonestWake port.old.at.far true device.now.far }
+    ensures { port.new.at.far ≡ device.now.far }
 {
-    honest_turn_woken(port, Some(Rate::Com2), device);
+    port.receive_wake(Some(Rate::Com2), device);
 }
 
-/// The turn in which this came back from the device.
-fn answered_by(
-    port: &mut Port<HonestLine>,
-    sent: Message,
-    came: Option<Message>,
-    device: &Device<Store>,
-)
-    requires asked { asks_of port.old.parts ≡ Asked.Exchange sent }
-    requires premise { ExchangePremise (line_of port.old).at sent.items (octets_in came) (record {
+/// This came back from the device.
+fn answered_by(port: &mut HonestPort, came: &Option<Message>, device: &Device<Store>)
+    requires awaited { awaited port.old.parts ≡ Awaited.Reply }
+    requires premise { Exchanges port.old (octets_in came.now) (record {
       far = device.now.far;
-      silence = silence_after (line_of port.old).at.silence (octets_in came);
+      silence = silence_after port.old.at.silence (octets_in came.now);
     }) }
-    ensures does { Does honest_facts port.old.parts call.Turn answered.Nothing port.new.parts }
-    ensures far { (line_of port.new).at.far ≡ device.now.far }
+    ensures { port.new.at.far ≡ device.now.far }
 {
-    honest_turn_answered(port, sent, came, device);
+    port.receive(came, device);
 }
 
 #[test]
 fn a_claimed_line_meets_its_premise(rt: HostRuntime) -> Result<(), Fail> {
     let mut device = opened_device(rt.alloc())?;
-    let line = line_to(&device);
-    let Ok(mut port) = Port::open(rt.alloc(), line, &LIMITS) else {
-        return Err(Fail::from("no memory"));
-    };
+    let mut port = port_to(rt.alloc(), &device)?;
     assert_eq!(rt; port.submit(Request::read(PARAMETER)), Ok(Ticket(1)));
     for turn in 0..60 {
         let fate = match turn % 4 {
@@ -145,7 +130,7 @@ fn a_claimed_line_meets_its_premise(rt: HostRuntime) -> Result<(), Fail> {
         };
         meet(&mut port, &mut device, fate);
     }
-    assert_eq!(rt; port.status().mode, Mode::Operate);
+    assert_eq!(rt; port.core().status().mode, Mode::Operate);
     let read = Octets::try_from([0x0A].as_slice()).map_err(|_| Fail::from("too long"))?;
     assert_eq!(rt;
         port.collect(Ticket(1)),

@@ -5,10 +5,9 @@ use iol_app::{Asked, Mode};
 use iol_book::{Outcome, Ticket};
 use iol_device::Device;
 use iol_isdu::Request;
-use iol_line::{Line, turn_answered};
 use iol_mode::Why;
 use iol_mseq::Message;
-use iol_port::{Port, PortFault};
+use iol_port::{PortCore, PortFault};
 
 /// A call. A read and a write are of the one parameter of the device.
 #[derive(Clone, Copy)]
@@ -38,21 +37,21 @@ pub enum Said {
     Refused(PortFault),
 }
 
-fn submit(port: &mut Port<Line>, request: Request) -> Said {
+fn submit(port: &mut PortCore, request: Request) -> Said {
     match port.submit(request) {
         Ok(Ticket(number)) => Said::Ticket(number),
         Err(fault) => Said::Refused(fault),
     }
 }
 
-fn write(port: &mut Port<Line>, octets: &[u8]) -> Said {
+fn write(port: &mut PortCore, octets: &[u8]) -> Said {
     match Request::write(PARAMETER, octets) {
         Ok(request) => submit(port, request),
         Err(_) => Said::Nothing,
     }
 }
 
-fn turns(port: &mut Port<Line>, device: &mut Device<Store>, kind: u32, count: u32) -> Said {
+fn turns(port: &mut PortCore, device: &mut Device<Store>, kind: u32, count: u32) -> Said {
     for number in 0..count {
         turn(port, device, fate_at(kind, number));
     }
@@ -65,34 +64,31 @@ fn zeros(length: usize) -> Option<Message> {
 }
 
 /// Three turns, in each of which this comes back.
-fn answer_thrice(port: &mut Port<Line>, came: &Message) -> Said {
+fn answer_thrice(port: &mut PortCore, came: &Option<Message>) -> Said {
     let first = port.asks();
     let mut is_same = true;
     for _ in 0..3 {
-        let asked = port.asks();
+        let asked = port.send();
         is_same &= asked == first;
-        if let Asked::Exchange(sent) = asked {
-            turn_answered(port, sent, came.clone().ok());
+        if let Asked::Exchange(_) = asked {
+            port.receive(came);
         }
     }
     Said::Asked(is_same, port.status().why)
 }
 
-fn answer_zeros(port: &mut Port<Line>, length: usize) -> Said {
-    match zeros(length) {
-        Some(came) => answer_thrice(port, &came),
-        None => Said::Nothing,
-    }
+fn answer_zeros(port: &mut PortCore, length: usize) -> Said {
+    answer_thrice(port, &zeros(length))
 }
 
-fn collect(port: &mut Port<Line>, ticket: Ticket) -> Said {
+fn collect(port: &mut PortCore, ticket: Ticket) -> Said {
     match port.collect(ticket) {
         Ok(outcome) => Said::Ended(outcome),
         Err(fault) => Said::Refused(fault),
     }
 }
 
-pub fn reply_to(port: &mut Port<Line>, device: &mut Device<Store>, call: Call) -> Said {
+pub fn reply_to(port: &mut PortCore, device: &mut Device<Store>, call: Call) -> Said {
     match call {
         Call::Write(octets) => write(port, &octets),
         Call::Read => submit(port, Request::Read(PARAMETER)),

@@ -1,6 +1,9 @@
-use Rattle.iol_line.specs.Driving.{line_of}
+use Rattle.std.proofs.Common.{◌≡◌, ◌∙◌, ap}
+use Rattle.iol_line.specs.Honestly.{HonestPort}
 use Rattle.iol_trials.proofs.lines.honest.meet.Goals as goal
 
 pub answered_by-requires-clause-premise : goal.answered_by-requires-clause-premise
 answered_by-requires-clause-premise c =
-    rw c.requires (rw (← c.as_slice.ensures.value) (c.exchange-came.ensures (line_of c.args.port.now).at.silence))
+    let port : HonestPort = c.send.new.self in
+    let far_is : port.at.far ≡ c.args.device.now.far = ap (λ (p : HonestPort). p.at.far) c.send.ensures.moves ∙ c.requires in
+    rw (far_is, ← c.in-Exchange.ensures.says.1.0, ← c.as_slice.ensures.value) (c.exchange-came.ensures port.at.silence)

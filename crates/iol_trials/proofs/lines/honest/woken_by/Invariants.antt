@@ -1,4 +1,4 @@
 use Rattle.iol_trials.proofs.lines.honest.woken_by.Given as goal
 
-abbrev pub ghost-honest_turn_woken : goal.ghost-honest_turn_woken
-ghost-honest_turn_woken a = a.near.now.far
+abbrev pub ghost-receive_wake : goal.ghost-receive_wake
+ghost-receive_wake a = a.near.now.far
