@@ -6,7 +6,8 @@
 //!
 //! OCTETS are words of two hexadecimal digits, WORD is octets in one word, `-` for none. REQUEST is
 //! `read INDEX SUB` or `write INDEX SUB WORD`; ANSWER is `read WORD`, `written` or `refused OO AA`;
-//! FLOW is `start`, `idle1`, `idle2`, `abort` or the number of a COUNT.
+//! FLOW is `start`, `idle1`, `idle2`, `abort` or the number of a COUNT; T is a ticket, OUTCOME is
+//! `done ANSWER` or `unknown CAUSE`. A refusal is printed as `refused NUMBER NAME`.
 //!
 //! ```text
 //! checksum OCTETS            sealed PLACE OCTETS     mc OO   ckt OO   cks OO   flow FLOW
