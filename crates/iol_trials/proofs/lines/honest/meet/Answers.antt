@@ -6,4 +6,4 @@ pub answered_by-requires-clause-premise : goal.answered_by-requires-clause-premi
 answered_by-requires-clause-premise c =
     let port : HonestPort = c.send.new.self in
     let far_is : port.at.far ≡ c.args.device.now.far = ap (λ (p : HonestPort). p.at.far) c.send.ensures.moves ∙ c.requires in
-    rw (far_is, ← c.in-Exchange.ensures.says.1.0, ← c.as_slice.ensures.value) (c.exchange-came.ensures port.at.silence)
+    rw (far_is, ← c.in-Exchange.ensures.says.1, ← c.as_slice.ensures.value) (c.exchange-came.ensures port.at.silence)
