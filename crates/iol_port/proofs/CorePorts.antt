@@ -103,18 +103,25 @@ record Sent (mid k : Core) (g after : Ghost) (far : Far) (n : ℕ) (made : Bool)
 is_sent : (mid k : Core) (g : Ghost) (far : Far) (n : ℕ) → SendSteps mid k → IsAttempted mid.state → Stands mid g far n → (after : Ghost) × (made : Bool) × Sent mid k g after far n made
 unfolding SendSteps
 is_sent mid k g far n sends tried stands = elim (sends g far n stands) as (λ _. (after : Ghost) × (made : Bool) × Sent mid k g after far n made) [
-  | inl again ↦ (g, false, subst (λ (c : Core). Sent mid c g g far n false) (sym again.same)
-      (record {
-        stands = stands;
-        session = refl;
-        frozen = refl;
-        may = λ call. tt;
-        images = λ call. refl;
-        fresh = λ k. k;
-        terms = (refl, refl);
-        asks = λ up calm. again.asks tried calm;
-      }))
-  | inr s ↦ (made_ghost mid.session g, true, record {
+  | inl again ↦ (
+    g,
+    false,
+    subst (λ (c : Core). Sent mid c g g far n false) (sym again.same)
+        (record {
+          stands = stands;
+          session = refl;
+          frozen = refl;
+          may = λ call. tt;
+          images = λ call. refl;
+          fresh = λ k. k;
+          terms = (refl, refl);
+          asks = λ up calm. again.asks tried calm;
+        }),
+  )
+  | inr s ↦ (
+    made_ghost mid.session g,
+    true,
+    record {
       stands = s.stands;
       session = sym s.session;
       frozen = sym s.frozen;
@@ -123,7 +130,8 @@ is_sent mid k g far n sends tried stands = elim (sends g far n stands) as (λ _.
       fresh = subst IsTrue s.fresh;
       terms = s.terms;
       asks = λ up calm. s.asks;
-    })
+    },
+  )
 ]
 
 -- of these steps first, after which the core is that one
@@ -260,28 +268,31 @@ receives p next base g out far far' n n' said shows r free posts keeps =
     let x = r.given in
     let c : Choice = not_yet base x.after in (
       state_of (at_end far' n') next c,
-      (refl, record {
-        out = out;
-        was = refl;
-        turn = record { call = x.call; steps = x.steps };
-        only = unsent_all 0 x.steps (clash_free-deny 0 x.steps _ _ said x.said_book) r.unmade;
-        calm = λ took. x.fresh (shows.out.1 took);
-        all = record { fits = x.fits; silence = x.silent; clash_free = x.clash_free; terms = terms_of _ _ _ _ x.terms };
-        work = record {
-          may_book = MayBookAll-filter x.steps p.book.state (rw x.said_book (may_book_said _ _ said p.book.state));
-          book = posts ∙ (rw (← x.said_book) (sym (book_through-filter x.steps p.book.state)));
-          may_session = x.session.0;
-          session = sym x.session.1;
-          base = refl;
-          down = none_down next.station.link.state next.station.session x.after x.after.request.hidden.answer x.stands.joined;
-        };
-        events = record { may_frozen = x.frozen.0; frozen = sym x.frozen.1; kept = keeps ∙ (rw (← x.said_reports) (sym (kept_through-filter x.steps p.kept))) };
-        may_images = x.images.0;
-        images = sym x.images.1;
-        image_is_last = x.image_is_last;
-        output_is_wanted = λ calm. x.output_is_wanted calm ∙ shows.out.2 calm.0 calm.1;
-        pending = refl;
-      }),
+      (
+        refl,
+        record {
+          out = out;
+          was = refl;
+          turn = record { call = x.call; steps = x.steps };
+          only = unsent_all 0 x.steps (clash_free-deny 0 x.steps _ _ said x.said_book) r.unmade;
+          calm = λ took. x.fresh (shows.out.1 took);
+          all = record { fits = x.fits; silence = x.silent; clash_free = x.clash_free; terms = terms_of _ _ _ _ x.terms };
+          work = record {
+            may_book = MayBookAll-filter x.steps p.book.state (rw x.said_book (may_book_said _ _ said p.book.state));
+            book = posts ∙ (rw (← x.said_book) (sym (book_through-filter x.steps p.book.state)));
+            may_session = x.session.0;
+            session = sym x.session.1;
+            base = refl;
+            down = none_down next.station.link.state next.station.session x.after x.after.request.hidden.answer x.stands.joined;
+          };
+          events = record { may_frozen = x.frozen.0; frozen = sym x.frozen.1; kept = keeps ∙ (rw (← x.said_reports) (sym (kept_through-filter x.steps p.kept))) };
+          may_images = x.images.0;
+          images = sym x.images.1;
+          image_is_last = x.image_is_last;
+          output_is_wanted = λ calm. x.output_is_wanted calm ∙ shows.out.2 calm.0 calm.1;
+          pending = refl;
+        },
+      ),
       (c, record { is_honest = refl; both = x.stands; out = (free, r.attempted) }, refl),
     )
 

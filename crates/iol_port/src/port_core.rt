@@ -20,10 +20,10 @@ ghost use Rattle.iol_port.specs.Clean.{CleanTurn};
 ghost use Rattle.iol_port.specs.CorePort.{CoreDoes, CoreOpens, IsNew, awaited, parts_over, SendGives, SendDoes, ReceiveGives, ReceiveDoes, WakeGives, WakeDoes};
 ghost use Rattle.iol_port.specs.Replies.{ticket_reply, outcome_reply, nothing_reply, event_reply, reply_of};
 
+use crate::PortFault;
 use crate::awaited::Awaited;
 use crate::laws::clean_laws;
 use crate::settle::{KEPT, ROOM, begin_next, by_book, by_output, lacks_isdu, settle, woke_up};
-use crate::PortFault;
 use arrayvec::ArrayVec;
 use iol_app::{Asked, Core, Status};
 use iol_book::{Book, Entry, Limits, Outcome, Ticket};
@@ -166,11 +166,7 @@ impl<A: Allocator + Copy> PortCore<A> {
 
     /// Hands out the outcome of a ticket as [`collect`](Port::collect) does, into a place of the
     /// caller, which a refusal leaves as it was. Most asks come before the outcome, and cost little.
-    pub fn collect_into(
-        &mut self,
-        ticket: Ticket,
-        into: &mut Outcome,
-    ) -> Result<(), PortFault>
+    pub fn collect_into(&mut self, ticket: Ticket, into: &mut Outcome) -> Result<(), PortFault>
         ensures does { CoreDoes self.old (call.Collect ticket)
             (outcome_reply (result_map_both (λ _. into.new) (λ why. why) result)) self.new }
         ensures gives { CollectGives self.old ticket

@@ -6,28 +6,28 @@ use Rattle.iol_master.proofs.line.LineWorker.turn.Goals.{in-Wake, in-Exchange}
 pub returns-clause-turned : goal.returns-clause-turned
 returns-clause-turned g c =
     elim c.match-asked.branch [
-      in-Wake w ↦
-        rw (← c.self.view_is, w.self-inside-is)
-        (record {
-          asked = asked.Wake;
-          first = c.deref_mut.result.now;
-          sent = c.send-asked.new.self;
-          sends = w.in-Wake.ensures.sends;
-          again = w.deref_mut-in-Wake.result.now;
-          awaits = w.receive_wake.ensures.awaits;
-          taken = w.receive_wake.new.self;
-          brings = (w.wake-rate.result, w.wake-rate.ensures.gives, w.receive_wake.ensures.takes);
-        })
-    | in-Exchange w ↦
-        rw (← c.self.view_is, w.self-inside-is)
-        (record {
-          asked = asked.Exchange w.in-Exchange.octets;
-          first = c.deref_mut.result.now;
-          sent = c.send-asked.new.self;
-          sends = w.in-Exchange.ensures.sends;
-          again = w.deref_mut-in-Exchange.result.now;
-          awaits = w.receive.ensures.awaits;
-          taken = w.receive.new.self;
-          brings = (w.exchange-came.result, rw (← w.as_slice.ensures.value) w.exchange-came.ensures.gives, w.receive.ensures.takes);
-        })
+      | in-Wake w ↦
+          rw (← c.self.view_is, w.self-inside-is)
+          (record {
+            asked = asked.Wake;
+            first = c.deref_mut.result.now;
+            sent = c.send-asked.new.self;
+            sends = w.in-Wake.ensures.sends;
+            again = w.deref_mut-in-Wake.result.now;
+            awaits = w.receive_wake.ensures.awaits;
+            taken = w.receive_wake.new.self;
+            brings = (w.wake-rate.result, w.wake-rate.ensures.gives, w.receive_wake.ensures.takes);
+          })
+      | in-Exchange w ↦
+          rw (← c.self.view_is, w.self-inside-is)
+          (record {
+            asked = asked.Exchange w.in-Exchange.octets;
+            first = c.deref_mut.result.now;
+            sent = c.send-asked.new.self;
+            sends = w.in-Exchange.ensures.sends;
+            again = w.deref_mut-in-Exchange.result.now;
+            awaits = w.receive.ensures.awaits;
+            taken = w.receive.new.self;
+            brings = (w.exchange-came.result, rw (← w.as_slice.ensures.value) w.exchange-came.ensures.gives, w.receive.ensures.takes);
+          })
     ]

@@ -35,8 +35,7 @@ both g c =
           let request : Option Request = to_begin (lacks_isdu p.station.session.isdu) (next_taken p.book.state.standing) in
           let exact : begun.new.core ≡ core_of (station_begun p) = begun.ensures.exact ∙ ap (λ (r : Bool). core_of (prepared request p.station r)) room in
           let sent : IsSent (has_room p.kept) (core_of (station_begun p)) c.send.new.self =
-          subst (λ (r : Bool). IsSent r (core_of (station_begun p)) c.send.new.self) room (subst (λ (k : Core). IsSent c.has_room-room.result k c.send.new.self) (core_is ∙ exact) c.send.ensures.sent) in
-          (
+          subst (λ (r : Bool). IsSent r (core_of (station_begun p)) c.send.new.self) room (subst (λ (k : Core). IsSent c.has_room-room.result k c.send.new.self) (core_is ∙ exact) c.send.ensures.sent) in (
             record {
               core = λ _. sent;
               book = λ _. ap (λ (b : BookValue). b.state) book_is ∙ begun.ensures.taken
