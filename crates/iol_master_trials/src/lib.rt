@@ -5,6 +5,8 @@
 #[cfg(test)]
 mod desks;
 #[cfg(test)]
+mod lines;
+#[cfg(test)]
 mod masters;
 #[cfg(test)]
 mod opening;
