@@ -4,7 +4,7 @@ ghost use Rattle.std.specs.Prelude.{IfOk};
 ghost use Rattle.iol_app.specs.StationState.{wire_of};
 ghost use Rattle.iol_sim.specs.Params.{AnsweredBy};
 
-use crate::play::ROOM;
+use crate::device::ROOM;
 use crate::{first_app_follows_record, record_is_answered_by_the_first_params};
 use iol_book::Limits;
 use iol_device::{Carried, Device};

@@ -1,11 +1,9 @@
-//! Ports over a wire that answers no message: memory refused in turn, refusals, and
-//! calls by their names.
+//! Ports over a wire that answers nothing: memory refused in turn.
 
-use iol_app::{Asked, Mode, OutputFault};
-use iol_book::{BookFault, Entry, Limits, Outcome, Ticket};
+use iol_app::Mode;
+use iol_book::{BookFault, Limits, Ticket};
 use iol_isdu::{Place, Request};
 use iol_link::Rate;
-use iol_mode::Why;
 use iol_mseq::Message;
 use iol_port::{
     Answered, Call, Port, PortFault, cancelled_requests_were_asked, denied_requests_stay_out,
@@ -23,10 +21,7 @@ const LIMITS: Limits = Limits {
     given: 0,
 };
 
-/// The number of a wire whose wake is answered.
-const AWAKE: u8 = 9;
-
-/// A peer that answers no message, and a wake where its number says so.
+/// A peer that answers nothing.
 #[derive(Debug, PartialEq, Eq, Drop)]
 struct Bare {
     number: u8,
@@ -34,7 +29,7 @@ struct Bare {
 
 impl Peer for Bare {
     fn wake(&mut self) -> Option<Rate> {
-        (self.number == AWAKE).then_some(Rate::Com2)
+        None
     }
 
     fn exchange(&mut self, _sent: &[u8]) -> Option<Message> {
@@ -58,24 +53,9 @@ fn opened_port(scarce: &Scarce) -> Result<Port<AnyWire<Bare>, &Scarce>, Fail> {
     }
 }
 
+/// Each needs no port: it holds of all of them.
 #[test]
-fn faults_of_a_port_have_numbers_and_names(rt: HostRuntime) -> Result<(), Fail> {
-    let table = [
-        (PortFault::Book(BookFault::Full), 21u8, "Full"),
-        (PortFault::Book(BookFault::Outstanding), 28, "Outstanding"),
-        (PortFault::Book(BookFault::NotInFlight), 36, "NotInFlight"),
-        (
-            PortFault::Output(OutputFault::WrongImageLength),
-            29,
-            "WrongImageLength",
-        ),
-        (PortFault::NoEvent, 30, "NoEvent"),
-        (PortFault::Output(OutputFault::NoLayout), 34, "NoLayout"),
-    ];
-    for (fault, number, name) in table {
-        assert_eq!(rt; fault.code(), number);
-        assert_eq!(rt; format!(in rt.alloc(); "{fault}")?.as_str(), name);
-    }
+fn laws_of_all_ports_need_none(_rt: HostRuntime) -> Result<(), Fail> {
     cancelled_requests_were_asked();
     denied_requests_stay_out();
     each_done_has_its_pair();
@@ -188,107 +168,6 @@ fn a_refused_urgent_request_changes_nothing(rt: HostRuntime) -> Result<(), Fail>
     is_refused_in_turn(&rt, &Scarce::new(rt.alloc()), Urgency::Urgent)
 }
 
-const NOT_IN_FLIGHT: Answered = Answered::Refused(PortFault::Book(BookFault::NotInFlight));
-
-const UNKNOWN_TICKET: Answered = Answered::Refused(PortFault::Book(BookFault::UnknownTicket));
-
-const WITHDRAWN: Answered = Answered::Outcome(Outcome::Withdrawn);
-
-/// Makes the calls of the rows in turn, each of which has to answer what stands beside it.
-fn says(rt: &impl Abort, port: &mut Port<AnyWire<Bare>, &Scarce>, rows: &[(Call, Answered)]) {
-    for (row, (call, answered)) in rows.iter().enumerate() {
-        assert_eq!(rt; port.call(call), *answered, "at row {row}");
-    }
-}
-
-#[test]
-fn only_a_request_under_way_is_cancelled(rt: HostRuntime) -> Result<(), Fail> {
-    let scarce = Scarce::new(rt.alloc());
-    let mut port = opened_port(&scarce)?;
-    let submits = [
-        (Call::Submit(read()), Answered::Ticket(Ticket(1))),
-        (Call::SubmitUrgent(read()), Answered::Ticket(Ticket(2))),
-        (Call::Withdraw(Ticket(2)), Answered::Nothing),
-    ];
-    says(&rt, &mut port, &submits);
-    scarce.order(Refusal::From(0));
-    let cancels = [
-        (Call::Cancel(Ticket(1)), NOT_IN_FLIGHT),
-        (Call::Cancel(Ticket(2)), NOT_IN_FLIGHT),
-        (Call::Cancel(Ticket(3)), UNKNOWN_TICKET),
-    ];
-    says(&rt, &mut port, &cancels);
-    assert!(rt; !scarce.has_refused());
-    let ends = [
-        (Call::Collect(Ticket(2)), WITHDRAWN),
-        (Call::Cancel(Ticket(2)), UNKNOWN_TICKET),
-        (Call::Withdraw(Ticket(1)), Answered::Nothing),
-    ];
-    says(&rt, &mut port, &ends);
-    Ok(())
-}
-
-#[test]
-fn calls_by_name_submit_urgent_requests_and_cancel(rt: HostRuntime) -> Result<(), Fail> {
-    let scarce = Scarce::new(rt.alloc());
-    let mut port = opened_port(&scarce)?;
-    let first = [
-        (Call::SubmitUrgent(read()), Answered::Ticket(Ticket(1))),
-        (Call::Cancel(Ticket(1)), NOT_IN_FLIGHT),
-        (Call::Cancel(Ticket(2)), UNKNOWN_TICKET),
-    ];
-    says(&rt, &mut port, &first);
-    let calls = [
-        Call::Cancel(Ticket(1)),
-        Call::SubmitUrgent(read()),
-        Call::Withdraw(Ticket(1)),
-        Call::Collect(Ticket(1)),
-        Call::Cancel(Ticket(1)),
-    ];
-    let answers = [
-        NOT_IN_FLIGHT,
-        Answered::Ticket(Ticket(2)),
-        Answered::Nothing,
-        WITHDRAWN,
-        UNKNOWN_TICKET,
-    ];
-    assert_eq!(rt; port.run(&scarce, &calls)?.as_slice(), answers.as_slice());
-    Ok(())
-}
-
-/// Whether an archive hands out just these entries.
-fn archives(port: &mut Port<AnyWire<Bare>, &Scarce>, expected: &[Entry]) -> bool {
-    match port.archive() {
-        Ok(entries) => entries.as_slice() == expected,
-        Err(_) => false,
-    }
-}
-
-#[test]
-fn the_journal_tells_urgent_requests_from_others(rt: HostRuntime) -> Result<(), Fail> {
-    let scarce = Scarce::new(rt.alloc());
-    let mut port = opened_port(&scarce)?;
-    let rows = [
-        (Call::Submit(read()), Answered::Ticket(Ticket(1))),
-        (Call::SubmitUrgent(read()), Answered::Ticket(Ticket(2))),
-        (Call::Withdraw(Ticket(2)), Answered::Nothing),
-        (Call::Collect(Ticket(2)), WITHDRAWN),
-        (Call::Withdraw(Ticket(1)), Answered::Nothing),
-        (Call::Collect(Ticket(1)), WITHDRAWN),
-    ];
-    says(&rt, &mut port, &rows);
-    let entries = [
-        Entry::Submitted(Ticket(1), read()),
-        Entry::Urgent(Ticket(2), read()),
-        Entry::Withdrawn(Ticket(2)),
-        Entry::Collected(Ticket(2)),
-        Entry::Withdrawn(Ticket(1)),
-        Entry::Collected(Ticket(1)),
-    ];
-    assert!(rt; archives(&mut port, &entries));
-    Ok(())
-}
-
 #[test]
 fn a_refused_run_makes_no_call(rt: HostRuntime) -> Result<(), Fail> {
     let scarce = Scarce::new(rt.alloc());
@@ -308,25 +187,5 @@ fn a_refused_run_makes_no_call(rt: HostRuntime) -> Result<(), Fail> {
     ];
     assert_eq!(rt; port.run(&scarce, &calls)?.as_slice(), wanted.as_slice());
     assert_eq!(rt; port.submit(read()), Ok(Ticket(2)));
-    Ok(())
-}
-
-#[test]
-fn a_port_asks_for_what_its_next_turn_sends(rt: HostRuntime) -> Result<(), Fail> {
-    let Ok(mut port) = Port::open(rt.alloc(), bare_wire(AWAKE), &LIMITS) else {
-        return Err(Fail::from(PortFault::Book(BookFault::OutOfMemory)));
-    };
-    assert_eq!(rt; port.asks(), Asked::Wake);
-    port.turn();
-    let first = [0xA2u8, 0x00];
-    for _ in 0..3 {
-        let Asked::Exchange(message) = port.asks() else {
-            return Err(Fail::from("no message"));
-        };
-        assert_eq!(rt; message.as_slice(), first.as_slice());
-        port.turn();
-    }
-    assert_eq!(rt; port.status().why, Some(Why::Lost));
-    assert_eq!(rt; port.asks(), Asked::Wake);
     Ok(())
 }

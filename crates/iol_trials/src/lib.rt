@@ -1,9 +1,10 @@
-//! Links, stations and ports over the simulated wire, and ports over told lines: whole
-//! runs, one after another.
+//! What only a Rust caller can do with a port over the simulated wire, or over a line that
+//! is claimed to be honest: memory that is refused, a wire that is handed back, an image
+//! that is shown to a seat.
 //!
-//! What a link, a station, a port and a wire do at each call is proved in their own
-//! crates. Beside the tests this crate has the laws of a port over a simulated wire
-//! that need both: whose application answered the record's requests.
+//! What a port answers to what goes in is in `tests/rows`. Beside the tests this crate has
+//! the laws of a port over a simulated wire that need both: whose application answered the
+//! record's requests.
 #![tactic(auto)]
 
 mod laws;
@@ -15,32 +16,10 @@ mod answers;
 #[cfg(test)]
 mod bare_ports;
 #[cfg(test)]
-mod bench;
-#[cfg(test)]
 mod cancels;
 #[cfg(test)]
-mod far;
-#[cfg(test)]
-mod liar;
+mod device;
 #[cfg(test)]
 mod lines;
 #[cfg(test)]
-mod peers;
-#[cfg(test)]
-mod play;
-#[cfg(test)]
 mod ports;
-#[cfg(test)]
-mod rows;
-#[cfg(test)]
-mod runs;
-#[cfg(test)]
-mod sessions;
-#[cfg(test)]
-mod stretches;
-#[cfg(test)]
-mod tests;
-#[cfg(test)]
-mod timing;
-#[cfg(test)]
-mod watched;

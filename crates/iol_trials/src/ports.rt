@@ -1,10 +1,9 @@
 //! Ports over the simulated wire.
-use crate::play::device;
-use crate::rows::Ask;
+use crate::device::device;
 use iol_book::{Limits, Outcome, Ticket};
 use iol_cell::{Handle, image_cell};
 use iol_image::Image;
-use iol_isdu::{Cause, Place, Request};
+use iol_isdu::{Answer, Cause, Octets, Place, Request};
 use iol_link::Wire;
 use iol_port::{Port, PortFault};
 use iol_sim::{Fate, Params, Sim, Step};
@@ -13,7 +12,7 @@ use std::alloc::Global;
 use std::process::Abort;
 use std::test::Fail;
 
-pub fn opened<W: Wire + Drop>(alloc: Global, wire: W, given: u64) -> Result<Port<W>, Fail> {
+fn opened<W: Wire + Drop>(alloc: Global, wire: W, given: u64) -> Result<Port<W>, Fail> {
     let limits = Limits {
         journal: 1_000,
         busy: 100,
@@ -32,20 +31,8 @@ pub fn turn<W: Wire, A: Handle>(port: &mut Port<W, A>, turns: u32) {
     }
 }
 
-/// Compares what a collect answers; the mark says which run it is.
-pub fn collects<W: Wire>(
-    rt: &impl Abort,
-    port: &mut Port<W>,
-    ticket: Ticket,
-    wanted: Result<Outcome, PortFault>,
-    mark: (u32, u32),
-) {
-    let seen = port.collect(ticket);
-    assert_eq!(rt; seen, wanted, "{mark:?}");
-}
-
 /// How many requests the device carried out.
-pub fn carried(port: &Port<Sim<Params>>) -> usize {
+fn carried(port: &Port<Sim<Params>>) -> usize {
     port.wire().device().carried().len()
 }
 
@@ -58,13 +45,14 @@ fn comes_to<W: Wire>(
 ) -> Result<Ticket, Fail> {
     let ticket = port.submit(read())?;
     turn(port, turns);
-    collects(rt, port, ticket, Ok(outcome), (turns, 0));
+    assert_eq!(rt; port.collect(ticket), Ok(outcome));
     Ok(ticket)
 }
 
 /// The port gave one ticket before; a read is done, and nothing else was carried out.
 fn is_read(rt: &impl Abort, port: &mut Port<Sim<Params>>) -> Result<(), Fail> {
-    let done = Outcome::Done(Ask::Read.answer()?);
+    let value = Octets::try_from([0x41, 0x42].as_slice()).map_err(|_| "too long")?;
+    let done = Outcome::Done(Answer::Read(value));
     assert_eq!(rt; comes_to(rt, port, 18, done)?, Ticket(2));
     assert_eq!(rt; carried(port), 1);
     Ok(())

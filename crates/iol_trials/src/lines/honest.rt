@@ -75,7 +75,7 @@ fn exchange(device: &mut Device<Store>, sent: &[u8], fate: Fate) -> Option<Messa
     match fate {
         Fate::Clean => pass(device, sent),
         Fate::OutLost => lose(device, sent),
-        _ => lose_reply(device, sent),
+        Fate::BackLost => lose_reply(device, sent),
     }
 }
 

@@ -5,7 +5,6 @@ ghost use Rattle.iol_isdu.specs.Answers.{AnswersKind};
 use super::PARAMETER;
 use iol_device::{App, Device};
 use iol_isdu::{Answer, Octets, Place, Request};
-use iol_mseq::Message;
 use iol_page::Page;
 use iol_vectors::PLAIN;
 use std::alloc::Global;
@@ -59,7 +58,7 @@ impl App for Store {
 }
 
 /// What becomes of an exchange.
-#[derive(Clone, Copy, Debug, PartialEq, Eq)]
+#[derive(Clone, Copy)]
 pub(crate) enum Fate {
     /// The message and the reply come through.
     Clean,
@@ -67,32 +66,6 @@ pub(crate) enum Fate {
     OutLost,
     /// The reply is lost.
     BackLost,
-    /// One bit of the reply is flipped.
-    Damaged,
-}
-
-impl Fate {
-    /// What comes back from the device, to which these octets are sent.
-    pub(crate) fn pass(self, device: &mut Device<Store>, sent: &[u8]) -> Option<Message> {
-        match self {
-            Fate::Clean => device.hear(sent),
-            Fate::OutLost => None,
-            Fate::BackLost => {
-                let _ = device.hear(sent);
-                None
-            }
-            Fate::Damaged => device.hear(sent).map(damaged),
-        }
-    }
-}
-
-/// The message with bit 3 of its last octet flipped.
-fn damaged(message: Message) -> Message {
-    let mut message = message;
-    if let Some(octet) = message.last_mut() {
-        *octet ^= 8;
-    }
-    message
 }
 
 pub(crate) fn opened_device(alloc: Global) -> Result<Device<Store>, Fail> {
