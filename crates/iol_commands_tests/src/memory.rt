@@ -2,7 +2,7 @@
 use crate::streams::{CHECK, Case, Command, READING, RUN, failing};
 use iol_commands::ProgramFault;
 use iol_script::{Script, ScriptFault};
-use scarce::{Refusal, Scarce};
+use refusing_alloc::{Refusal, RefusingAlloc};
 use std::alloc::Global;
 use std::process::Abort;
 use std::test::Fail;
@@ -20,14 +20,14 @@ static TRACE: Case = Case {
 fn is_refused(
     rt: &impl Abort,
     alloc: Global,
-    scarce: &Scarce,
+    refusing: &RefusingAlloc,
     case: &Case,
     refusal: Refusal,
 ) -> bool {
     let (mut source, mut sink) = failing(alloc, case.input, u32::MAX, u32::MAX);
-    scarce.order(refusal);
-    let result = case.command.perform(scarce, &mut source, &mut sink);
-    let refused = scarce.has_refused();
+    refusing.order(refusal);
+    let result = case.command.perform(refusing, &mut source, &mut sink);
+    let refused = refusing.has_refused();
     if refused {
         assert_eq!(rt; result, Err(ProgramFault::OutOfMemory));
         let is_trace = matches!(case.command, Command::Trace);
@@ -50,13 +50,13 @@ fn is_whole(case: &Case, printed: &[u8]) -> bool {
 /// Refuses each request of a case in turn, alone and with all that follow, until it makes no
 /// further one.
 fn refuse_each(rt: &impl Abort, alloc: Global, case: &Case) -> Result<(), Fail> {
-    let scarce = Scarce::new(alloc);
+    let refusing = RefusingAlloc::new(alloc);
     for number in 0..1000 {
-        if !is_refused(rt, alloc, &scarce, case, Refusal::Only(number)) {
+        if !is_refused(rt, alloc, &refusing, case, Refusal::Only(number)) {
             assert!(rt; number > 1);
             return Ok(());
         }
-        assert!(rt; is_refused(rt, alloc, &scarce, case, Refusal::From(number)));
+        assert!(rt; is_refused(rt, alloc, &refusing, case, Refusal::From(number)));
     }
     Err(Fail::from("no end"))
 }
@@ -79,10 +79,10 @@ turn 20
 wire silent";
 
 /// Whether the reading of a script was refused memory under this order: then it has to say so.
-fn is_script_refused(rt: &impl Abort, scarce: &Scarce, refusal: Refusal) -> bool {
-    scarce.order(refusal);
-    let result = Script::read(scarce, SCRIPT);
-    let refused = scarce.has_refused();
+fn is_script_refused(rt: &impl Abort, refusing: &RefusingAlloc, refusal: Refusal) -> bool {
+    refusing.order(refusal);
+    let result = Script::read(refusing, SCRIPT);
+    let refused = refusing.has_refused();
     match result {
         Ok(script) => assert!(rt; !refused && script.steps.len() == 4),
         Err(fault) => assert!(rt; refused && fault == ScriptFault::OutOfMemory),
@@ -92,29 +92,29 @@ fn is_script_refused(rt: &impl Abort, scarce: &Scarce, refusal: Refusal) -> bool
 
 #[test]
 fn a_script_fails_at_each_request_for_memory(rt: HostRuntime) -> Result<(), Fail> {
-    let scarce = Scarce::new(rt.alloc());
+    let refusing = RefusingAlloc::new(rt.alloc());
     for number in 0..100 {
-        if !is_script_refused(&rt, &scarce, Refusal::Only(number)) {
+        if !is_script_refused(&rt, &refusing, Refusal::Only(number)) {
             assert!(rt; number > 0);
             return Ok(());
         }
-        assert!(rt; is_script_refused(&rt, &scarce, Refusal::From(number)));
+        assert!(rt; is_script_refused(&rt, &refusing, Refusal::From(number)));
     }
     Err(Fail::from("no end"))
 }
 
 #[test]
 fn finds_bad_lines_without_memory(rt: HostRuntime) {
-    let scarce = Scarce::new(rt.alloc());
-    scarce.order(Refusal::From(0));
+    let refusing = RefusingAlloc::new(rt.alloc());
+    refusing.order(Refusal::From(0));
     let page = b"page 17 01 11 10 08 12 34 00 01 07\nturn 1\nturn 0".as_slice();
     assert_eq!(rt;
-        Script::read(&scarce, page).err(),
+        Script::read(&refusing, page).err(),
         Some(ScriptFault::Line(3))
     );
     let turns = b"turn 100000\nturn 100000\nparam 16 0 ro 41".as_slice();
     assert_eq!(rt;
-        Script::read(&scarce, turns).err(),
+        Script::read(&refusing, turns).err(),
         Some(ScriptFault::Line(3))
     );
 }

@@ -13,9 +13,9 @@ use iol_link::{Attempt, Handler, Rate, Wire};
 use iol_mseq::{Layout, MasterMsg, Message, MseqFault, Part, Reply, read_master};
 use iol_page::Page;
 use iol_sim::{Fate, Params, Raw, Sim, SimFault, Step};
-use iol_vectors::PLAIN;
+use iol_peers::PLAIN;
 use named::{Asked, Replied};
-use scarce::{Refusal, Scarce};
+use refusing_alloc::{Refusal, RefusingAlloc};
 use std::alloc::{Allocator, Global};
 use std::ops::Range;
 use std::test::Fail;
@@ -226,14 +226,14 @@ enum Made {
     Nothing(bool, SimFault, bool),
 }
 
-fn make(scarce: &Scarce<Global>, steps: &[Step], refusal: Refusal) -> Result<Made, Fail> {
-    scarce.order(Refusal::Never);
-    let device = opened(scarce)?;
-    let given = Vec::from_clones(scarce, steps)?;
+fn make(refusing: &RefusingAlloc<Global>, steps: &[Step], refusal: Refusal) -> Result<Made, Fail> {
+    refusing.order(Refusal::Never);
+    let device = opened(refusing)?;
+    let given = Vec::from_clones(refusing, steps)?;
     let expected = params()?;
-    scarce.order(refusal);
-    let made = Sim::new(scarce, device, given);
-    let has_refused = scarce.has_refused();
+    refusing.order(refusal);
+    let made = Sim::new(refusing, device, given);
+    let has_refused = refusing.has_refused();
     Ok(match made {
         Ok(mut sim) => Made::Wire(has_refused, sim.wake()),
         Err((fault, device, back)) => {
@@ -245,11 +245,11 @@ fn make(scarce: &Scarce<Global>, steps: &[Step], refusal: Refusal) -> Result<Mad
 
 #[test]
 fn each_request_for_memory_is_refused(rt: HostRuntime) -> Result<(), Fail> {
-    let scarce = Scarce::new(rt.alloc());
+    let refusing = RefusingAlloc::new(rt.alloc());
     let steps = [Step::Fate(Fate::Clean), Step::Input(Image::new(&[1])?)];
     for number in 0..64 {
         for refusal in [Refusal::From(number), Refusal::Only(number)] {
-            let made = make(&scarce, &steps, refusal)?;
+            let made = make(&refusing, &steps, refusal)?;
             if matches!(made, Made::Wire(..)) {
                 assert_eq!(rt; made, Made::Wire(false, Some(Rate::Com2)));
                 assert!(rt; number > 0);
@@ -263,14 +263,14 @@ fn each_request_for_memory_is_refused(rt: HostRuntime) -> Result<(), Fail> {
 
 #[test]
 fn raw_wire_answers_in_order(rt: HostRuntime) -> Result<(), Fail> {
-    let scarce = Scarce::new(rt.alloc());
+    let refusing = RefusingAlloc::new(rt.alloc());
     let messages = [reply()?, Message::new()];
     for number in 0..64 {
         for refusal in [Refusal::From(number), Refusal::Only(number)] {
-            scarce.order(refusal);
-            match Raw::new(&scarce, &messages) {
+            refusing.order(refusal);
+            match Raw::new(&refusing, &messages) {
                 Ok(mut raw) => {
-                    assert!(rt; !scarce.has_refused());
+                    assert!(rt; !refusing.has_refused());
                     assert!(rt; number > 0);
                     assert_eq!(rt; raw.exchange(&[]), Some(reply()?));
                     assert_eq!(rt; raw.wake(), Some(Rate::Com2));
@@ -279,7 +279,7 @@ fn raw_wire_answers_in_order(rt: HostRuntime) -> Result<(), Fail> {
                     return Ok(());
                 }
                 Err(fault) => {
-                    assert!(rt; scarce.has_refused());
+                    assert!(rt; refusing.has_refused());
                     assert_eq!(rt; fault, SimFault::OutOfMemory);
                 }
             }

@@ -3,7 +3,7 @@
 use iol_link::{Rate, Wire};
 use iol_mseq::Message;
 use iol_tap::{Passed, Tap};
-use iol_vectors::{AnyWire, Peer};
+use iol_peers::{AnyWire, Peer};
 use std::test::Fail;
 
 /// A peer that answers each message by its octets but the first, and no message of

@@ -4,7 +4,7 @@ mod plain;
 
 use iol_book::{Book, BookFault, Entry, Limits, Ticket, records_fit, takings_of_calls};
 use plain::read;
-use scarce::{Refusal, Scarce};
+use refusing_alloc::{Refusal, RefusingAlloc};
 use std::alloc::Global;
 use std::test::Fail;
 
@@ -27,7 +27,11 @@ enum Kind {
 }
 
 impl Kind {
-    fn submit(self, book: &mut Book<&Scarce<Global>>, index: u16) -> Result<Ticket, BookFault> {
+    fn submit(
+        self,
+        book: &mut Book<&RefusingAlloc<Global>>,
+        index: u16,
+    ) -> Result<Ticket, BookFault> {
         match self {
             Kind::Ordinary => book.submit(read(index)),
             Kind::Urgent => book.submit_urgent(read(index)),
@@ -43,7 +47,7 @@ impl Kind {
 }
 
 /// Whether the journal has these submits of one kind and nothing else, from the first ticket on.
-fn has_submits(book: &Book<&Scarce<Global>>, kind: Kind, count: usize) -> bool {
+fn has_submits(book: &Book<&RefusingAlloc<Global>>, kind: Kind, count: usize) -> bool {
     let mut number = 0u64;
     let mut is_right = book.journal().len() == count;
     for entry in book.journal() {
@@ -56,8 +60,8 @@ fn has_submits(book: &Book<&Scarce<Global>>, kind: Kind, count: usize) -> bool {
 /// Submits eight requests of one kind. Whether one was refused, and whether each
 /// one refused left the book as it was and went through once memory was there.
 fn eight_go_through(
-    scarce: &Scarce<Global>,
-    book: &mut Book<&Scarce<Global>>,
+    refusing: &RefusingAlloc<Global>,
+    book: &mut Book<&RefusingAlloc<Global>>,
     kind: Kind,
 ) -> (bool, bool) {
     let mut is_refused = false;
@@ -67,8 +71,8 @@ fn eight_go_through(
         let submitted = kind.submit(book, 16);
         if submitted == Err(BookFault::OutOfMemory) {
             is_refused = true;
-            is_right &= scarce.has_refused() && has_submits(book, kind, number as usize);
-            scarce.order(Refusal::Never);
+            is_right &= refusing.has_refused() && has_submits(book, kind, number as usize);
+            refusing.order(Refusal::Never);
             is_right &= kind.submit(book, 16) == Ok(ticket);
         } else {
             is_right &= submitted == Ok(ticket);
@@ -80,20 +84,20 @@ fn eight_go_through(
 
 /// Refuses each request for memory in turn. How many orders `open` met and how many
 /// a submit did, and whether all that was refused was as it was.
-fn refusals_met(scarce: &Scarce<Global>, kind: Kind) -> (u64, u64, bool) {
+fn refusals_met(refusing: &RefusingAlloc<Global>, kind: Kind) -> (u64, u64, bool) {
     let mut at_open = 0u64;
     let mut at_submit = 0u64;
     let mut all_right = true;
     for number in 0..64u64 {
         for refusal in [Refusal::Only(number), Refusal::From(number)] {
-            scarce.order(refusal);
-            let Ok(mut book) = Book::open(scarce, &LIMITS) else {
-                all_right &= scarce.has_refused();
+            refusing.order(refusal);
+            let Ok(mut book) = Book::open(refusing, &LIMITS) else {
+                all_right &= refusing.has_refused();
                 at_open = at_open.saturating_add(1);
                 continue;
             };
-            all_right &= !scarce.has_refused();
-            let (is_refused, is_right) = eight_go_through(scarce, &mut book, kind);
+            all_right &= !refusing.has_refused();
+            let (is_refused, is_right) = eight_go_through(refusing, &mut book, kind);
             all_right &= is_right;
             at_submit = at_submit.saturating_add(u64::from(is_refused));
         }
@@ -103,9 +107,9 @@ fn refusals_met(scarce: &Scarce<Global>, kind: Kind) -> (u64, u64, bool) {
 
 #[test]
 fn each_request_for_memory_is_refused(rt: HostRuntime) -> Result<(), Fail> {
-    let scarce = Scarce::new(rt.alloc());
+    let refusing = RefusingAlloc::new(rt.alloc());
     for kind in [Kind::Ordinary, Kind::Urgent] {
-        let (at_open, at_submit, all_right) = refusals_met(&scarce, kind);
+        let (at_open, at_submit, all_right) = refusals_met(&refusing, kind);
         assert!(rt; all_right);
         // The room of both queues is refused by each of two orders.
         assert_eq!(rt; at_open, 4);

@@ -2,7 +2,7 @@
 //! memory refused in turn.
 use iol_cell::{CellFault, ImageSeat, ImageWriter, image_cell};
 use iol_image::Image;
-use scarce::{Refusal, Scarce};
+use refusing_alloc::{Refusal, RefusingAlloc};
 use std::sync::Wait;
 use std::test::Fail;
 use std::thread::{Threads, join};
@@ -44,17 +44,17 @@ fn each_octet_keeps_its_place(rt: HostRuntime) -> Result<(), Fail> {
 
 #[test]
 fn each_refused_request_is_out_of_memory(rt: HostRuntime) -> Result<(), Fail> {
-    let scarce = Scarce::new(rt.alloc());
+    let refusing = RefusingAlloc::new(rt.alloc());
     for number in 0..1000 {
         for refusal in [Refusal::Only(number), Refusal::From(number)] {
-            scarce.order(refusal);
-            match image_cell(&rt, &scarce, 2) {
+            refusing.order(refusal);
+            match image_cell(&rt, &refusing, 2) {
                 Err(fault) => {
                     assert_eq!(rt; fault, CellFault::OutOfMemory);
-                    assert!(rt; scarce.has_refused());
+                    assert!(rt; refusing.has_refused());
                 }
                 Ok((mut writer, mut seats)) => {
-                    assert!(rt; number > 0 && !scarce.has_refused());
+                    assert!(rt; number > 0 && !refusing.has_refused());
                     assert_eq!(rt; seats.len(), 2);
                     writer.publish(&rt, Some(&Image::new(&[0x56])?));
                     for seat in seats.iter_mut() {

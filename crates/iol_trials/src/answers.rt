@@ -10,9 +10,9 @@ use iol_book::Limits;
 use iol_device::{Carried, Device};
 use iol_isdu::{Answer, Octets, Place, Request};
 use iol_page::Page;
+use iol_peers::PLAIN;
 use iol_port::{Call, Port};
 use iol_sim::{Fate, Params, Sim, Step};
-use iol_vectors::PLAIN;
 use std::alloc::{AllocError, Global};
 use std::test::Fail;
 

@@ -5,13 +5,13 @@ use iol_book::{BookFault, Limits, Ticket};
 use iol_isdu::{Place, Request};
 use iol_link::Rate;
 use iol_mseq::Message;
+use iol_peers::{AnyWire, Peer};
 use iol_port::{
     Answered, Call, Port, PortFault, cancelled_requests_were_asked, denied_requests_stay_out,
     each_done_has_its_pair, late_requests_end, pieces_are_turns, record_fits_journal, runs_join,
     turns_rule_out,
 };
-use iol_vectors::{AnyWire, Peer};
-use scarce::{Refusal, Scarce};
+use refusing_alloc::{Refusal, RefusingAlloc};
 use std::process::Abort;
 use std::test::Fail;
 
@@ -46,8 +46,8 @@ fn read() -> Request {
     Request::read(Place { index: 16, sub: 0 })
 }
 
-fn opened_port(scarce: &Scarce) -> Result<Port<AnyWire<Bare>, &Scarce>, Fail> {
-    match Port::open(scarce, bare_wire(7), &LIMITS) {
+fn opened_port(refusing: &RefusingAlloc) -> Result<Port<AnyWire<Bare>, &RefusingAlloc>, Fail> {
+    match Port::open(refusing, bare_wire(7), &LIMITS) {
         Ok(port) => Ok(port),
         Err((fault, _)) => Err(Fail::from(fault)),
     }
@@ -69,13 +69,13 @@ fn laws_of_all_ports_need_none(_rt: HostRuntime) -> Result<(), Fail> {
 
 #[test]
 fn a_port_opens_or_hands_its_wire_back(rt: HostRuntime) -> Result<(), Fail> {
-    let scarce = Scarce::new(rt.alloc());
+    let refusing = RefusingAlloc::new(rt.alloc());
     for number in 0..64 {
         for refusal in [Refusal::From(number), Refusal::Only(number)] {
-            scarce.order(refusal);
-            match Port::open(&scarce, bare_wire(7), &LIMITS) {
+            refusing.order(refusal);
+            match Port::open(&refusing, bare_wire(7), &LIMITS) {
                 Ok(port) => {
-                    assert!(rt; !scarce.has_refused());
+                    assert!(rt; !refusing.has_refused());
                     assert!(rt; number > 0);
                     assert_eq!(rt; port.status().mode, Mode::Down);
                     port.keeps_record();
@@ -83,7 +83,7 @@ fn a_port_opens_or_hands_its_wire_back(rt: HostRuntime) -> Result<(), Fail> {
                     return Ok(());
                 }
                 Err((fault, wire)) => {
-                    assert!(rt; scarce.has_refused());
+                    assert!(rt; refusing.has_refused());
                     assert_eq!(rt; fault, PortFault::Book(BookFault::OutOfMemory));
                     assert_eq!(rt; wire, bare_wire(7));
                 }
@@ -100,7 +100,7 @@ enum Urgency {
 }
 
 impl Urgency {
-    fn submit(self, port: &mut Port<AnyWire<Bare>, &Scarce>) -> Result<Ticket, PortFault> {
+    fn submit(self, port: &mut Port<AnyWire<Bare>, &RefusingAlloc>) -> Result<Ticket, PortFault> {
         match self {
             Urgency::Ordinary => port.submit(read()),
             Urgency::Urgent => port.submit_urgent(read()),
@@ -118,20 +118,24 @@ enum Submitted {
     Refused(Result<Ticket, PortFault>, bool, Result<Ticket, PortFault>),
 }
 
-fn has_empty_journal(port: &mut Port<AnyWire<Bare>, &Scarce>) -> bool {
+fn has_empty_journal(port: &mut Port<AnyWire<Bare>, &RefusingAlloc>) -> bool {
     match port.archive() {
         Ok(entries) => entries.is_empty(),
         Err(_) => false,
     }
 }
 
-fn submit_under(scarce: &Scarce, urgency: Urgency, refusal: Refusal) -> Result<Submitted, Fail> {
-    scarce.order(Refusal::Never);
-    let mut port = opened_port(scarce)?;
-    scarce.order(refusal);
+fn submit_under(
+    refusing: &RefusingAlloc,
+    urgency: Urgency,
+    refusal: Refusal,
+) -> Result<Submitted, Fail> {
+    refusing.order(Refusal::Never);
+    let mut port = opened_port(refusing)?;
+    refusing.order(refusal);
     let answer = urgency.submit(&mut port);
-    let is_refused = scarce.has_refused();
-    scarce.order(Refusal::Never);
+    let is_refused = refusing.has_refused();
+    refusing.order(Refusal::Never);
     if !is_refused {
         return Ok(Submitted::Taken(answer));
     }
@@ -141,10 +145,14 @@ fn submit_under(scarce: &Scarce, urgency: Urgency, refusal: Refusal) -> Result<S
 }
 
 /// Each request for memory of a submit is refused in turn, until there is none.
-fn is_refused_in_turn(rt: &impl Abort, scarce: &Scarce, urgency: Urgency) -> Result<(), Fail> {
+fn is_refused_in_turn(
+    rt: &impl Abort,
+    refusing: &RefusingAlloc,
+    urgency: Urgency,
+) -> Result<(), Fail> {
     for number in 0..64 {
         for refusal in [Refusal::From(number), Refusal::Only(number)] {
-            let submitted = submit_under(scarce, urgency, refusal)?;
+            let submitted = submit_under(refusing, urgency, refusal)?;
             if matches!(submitted, Submitted::Taken(_)) {
                 assert_eq!(rt; submitted, Submitted::Taken(Ok(Ticket(1))));
                 assert!(rt; number > 0);
@@ -160,32 +168,32 @@ fn is_refused_in_turn(rt: &impl Abort, scarce: &Scarce, urgency: Urgency) -> Res
 
 #[test]
 fn a_refused_request_changes_nothing(rt: HostRuntime) -> Result<(), Fail> {
-    is_refused_in_turn(&rt, &Scarce::new(rt.alloc()), Urgency::Ordinary)
+    is_refused_in_turn(&rt, &RefusingAlloc::new(rt.alloc()), Urgency::Ordinary)
 }
 
 #[test]
 fn a_refused_urgent_request_changes_nothing(rt: HostRuntime) -> Result<(), Fail> {
-    is_refused_in_turn(&rt, &Scarce::new(rt.alloc()), Urgency::Urgent)
+    is_refused_in_turn(&rt, &RefusingAlloc::new(rt.alloc()), Urgency::Urgent)
 }
 
 #[test]
 fn a_refused_run_makes_no_call(rt: HostRuntime) -> Result<(), Fail> {
-    let scarce = Scarce::new(rt.alloc());
+    let refusing = RefusingAlloc::new(rt.alloc());
     let calls = [Call::Submit(read()), Call::Turn, Call::Collect(Ticket(1))];
-    let mut port = opened_port(&scarce)?;
+    let mut port = opened_port(&refusing)?;
     for refusal in [Refusal::From(0), Refusal::Only(0)] {
-        scarce.order(refusal);
-        let refused = port.run(&scarce, &calls).err();
-        assert!(rt; scarce.has_refused());
+        refusing.order(refusal);
+        let refused = port.run(&refusing, &calls).err();
+        assert!(rt; refusing.has_refused());
         assert_eq!(rt; refused, Some(PortFault::Book(BookFault::OutOfMemory)));
-        scarce.order(Refusal::Never);
+        refusing.order(Refusal::Never);
     }
     let wanted = [
         Answered::Ticket(Ticket(1)),
         Answered::Nothing,
         Answered::Refused(PortFault::Book(BookFault::NotYet)),
     ];
-    assert_eq!(rt; port.run(&scarce, &calls)?.as_slice(), wanted.as_slice());
+    assert_eq!(rt; port.run(&refusing, &calls)?.as_slice(), wanted.as_slice());
     assert_eq!(rt; port.submit(read()), Ok(Ticket(2)));
     Ok(())
 }

@@ -3,10 +3,10 @@ use crate::device::device;
 use crate::ports::{read, turn};
 use iol_book::{BookFault, Limits, Outcome, Ticket};
 use iol_isdu::Cause;
+use iol_peers::ONE_OCTET;
 use iol_port::{Answered, Call, Port, PortFault};
 use iol_sim::{Params, Sim};
-use iol_vectors::ONE_OCTET;
-use scarce::{Refusal, Scarce};
+use refusing_alloc::{Refusal, RefusingAlloc};
 use std::alloc::Global;
 use std::test::Fail;
 
@@ -20,21 +20,24 @@ const LIMITS: Limits = Limits {
 };
 
 /// A port whose own memory runs out by an order.
-fn scarce_port(alloc: Global, scarce: &Scarce) -> Result<Port<Sim<Params>, &Scarce>, Fail> {
+fn port_over(
+    alloc: Global,
+    refusing: &RefusingAlloc,
+) -> Result<Port<Sim<Params>, &RefusingAlloc>, Fail> {
     let wire = device(alloc, &ONE_OCTET, &[])?;
-    Port::open(scarce, wire, &LIMITS).map_err(|(fault, _)| Fail::from(fault))
+    Port::open(refusing, wire, &LIMITS).map_err(|(fault, _)| Fail::from(fault))
 }
 
 /// Nor does one that is refused, nor the turn that ends the request; a cancel again, by
 /// its name, is answered as the first was.
 #[test]
 fn a_cancel_takes_no_memory(rt: HostRuntime) -> Result<(), Fail> {
-    let scarce = Scarce::new(rt.alloc());
-    let mut port = scarce_port(rt.alloc(), &scarce)?;
+    let refusing = RefusingAlloc::new(rt.alloc());
+    let mut port = port_over(rt.alloc(), &refusing)?;
     let waiting = port.submit(read())?;
     let ticket = port.submit_urgent(read())?;
     turn(&mut port, START_UP);
-    scarce.order(Refusal::From(0));
+    refusing.order(Refusal::From(0));
     turn(&mut port, 1);
     assert_eq!(rt;
         port.cancel(Ticket(3)),
@@ -49,6 +52,6 @@ fn a_cancel_takes_no_memory(rt: HostRuntime) -> Result<(), Fail> {
     turn(&mut port, 1);
     let cut = Outcome::Unknown(Cause::Cancelled);
     assert_eq!(rt; port.collect(ticket), Ok(cut));
-    assert!(rt; !scarce.has_refused());
+    assert!(rt; !refusing.has_refused());
     Ok(())
 }

@@ -6,7 +6,7 @@ use super::PARAMETER;
 use iol_device::{App, Device};
 use iol_isdu::{Answer, Octets, Place, Request};
 use iol_page::Page;
-use iol_vectors::PLAIN;
+use iol_peers::PLAIN;
 use std::alloc::Global;
 use std::test::Fail;
 

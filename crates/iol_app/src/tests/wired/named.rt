@@ -7,7 +7,7 @@ use iol_link::Wire;
 use iol_mode::Why;
 use iol_mseq::Message;
 use iol_steps::{Mode, Said};
-use iol_vectors::{AnyWire, Table};
+use iol_peers::{AnyWire, Table};
 use std::process::Abort;
 
 /// A call of a station.

@@ -1,0 +1,10 @@
+-- Which requests a refusal names.
+use Rattle.std.specs.Prelude.{◌≡◌, ℕ, ◌≤◌}
+use Rattle.refusing_alloc.specs.declared.refusal.Refusal.{Refusal}
+use Rattle.refusing_alloc.specs.declared.refusal.Refusal.TheVariants.{Never, Only, From}
+
+-- the request of this number is refused
+abbrev pub IsRefused : Refusal → ℕ → Type 0
+IsRefused Never n = ⊥
+IsRefused (Only number) n = n ≡ number
+IsRefused (From number) n = number ≤ n

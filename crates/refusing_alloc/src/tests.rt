@@ -1,0 +1,79 @@
+//! Tests of an allocator that refuses chosen requests.
+use crate::{Refusal, RefusingAlloc};
+use std::alloc::{Allocator, Global};
+use std::test::Fail;
+
+/// Whether one request is granted.
+fn is_granted<A: Allocator>(alloc: A) -> bool {
+    let mut octets: Vec<u8, A> = Vec::new(alloc);
+    octets.push(7).is_ok()
+}
+
+/// Which of five requests under an order are granted.
+fn granted(alloc: Global, refusal: Refusal) -> [bool; 5] {
+    let refusing = RefusingAlloc::new(alloc);
+    refusing.order(refusal);
+    let mut granted = [false; 5];
+    for answer in &mut granted {
+        *answer = is_granted(&refusing);
+    }
+    granted
+}
+
+#[test]
+fn never_refuses(rt: HostRuntime) {
+    assert_eq!(rt; granted(rt.alloc(), Refusal::Never), [true; 5]);
+}
+
+#[test]
+fn only_refuses_one(rt: HostRuntime) {
+    for (number, answers) in [
+        (0, [false, true, true, true, true]),
+        (2, [true, true, false, true, true]),
+        (5, [true; 5]),
+    ] {
+        assert_eq!(rt; granted(rt.alloc(), Refusal::Only(number)), answers);
+    }
+}
+
+#[test]
+fn from_refuses_the_rest(rt: HostRuntime) {
+    for (number, answers) in [
+        (0, [false; 5]),
+        (3, [true, true, true, false, false]),
+        (5, [true; 5]),
+    ] {
+        assert_eq!(rt; granted(rt.alloc(), Refusal::From(number)), answers);
+    }
+}
+
+#[test]
+fn counts_since_the_order(rt: HostRuntime) {
+    let refusing = RefusingAlloc::new(rt.alloc());
+    assert!(rt; is_granted(&refusing));
+    assert_eq!(rt; refusing.requests(), 1);
+    assert!(rt; !refusing.has_refused());
+    refusing.order(Refusal::Only(1));
+    assert_eq!(rt; refusing.requests(), 0);
+    assert!(rt; is_granted(&refusing));
+    assert!(rt; !refusing.has_refused());
+    assert!(rt; !is_granted(&refusing));
+    assert_eq!(rt; refusing.requests(), 2);
+    assert!(rt; refusing.has_refused());
+    refusing.order(Refusal::Never);
+    assert!(rt; is_granted(&refusing));
+    assert!(rt; !refusing.has_refused());
+}
+
+#[test]
+fn a_refused_growth_keeps_what_was_there(rt: HostRuntime) -> Result<(), Fail> {
+    let refusing = RefusingAlloc::new(rt.alloc());
+    let mut numbers = vec![in &refusing; 1u64, 2]?;
+    refusing.order(Refusal::From(0));
+    assert!(rt; numbers.push(3).is_err());
+    assert_eq!(rt; numbers.as_slice(), [1, 2].as_slice());
+    refusing.order(Refusal::Never);
+    numbers.push(3)?;
+    assert_eq!(rt; numbers.as_slice(), [1, 2, 3].as_slice());
+    Ok(())
+}
