@@ -18,6 +18,7 @@ fn one_event() -> Option<EventList> {
     reader.take(0x10).ok()?
 }
 
+/// No line of a program clones them, or goes over a list.
 #[test]
 fn a_list_and_a_memory_are_cloned(rt: HostRuntime) -> Result<(), Fail> {
     let events = one_event().ok_or("no list")?;

@@ -92,6 +92,7 @@ fn both_ways(text: &[u8]) -> bool {
     })
 }
 
+/// No row has them all: 233 lengths, each cut and joined by four sizes.
 #[test]
 fn all_lengths(rt: HostRuntime) -> Result<(), Fail> {
     let octets: [u8; 232] = std::array::from_fn(|i| i as u8);

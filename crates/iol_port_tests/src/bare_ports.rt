@@ -1,4 +1,4 @@
-//! Ports over a wire that answers nothing: memory refused in turn.
+//! Ports over a wire that answers nothing: memory that is refused, and laws.
 
 use iol_app::Mode;
 use iol_book::{BookFault, Limits, Ticket};
@@ -67,31 +67,33 @@ fn laws_of_all_ports_need_none(_rt: HostRuntime) -> Result<(), Fail> {
     Ok(())
 }
 
+/// A port asks for memory twice, for both queues of its book. No clause counts the requests: this
+/// test alone refuses an `open` that asks again where it was refused.
 #[test]
 fn a_port_opens_or_hands_its_wire_back(rt: HostRuntime) -> Result<(), Fail> {
     let refusing = RefusingAlloc::new(rt.alloc());
-    for number in 0..64 {
-        for refusal in [Refusal::From(number), Refusal::Only(number)] {
-            refusing.order(refusal);
-            match Port::open(&refusing, bare_wire(7), &LIMITS) {
-                Ok(port) => {
-                    assert!(rt; !refusing.has_refused());
-                    assert!(rt; number > 0);
-                    assert_eq!(rt; port.status().mode, Mode::Down);
-                    port.keeps_record();
-                    assert_eq!(rt; port.into_wire(), bare_wire(7));
-                    return Ok(());
-                }
-                Err((fault, wire)) => {
-                    assert!(rt; refusing.has_refused());
-                    assert_eq!(rt; fault, PortFault::Book(BookFault::OutOfMemory));
-                    assert_eq!(rt; wire, bare_wire(7));
-                }
-            }
-        }
+    for refusal in [Refusal::Only(0), Refusal::Only(1)] {
+        refusing.order(refusal);
+        let Err((fault, wire)) = Port::open(&refusing, bare_wire(7), &LIMITS) else {
+            return Err("a port without memory")?;
+        };
+        assert!(rt; refusing.has_refused());
+        assert_eq!(rt; fault, PortFault::Book(BookFault::OutOfMemory));
+        assert_eq!(rt; wire, bare_wire(7));
     }
-    Err(Fail::from(PortFault::Book(BookFault::OutOfMemory)))
+    refusing.order(Refusal::From(2));
+    let port = opened_port(&refusing)?;
+    assert!(rt; !refusing.has_refused());
+    assert_eq!(rt; port.status().mode, Mode::Down);
+    port.keeps_record();
+    assert_eq!(rt; port.into_wire(), bare_wire(7));
+    Ok(())
 }
+
+/// How many requests for memory the first submit makes.
+const AT_SUBMIT: u64 = 5;
+
+const WANTS_MEMORY: Result<Ticket, PortFault> = Err(PortFault::Book(BookFault::OutOfMemory));
 
 #[derive(Clone, Copy)]
 enum Urgency {
@@ -108,16 +110,6 @@ impl Urgency {
     }
 }
 
-/// What came of a submit at a new port, under an order to refuse memory.
-#[derive(Debug, PartialEq, Eq, Drop)]
-enum Submitted {
-    /// Nothing was refused.
-    Taken(Result<Ticket, PortFault>),
-    /// Memory was refused. What the submit answered, whether the journal was empty
-    /// afterwards, and what the same submit answered once memory was there.
-    Refused(Result<Ticket, PortFault>, bool, Result<Ticket, PortFault>),
-}
-
 fn has_empty_journal(port: &mut Port<AnyWire<Bare>, &RefusingAlloc>) -> bool {
     match port.archive() {
         Ok(entries) => entries.is_empty(),
@@ -125,57 +117,42 @@ fn has_empty_journal(port: &mut Port<AnyWire<Bare>, &RefusingAlloc>) -> bool {
     }
 }
 
-fn submit_under(
-    refusing: &RefusingAlloc,
-    urgency: Urgency,
-    refusal: Refusal,
-) -> Result<Submitted, Fail> {
-    refusing.order(Refusal::Never);
-    let mut port = opened_port(refusing)?;
-    refusing.order(refusal);
-    let answer = urgency.submit(&mut port);
-    let is_refused = refusing.has_refused();
-    refusing.order(Refusal::Never);
-    if !is_refused {
-        return Ok(Submitted::Taken(answer));
-    }
-    let is_empty = has_empty_journal(&mut port);
-    let again = urgency.submit(&mut port);
-    Ok(Submitted::Refused(answer, is_empty, again))
-}
-
-/// Each request for memory of a submit is refused in turn, until there is none.
-fn is_refused_in_turn(
+/// A submit at a new port is refused, changes nothing, and goes through once memory is there.
+fn is_refused(
     rt: &impl Abort,
     refusing: &RefusingAlloc,
     urgency: Urgency,
+    refusal: Refusal,
 ) -> Result<(), Fail> {
-    for number in 0..64 {
-        for refusal in [Refusal::From(number), Refusal::Only(number)] {
-            let submitted = submit_under(refusing, urgency, refusal)?;
-            if matches!(submitted, Submitted::Taken(_)) {
-                assert_eq!(rt; submitted, Submitted::Taken(Ok(Ticket(1))));
-                assert!(rt; number > 0);
-                return Ok(());
-            }
-            let wants_memory = Err(PortFault::Book(BookFault::OutOfMemory));
-            let expected = Submitted::Refused(wants_memory, true, Ok(Ticket(1)));
-            assert_eq!(rt; submitted, expected);
-        }
-    }
-    Err(Fail::from(PortFault::Book(BookFault::OutOfMemory)))
+    refusing.order(Refusal::Never);
+    let mut port = opened_port(refusing)?;
+    refusing.order(refusal);
+    assert_eq!(rt; urgency.submit(&mut port), WANTS_MEMORY);
+    assert!(rt; refusing.has_refused());
+    refusing.order(Refusal::Never);
+    assert!(rt; has_empty_journal(&mut port));
+    assert_eq!(rt; urgency.submit(&mut port), Ok(Ticket(1)));
+    Ok(())
 }
 
 #[test]
 fn a_refused_request_changes_nothing(rt: HostRuntime) -> Result<(), Fail> {
-    is_refused_in_turn(&rt, &RefusingAlloc::new(rt.alloc()), Urgency::Ordinary)
+    let refusing = RefusingAlloc::new(rt.alloc());
+    for number in 0..AT_SUBMIT {
+        for refusal in [Refusal::Only(number), Refusal::From(number)] {
+            is_refused(&rt, &refusing, Urgency::Ordinary, refusal)?;
+            is_refused(&rt, &refusing, Urgency::Urgent, refusal)?;
+        }
+    }
+    refusing.order(Refusal::Never);
+    let mut port = opened_port(&refusing)?;
+    refusing.order(Refusal::From(AT_SUBMIT));
+    assert_eq!(rt; port.submit(read()), Ok(Ticket(1)));
+    Ok(())
 }
 
-#[test]
-fn a_refused_urgent_request_changes_nothing(rt: HostRuntime) -> Result<(), Fail> {
-    is_refused_in_turn(&rt, &RefusingAlloc::new(rt.alloc()), Urgency::Urgent)
-}
-
+/// No clause counts the requests of a run: this test alone refuses one that asks again where it was
+/// refused.
 #[test]
 fn a_refused_run_makes_no_call(rt: HostRuntime) -> Result<(), Fail> {
     let refusing = RefusingAlloc::new(rt.alloc());

@@ -6,6 +6,7 @@ use iol_book::{Book, BookFault, Entry, Limits, Ticket, records_fit, takings_of_c
 use plain::read;
 use refusing_alloc::{Refusal, RefusingAlloc};
 use std::alloc::Global;
+use std::process::Abort;
 use std::test::Fail;
 
 const LIMITS: Limits = Limits {
@@ -27,21 +28,17 @@ enum Kind {
 }
 
 impl Kind {
-    fn submit(
-        self,
-        book: &mut Book<&RefusingAlloc<Global>>,
-        index: u16,
-    ) -> Result<Ticket, BookFault> {
+    fn submit(self, book: &mut Book<&RefusingAlloc<Global>>) -> Result<Ticket, BookFault> {
         match self {
-            Kind::Ordinary => book.submit(read(index)),
-            Kind::Urgent => book.submit_urgent(read(index)),
+            Kind::Ordinary => book.submit(read(16)),
+            Kind::Urgent => book.submit_urgent(read(16)),
         }
     }
 
-    fn entry(self, ticket: Ticket, index: u16) -> Entry {
+    fn entry(self, ticket: Ticket) -> Entry {
         match self {
-            Kind::Ordinary => Entry::Submitted(ticket, read(index)),
-            Kind::Urgent => Entry::Urgent(ticket, read(index)),
+            Kind::Ordinary => Entry::Submitted(ticket, read(16)),
+            Kind::Urgent => Entry::Urgent(ticket, read(16)),
         }
     }
 }
@@ -52,68 +49,55 @@ fn has_submits(book: &Book<&RefusingAlloc<Global>>, kind: Kind, count: usize) ->
     let mut is_right = book.journal().len() == count;
     for entry in book.journal() {
         number = number.saturating_add(1);
-        is_right &= *entry == kind.entry(Ticket(number), 16);
+        is_right &= *entry == kind.entry(Ticket(number));
     }
     is_right
 }
 
-/// Submits eight requests of one kind. Whether one was refused, and whether each
-/// one refused left the book as it was and went through once memory was there.
+/// Eight requests of one kind are submitted. The one that is refused leaves the book as it was,
+/// and goes through once memory is there.
 fn eight_go_through(
+    rt: &impl Abort,
     refusing: &RefusingAlloc<Global>,
-    book: &mut Book<&RefusingAlloc<Global>>,
     kind: Kind,
-) -> (bool, bool) {
+    refusal: Refusal,
+) -> Result<(), Fail> {
+    refusing.order(Refusal::Never);
+    let mut book = Book::open(refusing, &LIMITS)?;
+    refusing.order(refusal);
     let mut is_refused = false;
-    let mut is_right = true;
-    for number in 0..8u32 {
-        let ticket = Ticket(u64::from(number).saturating_add(1));
-        let submitted = kind.submit(book, 16);
+    for before in 0..8u8 {
+        let mut submitted = kind.submit(&mut book);
         if submitted == Err(BookFault::OutOfMemory) {
-            is_refused = true;
-            is_right &= refusing.has_refused() && has_submits(book, kind, number as usize);
+            is_refused = refusing.has_refused();
+            assert!(rt; has_submits(&book, kind, usize::from(before)));
             refusing.order(Refusal::Never);
-            is_right &= kind.submit(book, 16) == Ok(ticket);
-        } else {
-            is_right &= submitted == Ok(ticket);
+            submitted = kind.submit(&mut book);
         }
+        assert_eq!(rt; submitted, Ok(Ticket(u64::from(before) + 1)));
     }
-    is_right &= has_submits(book, kind, 8) && book.take() == Some((Ticket(1), read(16)));
-    (is_refused, is_right)
+    assert!(rt; is_refused);
+    assert!(rt; has_submits(&book, kind, 8));
+    assert_eq!(rt; book.take(), Some((Ticket(1), read(16))));
+    Ok(())
 }
 
-/// Refuses each request for memory in turn. How many orders `open` met and how many
-/// a submit did, and whether all that was refused was as it was.
-fn refusals_met(refusing: &RefusingAlloc<Global>, kind: Kind) -> (u64, u64, bool) {
-    let mut at_open = 0u64;
-    let mut at_submit = 0u64;
-    let mut all_right = true;
-    for number in 0..64u64 {
-        for refusal in [Refusal::Only(number), Refusal::From(number)] {
-            refusing.order(refusal);
-            let Ok(mut book) = Book::open(refusing, &LIMITS) else {
-                all_right &= refusing.has_refused();
-                at_open = at_open.saturating_add(1);
-                continue;
-            };
-            all_right &= !refusing.has_refused();
-            let (is_refused, is_right) = eight_go_through(refusing, &mut book, kind);
-            all_right &= is_right;
-            at_submit = at_submit.saturating_add(u64::from(is_refused));
-        }
-    }
-    (at_open, at_submit, all_right)
-}
+/// How many requests for memory the first eight submits make.
+const AT_SUBMITS: u64 = 8;
 
 #[test]
 fn each_request_for_memory_is_refused(rt: HostRuntime) -> Result<(), Fail> {
     let refusing = RefusingAlloc::new(rt.alloc());
-    for kind in [Kind::Ordinary, Kind::Urgent] {
-        let (at_open, at_submit, all_right) = refusals_met(&refusing, kind);
-        assert!(rt; all_right);
-        // The room of both queues is refused by each of two orders.
-        assert_eq!(rt; at_open, 4);
-        assert!(rt; at_submit > at_open);
+    for refusal in [Refusal::Only(0), Refusal::Only(1)] {
+        refusing.order(refusal);
+        let refused = Book::open(&refusing, &LIMITS).err();
+        assert_eq!(rt; refused, Some(BookFault::OutOfMemory));
+    }
+    for number in 0..AT_SUBMITS {
+        for refusal in [Refusal::Only(number), Refusal::From(number)] {
+            eight_go_through(&rt, &refusing, Kind::Ordinary, refusal)?;
+            eight_go_through(&rt, &refusing, Kind::Urgent, refusal)?;
+        }
     }
     Ok(())
 }

@@ -1,5 +1,5 @@
-//! Tests of the cell: what seats read, readers beside a writer in threads, and
-//! memory refused in turn.
+//! Tests of the cell: what seats read, memory that is refused, and readers beside a writer in
+//! threads.
 use iol_cell::{CellFault, ImageSeat, ImageWriter, image_cell};
 use iol_image::Image;
 use refusing_alloc::{Refusal, RefusingAlloc};
@@ -7,16 +7,20 @@ use std::sync::Wait;
 use std::test::Fail;
 use std::thread::{Threads, join};
 
+/// How many requests for memory a cell of two seats makes.
+const AT_OPENING: u64 = 6;
+
+/// Images of each length, whose octets differ, and none.
 #[test]
 fn each_seat_reads_the_last_image(rt: HostRuntime) -> Result<(), Fail> {
     let (mut writer, mut seats) = image_cell(&rt, rt.alloc(), 2)?;
-    assert_eq!(rt; seats.len(), 2);
-    for seat in seats.iter_mut() {
-        assert_eq!(rt; seat.read(&rt), None);
-    }
-    writer.publish(&rt, Some(&Image::new(&[0x12, 0x34])?));
-    for seat in seats.iter_mut() {
-        assert_eq!(rt; seat.read(&rt), Some(Image::new(&[0x12, 0x34])?));
+    let octets: [u8; 32] = std::array::from_fn(|at| at as u8);
+    for length in 1..33 {
+        let image = Image::new(&octets[..length])?;
+        writer.publish(&rt, Some(&image));
+        for seat in seats.iter_mut() {
+            assert_eq!(rt; seat.read(&rt).as_ref(), Some(&image));
+        }
     }
     writer.publish(&rt, None);
     for seat in seats.iter_mut() {
@@ -25,47 +29,26 @@ fn each_seat_reads_the_last_image(rt: HostRuntime) -> Result<(), Fail> {
     Ok(())
 }
 
-#[test]
-fn each_octet_keeps_its_place(rt: HostRuntime) -> Result<(), Fail> {
-    let (mut writer, mut seats) = image_cell(&rt, rt.alloc(), 1)?;
-    let mut octets = [0u8; 32];
-    for (octet, value) in octets.iter_mut().zip(7u8..) {
-        *octet = value;
-    }
-    for length in 1..33 {
-        let image = Image::new(&octets[..length])?;
-        writer.publish(&rt, Some(&image));
-        for seat in seats.iter_mut() {
-            assert_eq!(rt; seat.read(&rt).as_ref(), Some(&image));
-        }
-    }
-    Ok(())
-}
-
+/// No clause counts the requests: this test alone refuses a cell that asks again where it was
+/// refused.
 #[test]
 fn each_refused_request_is_out_of_memory(rt: HostRuntime) -> Result<(), Fail> {
     let refusing = RefusingAlloc::new(rt.alloc());
-    for number in 0..1000 {
+    for number in 0..AT_OPENING {
         for refusal in [Refusal::Only(number), Refusal::From(number)] {
             refusing.order(refusal);
-            match image_cell(&rt, &refusing, 2) {
-                Err(fault) => {
-                    assert_eq!(rt; fault, CellFault::OutOfMemory);
-                    assert!(rt; refusing.has_refused());
-                }
-                Ok((mut writer, mut seats)) => {
-                    assert!(rt; number > 0 && !refusing.has_refused());
-                    assert_eq!(rt; seats.len(), 2);
-                    writer.publish(&rt, Some(&Image::new(&[0x56])?));
-                    for seat in seats.iter_mut() {
-                        assert_eq!(rt; seat.read(&rt), Some(Image::new(&[0x56])?));
-                    }
-                    return Ok(());
-                }
-            }
+            let refused = image_cell(&rt, &refusing, 2).err();
+            assert_eq!(rt; refused, Some(CellFault::OutOfMemory));
+            assert!(rt; refusing.has_refused());
         }
     }
-    Err(Fail::from(CellFault::OutOfMemory))
+    refusing.order(Refusal::From(AT_OPENING));
+    let (_writer, mut seats) = image_cell(&rt, &refusing, 2)?;
+    assert_eq!(rt; seats.len(), 2);
+    for seat in seats.iter_mut() {
+        assert_eq!(rt; seat.read(&rt), None);
+    }
+    Ok(())
 }
 
 const IMAGES: u16 = 10_000;
@@ -125,6 +108,8 @@ fn publish_and_read<R: Threads + Wait + Sync>(
     last
 }
 
+/// No clause says that a call which may wait comes back: this test alone refuses a read that waits
+/// for ever where another thread publishes.
 #[test]
 fn no_read_mixes_two_images(rt: HostRuntime) -> Result<(), Fail> {
     let (writer, mut seats) = image_cell(&rt, rt.alloc(), 2)?;

@@ -117,6 +117,8 @@ fn answered_by(port: &mut HonestPort, came: &Option<Message>, device: &Device<St
     port.receive(came, device);
 }
 
+/// Nothing else calls an [`HonestPort`]: the proof of this test alone refuses a premise of its
+/// calls that no line can meet.
 #[test]
 fn a_claimed_line_meets_its_premise(rt: HostRuntime) -> Result<(), Fail> {
     let mut device = opened_device(rt.alloc())?;
