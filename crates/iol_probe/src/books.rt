@@ -1,12 +1,13 @@
 //! The lines of a book alone.
-ghost use Rattle.std.specs.Prelude.{IfOk};
-ghost use Rattle.iol_book.specs.BookModel.{AreLimits};
-
 use crate::fault::LineFault;
-use crate::printing::{print_answer, print_ok, print_refused, print_request};
+use crate::printing::{print_ok, print_request};
 use crate::reading::{answer, end, is, number, request, word};
-use iol_book::{Book, BookFault, Entry, Limits, Outcome, Ticket};
+use crate::tickets::{
+    limits, print_archived, print_collected, print_done, print_entries, print_submitted, ticket,
+};
+use iol_book::{Book, BookFault, Outcome, Ticket};
 use iol_isdu::{Cause, Request};
+use iol_port::PortFault;
 use iol_script::Words;
 use std::alloc::{AllocError, Global};
 
@@ -26,24 +27,6 @@ pub(crate) fn answer_book(
         Some(book) => answer_call(output, book, name, words),
         None => Err(LineFault::Bad),
     }
-}
-
-/// The limits of a book: entries of the journal, busy replies, tickets given before.
-pub(crate) fn limits(words: &mut Words<'_>) -> Result<Limits, LineFault>
-    ensures { IfOk result AreLimits }
-{
-    let journal = number(words, 1_000_000)? as u32;
-    let busy = number(words, 65_535)? as u16;
-    let given = number(words, u64::MAX)?;
-    end(words)?;
-    if journal < 4 || busy < 2 {
-        return Err(LineFault::Bad);
-    }
-    Ok(Limits {
-        journal,
-        busy,
-        given,
-    })
 }
 
 fn open(
@@ -68,18 +51,36 @@ fn answer_call(
     words: &mut Words<'_>,
 ) -> Result<(), LineFault> {
     if is(name, b"submit") {
-        print_submitted(output, book.submit(request(words)?))?;
+        print_submitted(
+            output,
+            book.submit(request(words)?).map_err(PortFault::Book),
+        )?;
     } else if is(name, b"urgent") {
-        print_submitted(output, book.submit_urgent(request(words)?))?;
+        print_submitted(
+            output,
+            book.submit_urgent(request(words)?).map_err(PortFault::Book),
+        )?;
     } else if is(name, b"post") {
         let ticket = Ticket(number(words, u64::MAX)?);
-        print_done(output, post(book, ticket, outcome(words)?))?;
+        print_done(
+            output,
+            post(book, ticket, outcome(words)?).map_err(PortFault::Book),
+        )?;
     } else if is(name, b"collect") {
-        print_collected(output, book.collect(ticket(words)?))?;
+        print_collected(
+            output,
+            book.collect(ticket(words)?).map_err(PortFault::Book),
+        )?;
     } else if is(name, b"withdraw") {
-        print_done(output, book.withdraw(ticket(words)?))?;
+        print_done(
+            output,
+            book.withdraw(ticket(words)?).map_err(PortFault::Book),
+        )?;
     } else if is(name, b"flight") {
-        print_done(output, book.in_flight(ticket(words)?))?;
+        print_done(
+            output,
+            book.in_flight(ticket(words)?).map_err(PortFault::Book),
+        )?;
     } else {
         end(words)?;
         answer_bare(output, book, name)?;
@@ -99,7 +100,7 @@ fn answer_bare(output: &mut String, book: &mut Book, name: &[u8]) -> Result<(), 
         book.reset();
         print_ok(output)?;
     } else if is(name, b"archive") {
-        print_archived(output, book)?;
+        print_archived(output, book.archive().map_err(PortFault::Book))?;
     } else if is(name, b"journal") {
         output.push_str("journal")?;
         print_entries(output, book.journal())?;
@@ -107,12 +108,6 @@ fn answer_bare(output: &mut String, book: &mut Book, name: &[u8]) -> Result<(), 
         return Err(LineFault::Bad);
     }
     Ok(())
-}
-
-pub(crate) fn ticket(words: &mut Words<'_>) -> Result<Ticket, LineFault> {
-    let number = number(words, u64::MAX)?;
-    end(words)?;
-    Ok(Ticket(number))
 }
 
 /// `done` and an answer, `unknown` and a cause, `withdrawn` or `noisdu`.
@@ -152,54 +147,6 @@ fn post(book: &mut Book, ticket: Ticket, outcome: Outcome) -> Result<(), BookFau
     Ok(())
 }
 
-fn print_book_fault(output: &mut String, fault: BookFault) -> Result<(), AllocError> {
-    print_refused(output, fault.code(), &fault)
-}
-
-fn print_submitted(
-    output: &mut String,
-    submitted: Result<Ticket, BookFault>,
-) -> Result<(), AllocError> {
-    match submitted {
-        Ok(Ticket(number)) => writeln!(output, "ticket {number}"),
-        Err(fault) => print_book_fault(output, fault),
-    }
-}
-
-fn print_done(output: &mut String, done: Result<(), BookFault>) -> Result<(), AllocError> {
-    match done {
-        Ok(()) => print_ok(output),
-        Err(fault) => print_book_fault(output, fault),
-    }
-}
-
-fn print_collected(
-    output: &mut String,
-    collected: Result<Outcome, BookFault>,
-) -> Result<(), AllocError> {
-    match collected {
-        Ok(outcome) => {
-            output.push_str("outcome")?;
-            print_outcome(output, &outcome)?;
-            output.push_str("\n")
-        }
-        Err(fault) => print_book_fault(output, fault),
-    }
-}
-
-/// How a request ended.
-pub(crate) fn print_outcome(output: &mut String, outcome: &Outcome) -> Result<(), AllocError> {
-    match outcome {
-        Outcome::Done(answer) => {
-            output.push_str(" done")?;
-            print_answer(output, answer)
-        }
-        Outcome::Unknown(cause) => write!(output, " unknown {cause:?}"),
-        Outcome::Withdrawn => output.push_str(" withdrawn"),
-        Outcome::NoIsdu => output.push_str(" noisdu"),
-    }
-}
-
 fn print_taken(output: &mut String, taken: Option<(Ticket, Request)>) -> Result<(), AllocError> {
     match taken {
         Some((Ticket(number), request)) => {
@@ -226,47 +173,5 @@ fn print_next(output: &mut String, next: Option<&Request>) -> Result<(), AllocEr
             output.push_str("\n")
         }
         None => output.push_str("next none\n"),
-    }
-}
-
-/// The entries that are handed out.
-fn print_archived(output: &mut String, book: &mut Book) -> Result<(), AllocError> {
-    match book.archive() {
-        Ok(entries) => {
-            output.push_str("archived")?;
-            print_entries(output, entries.as_slice())
-        }
-        Err(fault) => print_book_fault(output, fault),
-    }
-}
-
-/// How many entries there are, and each of them behind a semicolon.
-pub(crate) fn print_entries(output: &mut String, entries: &[Entry]) -> Result<(), AllocError> {
-    let count = entries.len();
-    write!(output, " {count}")?;
-    for entry in entries {
-        output.push_str("; ")?;
-        print_entry(output, entry)?;
-    }
-    output.push_str("\n")
-}
-
-fn print_entry(output: &mut String, entry: &Entry) -> Result<(), AllocError> {
-    match entry {
-        Entry::Submitted(Ticket(number), request) => {
-            write!(output, "submitted {number}")?;
-            print_request(output, request)
-        }
-        Entry::Urgent(Ticket(number), request) => {
-            write!(output, "urgent {number}")?;
-            print_request(output, request)
-        }
-        Entry::Taken(Ticket(number)) => write!(output, "taken {number}"),
-        Entry::Answered(Ticket(number), outcome) => {
-            write!(output, "answered {number}")?;
-            print_outcome(output, outcome)
-        }
-        Entry::Withdrawn(Ticket(number)) => write!(output, "withdrawn {number}"),
-        Entry::Collected(Ticket(number)) => write!(output, "collected {number}"),
     }
 }

@@ -6,13 +6,13 @@ use crate::events::event;
 use crate::fault::LineFault;
 use crate::pages::{page_of, print_page_fault};
 use crate::printing::{
-    print_answer, print_named, print_octets, print_ok, print_refused, print_request, yes_or_no,
+    print_named, print_octets, print_ok, print_pair, print_refused, print_request, yes_or_no,
 };
-use crate::reading::{answer, end, is, number, octets, packed, place, word};
+use crate::reading::{Bytes, answer, end, is, octets, packed, place, positive, word};
 use iol_device::{Apart, App, Carried, Device, DeviceFault, Record, Unkept};
 use iol_event::Event;
 use iol_image::Image;
-use iol_isdu::{Octets, Request};
+use iol_isdu::Request;
 use iol_mseq::Message;
 use iol_page::Page;
 use iol_script::Words;
@@ -156,18 +156,14 @@ fn room(words: &mut Words<'_>) -> Result<u32, LineFault>
     ensures some { IfOk result (λ room. 1 ≤ room) }
     ensures most { IfOk result (λ room. room ≤ 100000) }
 {
-    let room = number(words, 100_000)? as u32;
-    if room == 0 {
-        return Err(LineFault::Bad);
-    }
-    Ok(room)
+    Ok(positive(words, 100_000)? as u32)
 }
 
-/// A place, whether it may be written, and its octets.
+/// A place, whether it may be written, and its octets, of which there may be too many.
 fn add(output: &mut String, params: &mut Params, words: &mut Words<'_>) -> Result<(), LineFault> {
     let place = place(words)?;
     let writable = writable(words)?;
-    let octets: Octets = packed(words)?;
+    let octets: Bytes = packed(words)?;
     end(words)?;
     match params.add(place, writable, octets.as_slice()) {
         Ok(()) => print_ok(output)?,
@@ -302,9 +298,7 @@ fn print_record(output: &mut String, carried: &[Carried]) -> Result<(), AllocErr
     write!(output, "record {count}")?;
     for Carried { request, answer } in carried {
         output.push_str(";")?;
-        print_request(output, request)?;
-        output.push_str(" answer")?;
-        print_answer(output, answer)?;
+        print_pair(output, request, answer)?;
     }
     output.push_str("\n")
 }

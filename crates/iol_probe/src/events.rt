@@ -6,40 +6,8 @@ use iol_event::{Event, EventForm, EventList, EventMemory, EventReader};
 use iol_script::{Words, hexadecimal_code};
 use std::alloc::AllocError;
 
-/// An event memory, and a reader.
-#[derive(Drop)]
-pub(crate) struct Events {
-    memory: EventMemory,
-    reader: EventReader,
-}
-
-impl Events {
-    pub fn new() -> Events {
-        Events {
-            memory: EventMemory::new(),
-            reader: EventReader::new(),
-        }
-    }
-
-    /// Answers a line of events. Whether it is one.
-    pub fn answer(
-        &mut self,
-        output: &mut String,
-        name: &[u8],
-        words: &mut Words<'_>,
-    ) -> Result<bool, LineFault> {
-        if is(name, b"memory") {
-            answer_memory(output, &mut self.memory, words)?;
-        } else if is(name, b"reader") {
-            answer_reader(output, &mut self.reader, words)?;
-        } else {
-            return Ok(false);
-        }
-        Ok(true)
-    }
-}
-
-fn answer_memory(
+/// A line of an event memory, behind `memory`.
+pub(crate) fn answer_memory(
     output: &mut String,
     memory: &mut EventMemory,
     words: &mut Words<'_>,
@@ -97,7 +65,8 @@ fn raise(output: &mut String, memory: &mut EventMemory, event: Event) -> Result<
     }
 }
 
-fn answer_reader(
+/// A line of a reader of events, behind `reader`.
+pub(crate) fn answer_reader(
     output: &mut String,
     reader: &mut EventReader,
     words: &mut Words<'_>,

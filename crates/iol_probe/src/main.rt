@@ -52,6 +52,7 @@ mod printing;
 mod probe;
 mod reading;
 mod segments;
+mod tickets;
 
 use crate::fault::ProbeFault;
 use crate::probe::Probe;

@@ -1,15 +1,17 @@
 //! The lines of a port without a wire.
-use crate::books::{limits, print_entries, print_outcome, ticket};
 use crate::devices::print_image;
 use crate::events::print_event;
 use crate::fault::LineFault;
-use crate::printing::{print_named, print_ok, print_refused};
+use crate::printing::{print_named, print_octets, print_ok, print_refused};
 use crate::reading::{end, is, octets, request, word};
+use crate::tickets::{
+    limits, print_archived, print_collected, print_done, print_submitted, ticket,
+};
 use iol_app::{Asked, Status};
-use iol_book::{Entry, Outcome, Ticket};
 use iol_event::Event;
 use iol_image::Image;
 use iol_link::Rate;
+use iol_mode::Why;
 use iol_mseq::Message;
 use iol_port::{Awaited, PortCore, PortFault};
 use iol_script::Words;
@@ -186,41 +188,6 @@ fn set_output(output: &mut String, port: &mut PortCore, octets: &[u8]) -> Result
     Ok(())
 }
 
-fn print_port_fault(output: &mut String, fault: PortFault) -> Result<(), AllocError> {
-    print_refused(output, fault.code(), &fault)
-}
-
-fn print_submitted(
-    output: &mut String,
-    submitted: Result<Ticket, PortFault>,
-) -> Result<(), AllocError> {
-    match submitted {
-        Ok(Ticket(number)) => writeln!(output, "ticket {number}"),
-        Err(fault) => print_port_fault(output, fault),
-    }
-}
-
-fn print_done(output: &mut String, done: Result<(), PortFault>) -> Result<(), AllocError> {
-    match done {
-        Ok(()) => print_ok(output),
-        Err(fault) => print_port_fault(output, fault),
-    }
-}
-
-fn print_collected(
-    output: &mut String,
-    collected: Result<Outcome, PortFault>,
-) -> Result<(), AllocError> {
-    match collected {
-        Ok(outcome) => {
-            output.push_str("outcome")?;
-            print_outcome(output, &outcome)?;
-            output.push_str("\n")
-        }
-        Err(fault) => print_port_fault(output, fault),
-    }
-}
-
 fn print_taken(output: &mut String, taken: Result<Event, PortFault>) -> Result<(), AllocError> {
     match taken {
         Ok(event) => {
@@ -228,20 +195,7 @@ fn print_taken(output: &mut String, taken: Result<Event, PortFault>) -> Result<(
             print_event(output, event)?;
             output.push_str("\n")
         }
-        Err(fault) => print_port_fault(output, fault),
-    }
-}
-
-fn print_archived(
-    output: &mut String,
-    archived: Result<Vec<Entry>, PortFault>,
-) -> Result<(), AllocError> {
-    match archived {
-        Ok(entries) => {
-            output.push_str("archived")?;
-            print_entries(output, entries.as_slice())
-        }
-        Err(fault) => print_port_fault(output, fault),
+        Err(fault) => print_refused(output, fault.code(), &fault),
     }
 }
 
@@ -253,12 +207,22 @@ fn print_asked(output: &mut String, name: &str, asked: Asked) -> Result<(), Allo
     }
 }
 
+/// The number and the name of why a link is down; behind that of a RevisionID the octet.
+fn print_why(output: &mut String, why: Why) -> Result<(), AllocError> {
+    let number = why.code();
+    write!(output, " {number} {why}")?;
+    match why {
+        Why::Revision(octet) => print_octets(output, &[octet]),
+        Why::NoWake | Why::Lost | Why::PdLength | Why::Code => Ok(()),
+    }
+}
+
 /// The mode, why the link is down, and whether a StatusCode was refused.
 fn print_status(output: &mut String, status: Status) -> Result<(), AllocError> {
     let mode = status.mode;
     write!(output, "status {mode:?}")?;
     if let Some(why) = status.why {
-        write!(output, " {why}")?;
+        print_why(output, why)?;
     }
     output.push_str(if status.event_form {
         " eventform\n"

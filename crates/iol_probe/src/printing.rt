@@ -80,6 +80,17 @@ pub(crate) fn print_request(output: &mut String, request: &Request) -> Result<()
     }
 }
 
+/// A request, and the answer to it.
+pub(crate) fn print_pair(
+    output: &mut String,
+    request: &Request,
+    answer: &Answer,
+) -> Result<(), AllocError> {
+    print_request(output, request)?;
+    output.push_str(" answer")?;
+    print_answer(output, answer)
+}
+
 /// An answer as a line says it, but the octets each behind a space.
 pub(crate) fn print_answer(output: &mut String, answer: &Answer) -> Result<(), AllocError> {
     match answer {

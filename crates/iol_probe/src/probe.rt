@@ -2,7 +2,7 @@
 use crate::books::answer_book;
 use crate::buffers::answer_buffers;
 use crate::devices::Devices;
-use crate::events::Events;
+use crate::events::{answer_memory, answer_reader};
 use crate::fault::{LineFault, ProbeFault};
 use crate::images::answer_image;
 use crate::isdus::answer_isdus;
@@ -13,6 +13,7 @@ use crate::ports::answer_port;
 use crate::reading::is;
 use crate::segments::Segments;
 use iol_book::Book;
+use iol_event::{EventMemory, EventReader};
 use iol_mseq::{Layout, Message};
 use iol_page::Page;
 use iol_port::PortCore;
@@ -27,7 +28,8 @@ pub(crate) struct Probe {
     buffer: Message,
     page: Page,
     segments: Segments,
-    events: Events,
+    memory: EventMemory,
+    reader: EventReader,
     book: Option<Book>,
     devices: Devices,
     port: Option<PortCore>,
@@ -41,7 +43,8 @@ impl Probe {
             buffer: Message::new(),
             page: Page::from_octets(&[0; 10]),
             segments: Segments::new(),
-            events: Events::new(),
+            memory: EventMemory::new(),
+            reader: EventReader::new(),
             book: None,
             devices: Devices::new(alloc),
             port: None,
@@ -94,10 +97,15 @@ impl Probe {
         name: &[u8],
         words: &mut Words<'_>,
     ) -> Result<(), LineFault> {
-        if self.segments.answer(output, name, words)? || self.events.answer(output, name, words)? {
-            return Ok(());
-        }
-        if is(name, b"image") {
+        if is(name, b"cut") {
+            self.segments.answer_cut(output, words)
+        } else if is(name, b"join") {
+            self.segments.answer_join(output, words)
+        } else if is(name, b"memory") {
+            answer_memory(output, &mut self.memory, words)
+        } else if is(name, b"reader") {
+            answer_reader(output, &mut self.reader, words)
+        } else if is(name, b"image") {
             answer_image(output, words)
         } else if is(name, b"book") {
             answer_book(output, self.alloc, &mut self.book, words)

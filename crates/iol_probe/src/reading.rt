@@ -69,6 +69,14 @@ pub(crate) fn number(words: &mut Words<'_>, most: u64) -> Result<u64, LineFault>
     decimal_number(word(words)?, 0, most).ok_or(LineFault::Bad)
 }
 
+/// A decimal number from 1 up to this one.
+pub(crate) fn positive(words: &mut Words<'_>, most: u64) -> Result<u64, LineFault>
+    ensures least { IfOk result (λ n. 1 ≤ n) }
+    ensures most { IfOk result (λ n. n ≤ most) }
+{
+    decimal_number(word(words)?, 1, most).ok_or(LineFault::Bad)
+}
+
 /// A decimal number up to 255.
 pub(crate) fn small(words: &mut Words<'_>) -> Result<u8, LineFault> {
     Ok(number(words, 255)? as u8)

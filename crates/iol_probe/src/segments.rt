@@ -4,9 +4,9 @@ ghost use Rattle.std.specs.Prelude.{◌≡◌, ◌≤◌, true, false, IfOk};
 use crate::fault::LineFault;
 use crate::isdus::{asked, print_read_answer, print_read_request, reaction};
 use crate::printing::{
-    print_answer, print_flow, print_octets, print_ok, print_refused, print_request, yes_or_no,
+    print_flow, print_octets, print_ok, print_pair, print_refused, print_request, yes_or_no,
 };
-use crate::reading::{direction_of, end, flow, is, number, octets, request, word};
+use crate::reading::{direction_of, end, flow, is, octets, positive, request, word};
 use iol_isdu::Request;
 use iol_octets::Flow;
 use iol_script::Words;
@@ -44,24 +44,21 @@ impl Segments {
         }
     }
 
-    /// Answers a line of segments. Whether it is one.
-    pub fn answer(
+    /// A line of a text that is cut, behind `cut`.
+    pub fn answer_cut(
         &mut self,
         output: &mut String,
-        name: &[u8],
         words: &mut Words<'_>,
-    ) -> Result<bool, LineFault> {
-        if is(name, b"cut") {
-            answer_cut(output, &mut self.cut, words)?;
-        } else if is(name, b"join") {
-            self.answer_join(output, words)?;
-        } else {
-            return Ok(false);
-        }
-        Ok(true)
+    ) -> Result<(), LineFault> {
+        answer_cut(output, &mut self.cut, words)
     }
 
-    fn answer_join(&mut self, output: &mut String, words: &mut Words<'_>) -> Result<(), LineFault> {
+    /// A line of segments that are joined, behind `join`.
+    pub fn answer_join(
+        &mut self,
+        output: &mut String,
+        words: &mut Words<'_>,
+    ) -> Result<(), LineFault> {
         let name = word(words)?;
         if is(name, b"take") {
             self.take(output, words)
@@ -173,11 +170,7 @@ fn size(words: &mut Words<'_>) -> Result<usize, LineFault>
     ensures some { IfOk result (λ size. 1 ≤ size) }
     ensures most { IfOk result (λ size. size ≤ 32) }
 {
-    let size = number(words, 32)? as usize;
-    if size == 0 {
-        return Err(LineFault::Bad);
-    }
-    Ok(size)
+    Ok(positive(words, 32)? as usize)
 }
 
 fn next(cut: &mut Cut) -> Option<(Flow, Segment)> {
@@ -204,9 +197,7 @@ fn print_source(output: &mut String, cut: &Cut) -> Result<(), AllocError> {
         Cut::Request(cutter) => print_request(output, cutter.source())?,
         Cut::Answer(cutter) => {
             let reaction = cutter.source();
-            print_request(output, &reaction.request)?;
-            output.push_str(" answer")?;
-            print_answer(output, &reaction.answer)?;
+            print_pair(output, &reaction.request, &reaction.answer)?;
         }
     }
     output.push_str("\n")

@@ -1,0 +1,127 @@
+//! What the lines of a book and of a port have alike: limits, tickets, and what is said of them.
+ghost use Rattle.std.specs.Prelude.{IfOk};
+ghost use Rattle.iol_book.specs.BookModel.{AreLimits};
+
+use crate::fault::LineFault;
+use crate::printing::{print_answer, print_ok, print_refused, print_request};
+use crate::reading::{end, number};
+use iol_book::{Entry, Limits, Outcome, Ticket};
+use iol_port::PortFault;
+use iol_script::Words;
+use std::alloc::AllocError;
+
+/// The limits of a book: entries of the journal, busy replies, tickets given before.
+pub(crate) fn limits(words: &mut Words<'_>) -> Result<Limits, LineFault>
+    ensures { IfOk result AreLimits }
+{
+    let journal = number(words, 1_000_000)? as u32;
+    let busy = number(words, 65_535)? as u16;
+    let given = number(words, u64::MAX)?;
+    end(words)?;
+    if journal < 4 || busy < 2 {
+        return Err(LineFault::Bad);
+    }
+    Ok(Limits {
+        journal,
+        busy,
+        given,
+    })
+}
+
+pub(crate) fn ticket(words: &mut Words<'_>) -> Result<Ticket, LineFault> {
+    let number = number(words, u64::MAX)?;
+    end(words)?;
+    Ok(Ticket(number))
+}
+
+pub(crate) fn print_submitted(
+    output: &mut String,
+    submitted: Result<Ticket, PortFault>,
+) -> Result<(), AllocError> {
+    match submitted {
+        Ok(Ticket(number)) => writeln!(output, "ticket {number}"),
+        Err(fault) => print_refused(output, fault.code(), &fault),
+    }
+}
+
+pub(crate) fn print_done(
+    output: &mut String,
+    done: Result<(), PortFault>,
+) -> Result<(), AllocError> {
+    match done {
+        Ok(()) => print_ok(output),
+        Err(fault) => print_refused(output, fault.code(), &fault),
+    }
+}
+
+pub(crate) fn print_collected(
+    output: &mut String,
+    collected: Result<Outcome, PortFault>,
+) -> Result<(), AllocError> {
+    match collected {
+        Ok(outcome) => {
+            output.push_str("outcome")?;
+            print_outcome(output, &outcome)?;
+            output.push_str("\n")
+        }
+        Err(fault) => print_refused(output, fault.code(), &fault),
+    }
+}
+
+/// How a request ended.
+fn print_outcome(output: &mut String, outcome: &Outcome) -> Result<(), AllocError> {
+    match outcome {
+        Outcome::Done(answer) => {
+            output.push_str(" done")?;
+            print_answer(output, answer)
+        }
+        Outcome::Unknown(cause) => write!(output, " unknown {cause:?}"),
+        Outcome::Withdrawn => output.push_str(" withdrawn"),
+        Outcome::NoIsdu => output.push_str(" noisdu"),
+    }
+}
+
+/// The entries that are handed out.
+pub(crate) fn print_archived(
+    output: &mut String,
+    archived: Result<Vec<Entry>, PortFault>,
+) -> Result<(), AllocError> {
+    match archived {
+        Ok(entries) => {
+            output.push_str("archived")?;
+            print_entries(output, entries.as_slice())
+        }
+        Err(fault) => print_refused(output, fault.code(), &fault),
+    }
+}
+
+/// How many entries there are, and each of them behind a semicolon.
+pub(crate) fn print_entries(output: &mut String, entries: &[Entry]) -> Result<(), AllocError> {
+    let count = entries.len();
+    write!(output, " {count}")?;
+    for entry in entries {
+        output.push_str("; ")?;
+        print_entry(output, entry)?;
+    }
+    output.push_str("\n")
+}
+
+fn print_entry(output: &mut String, entry: &Entry) -> Result<(), AllocError> {
+    match entry {
+        Entry::Submitted(Ticket(number), request) => {
+            write!(output, "submitted {number}")?;
+            print_request(output, request)
+        }
+        Entry::Urgent(Ticket(number), request) => {
+            write!(output, "urgent {number}")?;
+            print_request(output, request)
+        }
+        Entry::Taken(Ticket(number)) => write!(output, "taken {number}"),
+        Entry::Answered(Ticket(number), outcome) => {
+            write!(output, "answered {number}")?;
+            print_outcome(output, outcome)
+        }
+        Entry::Withdrawn(Ticket(number)) => write!(output, "withdrawn {number}"),
+        Entry::Collected(Ticket(number)) => write!(output, "collected {number}"),
+    }
+}
