@@ -1,4 +1,4 @@
-//! Test vectors and test wires, for tests alone: pages of devices, start-ups as tables
+//! Test vectors and test wires, for tests alone: pages of devices, a start-up as a table
 //! of octets, and wires of which nothing is promised.
 #![tactic(auto)]
 
@@ -6,6 +6,6 @@ mod pages;
 mod tables;
 mod wires;
 
-pub use pages::{ONE_OCTET, PLAIN, PROCESS_DATA, REVISION_1_0, WITHOUT_ISDU};
-pub use tables::{Exchange, NO_ISDU, OLD_STARTUP, STARTUP};
+pub use pages::{ONE_OCTET, PLAIN, PROCESS_DATA};
+pub use tables::{Exchange, STARTUP};
 pub use wires::{AnyWire, Peer, Table};

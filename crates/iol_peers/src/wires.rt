@@ -33,12 +33,10 @@ impl<P: Peer> Wire for AnyWire<P> {
     }
 }
 
-/// A peer that answers by the table of a start-up and then by another one, as long as
-/// what is sent is what is wanted there.
+/// A peer that answers each wake, and messages by the table of a start-up and then by another
+/// one, as long as what is sent is what is wanted there.
 #[derive(Drop)]
 pub struct Table<'a> {
-    /// Whether a wake is answered.
-    pub wakes: bool,
     /// How many exchanges went by the tables.
     pub followed: usize,
     startup: &'a [Exchange],
@@ -49,7 +47,6 @@ impl<'a> Table<'a> {
     /// A peer of which nothing was asked yet.
     pub fn new(startup: &'a [Exchange], onwards: &'a [Exchange]) -> Self {
         Table {
-            wakes: true,
             followed: 0,
             startup,
             onwards,
@@ -67,7 +64,7 @@ impl<'a> Table<'a> {
 
 impl<'a> Peer for Table<'a> {
     fn wake(&mut self) -> Option<Rate> {
-        self.wakes.then_some(Rate::Com2)
+        Some(Rate::Com2)
     }
 
     fn exchange(&mut self, sent: &[u8]) -> Option<Message> {

@@ -1,0 +1,13 @@
+//! Tests of a device and of its parts, as far as only a Rust caller can say it: memory that is
+//! refused, laws that are called, texts of each length. What a device answers is in `tests/rows`.
+//!
+//! They stand here, and not beside the code that they call, since a crate with
+//! tests of its own is proved twice.
+#![tactic(auto)]
+
+#[cfg(test)]
+mod device;
+#[cfg(test)]
+mod event;
+#[cfg(test)]
+mod segment;

@@ -1,0 +1,35 @@
+//! Tests of ports, of their parts and of lines, as far as only a Rust caller can say it: memory
+//! that is refused, a wire that is handed back, types that have a mode, seats that read while
+//! another thread writes, a line that is claimed to be honest.
+//!
+//! What a port answers to what goes in is in `tests/rows`. Beside the tests this crate has
+//! the laws of a port over a simulated wire that need both: whose application answered the
+//! record's requests.
+#![tactic(auto)]
+
+mod laws;
+
+pub use laws::{first_app_follows_record, record_is_answered_by_the_first_params};
+
+#[cfg(test)]
+mod answers;
+#[cfg(test)]
+mod bare_ports;
+#[cfg(test)]
+mod book;
+#[cfg(test)]
+mod cancels;
+#[cfg(test)]
+mod cell;
+#[cfg(test)]
+mod device;
+#[cfg(test)]
+mod lines;
+#[cfg(test)]
+mod links;
+#[cfg(test)]
+mod ports;
+#[cfg(test)]
+mod sim;
+#[cfg(test)]
+mod tap;

@@ -1,0 +1,163 @@
+//! Tests of links whose types have a mode, and of links in place. A port has neither, so no row
+//! reaches them: what they send and when they change is in the rows of ports.
+ghost use Rattle.std.specs.Prelude.{IsTrue, IfSome};
+ghost use Rattle.iol_mseq.specs.Master.{HasMasterParts};
+ghost use Rattle.iol_mode.specs.Messages.{stays};
+
+use iol_link::Wire;
+use iol_mode::{AnyLink, Link, Next, State, Why};
+use iol_mseq::{Layout, MasterMsg, Part};
+use iol_octets::{Channel, Mc};
+use iol_page::Layouts;
+use iol_peers::{AnyWire, Exchange, STARTUP, Table};
+use std::test::Fail;
+
+/// IDLE 1, answered once, and then three times without a reply.
+const ONWARDS: [Exchange; 4] = [
+    (&[0xF1, 0x64], &[0, 0, 0, 0, 0, 0, 0, 0, 0x2D]),
+    (&[0xF1, 0x64], &[]),
+    (&[0xF1, 0x64], &[]),
+    (&[0xF1, 0x64], &[]),
+];
+
+/// A wire that answers by a start-up, and then by that table.
+fn scripted() -> AnyWire<Table<'static>> {
+    AnyWire(Table::new(&STARTUP, &ONWARDS))
+}
+
+/// IDLE 1, in a layout without process data out.
+fn idle(layout: &Layout) -> Option<MasterMsg>
+    ensures { IfSome result (λ m. HasMasterParts layout.now m × IsTrue (stays m)) }
+{
+    if layout.pd_out() != 0 {
+        return None;
+    }
+    Some(MasterMsg {
+        mc: Mc {
+            read: true,
+            channel: Channel::Isdu,
+            address: 0x11,
+        },
+        out: Part::new(),
+        od: Part::new(),
+    })
+}
+
+/// One turn; in OPERATE with IDLE 1.
+fn turned<W: Wire>(next: Next<W>) -> Next<W> {
+    match next {
+        Next::Down(link) => link.turn(),
+        Next::Startup(link) => link.turn(),
+        Next::Preoperate(link) => link.turn(),
+        Next::Operate(link, reply) => match idle(&link.layout()) {
+            Some(message) => link.turn(&message),
+            None => Next::Operate(link, reply),
+        },
+    }
+}
+
+fn turned_times<W: Wire>(wire: W, times: u8) -> Next<W> {
+    let mut next = Next::Down(Link::new(wire));
+    for _ in 0..times {
+        next = turned(next);
+    }
+    next
+}
+
+/// The same in place.
+fn turn_in_place<W: Wire>(link: &mut AnyLink<W>) {
+    match link.state() {
+        State::Down(_) => {
+            link.wake();
+        }
+        State::Startup(_) | State::Preoperate(_) => {
+            link.rise();
+        }
+        State::Operate(operate) => {
+            if let Some(message) = idle(&operate.layouts.run) {
+                link.exchange(&message);
+            }
+        }
+    }
+}
+
+fn turned_in_place<W: Wire>(wire: W, times: u8) -> AnyLink<W> {
+    let mut link = AnyLink::open(wire);
+    for _ in 0..times {
+        turn_in_place(&mut link);
+    }
+    link
+}
+
+/// The mode, the layouts that the page told, and how many exchanges went by the script.
+#[derive(Clone, Copy, Debug, PartialEq, Eq)]
+enum Seen {
+    Down(Option<Why>),
+    Startup(Option<Layouts>, usize),
+    Preoperate(Option<Layouts>, usize),
+    Operate(Option<Layouts>, usize),
+}
+
+fn state_of(next: &Next<AnyWire<Table>>) -> Seen {
+    match next {
+        Next::Down(link) => Seen::Down(link.why()),
+        Next::Startup(link) => Seen::Startup(link.told().copied(), link.wire().0.followed),
+        Next::Preoperate(link) => Seen::Preoperate(link.told().copied(), link.wire().0.followed),
+        Next::Operate(link, _) => Seen::Operate(link.told().copied(), link.wire().0.followed),
+    }
+}
+
+fn state_in_place(link: &AnyLink<AnyWire<Table>>) -> Seen {
+    let followed = link.wire().0.followed;
+    match link.state() {
+        State::Down(down) => Seen::Down(down.why),
+        State::Startup(startup) => Seen::Startup(startup.told().copied(), followed),
+        State::Preoperate(preoperate) => Seen::Preoperate(Some(preoperate.layouts), followed),
+        State::Operate(operate) => Seen::Operate(Some(operate.layouts), followed),
+    }
+}
+
+/// Eight octets of on-request data alone, in both modes.
+fn layouts() -> Option<Layouts> {
+    Some(Layouts {
+        pre: Some(Layout::preoperate(2).ok()?),
+        run: Layout::operate(6, 0, 0).ok()?,
+        isdu: true,
+    })
+}
+
+#[test]
+fn both_kinds_of_links_start_up(rt: HostRuntime) {
+    for (turns, expected) in [
+        (0, Seen::Down(None)),
+        (1, Seen::Startup(None, 0)),
+        (10, Seen::Startup(None, 9)),
+        (11, Seen::Startup(layouts(), 10)),
+        (13, Seen::Preoperate(layouts(), 12)),
+        (15, Seen::Operate(layouts(), 14)),
+        (18, Seen::Operate(layouts(), 17)),
+        (19, Seen::Down(Some(Why::Lost))),
+    ] {
+        assert_eq!(rt; state_of(&turned_times(scripted(), turns)), expected);
+        assert_eq!(rt;
+            state_in_place(&turned_in_place(scripted(), turns)),
+            expected
+        );
+    }
+}
+
+#[test]
+fn both_kinds_of_links_give_their_wire_back(rt: HostRuntime) -> Result<(), Fail> {
+    let Next::Operate(link, None) = turned_times(scripted(), 17) else {
+        return Err("no message is out")?;
+    };
+    assert_eq!(rt; link.out(), idle(&link.layout()).as_ref());
+    let link = link.down();
+    assert_eq!(rt; link.why(), None);
+    assert_eq!(rt; link.into_wire().0.followed, 16);
+    let mut link = turned_in_place(scripted(), 17);
+    link.leave();
+    assert_eq!(rt; state_in_place(&link), Seen::Down(None));
+    assert_eq!(rt; link.close().0.followed, 16);
+    Ok(())
+}

@@ -1,4 +1,0 @@
-use Rattle.iol_trials.proofs.lines.honest.port_to.Given as goal
-
-abbrev pub ghost-open : goal.ghost-open
-ghost-open a = record { far = a.near.now.far; silence = 0 }

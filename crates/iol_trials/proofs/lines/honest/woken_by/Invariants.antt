@@ -1,4 +1,0 @@
-use Rattle.iol_trials.proofs.lines.honest.woken_by.Given as goal
-
-abbrev pub ghost-receive_wake : goal.ghost-receive_wake
-ghost-receive_wake a = a.near.now.far
