@@ -6,7 +6,7 @@
 #include "iolink_device.h"
 #include <stdio.h>
 
-enum { MOST = 32, WITHDRAWN = 20000, STARTED = 15, READ = 3 };
+enum { MOST = 32, WITHDRAWN = 22000, STARTED = 15, READ = 3 };
 
 static int wrong;
 
