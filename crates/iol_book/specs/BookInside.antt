@@ -4,7 +4,7 @@ use Rattle.std.specs.Vec.{vec_capacity}
 use Rattle.std.specs.VecDeque.{deque_capacity}
 use Rattle.indexmap.specs.IndexMap.{spare}
 use Rattle.iol_book.specs.Replay.{Standing}
-use Rattle.iol_book.specs.BookModel.{BookState, BookValue, IsReplayed, owed, taken_count, waiting_count}
+use Rattle.iol_book.specs.BookModel.{BookState, BookMemory, BookValue, IsReplayed, owed, taken_count, waiting_count}
 use Rattle.iol_book.specs.Numbers.{IsNumbered}
 use Rattle.iol_book.specs.declared.book.Book.TheInside.{Inside}
 
@@ -39,9 +39,21 @@ module _ {A : Type 0} where
       ((vec_capacity fields.journal - (length fields.journal.items + owed (standing_of fields))) /
       4)
 
+  -- how much its journal and its queues hold without a growth
+  abbrev pub memory_of : Inside A → BookMemory
+  memory_of fields = record {
+    entries = vec_capacity fields.journal;
+    urgent = deque_capacity fields.urgent;
+    others = deque_capacity fields.waiting;
+  }
+
   -- a book as callers see it
   abbrev pub book_view : Inside A → BookValue
-  book_view fields = record { state = state_of fields; room = room_of fields }
+  book_view fields = record {
+    state = state_of fields;
+    room = room_of fields;
+    memory = memory_of fields;
+  }
 
   -- what holds of the fields of every book
   pub record IsSound (fields : Inside A) : Type 0 where

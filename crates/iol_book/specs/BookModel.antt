@@ -27,10 +27,18 @@ pub record BookState : Type 0 where
   -- the most entries that the journal may have
   pub limit : ℕ
 
+-- the memory that a book has: for so many entries, and so many requests that wait
+-- BOOK-12
+pub record BookMemory : Type 0 where
+  pub entries : ℕ
+  pub urgent : ℕ
+  pub others : ℕ
+
 pub record BookValue : Type 0 where
   pub state : BookState
   -- for how many submits the memory is there already: where it is 0, the next one asks for more
   pub room : ℕ
+  pub memory : BookMemory
 
 -- the journal alone says where every ticket stands
 -- BOOK-9
@@ -242,3 +250,14 @@ may_archive book = nat_eq (outstanding book.standing) 0 && not book.unsure
 -- BOOK-8
 abbrev pub archived : BookState → BookState
 archived book = if may_archive book then record book { journal = [] } else book
+
+-- the memory after an archive: that of the journal is handed out with it
+-- BOOK-12
+abbrev pub memory_archived : BookValue → BookMemory
+memory_archived book = if may_archive book.state then record book.memory { entries = 0 }
+    else book.memory
+
+-- the memory after a submit: at most the journal's has grown
+-- BOOK-12
+abbrev pub MemoryGrows : BookMemory → BookMemory → Type 0
+MemoryGrows old new = (old.entries ≤ new.entries) × (new ≡ record old { entries = new.entries })

@@ -1,12 +1,242 @@
-//! The numbers and names of faults.
+//! The number and the text of each fault that a library answers: no clause says a text. Those of the
+//! programs `iolink` and `iol_probe` stand in rows of `tests/rows`.
+use iol_app::OutputFault;
+use iol_book::BookFault;
+use iol_cell::CellFault;
 use iol_clients::ClientsFault;
+use iol_commands::ProgramFault;
+use iol_device::DeviceFault;
+use iol_event::{EventForm, MemoryFull};
+use iol_image::ImageFault;
+use iol_isdu::IsduFault;
+use iol_master::MasterFault;
+use iol_mode::Why;
+use iol_mseq::MseqFault;
+use iol_octets::OctetFault;
+use iol_page::PageFault;
+use iol_port::PortFault;
+use iol_script::ScriptFault;
+use iol_segment::JoinFault;
+use iol_sim::SimFault;
+use std::alloc::{AllocError, Global};
+use std::fmt::Display;
 use std::test::Fail;
 
+/// Each fault by its number and its text, in the order of the functions below. The names and
+/// numbers are those of docs/guide.md.
+const TABLE: &str = "\
+1 ReservedType
+2 UnsupportedCode
+3 BadLength
+4 WrongLength
+5 WrongType
+6 BadChecksum
+8 Revision
+7 BadPdLength
+2 UnsupportedCode
+16 MemoryFull
+17 EventForm
+29 WrongImageLength
+9 DataTooLong
+10 Truncated
+11 BadIsduLength
+12 BadService
+13 BadChkpdu
+14 WrongAnswerKind
+11 BadIsduLength
+15 WrongCount
+21 Full
+22 JournalFull
+23 TicketsSpent
+24 OutOfMemory
+25 UnknownTicket
+26 NotYet
+27 TakenAlready
+28 Outstanding
+36 NotInFlight
+16 MemoryFull
+24 OutOfMemory
+29 WrongImageLength
+24 OutOfMemory
+35 BadParam
+24 OutOfMemory
+18 NoWake
+19 Lost
+8 Revision
+7 BadPdLength
+2 UnsupportedCode
+29 WrongImageLength
+34 NoLayout
+21 Full
+29 WrongImageLength
+30 NoEvent
+28 Outstanding
+24 OutOfMemory
+31 NoSuchPort
+32 NoThread
+33 DesksFull
+24 OutOfMemory
+32 NoThread
+line 7: bad line
+out of memory
+line 7: bad line
+input too long
+read failed
+write failed
+out of memory
+no thread
+";
+
+/// A row of the table.
+fn add<F: Display>(table: &mut String, number: u8, fault: &F) -> Result<(), AllocError> {
+    writeln!(table, "{number} {fault}")
+}
+
+/// A row of a fault without a number.
+fn add_text<F: Display>(table: &mut String, fault: &F) -> Result<(), AllocError> {
+    writeln!(table, "{fault}")
+}
+
+/// Faults of octets, messages, pages, events and images.
+fn add_parts(table: &mut String) -> Result<(), AllocError> {
+    for fault in [OctetFault::ReservedType] {
+        add(table, fault.code(), &fault)?;
+    }
+    for fault in [
+        MseqFault::UnsupportedCode,
+        MseqFault::BadLength,
+        MseqFault::WrongLength,
+        MseqFault::WrongType,
+        MseqFault::BadChecksum,
+    ] {
+        add(table, fault.code(), &fault)?;
+    }
+    for fault in [
+        PageFault::Revision(0x12),
+        PageFault::BadPdLength,
+        PageFault::UnsupportedCode,
+    ] {
+        add(table, fault.code(), &fault)?;
+    }
+    add(table, MemoryFull.code(), &MemoryFull)?;
+    add(table, EventForm.code(), &EventForm)?;
+    for fault in [ImageFault::WrongImageLength] {
+        add(table, fault.code(), &fault)?;
+    }
+    Ok(())
+}
+
+/// Faults of requests and their segments, and of a book.
+fn add_requests(table: &mut String) -> Result<(), AllocError> {
+    for fault in [
+        IsduFault::DataTooLong,
+        IsduFault::Truncated,
+        IsduFault::BadIsduLength,
+        IsduFault::BadService,
+        IsduFault::BadChkpdu,
+        IsduFault::WrongAnswerKind,
+    ] {
+        add(table, fault.code(), &fault)?;
+    }
+    for fault in [JoinFault::BadIsduLength, JoinFault::WrongCount] {
+        add(table, fault.code(), &fault)?;
+    }
+    for fault in [
+        BookFault::Full,
+        BookFault::JournalFull,
+        BookFault::TicketsSpent,
+        BookFault::OutOfMemory,
+        BookFault::UnknownTicket,
+        BookFault::NotYet,
+        BookFault::TakenAlready,
+        BookFault::Outstanding,
+        BookFault::NotInFlight,
+    ] {
+        add(table, fault.code(), &fault)?;
+    }
+    Ok(())
+}
+
+/// Faults of a device, its line, a cell, a link and an output.
+fn add_ends(table: &mut String) -> Result<(), AllocError> {
+    for fault in [
+        DeviceFault::MemoryFull,
+        DeviceFault::OutOfMemory,
+        DeviceFault::WrongImageLength,
+    ] {
+        add(table, fault.code(), &fault)?;
+    }
+    for fault in [SimFault::OutOfMemory, SimFault::BadParam] {
+        add(table, fault.code(), &fault)?;
+    }
+    for fault in [CellFault::OutOfMemory] {
+        add(table, fault.code(), &fault)?;
+    }
+    for fault in [
+        Why::NoWake,
+        Why::Lost,
+        Why::Revision(0x12),
+        Why::PdLength,
+        Why::Code,
+    ] {
+        add(table, fault.code(), &fault)?;
+    }
+    for fault in [OutputFault::WrongImageLength, OutputFault::NoLayout] {
+        add(table, fault.code(), &fault)?;
+    }
+    Ok(())
+}
+
+/// Faults of a port, a master, its clients and the program, and those that they hand on.
+fn add_ports(table: &mut String) -> Result<(), AllocError> {
+    for fault in [
+        PortFault::Book(BookFault::Full),
+        PortFault::Output(OutputFault::WrongImageLength),
+        PortFault::NoEvent,
+    ] {
+        add(table, fault.code(), &fault)?;
+    }
+    for fault in [
+        MasterFault::Port(PortFault::Book(BookFault::Outstanding)),
+        MasterFault::OutOfMemory,
+        MasterFault::NoSuchPort,
+        MasterFault::NoThread,
+        MasterFault::DesksFull,
+    ] {
+        add(table, fault.code(), &fault)?;
+    }
+    for fault in [ClientsFault::OutOfMemory, ClientsFault::NoThread] {
+        add(table, fault.code(), &fault)?;
+    }
+    for fault in [ScriptFault::Line(7), ScriptFault::OutOfMemory] {
+        add_text(table, &fault)?;
+    }
+    for fault in [
+        ProgramFault::Line(7),
+        ProgramFault::TooLong,
+        ProgramFault::ReadFailed,
+        ProgramFault::WriteFailed,
+        ProgramFault::OutOfMemory,
+        ProgramFault::NoThread,
+    ] {
+        add_text(table, &fault)?;
+    }
+    Ok(())
+}
+
+/// The table of a build.
+fn table(alloc: Global) -> Result<String, AllocError> {
+    let mut table = String::new(alloc);
+    add_parts(&mut table)?;
+    add_requests(&mut table)?;
+    add_ends(&mut table)?;
+    add_ports(&mut table)?;
+    Ok(table)
+}
+
+/// Refuses a name that is another's or is misspelt, and a fault that doesn't tell the one within.
 #[test]
-fn faults_have_numbers_and_names(rt: HostRuntime) -> Result<(), Fail> {
-    assert_eq!(rt; ClientsFault::OutOfMemory.code(), 24);
-    assert_eq!(rt; ClientsFault::NoThread.code(), 32);
-    let names = format!(in rt.alloc(); "{} {}", ClientsFault::OutOfMemory, ClientsFault::NoThread)?;
-    assert_eq!(rt; names.as_str(), "OutOfMemory NoThread");
+fn each_fault_has_its_number_and_text(rt: HostRuntime) -> Result<(), Fail> {
+    assert_eq!(rt; table(rt.alloc())?.as_str(), TABLE);
     Ok(())
 }

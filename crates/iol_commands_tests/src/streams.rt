@@ -1,7 +1,7 @@
 //! The commands over readers and writers of which one read or write fails.
 use iol_cell::Handle;
 use iol_commands::{ProgramFault, check, many, run, trace};
-use std::alloc::Global;
+use std::alloc::{AllocError, Global};
 use std::io;
 use std::io::{ErrorKind, Read, Write};
 use std::process::Abort;
@@ -43,6 +43,13 @@ pub(crate) static CHECK: Case = Case {
     output: "read page 02\nod 17 event 0 pd valid\n",
 };
 
+/// No line, for which nothing but the flush is done.
+static NOTHING: Case = Case {
+    command: Command::Check,
+    input: "",
+    output: "",
+};
+
 /// A parameter is read.
 pub(crate) const READING: &str = "param 16 0 ro 4142\nread 16 0\nturn 18\ncollect 1\n";
 
@@ -79,11 +86,13 @@ impl Read for Source<'_> {
     }
 }
 
-/// Takes seven bytes at each write. The write or flush of this number fails, counted from 0, and
-/// no other.
+/// Takes seven bytes at each write, and shows them once it is flushed. The write or flush of this
+/// number fails, counted from 0, and no other.
 #[derive(Drop)]
 pub(crate) struct Sink {
     pub(crate) held: Vec<u8>,
+    /// How many bytes were held at each flush that shows more of them.
+    shown: Vec<usize>,
     fails_at: u32,
 }
 
@@ -97,6 +106,13 @@ impl Sink {
         self.fails_at -= 1;
         Ok(())
     }
+
+    /// Whether this is what it shows, and all that it holds. Refuses a command that flushes before
+    /// its last write.
+    fn shows(&self, output: &str) -> bool {
+        let shown = self.shown.last().copied().unwrap_or(0);
+        self.held.as_slice() == output.as_bytes() && shown == self.held.len()
+    }
 }
 
 impl Write for Sink {
@@ -108,23 +124,23 @@ impl Write for Sink {
     }
 
     fn flush(&mut self) -> io::Result<()> {
-        self.begin()
+        self.begin()?;
+        if self.shown.last().copied().unwrap_or(0) < self.held.len() {
+            self.shown.push(self.held.len())?;
+        }
+        Ok(())
     }
 }
 
 /// A reader and a writer of which the read or the write of a number fails.
-pub(crate) fn failing(
-    alloc: Global,
-    input: &'static str,
-    read: u32,
-    write: u32,
-) -> (Source<'static>, Sink) {
+pub(crate) fn failing(alloc: Global, input: &str, read: u32, write: u32) -> (Source<'_>, Sink) {
     let source = Source {
         left: input.as_bytes(),
         fails_at: read,
     };
     let sink = Sink {
         held: Vec::new(alloc),
+        shown: Vec::new(alloc),
         fails_at: write,
     };
     (source, sink)
@@ -159,7 +175,7 @@ fn fail_writes(rt: &impl Abort, alloc: Global, case: &Case, writes: u32) {
     let (mut source, mut sink) = failing(alloc, case.input, u32::MAX, writes);
     let result = case.command.perform(alloc, &mut source, &mut sink);
     assert_eq!(rt; result, Ok(()));
-    assert!(rt; sink.held.as_slice() == case.output.as_bytes());
+    assert!(rt; sink.shows(case.output));
 }
 
 #[test]
@@ -168,8 +184,10 @@ fn fails_at_each_read(rt: HostRuntime) {
     fail_reads(&rt, rt.alloc(), &RUN, 11);
 }
 
+/// Refuses a command that doesn't flush what it has no line for.
 #[test]
 fn fails_at_each_write(rt: HostRuntime) {
+    fail_writes(&rt, rt.alloc(), &NOTHING, 1);
     fail_writes(&rt, rt.alloc(), &CHECK, 7);
     fail_writes(&rt, rt.alloc(), &RUN, 12);
 }
@@ -194,25 +212,35 @@ fn many_fails_at_each_write(rt: HostRuntime) {
     let (mut source, mut sink) = failing(rt.alloc(), PLAN, 8, 9);
     let result = many(&rt, rt.alloc(), &mut source, &mut sink);
     assert_eq!(rt; result, Ok(()));
-    assert!(rt; sink.held.as_slice() == COUNTS.as_bytes());
+    assert!(rt; sink.shows(COUNTS));
 }
 
-/// What is written of a trace whose write of this number fails.
-fn traced(rt: &impl Abort, alloc: Global, write: u32) -> Vec<u8> {
-    let (mut source, mut sink) = failing(alloc, "turn 2000\n", u32::MAX, write);
-    let result = trace(alloc, &mut source, &mut sink);
-    assert_eq!(rt; result, Err(ProgramFault::WriteFailed), "at {write}");
-    sink.held
+/// A script whose calls print 9 bytes, so often 25 and so often 18, and then 25.
+fn printing(alloc: Global, unknown: u32, waiting: u32) -> Result<String, AllocError> {
+    let mut script = String::from_str(alloc, "read 16 0\n")?;
+    for _ in 0..unknown {
+        script.push_str("collect 9\n")?;
+    }
+    for _ in 0..waiting {
+        script.push_str("collect 1\n")?;
+    }
+    script.push_str("collect 9\n")?;
+    Ok(script)
 }
 
-/// A trace isn't kept until its end: most of it is written before a late write fails.
+/// A trace is written as soon as 65,536 bytes of it wait, and at the end, which prints 9. Refuses
+/// every other size of a piece, and a trace that is kept until its end.
 #[test]
 fn writes_as_it_goes(rt: HostRuntime) -> Result<(), Fail> {
-    let (mut source, mut sink) = failing(rt.alloc(), "turn 2000\n", u32::MAX, u32::MAX);
-    assert_eq!(rt; trace(rt.alloc(), &mut source, &mut sink), Ok(()));
-    assert!(rt; traced(&rt, rt.alloc(), 0).is_empty());
-    let begun = traced(&rt, rt.alloc(), 9_500);
-    assert!(rt; begun.len() >= 65_536);
-    assert!(rt; sink.held.as_slice().starts_with(begun.as_slice()));
+    // 9 + 25 + 3,639 * 18 are 65,536; 9 + 6 * 25 + 3,632 * 18 are 65,535, and 25 more are written.
+    for (unknown, waiting, first, whole) in [
+        (1, 3_639, 65_536, 65_570),
+        (6, 3_632, 65_560, 65_569),
+    ] {
+        let script = printing(rt.alloc(), unknown, waiting)?;
+        let (mut source, mut sink) = failing(rt.alloc(), script.as_str(), u32::MAX, u32::MAX);
+        assert_eq!(rt; trace(rt.alloc(), &mut source, &mut sink), Ok(()));
+        assert_eq!(rt; sink.shown.as_slice(), [first, whole].as_slice());
+    }
     Ok(())
 }

@@ -1,27 +1,17 @@
 -- A run goes on by one piece, and of each run the record fits the journal.
-use Rattle.std.proofs.Common.{◌≡◌, ◌∷◌, ◌++◌, [], List, ℕ, Bool, Option, Some, IfSome, refl, sym, subst, arith}
-use Rattle.std.proofs.lemmas.Grind.{common_steps}
-use Rattle.iol_isdu.specs.declared.values.Request.{Request}
-use Rattle.iol_far.specs.Isdu.{IsduState, handed}
+use Rattle.std.proofs.Common.{◌≡◌, ◌∷◌, ◌++◌, [], List, ℕ, Bool, Option, refl, subst}
 use Rattle.iol_far.specs.Far.{Far}
 use Rattle.iol_link.specs.Honest.{HonestWake}
-use Rattle.iol_mode.specs.declared.states.State.{State}
-use Rattle.iol_mode.specs.declared.states.State.TheVariants.{Down as AtDown, Startup as AtStartup, Preoperate as AtPreoperate, Operate as AtOperate}
-use Rattle.iol_steps.specs.Bridge.{Hidden, IsOpen, open_request}
-use Rattle.iol_app.specs.declared.request.Current.{Current}
-use Rattle.iol_app.specs.Core.{Ghost, RequestStands}
-use Rattle.iol_app.specs.State.{SessionState}
-use Rattle.iol_app.specs.StationState.{StateFits}
-use Rattle.iol_app.specs.Requests.{request_in}
 use Rattle.iol_book.specs.declared.entries.Limits.{Limits}
 use Rattle.iol_port.specs.declared.call.Call.{Call}
 use Rattle.iol_port.specs.declared.call.Answered.{Answered}
 use Rattle.iol_port.specs.declared.call.Answered.TheVariants as answered
 use Rattle.iol_port.specs.Run.{PortState, Piece, Whole, Send, Receive, PieceOf, Pieces, opened}
-use Rattle.iol_port.specs.View.{Parts, StandsFor, Follows, state_of}
+use Rattle.iol_port.specs.View.{Parts, StandsFor, Follows}
+use Rattle.iol_port.specs.Clean.{IsLevelBetween}
 use Rattle.iol_port.specs.Sound.{IsSound}
-use Rattle.iol_port.specs.Promises.{OpensSound, PiecesSound, SoundFits}
-use Rattle.iol_port.specs.CorePort.{CoreDoes, CoreOpens, SendDoes, ReceiveDoes, WakeDoes}
+use Rattle.iol_port.specs.Promises.{OpensSound, PiecesSound}
+use Rattle.iol_port.specs.CorePort.{CoreDoes, CoreOpens, CoreKeeps, SendDoes, ReceiveDoes, WakeDoes}
 use Rattle.iol_line.specs.Standing.{Standing}
 use Rattle.iol_line.specs.Honestly.{HonestPort, IsRun, BeganWell, Keeps, Exchanges, line_at}
 
@@ -64,28 +54,11 @@ pub began : (p : Parts (Unit {0})) (limits : Limits) (from : Standing) → CoreO
 unfolding IsRun
 began p limits from opens well = ([], [], opened limits from.far from.silence, refl, opens from.far from.silence well)
 
--- what the device is handed
-handed_open : (state : IsduState) (request : Option Request) (hidden : Hidden) → IsOpen state request hidden → IfSome (handed state) (λ held. open_request request hidden ≡ Some held)
-handed_open state request hidden given = grind (arith, common_steps)
-
--- outside OPERATE no request is under way
-request_opens : (state : State) (session : SessionState) (g : Ghost) (far : Far) → RequestStands state session.limit session.current session.exchange session.events g far → StateFits state session → IsOpen far.isdu (request_in session.current) g.request.hidden
-request_opens (AtDown s) session g far h joined = subst (λ (c : Option Current). IsOpen far.isdu (request_in c) g.request.hidden) (sym joined.0) h
-request_opens (AtStartup s) session g far h joined = subst (λ (c : Option Current). IsOpen far.isdu (request_in c) g.request.hidden) (sym joined.0.0) h.1
-request_opens (AtPreoperate s) session g far h joined = subst (λ (c : Option Current). IsOpen far.isdu (request_in c) g.request.hidden) (sym joined.0.0) h.1
-request_opens (AtOperate s) session g far h joined = h.opens
-
-pub record_kept : OpensSound → PiecesSound → SoundFits → (p : HonestPort) → IsRun p → BeganWell p → Keeps p
+-- of each run of the one that was opened the record fits the journal
+pub record_kept : OpensSound → PiecesSound → (p : HonestPort) → CoreKeeps p.parts → IsRun p
+    → BeganWell p → Keeps p × IsLevelBetween (line_at p.at) p.parts
 unfolding IsRun
-record_kept opens stay fits p is well =
-    let (pieces, replies, b, run, (c, shows, same)) = is well in
+record_kept opens stay p keeps is well =
+    let (pieces, replies, b, run, stands) = is well in
     let first : IsSound (opened p.limits p.from.far p.from.silence) = opens p.limits p.from.far p.from.silence in
-    let sound : IsSound (state_of (line_at p.at) p.parts c) = subst IsSound same (stay _ b pieces replies run first) in (
-      c,
-      record {
-        shows = shows;
-        handed = handed_open _ _ c.ghost.request.hidden (request_opens p.parts.station.link.state p.parts.station.session c.ghost p.at.far shows.both.request shows.both.joined);
-        sound = sound;
-        record_fits = fits (state_of (line_at p.at) p.parts c) sound;
-      },
-    )
+    keeps p.at.far p.at.silence b stands (stay _ b pieces replies run first)

@@ -8,6 +8,7 @@ use Rattle.iol_port.specs.declared.call.Call.{Call}
 use Rattle.iol_port.specs.declared.call.Answered.{Answered}
 use Rattle.iol_port.specs.Run.{PortState, Piece, Pieces, opened}
 use Rattle.iol_port.specs.View.{Parts, OpensWell, StandsFor, KeepsRecord}
+use Rattle.iol_port.specs.Clean.{IsLevelBetween}
 use Rattle.iol_port.specs.CorePort.{CoreDoes, at_end, opened_at}
 use Rattle.iol_line.specs.Standing.{Standing}
 
@@ -38,6 +39,10 @@ IsRun p =
 -- for some choice both ends stand together, and the record fits the journal
 abbrev pub Keeps : HonestPort → Type 0
 Keeps p = KeepsRecord (line_at p.at) p.parts
+
+-- between requests, with no message out in OPERATE, both ends are level and the device is awake
+abbrev pub IsLevel : HonestPort → Type 0
+IsLevel p = IsLevelBetween (line_at p.at) p.parts
 
 -- the line stands there afterwards, and with what the port was opened stays
 abbrev pub Moves : HonestPort → Standing → HonestPort → Type 0

@@ -5,7 +5,7 @@ ghost use Rattle.iol_far.specs.Octets.{octets_in};
 ghost use Rattle.iol_far.specs.Far.{Far};
 ghost use Rattle.iol_link.specs.Honest.{HonestWake};
 ghost use Rattle.iol_book.specs.declared.fault.BookFault.TheVariants.{OutOfMemory};
-ghost use Rattle.iol_book.specs.BookModel.{AreLimits, submitted, submitted_urgent};
+ghost use Rattle.iol_book.specs.BookModel.{AreLimits, IsReplayed, submitted, submitted_urgent};
 ghost use Rattle.iol_app.specs.Pieces.{IsAskedOut};
 ghost use Rattle.iol_port.specs.declared.fault.PortFault.TheVariants as fault;
 ghost use Rattle.iol_port.specs.declared.call.Call.TheVariants as call;
@@ -83,7 +83,7 @@ impl<A: Allocator + Copy> Model for HonestPort<A> {
 }
 
 impl<A: Allocator + Copy> HonestPort<A> {
-    ghost use Rattle.iol_line.specs.Honestly.{IsRun, BeganWell, Keeps, Moves, Calls, Exchanges};
+    ghost use Rattle.iol_line.specs.Honestly.{IsRun, BeganWell, Keeps, IsLevel, Moves, Calls, Exchanges};
 
     /// A port as [`PortCore::open`] gives it, whose line stands there.
     ///
@@ -260,14 +260,17 @@ impl<A: Allocator + Copy> HonestPort<A> {
         self.at = Place::of(&self.at);
     }
 
-    /// A law of each such port, without code: it is a run, in pieces, of the one that was
-    /// opened; and the device's record fits the journal, if the device had been handed no
-    /// request when the port was opened.
+    /// A law of each such port, without code: at every moment the journal says where each ticket
+    /// stands; the port is a run, in pieces, of the one that was opened; and if the device had
+    /// been handed no request when the port was opened, the device's record fits the journal,
+    /// and between requests both ends are level.
     pub fn keeps_record(&self)
+        ensures replayed { IsReplayed self.now.parts.book.state }
         ensures run { IsRun self.now }
         ensures record_fits { BeganWell self.now → Keeps self.now }
+        ensures level { BeganWell self.now → IsLevel self.now }
     {
         record_fits_journal();
-        let _ = &self.core;
+        self.core.keeps_record();
     }
 }

@@ -38,7 +38,7 @@ impl Peer for Nobody {
 }
 
 /// A gate that is open.
-struct Open;
+pub struct Open;
 
 impl Gate for Open {
     fn pass(&self, _port: u32, _turn: u64) -> bool {
@@ -92,7 +92,8 @@ fn run_out<L: Ledger, K: Ledger + Sync, R: Threads + Wait + Abort + Sync>(
     assert!(rt; master.desk(rt, 1).err() == Some(MasterFault::DesksFull));
     let first = desks.pop().expect(rt, "1,024 desks");
     assert!(rt; master.settle(rt, first) == Settled::Part(0));
-    assert!(rt; master.desk(rt, 1).is_ok());
+    let next = master.desk(rt, 1)?;
+    assert!(rt; next.port() == 1 && next.accepted() == 0);
     assert!(rt; master.serve(rt, &Open, 1) == Ok(()));
     Ok(())
 }
@@ -310,8 +311,9 @@ fn refused_first<L: Ledger, K: Ledger, R: Wait + Abort>(
         rt, refusing, ports, clients, tickets,
     );
     let mut desk = master.desk(rt, 1)?;
-    for _ in 0..taken {
-        assert!(rt; submit(rt, &master, &mut desk, kind).is_ok());
+    for number in 1..=u64::from(taken) {
+        let next = Ticket(limits.given.saturating_add(number));
+        assert!(rt; submit(rt, &master, &mut desk, kind) == Ok(next));
     }
     refusing.order(Refusal::From(0));
     let wanted = Some(MasterFault::Port(PortFault::Book(fault)));
@@ -383,20 +385,4 @@ fn cancelled<W: Wire, L: Ledger, K: Ledger, R: Wait>(
 #[test]
 fn both_submits_count(rt: HostRuntime) -> Result<(), Fail> {
     both_count::<Brand, Brand, HostRuntime>(&rt, rt.alloc(), Blank::new(1025), Blank::new(1))
-}
-
-#[test]
-fn faults_of_a_master_have_names(rt: HostRuntime) -> Result<(), Fail> {
-    let table = [
-        (MasterFault::Port(PortFault::NoEvent), 30u8, "NoEvent"),
-        (MasterFault::OutOfMemory, 24, "OutOfMemory"),
-        (MasterFault::NoSuchPort, 31, "NoSuchPort"),
-        (MasterFault::NoThread, 32, "NoThread"),
-        (MasterFault::DesksFull, 33, "DesksFull"),
-    ];
-    for (fault, number, name) in table {
-        assert_eq!(rt; fault.code(), number);
-        assert_eq!(rt; format!(in rt.alloc(); "{fault}")?.as_str(), name);
-    }
-    Ok(())
 }

@@ -12,3 +12,5 @@ mod masters;
 mod opening;
 #[cfg(test)]
 mod seats;
+#[cfg(test)]
+mod wide;

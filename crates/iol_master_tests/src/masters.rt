@@ -70,16 +70,16 @@ impl Gate for Meet {
     }
 }
 
-fn read() -> Request {
+pub fn read() -> Request {
     Request::read(Place { index: 16, sub: 0 })
 }
 
-fn answer(octets: &[u8]) -> Result<Outcome, Fail> {
+pub fn answer(octets: &[u8]) -> Result<Outcome, Fail> {
     let value = Octets::try_from(octets).map_err(|_| "too long")?;
     Ok(Outcome::Done(Answer::Read(value)))
 }
 
-fn opened(alloc: Global, value: &[u8]) -> Result<Port<Sim<Params>>, Fail>
+pub fn opened(alloc: Global, value: &[u8]) -> Result<Port<Sim<Params>>, Fail>
     ensures { IfOk result (λ p. HasGiven p 0) }
 {
     let mut params = Params::new();
@@ -105,18 +105,28 @@ fn two_ports(alloc: Global) -> Result<Vec<Port<Sim<Params>>>, Fail>
     Ok(ports)
 }
 
+/// What a client got at its desk.
+type Given = Result<Ticket, MasterFault>;
+
 /// A client submits one request at its desk.
 fn client<W: Wire, L: Ledger, K: Ledger, R: Wait>(
     rt: &R,
     master: &Master<W, L, K>,
     desk: Desk<L>,
-) -> (Desk<L>, bool) {
+) -> (Desk<L>, Given) {
     let mut desk = desk;
-    let given = master.submit(rt, &mut desk, read()).is_ok();
+    let given = master.submit(rt, &mut desk, read());
     (desk, given)
 }
 
-fn collected<W: Wire, L: Ledger, K: Ledger, R: Wait>(
+/// Whether two clients of a port got its first two tickets, in either order.
+fn are_first(one: Given, two: Given) -> bool {
+    let first = Ok(Ticket(1));
+    let second = Ok(Ticket(2));
+    (one == first && two == second) || (one == second && two == first)
+}
+
+pub fn collected<W: Wire, L: Ledger, K: Ledger, R: Wait>(
     rt: &R,
     master: &Master<W, L, K>,
     number: u32,
@@ -145,7 +155,7 @@ fn begin<'s, E, W: Wire + Send, L: Ledger + Sync, K: Ledger + Sync, R: Wait + Ab
     rt: &'s R,
     master: &'s Master<W, L, K>,
     desk: Desk<L>,
-) -> JoinHandle<(Desk<L>, bool)> {
+) -> JoinHandle<(Desk<L>, Given)> {
     scope
         .spawn(move || client(rt, master, desk))
         .ok()
@@ -166,7 +176,7 @@ fn meanwhile<
     master: &'s Master<W, L, K>,
     desks: Four<Desk<L>>,
     gate: &Meet,
-) -> Four<(Desk<L>, bool)> {
+) -> Four<(Desk<L>, Given)> {
     let (one, two, three, four) = desks;
     let one = begin(scope, rt, master, one);
     let two = begin(scope, rt, master, two);
@@ -181,7 +191,7 @@ fn together<W: Wire + Send, L: Ledger + Sync, K: Ledger + Sync, R: Threads + Wai
     master: &Master<W, L, K>,
     desks: Four<Desk<L>>,
     gate: &Meet,
-) -> Four<(Desk<L>, bool)> {
+) -> Four<(Desk<L>, Given)> {
     thread::scope(thread::scope_env(), rt, move |scope| {
         meanwhile(scope, rt, master, desks, gate)
     })
@@ -262,7 +272,7 @@ fn row<L: Ledger + Sync, K: Ledger + Sync, R: Threads + Wait + Abort + Sync>(
     let gate = Meet::new();
     let done = together(rt, &master, (one, two, three, four), &gate);
     let ((one, a), (two, b), (three, c), (four, d)) = done;
-    assert!(rt; a && b && c && d);
+    assert!(rt; are_first(a, b) && are_first(c, d));
     assert!(rt; gate.met[0].load(Ordering::SeqCst) && gate.met[1].load(Ordering::SeqCst));
     assert!(rt; master.serve(rt, &gate, 100).is_ok());
     let values = [[0x41u8, 0x42], [0x43, 0x44]];

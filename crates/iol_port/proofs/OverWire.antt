@@ -20,19 +20,19 @@ module _ {W : Type 0} (wire : W) (p next : Parts (Unit {0})) where
   over q = parts_over wire q
 
   pub submit_over : {b : BookState} {r : Result Ticket PortFault} → SubmitGives p b r next → SubmitGives (over p) b r (over next)
-  submit_over h = record { allowed = h.allowed; ticket = h.ticket; entered = h.entered; refused = h.refused; unchanged = h.unchanged; rest = ap over h.rest }
+  submit_over h = record { allowed = h.allowed; ticket = h.ticket; entered = h.entered; refused = h.refused; unchanged = h.unchanged; memory = h.memory; rest = ap over h.rest }
 
   pub collect_over : {t : Ticket} {r : Result Outcome PortFault} → CollectGives p t r next → CollectGives (over p) t r (over next)
-  collect_over h = record { answer = h.answer; book = h.book; rest = ap over h.rest }
+  collect_over h = record { answer = h.answer; book = h.book; memory = h.memory; rest = ap over h.rest }
 
   pub withdraw_over : {t : Ticket} {r : Result (Unit {0}) PortFault} → WithdrawGives p t r next → WithdrawGives (over p) t r (over next)
-  withdraw_over h = record { answer = h.answer; book = h.book; rest = ap over h.rest }
+  withdraw_over h = record { answer = h.answer; book = h.book; memory = h.memory; rest = ap over h.rest }
 
   pub cancel_over : {t : Ticket} {r : Result (Unit {0}) PortFault} → CancelGives p t r next → CancelGives (over p) t r (over next)
   cancel_over {r = r} h = record { answer = h.answer; waits = on_ok _ _ r (ap over) h.waits; unchanged = on_err _ _ r (ap over) h.unchanged }
 
   pub archive_over : {r : Result (List Entry) PortFault} → ArchiveGives p r next → ArchiveGives (over p) r (over next)
-  archive_over h = record { allowed = h.allowed; journal = h.journal; refused = h.refused; book = h.book; rest = ap over h.rest }
+  archive_over h = record { allowed = h.allowed; journal = h.journal; refused = h.refused; book = h.book; memory = h.memory; rest = ap over h.rest }
 
   pub take_event_over : {r : Result Event PortFault} → TakeEventGives p r next → TakeEventGives (over p) r (over next)
   take_event_over h = record { answer = h.answer; rest = ap over h.rest }
@@ -44,4 +44,4 @@ module _ {W : Type 0} (wire : W) (p next : Parts (Unit {0})) where
   clear_output_over h = ap over h
 
   pub restart_over : RestartGives p next → RestartGives (over p) (over next)
-  restart_over h = record { wire = refl; mode = h.mode; why = h.why; session_is = h.session_is; book = h.book; kept = h.kept; sent = h.sent }
+  restart_over h = record { wire = refl; mode = h.mode; why = h.why; session_is = h.session_is; book = h.book; memory = h.memory; kept = h.kept; sent = h.sent }

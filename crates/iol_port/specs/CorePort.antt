@@ -19,10 +19,12 @@ use Rattle.iol_port.specs.declared.call.Call.{Call}
 use Rattle.iol_port.specs.declared.call.Answered.{Answered}
 use Rattle.iol_port.specs.declared.call.Answered.TheVariants as answered
 use Rattle.iol_port.specs.Asks.{has_room}
-use Rattle.iol_port.specs.EveryWire.{station_begun, book_begun}
+use Rattle.iol_port.specs.EveryWire.{KeepsMemory, station_begun, book_begun}
 use Rattle.iol_port.specs.Run.{PortState, Piece, Send, Receive, PieceOf, opened}
 use Rattle.iol_port.specs.Steps.{book_through, kept_through}
-use Rattle.iol_port.specs.View.{Parts, Opening, OpensWell, IsOpened, StandsFor, Does, opening_of}
+use Rattle.iol_port.specs.Clean.{IsLevelBetween}
+use Rattle.iol_port.specs.Sound.{IsSound}
+use Rattle.iol_port.specs.View.{Parts, Opening, OpensWell, IsOpened, StandsFor, Does, KeepsRecord, opening_of}
 
 -- its parts over a wire
 abbrev pub parts_over : {W : Type 0} → W → Parts (Unit {0}) → Parts W
@@ -76,6 +78,14 @@ CoreOpens limits p = (far : Far) (silence : ℕ)
     → OpensWell (opened_at limits far silence)
     → StandsFor (at_end far silence) p (opened limits far silence)
 
+-- with each far end of which it stands for a sound abstract port, the record fits the journal,
+-- and between requests both ends are level
+-- BOOK-10
+abbrev pub CoreKeeps : Parts (Unit {0}) → Type 0
+CoreKeeps p =
+    (far : Far) (silence : ℕ) (a : PortState) → StandsFor (at_end far silence) p a → IsSound a
+    → KeepsRecord (at_end far silence) p × IsLevelBetween (at_end far silence) p
+
 -- one piece, after which the far end and the silence are these
 abbrev pub PieceDoes : Parts (Unit {0}) → Far → ℕ → Piece → Parts (Unit {0}) → Far → ℕ → Type 0
 PieceDoes p far silence piece next far_new silence_new =
@@ -112,6 +122,7 @@ pub record SendGives (old new : Parts (Unit {0})) : Type 0 where
   pub core : old.sent ≡ false
       → IsSent (has_room old.kept) (core_of (station_begun old)) (core_of new.station)
   pub book : old.sent ≡ false → new.book.state ≡ book_begun old
+  pub memory : KeepsMemory old new
   pub kept : new.kept ≡ old.kept
   pub sent : new.sent ≡ true
 
@@ -125,6 +136,7 @@ pub record ReceiveGives (old : Parts (Unit {0})) (came : Option (List ℕ)) (new
       ≡ after_exchange (judged old.station.link.state came) old.station.session
   pub said_is : IsSettledSaid (judged old.station.link.state came) old.station.session said
   pub book : new.book.state ≡ book_through (book_said said) old.book.state
+  pub memory : KeepsMemory old new
   pub kept : new.kept ≡ kept_through (reports_said said) old.kept
   pub sent : new.sent ≡ false
 
@@ -135,5 +147,6 @@ pub record WakeGives (old : Parts (Unit {0})) (answered : Bool) (new : Parts (Un
     Type 0 where
   pub core : core_of new.station ≡ after_wake answered old.station.session
   pub book : new.book.state ≡ book_through (cond answered (Reset ∷ []) []) old.book.state
+  pub memory : KeepsMemory old new
   pub kept : new.kept ≡ old.kept
   pub sent : new.sent ≡ false

@@ -14,7 +14,7 @@ use Rattle.iol_book.specs.declared.entries.Ticket.{Ticket}
 use Rattle.iol_book.specs.declared.fault.BookFault.TheVariants.{Outstanding}
 use Rattle.iol_book.specs.declared.entries.Outcome.TheVariants.{NoIsdu}
 use Rattle.iol_book.specs.Replay.{same_ticket}
-use Rattle.iol_book.specs.BookModel.{BookState, BookValue, RefusesFor, submit_refusal, submitted, submitted_urgent, next_ticket, next_taken, took, denied, waits, collect_answer, collected, withdraw_refusal, withdrawn, flight_refusal, may_archive, archived}
+use Rattle.iol_book.specs.BookModel.{BookState, BookValue, MemoryGrows, memory_archived, RefusesFor, submit_refusal, submitted, submitted_urgent, next_ticket, next_taken, took, denied, waits, collect_answer, collected, withdraw_refusal, withdrawn, flight_refusal, may_archive, archived}
 use Rattle.iol_steps.specs.declared.mode.Mode.TheVariants.{Down}
 use Rattle.iol_steps.specs.declared.said.Said.{Said}
 use Rattle.iol_steps.specs.Step.{Image, woke_up, book_said, reports_said}
@@ -59,6 +59,11 @@ module _ {W : Type 0} where
   abbrev pub IsBookCall : Parts W → Parts W → Type 0
   IsBookCall old new = new ≡ record old { book = new.book }
 
+  -- No memory is taken, and none is given back
+  -- BOOK-12
+  abbrev pub KeepsMemory : Parts W → Parts W → Type 0
+  KeepsMemory old new = new.book.memory ≡ old.book.memory
+
   -- a request is entered, which leaves this book
   -- PORT-7
   pub record SubmitGives (old : Parts W) (book : BookState) (result : Result Ticket PortFault)
@@ -68,6 +73,7 @@ module _ {W : Type 0} where
     pub entered : OnOk result (new.book.state ≡ book)
     pub refused : IfErr result (λ why. RefusesSubmit old.book why)
     pub unchanged : OnErr result (new.book.state ≡ old.book.state)
+    pub memory : MemoryGrows old.book.memory new.book.memory
     pub rest : IsBookCall old new
 
   -- the outcome that was posted for the ticket, or why there is none
@@ -76,6 +82,7 @@ module _ {W : Type 0} where
       (new : Parts W) : Type 0 where
     pub answer : result ≡ by_book (collect_answer old.book.state.standing ticket)
     pub book : new.book.state ≡ collected old.book.state ticket
+    pub memory : KeepsMemory old new
     pub rest : IsBookCall old new
 
   -- PORT-7
@@ -84,6 +91,7 @@ module _ {W : Type 0} where
     pub answer : result_err result
         ≡ option_map (λ why. fault.Book why) (withdraw_refusal old.book.state.standing ticket)
     pub book : new.book.state ≡ withdrawn old.book.state ticket
+    pub memory : KeepsMemory old new
     pub rest : IsBookCall old new
 
   -- refused as long as it isn't the request under way; else an abort waits, for
@@ -108,6 +116,7 @@ module _ {W : Type 0} where
     pub journal : IfOk result (λ entries. entries ≡ old.book.state.journal)
     pub refused : IfErr result (λ why. why ≡ fault.Book Outstanding)
     pub book : new.book.state ≡ archived old.book.state
+    pub memory : new.book.memory ≡ memory_archived old.book
     pub rest : IsBookCall old new
 
   -- the event kept longest
@@ -148,6 +157,7 @@ module _ {W : Type 0} where
     pub session_is : new.station.session ≡ session.left old.station.session
     pub book : new.book.state
         ≡ book_through (restart_steps (request_taken old.book.state.standing.taken)) old.book.state
+    pub memory : KeepsMemory old new
     pub kept : new.kept ≡ old.kept
     pub sent : new.sent ≡ old.sent
 
@@ -190,6 +200,7 @@ module _ {W : Type 0} where
           ≡ book_through
           (woke_up (mode_of old.station.link) (mode_of new.station.link) ++ book_said said)
           (book_begun old)
+      pub memory : KeepsMemory old new
       pub kept : new.kept ≡ kept_through (reports_said said) old.kept
       -- each new outcome NoIsdu is that of a request which this turn denied
       pub denies : (ticket : Ticket) → HasNoIsdu new.book.state ticket

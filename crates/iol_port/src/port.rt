@@ -1,5 +1,6 @@
 //! One port.
-ghost use Rattle.std.specs.Prelude.{◌≡◌, ◌≤◌, None, Some, IfOk, IfErr, length};
+ghost use Rattle.std.specs.Prelude.{◌≡◌, ◌≤◌, None, Some, IfOk, IfErr, OnErr, length};
+ghost use Rattle.std.specs.Vec.{vec_capacity};
 ghost use Rattle.std.specs.Option.{option_copied};
 ghost use Rattle.std.specs.Result.{result_map_both};
 ghost use Rattle.iol_book.specs.declared.fault.BookFault.TheVariants.{OutOfMemory};
@@ -28,7 +29,6 @@ use iol_app::{Asked, Status};
 use iol_book::{BookFault, Entry, Limits, Outcome, Ticket};
 use iol_cell::{Handle, ImageWriter};
 use iol_event::Event;
-use iol_far::{ends_stay_level, modes_have_layouts};
 use iol_image::Image;
 use iol_isdu::Request;
 use iol_link::Wire;
@@ -352,10 +352,10 @@ impl<W: Wire, A: Handle> Port<W, A> {
     }
 
     /// The calls in order, each made once, with what it answered. A call that is
-    /// refused doesn't end the run.
+    /// refused doesn't end the run. The list has room for just these answers.
     ///
-    /// Refused by 24 where there is no memory for the list of answers, before the
-    /// first call and with nothing done.
+    /// Refused by 24 where there is no memory for the list, before the first call and with
+    /// nothing done. A list of no calls needs none.
     ///
     /// Rules PORT-3, PORT-4, REQ-13.
     pub fn run<B: Allocator>(
@@ -372,7 +372,9 @@ impl<W: Wire, A: Handle> Port<W, A> {
         ensures served { IfOk result (λ _. CleanServes W.facts self.old.parts calls.now
             self.new.parts) }
         ensures rest { self.new ≡ record self.old { parts = self.new.parts } }
+        ensures room { IfOk result (λ replies. vec_capacity replies ≡ length calls.now) }
         ensures refused { IfErr result (λ e. e ≡ fault.Book OutOfMemory) }
+        ensures needs { OnErr result (1 ≤ length calls.now) }
         ensures unchanged { IfErr result (λ _. self.new ≡ self.old) }
     {
         clean_laws();
@@ -381,9 +383,7 @@ impl<W: Wire, A: Handle> Port<W, A> {
         };
         for call in calls {
             let answer = self.call(call);
-            if replies.push(answer).is_err() {
-                unreachable!();
-            }
+            replies.push_reserved(answer);
         }
         Ok(replies)
     }
@@ -470,9 +470,7 @@ impl<W: Wire, A: Handle> Port<W, A> {
         ensures level { OpensWell self.now.opening → IsLevelBetween W.facts self.now.parts }
     {
         record_fits_journal();
-        ends_stay_level();
-        modes_have_layouts();
-        let _ = self.core.journal();
+        self.core.keeps_record();
     }
 }
 

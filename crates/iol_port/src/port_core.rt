@@ -17,12 +17,12 @@ ghost use Rattle.iol_port.specs.Asks.{asks_of, has_room};
 ghost use Rattle.iol_port.specs.EveryWire.{SubmitGives, CollectGives, WithdrawGives, CancelGives, ArchiveGives};
 ghost use Rattle.iol_port.specs.EveryWire.{TakeEventGives, SetOutputGives, ClearOutputGives, RestartGives, TurnGives};
 ghost use Rattle.iol_port.specs.Clean.{CleanTurn};
-ghost use Rattle.iol_port.specs.CorePort.{CoreDoes, CoreOpens, IsNew, awaited, parts_over, SendGives, SendDoes, ReceiveGives, ReceiveDoes, WakeGives, WakeDoes};
+ghost use Rattle.iol_port.specs.CorePort.{CoreDoes, CoreOpens, CoreKeeps, IsNew, awaited, parts_over, SendGives, SendDoes, ReceiveGives, ReceiveDoes, WakeGives, WakeDoes};
 ghost use Rattle.iol_port.specs.Replies.{ticket_reply, outcome_reply, nothing_reply, event_reply, reply_of};
 
 use crate::PortFault;
 use crate::awaited::Awaited;
-use crate::laws::clean_laws;
+use crate::laws::{clean_laws, record_fits_journal};
 use crate::settle::{KEPT, ROOM, begin_next, by_book, by_output, lacks_isdu, settle, woke_up};
 use arrayvec::ArrayVec;
 use iol_app::{Asked, Core, Status};
@@ -410,10 +410,17 @@ impl<A: Allocator + Copy> PortCore<A> {
         settle(&mut self.book, &mut self.kept, woke, said);
     }
 
-    pub(crate) fn journal(&self) -> &[Entry]
-        ensures entries { result.now ≡ self.now.book.state.journal }
+    /// A law of each port, without code: at every moment the journal says where each ticket
+    /// stands, whatever came over the line. And of each far end with which the port stands for
+    /// a sound abstract port, as each run of pieces from an opening leads to, the device's
+    /// record fits the journal.
+    ///
+    /// Rules BOOK-9, BOOK-10.
+    pub fn keeps_record(&self)
         ensures replayed { IsReplayed self.now.book.state }
+        ensures record_fits { CoreKeeps self.now }
     {
-        self.book.journal()
+        record_fits_journal();
+        let _ = self.book.journal();
     }
 }

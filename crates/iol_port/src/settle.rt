@@ -93,6 +93,7 @@ pub(crate) fn begin_next<A: Allocator + Copy>(core: &mut Core, book: &mut Book<A
         (lacks_isdu core.old.session.isdu) (next_taken book.old.state.standing) book.old.state }
     ensures takes { TakesNext room (bare core.old) book.old.state
         (bare core.new) book.new.state }
+    ensures memory { book.new.memory ≡ book.old.memory }
 {
     // Most turns find no request that waits.
     if book.next().is_none() || !core.ready(room) {
@@ -123,6 +124,7 @@ fn take_next<A: Allocator + Copy>(core: &mut Core, book: &mut Book<A>)
     ensures steps { IfSome (next_taken book.old.state.standing) (λ next.
         BeginSteps next.1 core.old core.new) }
     ensures request { IfSome (next_taken book.old.state.standing) (λ next. IsRequest next.1) }
+    ensures memory { book.new.memory ≡ book.old.memory }
 {
     let (_, request) = book.take().unwrap();
     core.begin(request);
@@ -141,6 +143,7 @@ pub(crate) fn settle<A: Allocator + Copy>(
     requires room { HasRoom said kept.old.items }
     ensures book { book.new.state
         ≡ book_through (cond woke (Reset ∷ []) [] ++ book_said said) book.old.state }
+    ensures memory { book.new.memory ≡ book.old.memory }
     ensures kept { kept.new.items ≡ kept_through (reports_said said) kept.old.items }
 {
     if woke {
@@ -161,6 +164,7 @@ fn tell<A: Allocator + Copy>(book: &mut Book<A>, kept: &mut ArrayVec<Event, KEPT
     requires room { HasRoom said kept.old.items }
     ensures book { book.new.state
         ≡ book_through (book_said said) book.old.state }
+    ensures memory { book.new.memory ≡ book.old.memory }
     ensures kept { kept.new.items ≡ kept_through (reports_said said) kept.old.items }
 {
     match said {

@@ -1,5 +1,6 @@
 -- What the calls of C on the journal answer and leave, where the handle is open.
 use Rattle.std.specs.Prelude.{◌≡◌, ℕ, [], length}
+use Rattle.std.specs.Vec.{vec_capacity}
 use Rattle.iol_book.specs.declared.fault.BookFault.TheVariants.{Outstanding}
 use Rattle.iol_port.specs.declared.call.Call.TheVariants as call
 use Rattle.iol_port.specs.declared.call.Answered.TheVariants as answered
@@ -23,6 +24,8 @@ pub record RefusesArchive (old : IolPort) (number count : ℕ) (new : IolPort) :
   pub rest : Stays old new
   pub does : CallDoes old call.Archive (answered.Refused (fault.Book Outstanding)) new
 
--- the journal that the handle kept is given back
+-- the journal that the handle kept is given back, with its memory
 abbrev pub KeepsNone : IolPort → Type 0
-KeepsNone handle = (handle.held.value.journal.items ≡ []) × (handle.held.value.read ≡ 0)
+KeepsNone handle =
+    (handle.held.value.journal.items ≡ []) × (vec_capacity handle.held.value.journal ≡ 0)
+    × (handle.held.value.read ≡ 0)

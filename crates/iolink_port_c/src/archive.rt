@@ -1,6 +1,7 @@
 //! The journal, entry by entry.
 ghost use Rattle.std.specs.Prelude.{◌≡◌, ◌+◌, slice_get, IsSome, IsNone, [], IsTrue, IsFalse};
-ghost use Rattle.iol_book.specs.BookModel.{may_archive, archived};
+ghost use Rattle.std.specs.Vec.{vec_capacity};
+ghost use Rattle.iol_book.specs.BookModel.{may_archive, archived, memory_archived};
 ghost use Rattle.iol_port.specs.EveryWire.{IsBookCall};
 ghost use Rattle.iolink_port_c.specs.Calls.{parts_of, IsRefused};
 ghost use Rattle.iolink_port_c.specs.JournalCalls.{Archives, RefusesArchive, KeepsNone};
@@ -56,6 +57,8 @@ pub extern "C" fn iol_port_archive(alloc: Global, handle: &mut IolPort, count: &
         Archives handle.old result count.new handle.new }
     ensures book { IsTrue handle.old.is_open →
         (parts_of handle.new).book.state ≡ archived (parts_of handle.old).book.state }
+    ensures memory { IsTrue handle.old.is_open →
+        (parts_of handle.new).book.memory ≡ memory_archived (parts_of handle.old).book }
     ensures rest { IsTrue handle.old.is_open
         → IsBookCall (parts_of handle.old) (parts_of handle.new) }
 {
@@ -118,7 +121,8 @@ fn next_entry(alloc: Global, master: &mut Master) -> Option<Entry>
     ensures port { master.new.port ≡ master.old.port }
     ensures entry { result ≡ slice_get master.old.journal.items master.old.read }
     ensures next { IsSome result → master.new ≡ record master.old { read = master.old.read + 1 } }
-    ensures end { IsNone result → (master.new.journal.items ≡ []) × (master.new.read ≡ 0) }
+    ensures end { IsNone result → (master.new.journal.items ≡ [])
+        × (vec_capacity master.new.journal ≡ 0) × (master.new.read ≡ 0) }
 {
     match master.journal.get(master.read) {
         Some(entry) => {

@@ -1,4 +1,4 @@
-use Rattle.std.proofs.Common.{◌≡◌, ◌≤◌, length, take, vec_len, vec_capacity}
+use Rattle.std.proofs.Common.{◌≡◌, length, take, vec_len, vec_capacity}
 use Rattle.iol_port.specs.View.{Runs}
 use Rattle.iol_port.specs.EveryWire.{RunGives}
 use Rattle.iol_port.proofs.Served.{SoFar}
@@ -11,5 +11,5 @@ invariant-loop-call g l = record {
   clean : SoFar g.W.Wire.facts l.fn.self.parts (take l.call-index l.calls) l.self.parts;
   rest : l.self ≡ record l.fn.self { parts = l.self.parts };
   one_each : vec_len l.replies ≡ l.call-index;
-  room : length l.calls ≤ vec_capacity l.replies;
+  room : vec_capacity l.replies ≡ length l.calls;
 }

@@ -20,7 +20,7 @@ invariant_of-self g c =
 pub returns-clause-gives : goal.returns-clause-gives
 returns-clause-gives g c =
     rw (← c.self.view_is)
-    (record { said = c.receive.new.said; core = c.receive.ensures.core; said_is = c.receive.ensures.said; book = c.settle.ensures.book; kept = c.settle.ensures.kept; sent = refl })
+    (record { said = c.receive.new.said; core = c.receive.ensures.core; said_is = c.receive.ensures.said; book = c.settle.ensures.book; memory = c.settle.ensures.memory; kept = c.settle.ensures.kept; sent = refl })
 
 pub returns-clause-does : goal.returns-clause-does
 returns-clause-does g c =

@@ -40,6 +40,7 @@ both g c =
               core = λ _. sent;
               book = λ _. ap (λ (b : BookValue). b.state) book_is ∙ begun.ensures.taken
                   ∙ ap (λ (r : Bool). taken_where (operates p.station.link.state && is_ready p.station.session r) (lacks_isdu p.station.session.isdu) (next_taken p.book.state.standing) p.book.state) room;
+              memory = ap (λ (b : BookValue). b.memory) book_is ∙ begun.ensures.memory;
               kept = ap (λ x. x.kept.items) is;
               sent = ap (λ x. x.sent) is;
             },
@@ -52,7 +53,7 @@ both g c =
           let same : c.send.new.self ≡ c.self.inside.core = sent_same c.has_room-room.result c.self.inside.core c.send.new.self (c.self.invariant.out sent) (subst (λ (k : Core). IsSent c.has_room-room.result k c.send.new.self) core_is c.send.ensures.sent) in
           let next_is : next ≡ p = cc in
           subst (λ (q : Parts (Unit {0})). SendGives p q × SendDoes p q) (sym next_is)
-          (record { core = λ free. absurd (let k : true ≡ false = sym sent ∙ free in cc); book = λ free. absurd (let k : true ≡ false = sym sent ∙ free in cc); kept = refl; sent = sent }, again_does p sent)
+          (record { core = λ free. absurd (let k : true ≡ false = sym sent ∙ free in cc); book = λ free. absurd (let k : true ≡ false = sym sent ∙ free in cc); memory = refl; kept = refl; sent = sent }, again_does p sent)
     ])
 
 pub returns-clause-gives : goal.returns-clause-gives

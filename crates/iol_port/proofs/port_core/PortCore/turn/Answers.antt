@@ -88,6 +88,7 @@ returns-clause-gives g c =
           exact c.status-began.ensures.mode c.status.ensures.mode c.woke_up-woke.ensures
           ∙ ap (λ (b : BookState). book_through (woke_up (mode_of p.station.link) (mode_of (after g c).station.link) ++ book_said c.turn.new.said) b)
           (c.begin_next.ensures.taken ∙ ap (λ (r : Bool). taken_where (operates p.station.link.state && is_ready p.station.session r) (lacks_isdu p.station.session.isdu) (next_taken p.book.state.standing) p.book.state) room);
+      memory = c.settle.ensures.memory ∙ c.begin_next.ensures.memory;
       kept = c.settle.ensures.kept;
       denies = λ ticket has. turn_denies p (after g c)
           c.begin_next.new.book.state c.woke_up-woke.result c.turn.new.said

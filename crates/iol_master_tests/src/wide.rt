@@ -1,0 +1,207 @@
+//! A master of 32 ports with unequal answers, whose gate says no to each at a turn of its own, and
+//! a desk with more than a thousand submits.
+ghost use Rattle.std.specs.Prelude.{◌≡◌, All, IfOk, vec_len};
+ghost use Rattle.iol_master.specs.Tickets.{HasGiven};
+ghost use Rattle.iol_master.specs.Ledgers.{IsBlankFor};
+
+use crate::masters::{answer, collected, opened, read};
+use crate::opening::open_master;
+use iol_book::{Entry, Outcome, Ticket};
+use iol_isdu::{Place, Request};
+use iol_link::Wire;
+use iol_master::{Desk, Gate, Master, MasterFault, Settled, Tally};
+use iol_port::Port;
+use iol_sim::{Params, Sim};
+use std::alloc::Global;
+use std::marker::Brand;
+use std::process::Abort;
+use std::sync::Wait;
+use std::sync::atomic::{AtomicU64, Ordering};
+use std::sync::ledger::{Blank, Ledger};
+use std::test::Fail;
+use std::thread::Threads;
+
+/// How many ports there are.
+const PORTS: u8 = 32;
+
+/// The turn before which the gate says no to port 1; to each further port a turn later.
+const CLOSING: u64 = 1_500;
+
+/// Says no to each port at a turn of its own, and keeps the turn of which each was asked last.
+#[derive(Drop)]
+struct Closing {
+    asked: Vec<AtomicU64, Global>,
+}
+
+impl Closing {
+    fn new(alloc: Global) -> Result<Closing, Fail> {
+        let mut asked = Vec::new(alloc);
+        for _ in 0..=PORTS {
+            asked.push(AtomicU64::new(0))?;
+        }
+        Ok(Closing { asked })
+    }
+
+    /// The turn of which a port was asked last.
+    fn last_asked(&self, port: u32) -> Option<u64> {
+        let asked = self.asked.as_slice().get(port as usize)?;
+        Some(asked.load(Ordering::SeqCst))
+    }
+}
+
+impl Gate for Closing {
+    fn pass(&self, port: u32, turn: u64) -> bool {
+        if let Some(asked) = self.asked.as_slice().get(port as usize) {
+            asked.store(turn, Ordering::SeqCst);
+        }
+        turn < CLOSING.saturating_add(u64::from(port))
+    }
+}
+
+/// The ports, the device of each with its number as its value.
+fn many_ports(alloc: Global) -> Result<Vec<Port<Sim<Params>>>, Fail>
+    ensures { IfOk result (λ v. (vec_len v ≡ 32) × All (λ p. HasGiven p 0) v.items) }
+{
+    let mut ports = Vec::with_capacity(alloc, PORTS as usize)?;
+    for number in 1..=PORTS {
+        ports.push_reserved(opened(alloc, &[0x42, number])?);
+    }
+    Ok(ports)
+}
+
+/// A client of each port submits a read and settles.
+fn submit_all<W: Wire, L: Ledger, K: Ledger, R: Wait + Abort>(
+    rt: &R,
+    master: &Master<W, L, K>,
+) -> Result<(), MasterFault> {
+    for number in 1..=PORTS {
+        let mut desk = master.desk(rt, u32::from(number))?;
+        assert!(rt; master.submit(rt, &mut desk, read()) == Ok(Ticket(1)));
+        assert_eq!(rt; desk.port(), u32::from(number));
+        assert_eq!(rt;
+            master.settle(rt, desk),
+            Settled::Last(1, u64::from(number))
+        );
+    }
+    Ok(())
+}
+
+/// Each port was served up to its own turn, and has its own answer.
+fn each_was_served<W: Wire, L: Ledger, K: Ledger, R: Wait + Abort>(
+    rt: &R,
+    master: &Master<W, L, K>,
+    gate: &Closing,
+) -> Result<(), Fail> {
+    for number in 1..=PORTS {
+        let port = u32::from(number);
+        assert_eq!(rt;
+            gate.last_asked(port),
+            Some(CLOSING.saturating_add(u64::from(port)))
+        );
+        let wanted = answer(&[0x42, number])?;
+        assert!(rt; collected(rt, master, port, Ticket(1)) == Ok(wanted));
+    }
+    Ok(())
+}
+
+fn wide_row<L: Ledger + Sync, K: Ledger + Sync, R: Threads + Wait + Abort + Sync>(
+    rt: &R,
+    alloc: Global,
+    clients: Blank,
+    tickets: Blank,
+) -> Result<(), Fail>
+    requires clients { IsBlankFor clients L.name L.parts 1025 }
+    requires tickets { IsBlankFor tickets K.name K.parts 32 }
+{
+    let ports = many_ports(alloc)?;
+    let master: Master<Sim<Params>, L, K> = open_master(rt, alloc, ports, clients, tickets);
+    submit_all(rt, &master)?;
+    let gate = Closing::new(alloc)?;
+    assert_eq!(rt; master.serve(rt, &gate, 2_000), Ok(()));
+    each_was_served(rt, &master, &gate)?;
+    let open = master.desk(rt, u32::from(PORTS))?;
+    let tally = Tally {
+        desks: 1,
+        settled: 32,
+        tickets: 32,
+    };
+    assert_eq!(rt; master.close(), tally);
+    drop(open);
+    Ok(())
+}
+
+/// Refuses workers that end after a thousand turns, that ask the gate for another port or that
+/// make turns of another, and a tally that leaves out desks or ports.
+#[test]
+fn thirty_two_ports_are_served(rt: HostRuntime) -> Result<(), Fail> {
+    wide_row::<Brand, Brand, HostRuntime>(&rt, rt.alloc(), Blank::new(1025), Blank::new(32))
+}
+
+/// The longest write.
+fn write() -> Result<Request, Fail> {
+    let place = Place { index: 16, sub: 0 };
+    Ok(Request::write(place, [7u8; 232].as_slice())?)
+}
+
+/// Withdraws the request of a ticket and collects it; the journal has that and nothing else.
+fn take_back<W: Wire, L: Ledger, K: Ledger, R: Wait + Abort>(
+    rt: &R,
+    master: &Master<W, L, K>,
+    ticket: Ticket,
+) -> Result<(), Fail> {
+    let mut held = master.lock(rt, 1)?;
+    assert!(rt; held.withdraw(ticket) == Ok(()));
+    assert!(rt; held.collect(ticket) == Ok(Outcome::Withdrawn));
+    let entries = held.archive()?;
+    let wanted = [
+        Entry::Submitted(ticket, write()?),
+        Entry::Withdrawn(ticket),
+        Entry::Collected(ticket),
+    ];
+    assert!(rt; entries.as_slice() == wanted.as_slice());
+    Ok(())
+}
+
+/// Submits so many writes at a desk, each of which is taken back.
+fn submit_many<W: Wire, L: Ledger, K: Ledger, R: Wait + Abort>(
+    rt: &R,
+    master: &Master<W, L, K>,
+    desk: &mut Desk<L>,
+    count: u64,
+) -> Result<(), Fail> {
+    for number in 1..=count {
+        assert!(rt; master.submit(rt, desk, write()?) == Ok(Ticket(number)));
+        take_back(rt, master, Ticket(number))?;
+    }
+    Ok(())
+}
+
+fn far_row<L: Ledger, K: Ledger, R: Wait + Abort>(
+    rt: &R,
+    alloc: Global,
+    clients: Blank,
+    tickets: Blank,
+) -> Result<(), Fail>
+    requires clients { IsBlankFor clients L.name L.parts 1025 }
+    requires tickets { IsBlankFor tickets K.name K.parts 1 }
+{
+    let mut ports = Vec::with_capacity(alloc, 1)?;
+    ports.push_reserved(opened(alloc, &[0x41, 0x42])?);
+    let master: Master<Sim<Params>, L, K> = open_master(rt, alloc, ports, clients, tickets);
+    let mut desk = master.desk(rt, 1)?;
+    submit_many(rt, &master, &mut desk, 1_100)?;
+    assert_eq!(rt; master.settle(rt, desk), Settled::Last(1_100, 1_100));
+    let tally = Tally {
+        desks: 0,
+        settled: 1_100,
+        tickets: 1_100,
+    };
+    assert_eq!(rt; master.close(), tally);
+    Ok(())
+}
+
+/// Refuses a desk that counts in ten bits, and a submit that enters another or a shorter request.
+#[test]
+fn a_desk_counts_far(rt: HostRuntime) -> Result<(), Fail> {
+    far_row::<Brand, Brand, HostRuntime>(&rt, rt.alloc(), Blank::new(1025), Blank::new(1))
+}
