@@ -1,5 +1,5 @@
-//! The number and the text of each fault that a library answers: no clause says a text. Those of the
-//! programs `iolink` and `iol_probe` stand in rows of `tests/rows`.
+//! The number and the text of each fault that a library answers: no clause says a text. Those of
+//! the programs `iolink` and `iol_probe` stand in rows of `tests/rows`.
 use iol_app::OutputFault;
 use iol_book::BookFault;
 use iol_cell::CellFault;
@@ -187,7 +187,7 @@ fn add_ends(table: &mut String) -> Result<(), AllocError> {
     Ok(())
 }
 
-/// Faults of a port, a master, its clients and the program, and those that they hand on.
+/// Faults of ports, masters, clients and the program, and those that they hand on.
 fn add_ports(table: &mut String) -> Result<(), AllocError> {
     for fault in [
         PortFault::Book(BookFault::Full),

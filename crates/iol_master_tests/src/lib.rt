@@ -13,4 +13,8 @@ mod opening;
 #[cfg(test)]
 mod seats;
 #[cfg(test)]
+mod served;
+#[cfg(test)]
+mod sizes;
+#[cfg(test)]
 mod wide;

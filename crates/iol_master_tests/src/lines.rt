@@ -26,19 +26,19 @@ use std::thread;
 use std::thread::{JoinHandle, Scope, Threads};
 
 /// The process data that the device sends.
-const INPUT: [u8; 2] = [0x12, 0x34];
+pub const INPUT: [u8; 2] = [0x12, 0x34];
 
 /// What it keeps at 16/0.
-const VALUE: [u8; 2] = [0x41, 0x42];
+pub const VALUE: [u8; 2] = [0x41, 0x42];
 
 /// What it reports.
-const ALARM: Event = Event {
+pub const ALARM: Event = Event {
     qualifier: 0xF4,
     code: 0x8CA0,
 };
 
 /// The turns up to OPERATE, in which the first reply has come.
-const START_UP: u64 = 16;
+pub const START_UP: u64 = 16;
 
 /// The turn that tells the device that its output is not valid.
 const COMMAND: u64 = 1;
@@ -46,11 +46,11 @@ const COMMAND: u64 = 1;
 /// Turns in which a request or a report comes to its end.
 const ENOUGH: u64 = 30;
 
-fn read() -> Request {
+pub fn read() -> Request {
     Request::read(Place { index: 16, sub: 0 })
 }
 
-fn value() -> Result<Outcome, Fail> {
+pub fn value() -> Result<Outcome, Fail> {
     let octets = Octets::try_from(VALUE.as_slice()).map_err(|_| "too long")?;
     Ok(Outcome::Done(Answer::Read(octets)))
 }
@@ -72,7 +72,7 @@ fn wired(alloc: Global) -> Result<Sim<Params>, Fail> {
     Sim::new(alloc, device, Vec::new(alloc)).map_err(|(fault, _, _)| Fail::from(fault))
 }
 
-fn port(alloc: Global) -> Result<PortCore, Fail> {
+pub fn port(alloc: Global) -> Result<PortCore, Fail> {
     PortCore::open(alloc, &LIMITS).map_err(Fail::from)
 }
 
@@ -87,7 +87,7 @@ impl Gate for Before {
 }
 
 /// Makes so many turns.
-fn serve<W: Wire, K: Ledger, R: Wait>(
+pub fn serve<W: Wire, K: Ledger, R: Wait>(
     rt: &R,
     line: &Line<K>,
     worker: &mut LineWorker<W, K>,

@@ -87,7 +87,7 @@ fn sending(alloc: Global) -> Result<Sim<Params>, Fail> {
     Sim::new(alloc, device, Vec::new(alloc)).map_err(|(fault, _, _)| Fail::from(fault))
 }
 
-fn open_port<W: Wire + Drop>(alloc: Global, wire: W) -> Result<Port<W>, Fail>
+pub fn open_port<W: Wire + Drop>(alloc: Global, wire: W) -> Result<Port<W>, Fail>
     ensures { IfOk result (λ p. HasGiven p 0) }
 {
     Port::open(alloc, wire, &LIMITS).map_err(|(fault, _)| Fail::from(fault))
@@ -113,7 +113,7 @@ fn alone<W: Wire + Drop>(alloc: Global, port: Port<W>) -> Result<Vec<Port<W>>, F
 }
 
 /// A port over this wire, and a seat of its images.
-fn shown<W: Wire + Drop, R: Wait>(
+pub fn shown<W: Wire + Drop, R: Wait>(
     rt: &R,
     alloc: Global,
     wire: W,

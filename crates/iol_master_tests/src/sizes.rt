@@ -1,0 +1,65 @@
+//! Sizes from which on something could say that there is no memory. No clause says that memory is
+//! lacking only where a growth was refused. What lines can say is in `tests/rows`.
+use crate::masters::opened;
+use iol_cell::image_cell;
+use iol_image::Image;
+use iol_link::Wire;
+use iol_mseq::Message;
+use iol_port::Call;
+use iol_sim::Raw;
+use std::alloc::Global;
+use std::test::Fail;
+
+/// Refuses a cell that has no memory, or no seat of its own, from a number of readers on.
+#[test]
+fn a_cell_has_a_seat_for_each_reader(rt: HostRuntime) -> Result<(), Fail> {
+    let image = Image::new(&[0x5A; 32])?;
+    for readers in [1, 2, 8, 9, 16] {
+        let (mut writer, mut seats) = image_cell(&rt, rt.alloc(), readers)?;
+        assert_eq!(rt; seats.len(), readers);
+        writer.publish(&rt, Some(&image));
+        for seat in seats.iter_mut() {
+            assert!(rt; seat.read(&rt).as_ref() == Some(&image));
+        }
+    }
+    Ok(())
+}
+
+/// So many messages, each with its number.
+fn messages(alloc: Global, count: u16) -> Result<Vec<Message>, Fail> {
+    let mut messages = Vec::new(alloc);
+    for number in 0..count {
+        let octets = number.to_be_bytes();
+        messages.push(Message::try_from(octets.as_slice()).map_err(|_| "too long")?)?;
+    }
+    Ok(messages)
+}
+
+/// Refuses a wire that has no memory for many messages.
+#[test]
+fn a_raw_wire_has_each_message(rt: HostRuntime) -> Result<(), Fail> {
+    for count in [0, 1, 2, 255, 256, 257, 1_000] {
+        let messages = messages(rt.alloc(), count)?;
+        let mut wire = Raw::new(rt.alloc(), messages.as_slice())?;
+        for message in messages {
+            assert!(rt; wire.exchange(&[]) == Some(message));
+        }
+        assert!(rt; wire.exchange(&[]).is_none());
+    }
+    Ok(())
+}
+
+/// Refuses a run that has no memory for an empty list of calls, or for a long one.
+#[test]
+fn a_port_runs_lists_of_each_length(rt: HostRuntime) -> Result<(), Fail> {
+    let mut port = opened(rt.alloc(), &[0x41, 0x42])?;
+    for count in [0, 1, 255, 256, 257, 1_000] {
+        let mut calls = Vec::new(rt.alloc());
+        for _ in 0..count {
+            calls.push(Call::Look)?;
+        }
+        let answers = port.run(rt.alloc(), calls.as_slice())?;
+        assert_eq!(rt; answers.len(), count);
+    }
+    Ok(())
+}
