@@ -1,7 +1,8 @@
 //! A request that is cancelled while there is no memory.
 use crate::device::device;
+use crate::limits::LIMITS;
 use crate::ports::{read, turn};
-use iol_book::{BookFault, Limits, Outcome, Ticket};
+use iol_book::{BookFault, Outcome, Ticket};
 use iol_isdu::Cause;
 use iol_peers::ONE_OCTET;
 use iol_port::{Answered, Call, Port, PortFault};
@@ -12,12 +13,6 @@ use std::test::Fail;
 
 /// The last turn of start-up; the next one takes the request.
 const START_UP: u32 = 15;
-
-const LIMITS: Limits = Limits {
-    journal: 1_000,
-    busy: 100,
-    given: 0,
-};
 
 /// A port whose own memory runs out by an order.
 fn port_over(
