@@ -58,8 +58,7 @@ fn laws_of_all_ports_need_none(_rt: HostRuntime) -> Result<(), Fail> {
     Ok(())
 }
 
-/// A port asks for memory twice, for both queues of its book. No clause counts the requests: this
-/// test alone refuses an `open` that asks again where it was refused.
+/// A port asks for memory twice, for both queues of its book.
 #[test]
 fn a_port_opens_or_hands_its_wire_back(rt: HostRuntime) -> Result<(), Fail> {
     let refusing = RefusingAlloc::new(rt.alloc());
@@ -142,8 +141,6 @@ fn a_refused_request_changes_nothing(rt: HostRuntime) -> Result<(), Fail> {
     Ok(())
 }
 
-/// No clause counts the requests of a run: this test alone refuses one that asks again where it was
-/// refused.
 #[test]
 fn a_refused_run_makes_no_call(rt: HostRuntime) -> Result<(), Fail> {
     let refusing = RefusingAlloc::new(rt.alloc());

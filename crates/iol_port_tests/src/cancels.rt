@@ -24,8 +24,8 @@ fn port_over(
 }
 
 /// Nor does one that is refused, nor the turn that ends the request; a cancel again, by
-/// its name, is answered as the first was. No clause counts requests for memory: this
-/// test alone refuses a cancel, or that turn, that asks for some.
+/// its name, is answered as the first was. Clauses say what memory stays, and not what is
+/// asked for and let go: this test alone refuses a cancel that does so.
 #[test]
 fn a_cancel_takes_no_memory(rt: HostRuntime) -> Result<(), Fail> {
     let refusing = RefusingAlloc::new(rt.alloc());
