@@ -33,8 +33,7 @@ const PAGE_READ: [u8; 2] = [0xA2, 0x00];
 
 const PAGE_OCTET: [u8; 2] = [0x17, 0x1B];
 
-/// A device asks for memory once, for its record. No clause counts the requests: this test alone
-/// refuses an `open` that asks again where it was refused, and a call that asks later.
+/// A device asks for memory once, for its record.
 #[test]
 fn memory_is_asked_for_once(rt: HostRuntime) -> Result<(), Fail> {
     let refusing = RefusingAlloc::new(rt.alloc());

@@ -1,4 +1,5 @@
-//! Direct parameter page 1 of the devices that tests speak to, from address 0x02 on (IEC 61131-9, B.1).
+//! Direct parameter page 1 of the devices that tests speak to, from address 0x02 on
+//! (IEC 61131-9, B.1).
 
 /// No process data, eight octets of on-request data in PREOPERATE and OPERATE, ISDU.
 pub const PLAIN: [u8; 10] = [0x17, 0x2D, 0x11, 0x00, 0x00, 0x12, 0x34, 0x00, 0x01, 0x07];

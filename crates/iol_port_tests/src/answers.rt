@@ -5,8 +5,8 @@ ghost use Rattle.iol_app.specs.StationState.{wire_of};
 ghost use Rattle.iol_sim.specs.Params.{AnsweredBy};
 
 use crate::device::ROOM;
+use crate::limits::LIMITS;
 use crate::{first_app_follows_record, record_is_answered_by_the_first_params};
-use iol_book::Limits;
 use iol_device::{Carried, Device};
 use iol_isdu::{Answer, Octets, Place, Request};
 use iol_page::Page;
@@ -15,12 +15,6 @@ use iol_port::{Call, Port};
 use iol_sim::{Fate, Params, Sim, Step};
 use std::alloc::{AllocError, Global};
 use std::test::Fail;
-
-const LIMITS: Limits = Limits {
-    journal: 1_000,
-    busy: 100,
-    given: 0,
-};
 
 const PLACE: Place = Place { index: 16, sub: 0 };
 

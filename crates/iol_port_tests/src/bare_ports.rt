@@ -1,8 +1,9 @@
 //! Ports over a wire that answers nothing: memory that is refused, and laws.
 
+use crate::limits::LIMITS;
+use crate::ports::read;
 use iol_app::Mode;
-use iol_book::{BookFault, Limits, Ticket};
-use iol_isdu::{Place, Request};
+use iol_book::{BookFault, Ticket};
 use iol_link::Rate;
 use iol_mseq::Message;
 use iol_peers::{AnyWire, Peer};
@@ -14,12 +15,6 @@ use iol_port::{
 use refusing_alloc::{Refusal, RefusingAlloc};
 use std::process::Abort;
 use std::test::Fail;
-
-const LIMITS: Limits = Limits {
-    journal: 1_000,
-    busy: 100,
-    given: 0,
-};
 
 /// A peer that answers nothing.
 #[derive(Debug, PartialEq, Eq, Drop)]
@@ -40,10 +35,6 @@ impl Peer for Bare {
 /// A wire to that peer.
 fn bare_wire(number: u8) -> AnyWire<Bare> {
     AnyWire(Bare { number })
-}
-
-fn read() -> Request {
-    Request::read(Place { index: 16, sub: 0 })
 }
 
 fn opened_port(refusing: &RefusingAlloc) -> Result<Port<AnyWire<Bare>, &RefusingAlloc>, Fail> {
@@ -67,8 +58,7 @@ fn laws_of_all_ports_need_none(_rt: HostRuntime) -> Result<(), Fail> {
     Ok(())
 }
 
-/// A port asks for memory twice, for both queues of its book. No clause counts the requests: this
-/// test alone refuses an `open` that asks again where it was refused.
+/// A port asks for memory twice, for both queues of its book.
 #[test]
 fn a_port_opens_or_hands_its_wire_back(rt: HostRuntime) -> Result<(), Fail> {
     let refusing = RefusingAlloc::new(rt.alloc());
@@ -151,8 +141,6 @@ fn a_refused_request_changes_nothing(rt: HostRuntime) -> Result<(), Fail> {
     Ok(())
 }
 
-/// No clause counts the requests of a run: this test alone refuses one that asks again where it was
-/// refused.
 #[test]
 fn a_refused_run_makes_no_call(rt: HostRuntime) -> Result<(), Fail> {
     let refusing = RefusingAlloc::new(rt.alloc());

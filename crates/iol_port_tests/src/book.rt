@@ -2,18 +2,13 @@
 mod generated;
 mod plain;
 
-use iol_book::{Book, BookFault, Entry, Limits, Ticket, records_fit, takings_of_calls};
+use crate::limits::LIMITS;
+use iol_book::{Book, BookFault, Entry, Ticket, records_fit, takings_of_calls};
 use plain::read;
 use refusing_alloc::{Refusal, RefusingAlloc};
 use std::alloc::Global;
 use std::process::Abort;
 use std::test::Fail;
-
-const LIMITS: Limits = Limits {
-    journal: 1000,
-    busy: 100,
-    given: 0,
-};
 
 #[test]
 fn laws_speak_of_each_journal() {

@@ -1,7 +1,8 @@
 //! A request that is cancelled while there is no memory.
 use crate::device::device;
+use crate::limits::LIMITS;
 use crate::ports::{read, turn};
-use iol_book::{BookFault, Limits, Outcome, Ticket};
+use iol_book::{BookFault, Outcome, Ticket};
 use iol_isdu::Cause;
 use iol_peers::ONE_OCTET;
 use iol_port::{Answered, Call, Port, PortFault};
@@ -13,12 +14,6 @@ use std::test::Fail;
 /// The last turn of start-up; the next one takes the request.
 const START_UP: u32 = 15;
 
-const LIMITS: Limits = Limits {
-    journal: 1_000,
-    busy: 100,
-    given: 0,
-};
-
 /// A port whose own memory runs out by an order.
 fn port_over(
     alloc: Global,
@@ -29,8 +24,8 @@ fn port_over(
 }
 
 /// Nor does one that is refused, nor the turn that ends the request; a cancel again, by
-/// its name, is answered as the first was. No clause counts requests for memory: this
-/// test alone refuses a cancel, or that turn, that asks for some.
+/// its name, is answered as the first was. Clauses say what memory stays, and not what is
+/// asked for and let go: this test alone refuses a cancel that does so.
 #[test]
 fn a_cancel_takes_no_memory(rt: HostRuntime) -> Result<(), Fail> {
     let refusing = RefusingAlloc::new(rt.alloc());

@@ -108,8 +108,8 @@ fn publish_and_read<R: Threads + Wait + Sync>(
     last
 }
 
-/// No clause says that a call which may wait comes back: this test alone refuses a read that waits
-/// for ever where another thread publishes.
+/// No clause says that a call which may wait comes back: no proof refuses a read that waits for
+/// ever where another thread publishes.
 #[test]
 fn no_read_mixes_two_images(rt: HostRuntime) -> Result<(), Fail> {
     let (writer, mut seats) = image_cell(&rt, rt.alloc(), 2)?;

@@ -24,6 +24,8 @@ mod cell;
 #[cfg(test)]
 mod device;
 #[cfg(test)]
+mod limits;
+#[cfg(test)]
 mod lines;
 #[cfg(test)]
 mod links;

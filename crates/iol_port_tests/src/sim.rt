@@ -36,8 +36,7 @@ fn make(refusing: &RefusingAlloc<Global>, steps: &[Step], refusal: Refusal) -> R
     })
 }
 
-/// A simulated wire asks for memory once. No clause counts the requests: this test alone refuses
-/// a `new` that asks again where it was refused.
+/// A simulated wire asks for memory once, for its device.
 #[test]
 fn a_simulated_wire_asks_for_memory_once(rt: HostRuntime) -> Result<(), Fail> {
     let refusing = RefusingAlloc::new(rt.alloc());

@@ -7,8 +7,9 @@ ghost use Rattle.iol_port.specs.declared.awaited.Awaited.{Awaited};
 ghost use Rattle.iol_port.specs.CorePort.{awaited};
 ghost use Rattle.iol_line.specs.Honestly.{Exchanges};
 
+use super::PARAMETER;
 use super::store::{Fate, Store, opened_device};
-use super::{LIMITS, PARAMETER};
+use crate::limits::LIMITS;
 use iol_app::{Asked, Mode};
 use iol_book::{Outcome, Ticket};
 use iol_device::Device;
