@@ -41,7 +41,7 @@ def open_time(room):
 def draw_time(room, zoom):
     """The median time of drawing, while the wheel moves the picture."""
     window = room.window
-    window.run(f"document.getElementById('fit').click(); page.zoomTo({zoom})")
+    window.run(f"page.look(0, {zoom})")
     window.rest_drawn()
     window.run("performance.clearMeasures('draw')")
     for _ in range(MOVES):

@@ -1,4 +1,5 @@
 """The checks of the page. Each gives pairs: what was checked, and what is wrong with it, or ''."""
+import os
 import re
 import xml.etree.ElementTree
 
@@ -13,6 +14,8 @@ PAIRS = [
     ("ink", "isdu"), ("ink", "diagnosis"), ("ink", "process"), ("ink", "came"), ("ink", "chosen"),
     ("doubt", "doubt-fill"), ("did", "did-fill"), ("good", "good-fill"),
 ]
+PICTURES = ["trace_cable_pulled.png", "trace_one_read.png"]
+MOST_OCTETS = 150_000
 
 
 def unlike(is_there, wanted):
@@ -50,6 +53,9 @@ def check_traces(room):
         yield f"{name}: fault", room.fault()
         yield f"{name}: counts", unlike(room.counts(), counted(text))
         yield f"{name}: record", record_wrong(room, text)
+        yield f"{name}: events", events_wrong(room, text)
+        without = room.window.run("page.state.trace.requests.filter((it) => !it.ticket).length")
+        yield f"{name}: tickets", "" if without == 0 else f"{without} requests have none"
 
 
 def record_wrong(room, text):
@@ -64,6 +70,13 @@ def record_wrong(room, text):
     if wanted is None or found <= wanted <= found + open_ones:
         return ""
     return f"{wanted} were cut off and carried out; the page finds {found}, and can't tell {open_ones}"
+
+
+def events_wrong(room, text):
+    """The events that a client took are the first of those that were read from the device."""
+    taken = [it.removeprefix("event ") for it in text.splitlines() if it.startswith("event ")]
+    events = "page.state.trace.readings.flatMap((it) => it.events.map((each) => each.text))"
+    return unlike(room.window.run(events)[: len(taken)], taken)
 
 
 def broken_texts(text):
@@ -111,7 +124,7 @@ def check_story(room):
     room.window.rest_drawn()
     drawn = room.window.run("document.querySelector('#picture svg').textContent")
     yield "cable_pulled: the device", missing("The device did it. The client was told “unknown”.", drawn)
-    yield "cable_pulled: the client", missing("told unknown (LinkLost)", drawn)
+    yield "cable_pulled: the client", missing("? told unknown (LinkLost) ◆", drawn)
     yield "cable_pulled: the mode", missing("down: Lost", drawn)
     said = room.window.run("document.getElementById('story').innerText")
     yield "cable_pulled: in words", missing("told unknown (LinkLost); the device did it", said)
@@ -338,6 +351,14 @@ def check_contrast(room):
             yield f"{ink} on {ground}, {scheme}", wrong
 
 
+def check_pictures(_room):
+    """The guide's pictures are there, and small."""
+    for name in PICTURES:
+        path = f"{ROOT}/docs/pictures/{name}"
+        size = os.path.getsize(path) if os.path.exists(path) else None
+        yield f"docs/pictures/{name}", "" if size and size < MOST_OCTETS else f"its size is {size}"
+
+
 def check_silence(room):
     """The page asks for nothing but itself, and its console has no error."""
     errors, asked = room.window.complaints()
@@ -349,5 +370,5 @@ def check_silence(room):
 CHECKS = [
     check_examples, check_traces, check_broken, check_story, check_details, check_keys, check_pointer, check_touch,
     check_find, check_paste_and_drop, check_picture_file, check_table, check_rules, check_contrast, check_large,
-    check_silence,
+    check_pictures, check_silence,
 ]
