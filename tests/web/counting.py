@@ -1,0 +1,51 @@
+"""Counts what stands in a trace, line by line. It shares nothing with the page."""
+import re
+
+FORMS = {
+    "exchanges": r"\d+ >.*",
+    "wakes": r"\d+ wake \w+",
+    "lost": r"\d+ < none",
+    "damaged": r"\d+ <.*: refused \d+ \w+",
+    "requests": r"ticket \d+",
+    "unknown": r"ticket \d+ unknown \w+",
+    "events": r"event .*",
+    "carried": r"carried .*",
+}
+DONE = r"ticket \d+ done .*"
+OUTCOME = r"ticket \d+ .+"
+
+
+def many(form, lines):
+    return sum(1 for it in lines if re.fullmatch(form, it))
+
+
+def repeats(lines):
+    """Messages with the octets of the one before, which had no valid reply."""
+    count, before, is_open = 0, None, False
+    for line in lines:
+        number, _, rest = line.partition(" ")
+        if not number.isdecimal():
+            continue
+        if rest.startswith("wake"):
+            before, is_open = None, False
+        elif rest.startswith(">"):
+            count += is_open and rest == before
+            before, is_open = rest, True
+        elif rest.startswith("<"):
+            is_open = rest == "< none" or ": refused " in rest
+    return count
+
+
+def counted(text):
+    lines = text.splitlines()
+    said = {name: many(form, lines) for name, form in FORMS.items()}
+    said["repeats"] = repeats(lines)
+    return said
+
+
+def cut_off_and_carried(text):
+    """How many requests the record has that no outcome `done` tells of; None if a ticket has no outcome."""
+    lines = text.splitlines()
+    if many(FORMS["requests"], lines) != many(OUTCOME, lines):
+        return None
+    return many(FORMS["carried"], lines) - many(DONE, lines)

@@ -1,0 +1,374 @@
+"""The checks of the page. Each gives pairs: what was checked, and what is wrong with it, or ''."""
+import os
+import re
+import xml.etree.ElementTree
+
+from counting import counted, cut_off_and_carried
+from large import check_large
+from trace_page import ROOT, read
+
+IDS = r"\b(?:OCT|CHK|MSG|LAY|PAGE|ISDU|SEG|DEV|EVT|WIRE|LINK|REQ|PD|BOOK|PORT)-\d+\b"
+LEAST_CONTRAST = 4.5
+PAIRS = [
+    ("ink", "paper"), ("soft", "paper"), ("link", "paper"), ("bad", "paper"), ("ink", "page"),
+    ("ink", "isdu"), ("ink", "diagnosis"), ("ink", "process"), ("ink", "came"), ("ink", "chosen"),
+    ("doubt", "doubt-fill"), ("did", "did-fill"), ("good", "good-fill"),
+]
+PICTURES = ["trace_cable_pulled.png", "trace_one_read.png"]
+MOST_OCTETS = 150_000
+
+
+def unlike(is_there, wanted):
+    return "" if is_there == wanted else f"is {is_there!r}, and not {wanted!r}"
+
+
+def missing(part, text):
+    return "" if part in text else f"{part!r} is not in {text!r}"
+
+
+def check_examples(room):
+    """The traces in the page are what the program prints today, and their counts are right."""
+    room.open_page()
+    kept = room.window.run(
+        "Object.fromEntries([...document.querySelectorAll('script[data-example]')].map((it) => "
+        "[it.dataset.example, it.textContent.replace(/^\\n/, '')]))"
+    )
+    for name, trace in room.examples().items():
+        yield f"examples/{name} in the page", "" if kept.get(name) == trace else "it is not what `trace` prints"
+        if trace is None:
+            continue
+        room.open_page(f"#example={name}")
+        yield f"examples/{name}: counts", unlike(room.counts(), counted(trace))
+        yield f"examples/{name}: fault", room.fault()
+
+
+def check_traces(room):
+    """Each trace of the rows is read whole, its counts are right, and its record fits."""
+    room.open_page()
+    texts = {**room.row_traces(), **room.run_traces()}
+    if len(texts) < 40:
+        yield "rows", f"only {len(texts)} traces were found"
+    for name, text in texts.items():
+        room.open_text(text)
+        yield f"{name}: fault", room.fault()
+        yield f"{name}: counts", unlike(room.counts(), counted(text))
+        yield f"{name}: record", record_wrong(room, text)
+        yield f"{name}: events", events_wrong(room, text)
+        without = room.window.run("page.state.trace.requests.filter((it) => !it.ticket).length")
+        yield f"{name}: tickets", "" if without == 0 else f"{without} requests have none"
+
+
+def record_wrong(room, text):
+    """Whether the page finds in the record what it has to hold."""
+    fits, found, open_ones = room.window.run(
+        "(({recordFits, counts, requests}) => [recordFits, counts.surprises, requests.filter((it) => "
+        "it.end !== 'done' && it.carried === 'untold').length])(page.state.trace)"
+    )
+    if not fits:
+        return "the page says that the record doesn't fit"
+    wanted = cut_off_and_carried(text)
+    if wanted is None or found <= wanted <= found + open_ones:
+        return ""
+    return f"{wanted} were cut off and carried out; the page finds {found}, and can't tell {open_ones}"
+
+
+def events_wrong(room, text):
+    """The events that a client took are the first of those that were read from the device."""
+    taken = [it.removeprefix("event ") for it in text.splitlines() if it.startswith("event ")]
+    events = "page.state.trace.readings.flatMap((it) => it.events.map((each) => each.text))"
+    return unlike(room.window.run(events)[: len(taken)], taken)
+
+
+def broken_texts(text):
+    """Texts with one line that can't be read: a name, the text, the line's number."""
+    lines = text.splitlines()
+    end = len(lines)
+
+    def with_line(number, line):
+        return "\n".join([*lines[: number - 1], *line, *lines[number:]]) + "\n"
+
+    yield "no such line", with_line(20, ["what is this"]), 20
+    yield "lower case", with_line(3, [lines[2].lower().replace("a2", "a2")]), 3
+    yield "half an octet", with_line(4, [lines[3].replace("17 1B", "17 1")]), 4
+    yield "no text", with_line(5, [lines[4].split(":")[0]]), 5
+    yield "a lost reply line", with_line(6, []), 6
+    yield "a lost exchange", "\n".join([*lines[:6], *lines[8:]]) + "\n", 7
+    yield "a read with data", with_line(7, [lines[6] + " od 00"]), 7
+    yield "no such outcome", with_line(41, ["ticket 1 unknown Bored"]), 41
+    yield "a number too large to be next", with_line(35, [lines[34].replace("18 ", "19 ", 1)]), 35
+    yield "more than the record has", text + lines[-1] + "\n", end + 1
+    yield "carried before the record", with_line(43, [lines[-1]]), 43
+    yield "a call behind the record", text + "ok\n", end + 1
+
+
+def check_broken(room):
+    """The first line that can't be read is named, with its number; what stands before it is drawn."""
+    room.open_page()
+    text = room.examples()["cable_pulled"]
+    for name, broken, number in broken_texts(text):
+        room.open_text(broken)
+        yield f"broken, {name}", missing(f"Line {number} can’t be read", room.fault())
+        before = "\n".join(broken.splitlines()[: number - 1])
+        yield f"broken, {name}: before it", unlike(room.counts(), counted(before))
+    for cut in (len(text) - 30, text.index("18 <"), text.index("18 >"), 0):
+        part = text[:cut].rpartition("\n")[0]
+        room.open_text(part)
+        yield f"cut off behind {len(part)} characters", room.fault()
+    room.open_text(text.replace("\n", "\r\n"))
+    yield "lines of another system", room.fault()
+
+
+def check_story(room):
+    """Of a request that ended unknown and was carried out, both lanes tell."""
+    room.open_page("#example=cable_pulled")
+    room.window.rest_drawn()
+    drawn = room.window.run("document.querySelector('#picture svg').textContent")
+    yield "cable_pulled: the device", missing("The device did it. The client was told “unknown”.", drawn)
+    yield "cable_pulled: the client", missing("? told unknown (LinkLost) ◆", drawn)
+    yield "cable_pulled: the mode", missing("down: Lost", drawn)
+    said = room.window.run("document.getElementById('story').innerText")
+    yield "cable_pulled: in words", missing("told unknown (LinkLost); the device did it", said)
+    count = "document.querySelectorAll('#picture .{}').length"
+    yield "cable_pulled: repeats", unlike(room.window.run(count.format("repeat.vain")), 2)
+    yield "cable_pulled: lost replies", unlike(room.window.run(count.format("came.lost")), 3)
+    room.open_page("#example=one_read")
+    room.window.rest_drawn()
+    yield "one_read: no story", unlike(room.window.run("document.getElementById('story').innerText"), "")
+    yield "one_read: the repeat", unlike(room.window.run(count.format("repeat:not(.vain)")), 1)
+    drawn = room.window.run("document.querySelector('#picture svg').textContent")
+    yield "one_read: the outcome", missing("told done: read 41 42", drawn)
+
+
+def check_details(room):
+    """Each exchange shows its lines as the program prints them."""
+    for name, trace in room.examples().items():
+        if trace is None:
+            continue
+        room.open_page(f"#example={name}")
+        room.window.run("document.getElementById('picture').focus()")
+        room.press("Home")
+        shown = []
+        for _ in range(counted(trace)["exchanges"] + counted(trace)["wakes"]):
+            shown += room.window.run(
+                "[...document.querySelectorAll('.printed li')].map((it) => it.lastChild.textContent)"
+            )
+            room.press("ArrowRight")
+        yield f"{name}: lines of the exchanges", unlike("\n".join(shown) + "\n", trace)
+
+
+def check_keys(room):
+    """Keys choose, move and zoom; a choice has an address, and an address a choice."""
+    window = room.window
+    room.open_page("#example=cable_pulled&exchange=18")
+    yield "an address chooses", unlike(room.chosen(), 18)
+    window.run("document.getElementById('picture').focus()")
+    wanted = [
+        ("ArrowRight", 19), ("ArrowLeft", 18), ("Home", 1), ("l", 18), ("l", 19), ("End", 20), ("ArrowRight", 20),
+    ]
+    for key, number in wanted:
+        room.press(key)
+        yield f"key {key}", unlike(room.chosen(), number)
+    yield "the address follows", missing("exchange=20", window.run("location.hash"))
+    scale = window.run("page.state.view.scale")
+    room.press("+", text="+")
+    yield "key +", "" if window.run("page.state.view.scale") > scale else "it doesn't zoom"
+    place = window.run("page.state.view.from")
+    room.press("PageUp")
+    yield "key PageUp", "" if window.run("page.state.view.from") < place else "it doesn't move"
+    room.press("0", text="0")
+    yield "key 0", unlike(window.run("page.state.view.scale"), scale)
+    room.press("Enter")
+    lit = "[...document.querySelectorAll('#text-lines .is-chosen')].map((it) => it.innerText).join()"
+    yield "key Enter", missing("20 > F0 75", window.run(lit))
+    window.run("document.querySelector('#text-lines a[href=\"#exchange=17\"]').click()")
+    window.until("location.hash.includes('exchange=17')")
+    window.rest_drawn()
+    yield "back from the text", unlike(room.chosen(), 17)
+
+
+def check_pointer(room):
+    """A pointer on an exchange shows it; the wheel moves and zooms."""
+    window = room.window
+    room.open_page("#example=cable_pulled")
+    window.rest_drawn()
+    x, y = window.run(
+        "(({left, top}) => [left + page.state.left + 2.5 * page.state.view.scale, top + 200])"
+        "(document.getElementById('picture').getBoundingClientRect())"
+    )
+    window.mouse("mouseMoved", x, y)
+    window.rest_drawn()
+    shown = "document.querySelector('#detail h2').innerText"
+    yield "a pointer shows", missing("Exchange 3", window.run(shown))
+    scale = window.run("page.state.view.scale")
+    window.mouse("mouseWheel", x, y, deltaX=0, deltaY=-300, modifiers=2)
+    window.rest_drawn()
+    yield "the wheel zooms", "" if window.run("page.state.view.scale") > scale else "it doesn't"
+    place = window.run("page.state.view.from")
+    window.mouse("mouseWheel", x, y, deltaX=0, deltaY=100)
+    window.rest_drawn()
+    yield "the wheel moves", "" if window.run("page.state.view.from") > place else "it doesn't"
+
+
+def check_touch(room):
+    """Two fingers zoom, one moves."""
+    window = room.window
+    room.open_page("#example=cable_pulled")
+    window.rest_drawn()
+    top = window.run("document.getElementById('picture').getBoundingClientRect().top") + 200
+
+    def touch(kind, *places):
+        points = [{"x": x, "y": top, "id": at} for at, x in enumerate(places)]
+        window.ask("Input.dispatchTouchEvent", type=kind, touchPoints=points)
+
+    scale = window.run("page.state.view.scale")
+    touch("touchStart", 600)
+    touch("touchStart", 600, 700)
+    touch("touchMove", 550, 750)
+    touch("touchMove", 500, 800)
+    touch("touchEnd")
+    window.rest_drawn()
+    yield "two fingers zoom", "" if window.run("page.state.view.scale") > scale * 1.5 else "they don't"
+    place = window.run("page.state.view.from")
+    touch("touchStart", 700)
+    for x in (680, 640, 600, 500):
+        touch("touchMove", x)
+    touch("touchEnd")
+    window.rest_drawn()
+    yield "a finger moves", "" if window.run("page.state.view.from") > place else "it doesn't"
+
+
+def check_find(room):
+    """Find by ticket, index, octets and exchange."""
+    text = room.row_traces()["requests/trace_read_with_one_fate"]
+    answers = len(re.findall(r"^\d+ < D4 41", text, re.M))
+    room.open_page()
+    room.open_text(text)
+    wanted = [
+        ("ticket", "2", "1 of 1", 20), ("index", "16/0", "1 of 15", 16), ("index", "17", "none", None),
+        ("octets", "d441", f"1 of {answers}", 19), ("exchange", "40", "1 of 1", 40), ("octets", "zz", "none", None),
+    ]
+    for what, text, said, number in wanted:
+        room.window.run(
+            f"document.getElementById('find-what').value = '{what}';"
+            f"document.getElementById('find-text').value = '{text}';"
+            "document.getElementById('find').requestSubmit()"
+        )
+        name = f"find {what} {text}"
+        yield name, unlike(room.window.run("document.getElementById('found').value"), said)
+        if number:
+            yield f"{name}: place", unlike(room.chosen(), number)
+
+
+def check_paste_and_drop(room):
+    """A text is taken by paste and by drop."""
+    text = room.examples()["one_read"]
+    room.open_page()
+    room.window.run(
+        "(() => { const data = new DataTransfer(); data.setData('text/plain', %r);"
+        "document.body.dispatchEvent(new ClipboardEvent('paste', {clipboardData: data, bubbles: true})) })()" % text
+    )
+    yield "paste", unlike(room.counts(), counted(text))
+    room.open_page()
+    room.window.run(
+        "(() => { const data = new DataTransfer(); data.items.add(new File([%r], 'dropped'));"
+        "document.body.dispatchEvent(new DragEvent('drop', {dataTransfer: data, bubbles: true})) })()" % text
+    )
+    room.window.until("page.state.name === 'dropped'")
+    yield "drop", unlike(room.counts(), counted(text))
+
+
+def check_picture_file(room):
+    """The saved picture stands alone: XML, its colours in it."""
+    for scheme in ("light", "dark"):
+        room.window.scheme(scheme)
+        room.open_page("#example=cable_pulled")
+        saved = room.window.run("page.pictureFile()")
+        try:
+            root = xml.etree.ElementTree.fromstring(saved)
+            wrong = unlike(root.tag, "{http://www.w3.org/2000/svg}svg")
+        except xml.etree.ElementTree.ParseError as error:
+            wrong = str(error)
+        yield f"saved picture, {scheme}", wrong
+        yield f"saved picture, {scheme}: colours", "it asks for `var(`" if "var(" in saved else ""
+
+
+def check_table(room):
+    """The table has each exchange, with its columns named, and says which page of it is shown."""
+    trace = room.examples()["one_read"]
+    room.open_page("#example=one_read")
+    rows = "document.querySelectorAll('#exchanges-panel tbody tr').length"
+    yield "rows of the table", unlike(room.window.run(rows), counted(trace)["exchanges"] + 1)
+    heads = "[...document.querySelectorAll('#exchanges-panel th[scope=col]')].map((it) => it.textContent).join()"
+    yield "heads of the table", unlike(room.window.run(heads), "Number,Mode,Message,Reply,Note")
+    caption = "document.querySelector('#exchanges-panel caption').textContent.trim()"
+    yield "caption of the table", unlike(room.window.run(caption), "Exchanges and wake-ups, 1 to 19 of 19")
+    room.window.run("document.getElementById('picture').focus()")
+    room.press("Home")
+    said = room.window.run("document.getElementById('said').textContent")
+    yield "what is said of a choice", unlike(said, "1, down: wake COM2")
+
+
+def check_rules(room):
+    """Each rule that the page names is one of protocol.md, and its link leads to a heading."""
+    protocol = read(f"{ROOT}/docs/protocol.md")
+    rules = set(re.findall(r"^\| ([A-Z]+-\d+) \|", protocol, re.M))
+    heads = {
+        re.sub(r"[^a-z0-9 _-]", "", it.lower()).replace(" ", "-") for it in re.findall(r"^#+ (.*)$", protocol, re.M)
+    }
+    named = sorted(set(re.findall(IDS, read(f"{ROOT}/web/trace.html"))))
+    if len(named) < 20:
+        yield "rules", f"only {named} are named"
+    for id in named:
+        yield f"rule {id}", "" if id in rules else "it is no rule of docs/protocol.md"
+        path, _, head = room.window.run(f"page.ruleLink('{id}')").partition("#")
+        yield f"link of {id}", unlike(path, "../docs/protocol.md") or ("" if head in heads else f"no heading {head}")
+
+
+def contrast(one, other):
+    """The contrast of two colours, as WCAG counts it."""
+
+    def light(colour):
+        parts = [int(it) / 255 for it in re.findall(r"\d+", colour)[:3]]
+        linear = [it / 12.92 if it <= 0.03928 else ((it + 0.055) / 1.055) ** 2.4 for it in parts]
+        return 0.2126 * linear[0] + 0.7152 * linear[1] + 0.0722 * linear[2]
+
+    low, high = sorted((light(one), light(other)))
+    return (high + 0.05) / (low + 0.05)
+
+
+def check_contrast(room):
+    """Text can be read, light and dark."""
+    colour = (
+        "((name) => { const it = document.body.appendChild(document.createElement('i'));"
+        "it.style.color = `var(--${name})`; const {color} = getComputedStyle(it); it.remove(); return color; })('%s')"
+    )
+    for scheme in ("light", "dark"):
+        room.window.scheme(scheme)
+        room.open_page()
+        for ink, ground in PAIRS:
+            found = contrast(room.window.run(colour % ink), room.window.run(colour % ground))
+            wrong = "" if found >= LEAST_CONTRAST else f"the contrast is {found:.1f}, below {LEAST_CONTRAST}"
+            yield f"{ink} on {ground}, {scheme}", wrong
+
+
+def check_pictures(_room):
+    """The guide's pictures are there, and small."""
+    for name in PICTURES:
+        path = f"{ROOT}/docs/pictures/{name}"
+        size = os.path.getsize(path) if os.path.exists(path) else None
+        yield f"docs/pictures/{name}", "" if size and size < MOST_OCTETS else f"its size is {size}"
+
+
+def check_silence(room):
+    """The page asks for nothing but itself, and its console has no error."""
+    errors, asked = room.window.complaints()
+    yield "errors of the console", "; ".join(errors)
+    own = (f"file://{ROOT}/web/trace.html", "about:blank", "data:", "blob:")
+    yield "addresses asked for", ", ".join(it for it in asked if not it.startswith(own))
+
+
+CHECKS = [
+    check_examples, check_traces, check_broken, check_story, check_details, check_keys, check_pointer, check_touch,
+    check_find, check_paste_and_drop, check_picture_file, check_table, check_rules, check_contrast, check_large,
+    check_pictures, check_silence,
+]

@@ -1,0 +1,96 @@
+"""What the checks of the page share: the page, the program, and the texts of the repository."""
+import glob
+import os
+import subprocess
+import time
+
+ROOT = os.path.dirname(os.path.dirname(os.path.dirname(os.path.realpath(__file__))))
+PAGE = f"file://{ROOT}/web/trace.html"
+
+
+def read(path):
+    with open(path, encoding="utf-8") as it:
+        return it.read()
+
+
+class Room:
+    """The open page, the program, and a folder for files."""
+
+    def __init__(self, window, program, folder):
+        self.window = window
+        self.program = program
+        self.folder = folder
+
+    def trace_of(self, path):
+        """What `iolink trace` prints for a file, or None if it refuses it."""
+        with open(path, "rb") as it:
+            ran = subprocess.run([self.program, "trace"], stdin=it, capture_output=True, check=False)
+        return ran.stdout.decode() if ran.returncode == 0 else None
+
+    def examples(self):
+        """The names of the examples, with their traces; None is no script of `trace`."""
+        paths = sorted(glob.glob(f"{ROOT}/examples/*"))
+        return {os.path.basename(it): self.trace_of(it) for it in paths}
+
+    def row_traces(self):
+        """The traces that the rows want, by name."""
+        paths = sorted(glob.glob(f"{ROOT}/tests/rows/*/trace_*/stdout"))
+        return {os.path.relpath(os.path.dirname(it), f"{ROOT}/tests/rows"): read(it) for it in paths}
+
+    def run_traces(self):
+        """The traces of the rows of `run` that have one script, and that `trace` takes."""
+        made = {}
+        for row in sorted(glob.glob(f"{ROOT}/tests/rows/*/run_*")):
+            has = set(os.listdir(row))
+            if "stdin" not in has or has & {"each", "memory", "output", "status"}:
+                continue
+            trace = self.trace_of(f"{row}/stdin")
+            if trace is not None:
+                made[os.path.relpath(row, f"{ROOT}/tests/rows")] = trace
+        return made
+
+    def file_of(self, text, name="given"):
+        path = f"{self.folder}/{name}"
+        with open(path, "w", encoding="utf-8") as it:
+            it.write(text)
+        return path
+
+    def open_page(self, address=""):
+        self.window.go(PAGE + address)
+
+    def open_text(self, text):
+        """Opens a text as a file, and waits until it is drawn."""
+        self.window.run("page.state.name = ''")
+        self.window.choose_file("#file", self.file_of(text))
+        self.window.until("page.state.name === 'given'")
+        self.window.rest_drawn()
+
+    def counts(self):
+        """The numbers that the page shows."""
+        return self.window.run(
+            "Object.fromEntries([...document.querySelectorAll('[data-count]')].map((it) => "
+            "[it.dataset.count, Number(it.textContent.replace(/,/g, ''))]))"
+        )
+
+    def fault(self):
+        """What the page says of a line that it can't read, or ''."""
+        return self.window.run(
+            "document.getElementById('fault').hidden ? '' : document.getElementById('fault').innerText"
+        )
+
+    def chosen(self):
+        """The number of the exchange that is chosen."""
+        return self.window.run("page.state.trace.exchanges[page.state.chosen]?.number ?? null")
+
+    def press(self, key, text=None):
+        self.window.key(key, text=text)
+        self.window.rest_drawn()
+
+
+class Stopwatch:
+    def __enter__(self):
+        self.begun = time.monotonic()
+        return self
+
+    def __exit__(self, *_):
+        self.seconds = time.monotonic() - self.begun
