@@ -42,6 +42,15 @@ const READ_STATUS: u8 = 0xC0;
 /// The reply with a StatusCode that marks no place and has no details.
 const ODD_STATUS: [u8; 4] = [0x01, 0x12, 0x34, 0x83];
 
+/// Turns behind the start-up, in the last of which the link is lost.
+const SILENCE: u64 = BEFORE + LOST;
+
+/// How many exchanges go on before the silence.
+const BEFORE: u64 = 4;
+
+/// How many replies are lost then.
+const LOST: u64 = 3;
+
 /// Turns in which the silence ends, and all is done that waits.
 const TURNS: u64 = 90;
 
@@ -90,8 +99,8 @@ fn add(steps: &mut Vec<Step>, fate: Fate, count: u64) -> Result<(), AllocError> 
 /// link, and two wakes. Then the device reports an event, and later has another input.
 fn script(alloc: Global) -> Result<Vec<Step>, Fail> {
     let mut steps = Vec::new(alloc);
-    add(&mut steps, Fate::Clean, START_UP + 4)?;
-    add(&mut steps, Fate::BackLost, 3)?;
+    add(&mut steps, Fate::Clean, START_UP + BEFORE)?;
+    add(&mut steps, Fate::BackLost, LOST)?;
     add(&mut steps, Fate::NoWake, 2)?;
     steps.push(Step::Raise(ALARM))?;
     add(&mut steps, Fate::Clean, 50)?;
@@ -199,6 +208,27 @@ fn shows<R: Wait>(rt: &R, seat: &mut ImageSeat, octets: &[u8]) -> bool {
     seat.read(rt).is_some_and(|image| image.octets() == octets)
 }
 
+/// The port is served up to OPERATE, through the silence, and on.
+fn through<W: Wire + Send, L: Ledger, K: Ledger + Sync, R: Threads + Wait + Abort + Sync>(
+    rt: &R,
+    master: &Master<W, L, K>,
+    seat: &mut ImageSeat,
+    form: Form,
+) -> Result<(), Fail> {
+    assert!(rt; master.serve(rt, &Open, START_UP) == Ok(()));
+    assert!(rt; shows(rt, seat, &INPUT));
+    let mut desk = master.desk(rt, 1)?;
+    submit_three(rt, master, &mut desk)?;
+    assert!(rt; master.serve(rt, &Open, SILENCE) == Ok(()));
+    assert!(rt; seat.read(rt).is_none());
+    assert!(rt; master.serve(rt, &Open, TURNS) == Ok(()));
+    is_done(rt, master, form)?;
+    assert!(rt; master.serve(rt, &Open, 1) == Ok(()));
+    is_kept(rt, master)?;
+    assert!(rt; shows(rt, seat, &LATER));
+    Ok(())
+}
+
 fn silent_row<L: Ledger, K: Ledger + Sync, R: Threads + Wait + Abort + Sync>(
     rt: &R,
     alloc: Global,
@@ -217,17 +247,7 @@ fn silent_row<L: Ledger, K: Ledger + Sync, R: Threads + Wait + Abort + Sync>(
     });
     let (ports, mut seat) = shown(rt, alloc, wire)?;
     let master: Master<AnyWire<Watched>, L, K> = open_master(rt, alloc, ports, clients, tickets);
-    assert!(rt; master.serve(rt, &Open, START_UP) == Ok(()));
-    assert!(rt; shows(rt, &mut seat, &INPUT));
-    let mut desk = master.desk(rt, 1)?;
-    submit_three(rt, &master, &mut desk)?;
-    assert!(rt; master.serve(rt, &Open, 7) == Ok(()));
-    assert!(rt; seat.read(rt).is_none());
-    assert!(rt; master.serve(rt, &Open, TURNS) == Ok(()));
-    is_done(rt, &master, form)?;
-    assert!(rt; master.serve(rt, &Open, 1) == Ok(()));
-    is_kept(rt, &master)?;
-    assert!(rt; shows(rt, &mut seat, &LATER));
+    through(rt, &master, &mut seat, form)?;
     assert_eq!(rt; output.load(Ordering::SeqCst), u64::from(OUTPUT[0]));
     Ok(())
 }
@@ -290,7 +310,7 @@ fn a_turn_is_made_where_nothing_is_published(rt: HostRuntime) -> Result<(), Fail
         port.turn_shown(&rt);
     }
     assert!(rt; port.image() == Some(&Image::new(&INPUT)?));
-    for _ in 0..7 + TURNS {
+    for _ in 0..SILENCE + TURNS {
         port.turn_shown(&rt);
     }
     assert!(rt; port.status().event_form);

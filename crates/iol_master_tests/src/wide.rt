@@ -36,7 +36,7 @@ struct Closing {
 impl Closing {
     fn new(alloc: Global) -> Result<Closing, Fail> {
         let mut asked = Vec::new(alloc);
-        for _ in 0..=PORTS {
+        for _ in 0..PORTS {
             asked.push(AtomicU64::new(0))?;
         }
         Ok(Closing { asked })
@@ -44,27 +44,27 @@ impl Closing {
 
     /// The turn of which a port was asked last.
     fn last_asked(&self, port: u32) -> Option<u64> {
-        let asked = self.asked.as_slice().get(port as usize)?;
+        let asked = self.asked.as_slice().get(port.checked_sub(1)? as usize)?;
         Some(asked.load(Ordering::SeqCst))
     }
 }
 
 impl Gate for Closing {
     fn pass(&self, port: u32, turn: u64) -> bool {
-        if let Some(asked) = self.asked.as_slice().get(port as usize) {
+        if let Some(asked) = self.asked.as_slice().get((port - 1) as usize) {
             asked.store(turn, Ordering::SeqCst);
         }
         turn < CLOSING.saturating_add(u64::from(port))
     }
 }
 
-/// The ports, the device of each with its number as its value.
+/// The ports, the device of each with a value of its own.
 fn many_ports(alloc: Global) -> Result<Vec<Port<Sim<Params>>>, Fail>
     ensures { IfOk result (λ v. (vec_len v ≡ 32) × All (λ p. HasGiven p 0) v.items) }
 {
-    let mut ports = Vec::with_capacity(alloc, PORTS as usize)?;
-    for number in 1..=PORTS {
-        ports.push_reserved(opened(alloc, &[0x42, number])?);
+    let mut ports = Vec::new(alloc);
+    for index in 0..PORTS {
+        ports.push(opened(alloc, &[0x42, index])?)?;
     }
     Ok(ports)
 }
@@ -92,13 +92,11 @@ fn each_was_served<W: Wire, L: Ledger, K: Ledger, R: Wait + Abort>(
     master: &Master<W, L, K>,
     gate: &Closing,
 ) -> Result<(), Fail> {
-    for number in 1..=PORTS {
-        let port = u32::from(number);
-        assert_eq!(rt;
-            gate.last_asked(port),
-            Some(CLOSING.saturating_add(u64::from(port)))
-        );
-        let wanted = answer(&[0x42, number])?;
+    for index in 0..PORTS {
+        let port = u32::from(index) + 1;
+        let last = CLOSING.saturating_add(u64::from(port));
+        assert_eq!(rt; gate.last_asked(port), Some(last));
+        let wanted = answer(&[0x42, index])?;
         assert!(rt; collected(rt, master, port, Ticket(1)) == Ok(wanted));
     }
     Ok(())
