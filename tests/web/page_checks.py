@@ -35,7 +35,8 @@ def check_examples(room):
         "[it.dataset.example, it.textContent.replace(/^\\n/, '')]))"
     )
     for name, trace in room.examples().items():
-        yield f"examples/{name} in the page", "" if kept.get(name) == trace else "it is not what `trace` prints"
+        wrong = "it is not what `trace` prints: see tests/web/examples"
+        yield f"examples/{name} in the page", "" if kept.get(name) == trace else wrong
         if trace is None:
             continue
         room.open_page(f"#example={name}")
@@ -381,7 +382,8 @@ def check_odd_lines(room):
     """Lines that the program could print and that no row has: octets of no layout, or none at all."""
     room.open_page()
     lines = ["5 > A2 00: refused 4 WrongLength", "5 <: refused 4 WrongLength", "image none", "archived 3"]
-    lines += ["6 > 20 36 9A: write page 00 od 9A", "6 < 2D: ack event 0 pd valid", "status down UnsupportedCode eventform"]
+    lines += ["6 > 20 36 9A: write page 00 od 9A", "6 < 2D: ack event 0 pd valid"]
+    lines += ["status down UnsupportedCode eventform"]
     lines += ["ticket 7", "ticket 7 noisdu", "ticket 8", "ticket 8 withdrawn", "record 0"]
     text = "\n".join(lines) + "\n"
     room.open_text(text)
