@@ -1,6 +1,7 @@
 """The checks of the page. Each gives pairs: what was checked, and what is wrong with it, or ''."""
 import os
 import re
+import time
 import xml.etree.ElementTree
 
 from counting import counted, cut_off_and_carried
@@ -34,7 +35,8 @@ def check_examples(room):
         "[it.dataset.example, it.textContent.replace(/^\\n/, '')]))"
     )
     for name, trace in room.examples().items():
-        yield f"examples/{name} in the page", "" if kept.get(name) == trace else "it is not what `trace` prints"
+        wrong = "it is not what `trace` prints: see tests/web/examples"
+        yield f"examples/{name} in the page", "" if kept.get(name) == trace else wrong
         if trace is None:
             continue
         room.open_page(f"#example={name}")
@@ -257,6 +259,10 @@ def check_find(room):
         yield name, unlike(room.window.run("document.getElementById('found').value"), said)
         if number:
             yield f"{name}: place", unlike(room.chosen(), number)
+    again = "document.getElementById('find-what').value = 'index'; document.getElementById('find-text').value = '16';"
+    for _ in range(2):
+        room.window.run(again + "document.getElementById('find').requestSubmit()")
+    yield "find again", unlike(room.window.run("document.getElementById('found').value"), "2 of 15")
 
 
 def check_paste_and_drop(room):
@@ -290,6 +296,19 @@ def check_picture_file(room):
             wrong = str(error)
         yield f"saved picture, {scheme}", wrong
         yield f"saved picture, {scheme}: colours", "it asks for `var(`" if "var(" in saved else ""
+    window = room.window
+    window.ask("Page.setDownloadBehavior", behavior="allow", downloadPath=room.folder)
+    window.run("document.getElementById('save').click()")
+    path = f"{room.folder}/example_cable_pulled.svg"
+    yield "save as SVG", "" if appears(path) and read(path) == saved else "no such file came"
+
+
+def appears(path):
+    """Waits for a file."""
+    end = time.monotonic() + 20
+    while not os.path.exists(path) and time.monotonic() < end:
+        time.sleep(0.05)
+    return os.path.exists(path)
 
 
 def check_table(room):
@@ -359,6 +378,25 @@ def check_pictures(_room):
         yield f"docs/pictures/{name}", "" if size and size < MOST_OCTETS else f"its size is {size}"
 
 
+def check_odd_lines(room):
+    """Lines that the program could print and that no row has: octets of no layout, or none at all."""
+    room.open_page()
+    lines = ["5 > A2 00: refused 4 WrongLength", "5 <: refused 4 WrongLength", "image none", "archived 3"]
+    lines += ["6 > 20 36 9A: write page 00 od 9A", "6 < 2D: ack event 0 pd valid"]
+    lines += ["status down UnsupportedCode eventform"]
+    lines += ["ticket 7", "ticket 7 noisdu", "ticket 8", "ticket 8 withdrawn", "record 0"]
+    text = "\n".join(lines) + "\n"
+    room.open_text(text)
+    yield "odd lines: fault", room.fault()
+    yield "odd lines: counts", unlike(room.counts(), counted(text))
+    room.window.run("document.getElementById('picture').focus()")
+    room.press("Home")
+    yield "odd lines: choice", unlike(room.chosen(), 5)
+    room.open_text("")
+    yield "no text", room.fault() or unlike(room.counts(), counted(""))
+    yield "no text: choice", unlike(room.chosen(), None)
+
+
 def check_silence(room):
     """The page asks for nothing but itself, and its console has no error."""
     errors, asked = room.window.complaints()
@@ -370,5 +408,5 @@ def check_silence(room):
 CHECKS = [
     check_examples, check_traces, check_broken, check_story, check_details, check_keys, check_pointer, check_touch,
     check_find, check_paste_and_drop, check_picture_file, check_table, check_rules, check_contrast, check_large,
-    check_pictures, check_silence,
+    check_odd_lines, check_pictures, check_silence,
 ]
