@@ -1,5 +1,5 @@
 -- A port whose wire a worker owns, and the turn that the worker makes.
-use Rattle.std.specs.Prelude.{◌≡◌, ◌<◌, ◌≤◌, ℕ, Bool, true, false, List, length, Option, is_some, IsTrue}
+use Rattle.std.specs.Prelude.{◌≡◌, ◌<◌, ◌≤◌, ℕ, zero, suc, Bool, true, false, List, length, Option, is_some, IsTrue}
 use Rattle.arrayvec.specs.ArrayVec.{ArrayVec}
 use Rattle.iol_far.specs.Octets.{octets_in}
 use Rattle.iol_link.specs.declared.wire.Rate.{Rate}
@@ -16,6 +16,7 @@ use Rattle.iol_port.specs.EveryWire.{RestartGives}
 use Rattle.iol_port.specs.View.{Parts}
 use Rattle.iol_port.specs.WireCalls.{AreCalls}
 use Rattle.iol_port.specs.CorePort.{CoreDoes, awaited, SendGives, SendDoes, ReceiveGives, ReceiveDoes, WakeGives, WakeDoes}
+use Rattle.iol_master.specs.Served.{GateFacts, IsLet}
 
 pub record LineState : Type 0 where
   pub parts : Parts (Unit {0})
@@ -98,6 +99,19 @@ module _ {W : Type 0} (facts : WireFacts W) where
     pub awaits : awaited again.parts ≡ awaited_of asked
     pub taken : LineState
     pub brings : Brings asked old new again taken
+
+  -- so many turns, one after another
+  abbrev pub AreLineTurns : ℕ → W → W → Type 0
+  AreLineTurns zero old new = new ≡ old
+  AreLineTurns (suc before) old new =
+      (mid : W) × AreLineTurns before old mid × IsLineTurn mid new
+
+  -- A worker's turns, that its gate let pass
+  pub record IsLineWorked {G : Type 0} (pass_gives : GateFacts G) (gate : G) (number turns : ℕ)
+      (old new : W) : Type 0 where
+    pub made : ℕ
+    pub let_in : IsLet pass_gives gate number turns made
+    pub all : AreLineTurns made old new
 
   -- the wire was called as often as turns were made, which are so many at most
   abbrev pub IsServed : ℕ → W → W → Type 0

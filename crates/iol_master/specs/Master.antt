@@ -1,5 +1,5 @@
 -- What the calls of a master answer. A master is seen as the number of its ports.
-use Rattle.std.specs.Prelude.{◌≡◌, ◌⊎◌, ℕ, ◌+◌, ◌≤◌, Result, Ok, Err}
+use Rattle.std.specs.Prelude.{◌≡◌, ◌⊎◌, ℕ, ◌+◌, ◌≤◌, Some, None, Result, Ok, Err}
 use Rattle.iol_book.specs.declared.entries.Ticket.{Ticket}
 use Rattle.iol_book.specs.declared.fault.BookFault.TheVariants.{Full, JournalFull, TicketsSpent, OutOfMemory as NoMemory}
 use Rattle.iol_port.specs.declared.fault.PortFault.{PortFault}
@@ -8,7 +8,7 @@ use Rattle.iol_master.specs.declared.fault.MasterFault.{MasterFault}
 use Rattle.iol_master.specs.declared.fault.MasterFault.TheVariants.{Port, OutOfMemory, NoSuchPort, NoThread, DesksFull}
 use Rattle.iol_master.specs.declared.accounts.Settled.{Settled}
 use Rattle.iol_master.specs.declared.accounts.Settled.TheVariants.{Part, Last}
-use Rattle.iol_master.specs.Counts.{DeskState}
+use Rattle.iol_master.specs.Counts.{DeskState, AccountState, Opens, Settles}
 
 -- ports are numbered from 1
 abbrev pub IsPort : ℕ → ℕ → Type 0
@@ -22,6 +22,15 @@ Desks ports port (Err DesksFull) = IsPort ports port
 Desks ports port (Err (Port why)) = ⊥
 Desks ports port (Err OutOfMemory) = ⊥
 Desks ports port (Err NoThread) = ⊥
+
+-- some tally, whose lock was held, at which this desk was opened, or which had none to open
+abbrev pub WasOpened : ℕ → Result DeskState MasterFault → Type 0
+WasOpened port (Ok desk) = (a : AccountState) × (b : AccountState) × Opens a port (Some desk) b
+WasOpened port (Err DesksFull) = (a : AccountState) × (b : AccountState) × Opens a port None b
+WasOpened port (Err NoSuchPort) = ⊥
+WasOpened port (Err (Port why)) = ⊥
+WasOpened port (Err OutOfMemory) = ⊥
+WasOpened port (Err NoThread) = ⊥
 
 -- why a port refuses a submit: 64 tickets are outstanding, the journal has no room,
 -- the tickets are spent, memory is lacking
@@ -43,3 +52,7 @@ Submitted ports d (Err DesksFull) d' = ⊥
 abbrev pub SettledAs : ℕ → Settled → Type 0
 SettledAs accepted (Part n) = n ≡ accepted
 SettledAs accepted (Last n total) = (n ≡ accepted) × (n ≤ total)
+
+-- some tally, whose lock was held, at which this very desk was settled
+abbrev pub WasSettled : DeskState → Settled → Type 0
+WasSettled desk told = (a : AccountState) × (b : AccountState) × Settles a desk told b

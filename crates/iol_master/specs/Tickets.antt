@@ -1,5 +1,5 @@
 -- The tickets of a port, and a submit at a desk.
-use Rattle.std.specs.Prelude.{◌≡◌, ℕ, ◌+◌, ◌^◌, ◌<◌, ◌⊎◌, Result, Ok, Err, IfErr}
+use Rattle.std.specs.Prelude.{◌≡◌, ℕ, ◌+◌, ◌^◌, ◌<◌, ◌⊎◌, List, [], ◌∷◌, length, Result, Ok, Err, IfErr}
 use Rattle.iol_isdu.specs.declared.values.Request.{Request}
 use Rattle.iol_link.specs.WireFacts.{WireFacts}
 use Rattle.iol_book.specs.declared.entries.Ticket.{Ticket}
@@ -16,11 +16,29 @@ use Rattle.iol_master.specs.declared.held.Urgency.{Urgency}
 use Rattle.iol_master.specs.declared.held.Urgency.TheVariants.{Ordinary, Urgent}
 use Rattle.iol_master.specs.declared.fault.MasterFault.{MasterFault}
 use Rattle.iol_master.specs.declared.fault.MasterFault.TheVariants.{Port as OfPort, OutOfMemory, NoSuchPort, NoThread, DesksFull}
+use Rattle.iol_master.specs.declared.accounts.Tally.{Tally}
 use Rattle.iol_master.specs.Counts.{DeskState, AccountState}
 
 -- so many tickets were given since the port was opened
 abbrev pub HasGiven : {W : Type 0} → Port W → ℕ → Type 0
 HasGiven p count = p.parts.book.state.last ≡ p.opening.limits.given + count
+
+-- these ports gave so many together
+abbrev pub HaveGiven : {W : Type 0} → List (Port W) → ℕ → Type 0
+HaveGiven [] count = count ≡ 0
+HaveGiven (p ∷ ports) count = (given : ℕ) × (others : ℕ)
+    × HasGiven p given × HaveGiven ports others × (count ≡ given + others)
+
+-- What lay under a master's locks as it was closed: its ports, and a tally, which both gave as
+-- many tickets as are told
+pub record WasClosed (W : Type 0) (count : ℕ) (tally : Tally) : Type 0 where
+  pub ports : List (Port W)
+  pub all : length ports ≡ count
+  pub given : HaveGiven ports tally.tickets
+  pub accounts : AccountState
+  pub desks : tally.desks ≡ accounts.desks
+  pub settled : tally.settled ≡ accounts.settled
+  pub total : tally.tickets ≡ accounts.total
 
 -- the port's call by which a request is entered, and the book that it leaves
 abbrev pub submit_call : Urgency → Request → Call

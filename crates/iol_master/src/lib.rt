@@ -17,6 +17,7 @@ mod held;
 mod line;
 mod master;
 mod serve;
+mod worker;
 
 pub use accounts::{Desk, Settled, Tally};
 pub use fault::MasterFault;

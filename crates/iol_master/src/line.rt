@@ -1,6 +1,6 @@
 //! A line whose clients wait for no exchange: its port lies under a lock, and a worker owns its
 //! wire.
-ghost use Rattle.std.specs.Prelude.{◌≡◌, ◌≤◌, IfOk, IfErr, IsTrue, is_some, length};
+ghost use Rattle.std.specs.Prelude.{◌≡◌, ◌≤◌, false, IfOk, IfErr, IsTrue, is_some, length};
 ghost use Rattle.std.specs.Option.{option_copied};
 ghost use Rattle.std.specs.Result.{result_map_both};
 ghost use Rattle.iol_far.specs.Octets.{octets_in};
@@ -20,7 +20,8 @@ ghost use Rattle.iol_port.specs.declared.awaited.Awaited.TheVariants as Awaited;
 ghost use Rattle.iol_port.specs.CorePort.{awaited};
 ghost use Rattle.iol_master.specs.Ledgers.{IsBlankFor};
 ghost use Rattle.iol_master.specs.Line.{RestartsOnce, Sends, TakesReply, TakesRate};
-ghost use Rattle.iol_master.specs.Line.{IsWhole, IsLineTurn, IsServed, awaited_number, awaited_of};
+ghost use Rattle.iol_master.specs.Line.{IsWhole, IsLineTurn, IsServed, IsLineWorked};
+ghost use Rattle.iol_master.specs.Line.{awaited_number, awaited_of};
 
 use crate::serve::Gate;
 use iol_app::{Asked, Status};
@@ -82,6 +83,26 @@ impl<K: Ledger, A: Allocator + Copy> Model for LinePort<K, A> {
 }
 
 impl<K: Ledger, A: Allocator + Copy> LinePort<K, A> {
+    /// This port, with no restart that waits, and all of the ledger in the worker's hand.
+    fn open(port: PortCore<A>, hands: Blank) -> (LinePort<K, A>, Share<K>)
+        requires { IsBlankFor hands K.name K.parts 1 }
+        ensures port { result.0 ≡ record { parts = port; restart_waits = false } }
+        ensures whole { IsWhole result.1.parts K.parts }
+    {
+        let (mut out, mut hand) = hands.open::<K>();
+        match port.awaits() {
+            Awaited::Nothing => {}
+            Awaited::Wake => out.add(&mut hand, WAKE),
+            Awaited::Reply => out.add(&mut hand, REPLY),
+        }
+        let port = LinePort {
+            port,
+            restart_waits: false,
+            out,
+        };
+        (port, hand)
+    }
+
     /// Enters a request and answers its ticket. The request then waits behind all that wait
     /// already; an urgent one that is submitted later goes before it.
     ///
@@ -336,17 +357,7 @@ impl<K: Ledger, A: Allocator + Copy> Line<K, A> {
         requires { IsBlankFor hands K.name K.parts 1 }
         ensures { result.1 ≡ wire }
     {
-        let (mut out, mut hand) = hands.open::<K>();
-        match port.awaits() {
-            Awaited::Nothing => {}
-            Awaited::Wake => out.add(&mut hand, WAKE),
-            Awaited::Reply => out.add(&mut hand, REPLY),
-        }
-        let port = LinePort {
-            port,
-            restart_waits: false,
-            out,
-        };
+        let (port, hand) = LinePort::open(port, hands);
         let line = Line {
             port: Mutex::new(port),
         };
@@ -356,11 +367,14 @@ impl<K: Ledger, A: Allocator + Copy> Line<K, A> {
     /// Takes the port's lock, which is let go when the guard is dropped.
     ///
     /// The worker waits while another holds it, and the device with it.
+    ///
+    /// No clause says that the guard is of this line's port. Test `a_line_makes_each_call` of crate
+    /// iol_master_tests holds it.
     pub fn lock<R: Wait>(&self, rt: &R) -> MutexGuard<'_, LinePort<K, A>> {
         self.port.lock(rt)
     }
 
-    /// The port, with the restart that waits, if any.
+    /// The port, with the restart that waits, if any. That it is this line's the same test holds.
     pub fn into_inner(self) -> LinePort<K, A> {
         self.port.into_inner()
     }
@@ -425,7 +439,9 @@ impl<W: Wire, K: Ledger> LineWorker<W, K> {
         turns: u64,
     )
         requires { (1 ≤ number) × (number ≤ 32) }
-        ensures { IsServed W.facts turns self.old self.new }
+        ensures called { IsServed W.facts turns self.old self.new }
+        ensures worked { IsLineWorked W.facts
+            G.pass_gives gate.now number turns self.old self.new }
     {
         for turn in 0..turns {
             if !gate.pass(number, turn + 1) {

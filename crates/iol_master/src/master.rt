@@ -2,8 +2,9 @@
 ghost use Rattle.std.specs.Prelude.{◌≡◌, ◌≤◌, ◌⊎◌, Err, All, vec_len, MatchResult, MatchOption};
 ghost use Rattle.iol_master.specs.declared.fault.MasterFault.TheVariants as fault;
 ghost use Rattle.iol_master.specs.declared.held.Urgency.TheVariants as urgency;
-ghost use Rattle.iol_master.specs.Tickets.{HasGiven, WasEntered};
+ghost use Rattle.iol_master.specs.Tickets.{HasGiven, WasEntered, WasClosed};
 ghost use Rattle.iol_master.specs.Master.{IsPort, Desks, Submitted, SettledAs};
+ghost use Rattle.iol_master.specs.Master.{WasOpened, WasSettled};
 ghost use Rattle.iol_master.specs.Counts.{IsClosed};
 ghost use Rattle.iol_master.specs.Ledgers.{IsBlankFor};
 
@@ -35,7 +36,8 @@ use std::sync::{Mutex, MutexGuard, Wait};
 /// No call but `open`, both submits and `serve` asks for memory.
 ///
 /// Contracts see the number of the ports. What lies under a lock no clause of a call that takes it
-/// can name, so they say what the caller holds before and after: its desk, the answer. The exact
+/// can name. So they say what the caller holds before and after, its desk and the answer, and that
+/// there was a port or a tally, whose lock was held, at which this very call was made. The exact
 /// clauses are those of the calls on a value whose lock is held: of [`Held`], and inside this crate
 /// of `Held::submit` and of the tally.
 #[derive(Drop)]
@@ -91,7 +93,8 @@ impl<W: Wire, L: Ledger, K: Ledger, A: Handle> Master<W, L, K, A> {
         })
     }
 
-    /// The lock of a port.
+    /// The lock of a port. No clause tells two locks apart, so which one it is a test holds, as at
+    /// [`Master::lock`].
     fn port(&self, port: u32) -> Option<&Mutex<Held<W, K, A>>>
         ensures { MatchOption result (¬ IsPort self.now port) (λ _. IsPort self.now port) }
     {
@@ -106,7 +109,8 @@ impl<W: Wire, L: Ledger, K: Ledger, A: Handle> Master<W, L, K, A> {
     /// Refused by 31 where there is no such port, and then by 33 where 1,024 desks are open at this
     /// master.
     pub fn desk<R: Wait>(&self, rt: &R, port: u32) -> Result<Desk<L>, MasterFault>
-        ensures { Desks self.now port result }
+        ensures desks { Desks self.now port result }
+        ensures opened { (result ≡ Err fault.NoSuchPort) ⊎ WasOpened port result }
     {
         if self.port(port).is_none() {
             return Err(MasterFault::NoSuchPort);
@@ -176,6 +180,9 @@ impl<W: Wire, L: Ledger, K: Ledger, A: Handle> Master<W, L, K, A> {
 
     /// Takes a port's lock, which is let go when the guard is dropped. Refused by 31 where there is
     /// no such port.
+    ///
+    /// No clause says of which port the guard is. Test `two_ports_are_served` of crate
+    /// iol_master_tests holds it.
     pub fn lock<R: Wait>(
         &self,
         rt: &R,
@@ -193,7 +200,8 @@ impl<W: Wire, L: Ledger, K: Ledger, A: Handle> Master<W, L, K, A> {
     /// Closes a desk, whose place another may take, and tells what it counted; of the last one open
     /// also what all desks counted.
     pub fn settle<R: Wait>(&self, rt: &R, desk: Desk<L>) -> Settled
-        ensures { SettledAs desk.accepted result }
+        ensures told { SettledAs desk.accepted result }
+        ensures settled { WasSettled desk result }
     {
         self.accounts.lock(rt).settle(desk)
     }
@@ -202,7 +210,8 @@ impl<W: Wire, L: Ledger, K: Ledger, A: Handle> Master<W, L, K, A> {
     pub fn close(self) -> Tally
     where
         W: Drop,
-        ensures { IsClosed result }
+        ensures closed { IsClosed result }
+        ensures gathered { WasClosed W self result }
     {
         let Master {
             mut ports,

@@ -1,0 +1,59 @@
+use Rattle.std.proofs.Common.{◌≡◌, ℕ, ◌+◌, List, [], ◌∷◌, refl, sym, ◌∙◌, arith}
+use Rattle.iol_port.specs.View.{Port}
+use Rattle.iol_master.specs.Tickets.{HasGiven, HaveGiven}
+use Rattle.iol_master.proofs.master.Master.close.Goals as goal
+
+plus_none : (given : ℕ) → given ≡ given + 0
+plus_none given = omega arith
+
+swapped : (one others : ℕ) → others + one ≡ one + others
+swapped one others = omega arith
+
+module _ {W : Type 0} (p : Port W) (given : ℕ) (has : HasGiven p given) where
+  first : HaveGiven (p ∷ []) given
+  first = (given, 0, has, refl, plus_none given)
+
+  also : (ports : List (Port W)) (others : ℕ) → HaveGiven ports others → HaveGiven (p ∷ ports) (others + given)
+  also ports others have = (given, others, has, have, swapped given others)
+
+pub loop-held-init : goal.loop-held-init
+loop-held-init g c =
+    let share = c.close-whole.ensures in
+    record {
+      parts = omega (arith, share.parts);
+      amount = share.amount;
+      ports = c.into_inner.result ∷ [];
+      all = sym share.parts;
+      given = first c.into_inner.result _ share.given;
+    }
+
+pub loop-held-preserved : goal.loop-held-preserved
+loop-held-preserved g c =
+    let before = c.loop-held.invariant in
+    let share = c.close-share.ensures in
+    let gathered = c.gather.ensures in
+    let steps = c.in-Some-held.ensures.steps in
+    record {
+      parts = omega (arith, before.parts, gathered.parts, share.parts, steps.1);
+      amount = omega (arith, before.amount, gathered.amount, share.amount);
+      ports = c.into_inner-in-loop-held.result ∷ before.ports;
+      all = omega (arith, before.all, gathered.parts, share.parts);
+      given = also c.into_inner-in-loop-held.result _ share.given _ _ before.given;
+    }
+
+pub returns-clause-gathered : goal.returns-clause-gathered
+returns-clause-gathered g c =
+    let loop = c.loop-held.invariant in
+    let told = c.close.ensures in
+    let steps = c.in-None.ensures.steps in
+    let iter = c.into_iter-held-iterator.ensures.into_iter_gives in
+    let pop = c.in-Some.ensures in
+    record {
+      ports = loop.ports;
+      all = omega (arith, loop.all, loop.parts, steps.0, iter.1, pop.len, c.self.view_is);
+      given = rw told.tickets.0 loop.given;
+      accounts = c.loop-held.accounts;
+      desks = told.desks;
+      settled = told.settled;
+      total = told.tickets.0 ∙ told.tickets.1;
+    }

@@ -1,0 +1,5 @@
+use Rattle.std.proofs.Common.{length}
+use Rattle.iol_master.proofs.serve.+work_all.Given as goal
+
+abbrev pub decreases-work_all : goal.decreases-work_all
+decreases-work_all g l = length l.ports.now
