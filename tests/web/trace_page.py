@@ -2,7 +2,6 @@
 import glob
 import os
 import subprocess
-import time
 
 ROOT = os.path.dirname(os.path.dirname(os.path.dirname(os.path.realpath(__file__))))
 PAGE = f"file://{ROOT}/web/trace.html"
@@ -85,12 +84,3 @@ class Room:
     def press(self, key, text=None):
         self.window.key(key, text=text)
         self.window.rest_drawn()
-
-
-class Stopwatch:
-    def __enter__(self):
-        self.begun = time.monotonic()
-        return self
-
-    def __exit__(self, *_):
-        self.seconds = time.monotonic() - self.begun
