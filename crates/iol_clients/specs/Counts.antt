@@ -1,9 +1,19 @@
 -- What is counted of a port.
-use Rattle.std.specs.Prelude.{◌≡◌, ℕ, ◌+◌, ◌==◌, if◌then◌else◌, Result, Ok, Err}
+use Rattle.std.specs.Prelude.{◌≡◌, ℕ, ◌+◌, ◌==◌, if◌then◌else◌, List, [], ◌∷◌, ⊤, Result, Ok, Err}
+use Rattle.std.specs.List.{FoldsTo}
+use Rattle.iol_link.specs.WireFacts.{WireFacts}
 use Rattle.iol_book.specs.declared.entries.Outcome.{Outcome}
 use Rattle.iol_book.specs.declared.entries.Outcome.TheVariants.{Done, Unknown, Withdrawn, NoIsdu}
+use Rattle.iol_book.specs.declared.entries.Ticket.{Ticket}
+use Rattle.iol_port.specs.declared.call.Call.TheVariants as call
 use Rattle.iol_port.specs.declared.fault.PortFault.{PortFault}
+use Rattle.iol_port.specs.EveryWire.{CollectGives}
+use Rattle.iol_port.specs.Replies.{outcome_reply}
+use Rattle.iol_port.specs.View.{Port, Does}
+use Rattle.iol_master.specs.declared.accounts.Settled.{Settled}
+use Rattle.iol_master.specs.declared.accounts.Settled.TheVariants.{Part, Last}
 use Rattle.iol_master.specs.Counts.{DeskState}
+use Rattle.iol_master.specs.Master.{WasSettled}
 use Rattle.iol_clients.specs.declared.counts.Counted.{Counted}
 
 -- each ticket stands in one of three counts
@@ -19,6 +29,70 @@ noted c (Ok Withdrawn) = record c { tickets = c.tickets + 1; waiting = c.waiting
 noted c (Ok NoIsdu) = record c { tickets = c.tickets + 1; waiting = c.waiting + 1 }
 noted c (Err why) = record c { tickets = c.tickets + 1; waiting = c.waiting + 1 }
 
+-- no ticket
+abbrev pub none : Counted
+none = record { tickets = 0; done = 0; unknown = 0; waiting = 0 }
+
 -- the accepted submits of a desk, where it stands at this port
 abbrev pub accepted_at : ℕ → DeskState → ℕ
 accepted_at port desk = if desk.port == port then desk.accepted else 0
+
+pub record ClientState : Type 0 where
+  pub desk : DeskState
+  -- those that it was given there
+  pub tickets : List Ticket
+
+abbrev pub seen : DeskState → List Ticket → ClientState
+seen desk tickets = record { desk = desk; tickets = tickets }
+
+-- a client's tickets, where its desk stands at this port
+abbrev pub tickets_at : ℕ → ClientState → List Ticket
+tickets_at port client = if client.desk.port == port then client.tickets else []
+
+-- The total, which the last desk is told
+abbrev pub told : ℕ → Settled → ℕ
+told total (Part n) = total
+told total (Last n all) = all
+
+-- a client's desk is settled
+abbrev pub Settles : ℕ → ClientState → ℕ → Type 0
+Settles total client next =
+    (answer : Settled) × WasSettled client.desk answer × (next ≡ told total answer)
+
+-- and so are all, one after another
+abbrev pub AreSettled : List ClientState → ℕ → Type 0
+AreSettled clients total = FoldsTo Settles 0 clients total
+
+module _ {W : Type 0} (facts : WireFacts W) where
+  -- the port's own collect
+  pub record Collects (p : Port W) (ticket : Ticket) (answer : Result Outcome PortFault)
+      (next : Port W) : Type 0 where
+    pub does : Does facts p.parts (call.Collect ticket) (outcome_reply answer) next.parts
+    pub gives : CollectGives p.parts ticket answer next.parts
+    pub rest : next ≡ record p { parts = next.parts }
+
+  -- a ticket is collected, and counted by what that answered: the port and the counts
+  abbrev pub Notes : Port W × Counted → Ticket → Port W × Counted → Type 0
+  Notes (p, counted) ticket (next, more) =
+      (answer : Result Outcome PortFault) × Collects p ticket answer next
+      × (more ≡ noted counted answer)
+
+  -- so are a client's tickets, in their order
+  abbrev pub Collected : ℕ → Port W × Counted → ClientState → Port W × Counted → Type 0
+  Collected port before client after = FoldsTo Notes before (tickets_at port client) after
+
+  -- some port, whose lock was held, at which this was so of each client, and of nobody else
+  abbrev pub WasCounted : ℕ → List ClientState → Counted → Type 0
+  WasCounted port clients counted = (p : Port W) × (next : Port W)
+      × FoldsTo (Collected port) (p, none) clients (next, counted)
+
+  -- the ports from the first on were counted
+  abbrev pub AreCounted : ℕ → List ClientState → List Counted → Type 0
+  AreCounted first clients [] = ⊤
+  AreCounted first clients (counted ∷ counts) =
+      WasCounted first clients counted × AreCounted (first + 1) clients counts
+
+  -- Some clients, whose tickets were all counted, and whose desks were settled with this total
+  abbrev pub AreServed : List Counted → ℕ → Type 0
+  AreServed counts total = (clients : List ClientState)
+      × AreCounted 1 clients counts × AreSettled clients total

@@ -27,7 +27,8 @@ pub(crate) struct Client<L: Ledger> {
 impl<L: Ledger> Client<L> {
     ghost use Rattle.std.specs.Result.{result_map_both};
     ghost use Rattle.iol_master.specs.Master.{Desks};
-    ghost use Rattle.iol_clients.specs.Counts.{AddsUp, accepted_at};
+    ghost use Rattle.iol_master.specs.Master.{WasSettled};
+    ghost use Rattle.iol_clients.specs.Counts.{AddsUp, accepted_at, seen, Collected};
 
     /// A client at a new desk of a port. Refused as the master refuses a desk.
     pub(crate) fn open<W: Wire, K: Ledger, R: Wait>(
@@ -94,6 +95,8 @@ impl<L: Ledger> Client<L> {
         ensures tickets { counted.new.tickets
             ≡ counted.old.tickets + accepted_at port self.now.desk }
         ensures few { accepted_at port self.now.desk ≤ 64 }
+        ensures collected { Collected W.facts port (held.old, counted.old)
+            (seen self.now.desk self.now.tickets.items) (held.new, counted.new) }
     {
         if self.desk.port() != port {
             return;
@@ -108,7 +111,9 @@ impl<L: Ledger> Client<L> {
         self,
         rt: &R,
         master: &Master<W, L, K>,
-    ) -> Settled {
+    ) -> Settled
+        ensures { WasSettled self.desk result }
+    {
         let Client { desk, tickets: _ } = self;
         master.settle(rt, desk)
     }

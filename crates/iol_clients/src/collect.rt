@@ -1,7 +1,8 @@
 //! Tickets are collected and counted, and desks settled.
-ghost use Rattle.std.specs.Prelude.{◌≡◌, ◌≤◌, All, IfOk, length, vec_len};
+ghost use Rattle.std.specs.Prelude.{◌≡◌, ◌≤◌, All, IfOk, length, map, vec_len};
 ghost use Rattle.std.specs.List.{sum_by};
 ghost use Rattle.iol_clients.specs.Counts.{AddsUp, accepted_at};
+ghost use Rattle.iol_clients.specs.Counts.{seen, WasCounted, AreCounted, AreSettled};
 
 use crate::client::Client;
 use crate::counts::Counted;
@@ -12,6 +13,9 @@ use std::sync::Wait;
 use std::sync::ledger::Ledger;
 
 /// Collects the tickets of one port's clients, and counts what is answered.
+///
+/// The clause says that this was so at some port. At which one the lock hides: row
+/// `clients/many_three_ports` of tests/rows holds it.
 fn count_port<W: Wire, L: Ledger, K: Ledger, R: Wait>(
     rt: &R,
     master: &Master<W, L, K>,
@@ -22,6 +26,8 @@ fn count_port<W: Wire, L: Ledger, K: Ledger, R: Wait>(
     requires few { length clients.now ≤ 512 }
     ensures up { AddsUp result }
     ensures tickets { result.tickets ≡ sum_by (λ client. accepted_at port client.desk) clients.now }
+    ensures counted { WasCounted W.facts port
+        (map (λ client. seen client.desk client.tickets.items) clients.now) result }
 {
     let Ok(mut held) = master.lock(rt, port) else {
         unreachable!()
@@ -45,6 +51,8 @@ pub(crate) fn count_ports<W: Wire, L: Ledger, K: Ledger, R: Wait>(
     requires few { length clients.now ≤ 512 }
     ensures count { IfOk result (λ counts. vec_len counts ≡ ports) }
     ensures up { IfOk result (λ counts. All AddsUp counts.items) }
+    ensures counted { IfOk result (λ counts. AreCounted W.facts 1
+        (map (λ client. seen client.desk client.tickets.items) clients.now) counts.items) }
 {
     let mut counts = Vec::new(alloc);
     for port in 0..ports {
@@ -58,7 +66,10 @@ pub(crate) fn settle_all<W: Wire, L: Ledger, K: Ledger, R: Wait>(
     rt: &R,
     master: &Master<W, L, K>,
     clients: Vec<Client<L>>,
-) -> u64 {
+) -> u64
+    ensures { AreSettled
+        (map (λ client. seen client.desk client.tickets.items) clients.items) result }
+{
     let mut total = 0;
     for client in clients {
         if let Settled::Last(_, all) = client.settle(rt, master) {

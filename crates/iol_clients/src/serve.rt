@@ -1,6 +1,6 @@
 //! A plan from its ports to its counts.
 ghost use Rattle.std.specs.Prelude.{◌≡◌, All, IfOk, vec_len};
-ghost use Rattle.iol_clients.specs.Counts.{AddsUp};
+ghost use Rattle.iol_clients.specs.Counts.{AddsUp, AreServed};
 ghost use Rattle.iol_master.specs.Ledgers.{IsBlankFor};
 
 use crate::collect::{count_ports, settle_all};
@@ -8,6 +8,7 @@ use crate::counts::Counts;
 use crate::fault::ClientsFault;
 use crate::ports::open_ports;
 use crate::run::{make_turns, submit_all};
+use iol_link::Wire;
 use iol_master::Master;
 use iol_script::Plan;
 use iol_sim::{Params, Sim};
@@ -34,6 +35,8 @@ pub fn serve_clients<R: Threads + Wait + Sync>(
 ) -> Result<Counts, ClientsFault>
     ensures ports { IfOk result (λ counts. vec_len counts.ports ≡ plan.now.ports) }
     ensures up { IfOk result (λ counts. All AddsUp counts.ports.items) }
+    ensures served { IfOk result (λ counts.
+        AreServed ⟦<Sim<Params> as Wire>⟧.facts counts.ports.items counts.total) }
 {
     let ports = u64::from(plan.ports);
     with_ledgers::<Brand, Brand, R>(rt, alloc, plan, Blank::new(1025), Blank::new(ports))
@@ -51,6 +54,8 @@ fn with_ledgers<L: Ledger + Sync, K: Ledger + Sync, R: Threads + Wait + Sync>(
     requires tickets { IsBlankFor tickets K.name K.parts plan.now.ports }
     ensures ports { IfOk result (λ counts. vec_len counts.ports ≡ plan.now.ports) }
     ensures up { IfOk result (λ counts. All AddsUp counts.ports.items) }
+    ensures served { IfOk result (λ counts.
+        AreServed ⟦<Sim<Params> as Wire>⟧.facts counts.ports.items counts.total) }
 {
     let ports = open_ports(alloc, plan.ports)?;
     let opened: Result<Master<Sim<Params>, L, K>, _> = Master::open(alloc, ports, clients, tickets);

@@ -1,6 +1,11 @@
-use Rattle.std.proofs.Common.{◌≡◌, All, vec_len}
-use Rattle.iol_clients.specs.Counts.{AddsUp}
+use Rattle.std.proofs.Common.{◌≡◌, All, map, length, vec_len}
+use Rattle.iol_clients.specs.Counts.{AddsUp, seen, AreCounted}
 use Rattle.iol_clients.proofs.collect.count_ports.Given as goal
 
 abbrev pub invariant-loop-port : goal.invariant-loop-port
-invariant-loop-port g l = (vec_len l.counts ≡ l.port) × All AddsUp l.counts.items
+invariant-loop-port g l = record {
+  count : vec_len l.counts ≡ l.port;
+  items : length l.counts.items ≡ l.port;
+  up : All AddsUp l.counts.items;
+  counted : AreCounted g.W.Wire.facts 1 (map (λ client. seen client.desk client.tickets.items) l.clients) l.counts.items;
+}
