@@ -23,19 +23,20 @@ static void is(long long got, long long wanted, const char *what, int line)
 /* The application: parameter 16 is read only, 24 holds one octet. */
 static void work(void)
 {
+    uint64_t number;
     iol_request asked;
-    IS(iol_device_handed(&device, &asked), 0);
+    IS(iol_device_handed(&device, &number, &asked), 0);
     if (asked.kind == 0 || lazy)
         return;
     if (asked.index == 16 && asked.kind == 1)
-        IS(iol_device_answer_read(&device, (const uint8_t *)"AB", 2), 0);
+        IS(iol_device_answer_read(&device, number, (const uint8_t *)"AB", 2), 0);
     else if (asked.index == 24 && asked.kind == 1)
-        IS(iol_device_answer_read(&device, &setting, 1), 0);
+        IS(iol_device_answer_read(&device, number, &setting, 1), 0);
     else if (asked.index == 24 && asked.length == 1) {
         setting = asked.octets[0];
-        IS(iol_device_answer_written(&device), 0);
+        IS(iol_device_answer_written(&device, number), 0);
     } else
-        IS(iol_device_answer_refused(&device, 0x80, 0x11), 0);
+        IS(iol_device_answer_refused(&device, number, 0x80, 0x11), 0);
 }
 
 static void turn(void)
@@ -140,10 +141,10 @@ static void closed_handles(void)
     IS(iol_device_hear(&nothing, &octet, 1, &reply), IOL_CLOSED);
     IS(iol_device_wake(&nothing), IOL_CLOSED);
     IS(iol_device_power_cycle(&nothing), IOL_CLOSED);
-    IS(iol_device_handed(&nothing, &request), IOL_CLOSED);
-    IS(iol_device_answer_read(&nothing, &octet, 1), IOL_CLOSED);
-    IS(iol_device_answer_written(&nothing), IOL_CLOSED);
-    IS(iol_device_answer_refused(&nothing, 0x80, 0), IOL_CLOSED);
+    IS(iol_device_handed(&nothing, &ticket, &request), IOL_CLOSED);
+    IS(iol_device_answer_read(&nothing, 1, &octet, 1), IOL_CLOSED);
+    IS(iol_device_answer_written(&nothing, 1), IOL_CLOSED);
+    IS(iol_device_answer_refused(&nothing, 1, 0x80, 0), IOL_CLOSED);
     IS(iol_device_raise(&nothing, 0xF4, 1), IOL_CLOSED);
     IS(iol_device_set_input(&nothing, &octet, 1), IOL_CLOSED);
     IS(iol_device_clear_input(&nothing), IOL_CLOSED);
