@@ -304,6 +304,38 @@ static void events(void)
     IS(iol_port_take_event(&port, &event), 30);
 }
 
+/* An answer that comes after its request was cancelled is refused, and the next request has its own. */
+static void late_answer(void)
+{
+    const uint8_t *late = (const uint8_t *)"late";
+    uint64_t ticket = 0, first = 0, second = 0;
+    iol_request asked;
+    iol_outcome outcome;
+    lazy = true;
+    IS(iol_port_read(&port, 16, 0, &ticket), 0);
+    turns(3);
+    IS(iol_device_handed(&device, &first, &asked), 0);
+    IS(asked.kind, 1);
+    IS(iol_port_cancel(&port, ticket), 0);
+    turns(2);
+    IS(iol_device_answer_read(&device, first, late, 4), 37);
+    IS(iol_port_read(&port, 16, 0, &ticket), 0);
+    turns(3);
+    IS(iol_device_handed(&device, &second, &asked), 0);
+    IS(second, first + 1);
+    IS(iol_device_answer_read(&device, first, late, 4), 37);
+    IS(iol_device_answer_refused(&device, first, 0x80, 0x11), 37);
+    IS(iol_device_answer_written(&device, second), 14);
+    lazy = false;
+    work();
+    IS(iol_device_answer_read(&device, second, late, 4), 37);
+    turns(2);
+    IS(iol_port_collect(&port, ticket, &outcome), 0);
+    IS(outcome.kind, 1);
+    IS(outcome.length, 2);
+    IS(outcome.octets[0], 'A');
+}
+
 static void process_data(void)
 {
     iol_image image;
@@ -351,6 +383,7 @@ int main(void)
     losses();
     cancelled_and_withdrawn();
     events();
+    late_answer();
     IS(iol_device_power_cycle(&device), 0);
     turns(20);
     IS(mode(), 4);
