@@ -3,10 +3,9 @@
  * A handle is a struct of yours, all zero before it is opened: `iol_device device = {0};`. It says itself whether it is
  * open, so a call of a closed handle, and a second close, are refused and do nothing.
  *
- * Every call answers the number of a refusal, 0 where there is none: 1 to 36 are the library's, and
+ * Every call answers the number of a refusal, 0 where there is none: 1 to 37 are the library's, and
  *   252  the handle is closed
  *   253  the handle is open already
- *   255  what was brought isn't what the device asks for
  * Beside each call stand its refusals, in the order in which they are tested: the first that holds is answered. Every
  * call but iol_device_open tests 252 first. What is refused changed nothing, and what a call hands out is written only
  * where it answers 0, so that what `out` points to is as it was.
@@ -71,20 +70,26 @@ uint8_t iol_device_wake(iol_device *device);
 /* The power failed and came back: asleep, with no request, no event and no process data. 252. */
 uint8_t iol_device_power_cycle(iol_device *device);
 
-/* ---- requests: look whether one is handed over, carry it out, answer it once */
+/* ---- requests: look whether one is handed over, carry it out, answer it once, by its number
+ *
+ * The master may cancel a request that is being carried out, and hand the next one over. So an answer names its request:
+ * it is refused with 37 where another one is handed over by then, or none. Drop it. The first request of a device has
+ * number 1, each further one the next; behind 2^64 - 1 comes 0. */
 
-/* The request that is handed over and has no answer yet; where there is none `kind` is 0, and the rest says nothing.
- * A read has `length` 0, a write 0 to 232. It changes nothing. 252. */
-uint8_t iol_device_handed(iol_device *device, iol_request *out);
+/* The request that is handed over and has no answer yet, and its number; where there is none `kind` is 0, `number` 0,
+ * and the rest says nothing. A read has `length` 0, a write 0 to 232. It changes nothing. 252. */
+uint8_t iol_device_handed(iol_device *device, uint64_t *number, iol_request *out);
 
-/* The read that is handed over gave these octets, 0 to 232. 252, 9 more than 232 octets, 255 no read is handed over. */
-uint8_t iol_device_answer_read(iol_device *device, const uint8_t *octets, size_t count);
+/* The read of this number gave these octets, 0 to 232. 252, 9 more than 232 octets, 37 another request is handed over, or
+ * none, 14 it is a write. */
+uint8_t iol_device_answer_read(iol_device *device, uint64_t number, const uint8_t *octets, size_t count);
 
-/* The write that is handed over is done. 252, 255 no write is handed over. */
-uint8_t iol_device_answer_written(iol_device *device);
+/* The write of this number is done. 252, 37 another request is handed over, or none, 14 it is a read. */
+uint8_t iol_device_answer_written(iol_device *device, uint64_t number);
 
-/* The request that is handed over is refused, with ErrorCode and AdditionalCode. 252, 255 none is handed over. */
-uint8_t iol_device_answer_refused(iol_device *device, uint8_t code, uint8_t additional);
+/* The request of this number is refused, with ErrorCode and AdditionalCode. 252, 37 another request is handed over, or
+ * none. */
+uint8_t iol_device_answer_refused(iol_device *device, uint64_t number, uint8_t code, uint8_t additional);
 
 /* ---- events and process data */
 

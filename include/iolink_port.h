@@ -3,7 +3,7 @@
  * A handle is a struct of yours, all zero before it is opened: `iol_port port = {0};`. It says itself whether it is
  * open, so a call of a closed handle, and a second close, are refused and do nothing.
  *
- * Every call answers the number of a refusal, 0 where there is none: 1 to 36 are the library's, and
+ * Every call answers the number of a refusal, 0 where there is none: 1 to 37 are the library's, and
  *   252  the handle is closed
  *   253  the handle is open already
  *   254  a number is out of its range

@@ -75,9 +75,10 @@ static void write_down(uint64_t ticket)
 /* The application carries out what was handed over, at once unless it is lazy. No two reads have the same answer. */
 static void work(void)
 {
+    uint64_t number;
     iol_request asked;
     struct job *job;
-    IS(iol_device_handed(&device, &asked), 0);
+    IS(iol_device_handed(&device, &number, &asked), 0);
     if (asked.kind == 0 || lazy)
         return;
     job = &jobs[asked.index == INDEX_BETWEEN];
@@ -85,12 +86,12 @@ static void work(void)
     write_down(job->ticket);
     if (asked.kind == 1) {
         job->answer = ++answers;
-        IS(iol_device_answer_read(&device, &job->answer, 1), 0);
+        IS(iol_device_answer_read(&device, number, &job->answer, 1), 0);
         return;
     }
     IS(asked.length, OCTETS);
     IS(memcmp(asked.octets, written, OCTETS), 0);
-    IS(iol_device_answer_written(&device), 0);
+    IS(iol_device_answer_written(&device, number), 0);
 }
 
 static void ask(void)

@@ -23,19 +23,20 @@ static void is(long long got, long long wanted, const char *what, int line)
 /* The application: parameter 16 is read only, 24 holds one octet. */
 static void work(void)
 {
+    uint64_t number;
     iol_request asked;
-    IS(iol_device_handed(&device, &asked), 0);
+    IS(iol_device_handed(&device, &number, &asked), 0);
     if (asked.kind == 0 || lazy)
         return;
     if (asked.index == 16 && asked.kind == 1)
-        IS(iol_device_answer_read(&device, (const uint8_t *)"AB", 2), 0);
+        IS(iol_device_answer_read(&device, number, (const uint8_t *)"AB", 2), 0);
     else if (asked.index == 24 && asked.kind == 1)
-        IS(iol_device_answer_read(&device, &setting, 1), 0);
+        IS(iol_device_answer_read(&device, number, &setting, 1), 0);
     else if (asked.index == 24 && asked.length == 1) {
         setting = asked.octets[0];
-        IS(iol_device_answer_written(&device), 0);
+        IS(iol_device_answer_written(&device, number), 0);
     } else
-        IS(iol_device_answer_refused(&device, 0x80, 0x11), 0);
+        IS(iol_device_answer_refused(&device, number, 0x80, 0x11), 0);
 }
 
 static void turn(void)
@@ -140,10 +141,10 @@ static void closed_handles(void)
     IS(iol_device_hear(&nothing, &octet, 1, &reply), IOL_CLOSED);
     IS(iol_device_wake(&nothing), IOL_CLOSED);
     IS(iol_device_power_cycle(&nothing), IOL_CLOSED);
-    IS(iol_device_handed(&nothing, &request), IOL_CLOSED);
-    IS(iol_device_answer_read(&nothing, &octet, 1), IOL_CLOSED);
-    IS(iol_device_answer_written(&nothing), IOL_CLOSED);
-    IS(iol_device_answer_refused(&nothing, 0x80, 0), IOL_CLOSED);
+    IS(iol_device_handed(&nothing, &ticket, &request), IOL_CLOSED);
+    IS(iol_device_answer_read(&nothing, 1, &octet, 1), IOL_CLOSED);
+    IS(iol_device_answer_written(&nothing, 1), IOL_CLOSED);
+    IS(iol_device_answer_refused(&nothing, 1, 0x80, 0), IOL_CLOSED);
     IS(iol_device_raise(&nothing, 0xF4, 1), IOL_CLOSED);
     IS(iol_device_set_input(&nothing, &octet, 1), IOL_CLOSED);
     IS(iol_device_clear_input(&nothing), IOL_CLOSED);
@@ -303,6 +304,38 @@ static void events(void)
     IS(iol_port_take_event(&port, &event), 30);
 }
 
+/* An answer that comes after its request was cancelled is refused, and the next request has its own. */
+static void late_answer(void)
+{
+    const uint8_t *late = (const uint8_t *)"late";
+    uint64_t ticket = 0, first = 0, second = 0;
+    iol_request asked;
+    iol_outcome outcome;
+    lazy = true;
+    IS(iol_port_read(&port, 16, 0, &ticket), 0);
+    turns(3);
+    IS(iol_device_handed(&device, &first, &asked), 0);
+    IS(asked.kind, 1);
+    IS(iol_port_cancel(&port, ticket), 0);
+    turns(2);
+    IS(iol_device_answer_read(&device, first, late, 4), 37);
+    IS(iol_port_read(&port, 16, 0, &ticket), 0);
+    turns(3);
+    IS(iol_device_handed(&device, &second, &asked), 0);
+    IS(second, first + 1);
+    IS(iol_device_answer_read(&device, first, late, 4), 37);
+    IS(iol_device_answer_refused(&device, first, 0x80, 0x11), 37);
+    IS(iol_device_answer_written(&device, second), 14);
+    lazy = false;
+    work();
+    IS(iol_device_answer_read(&device, second, late, 4), 37);
+    turns(2);
+    IS(iol_port_collect(&port, ticket, &outcome), 0);
+    IS(outcome.kind, 1);
+    IS(outcome.length, 2);
+    IS(outcome.octets[0], 'A');
+}
+
 static void process_data(void)
 {
     iol_image image;
@@ -350,6 +383,7 @@ int main(void)
     losses();
     cancelled_and_withdrawn();
     events();
+    late_answer();
     IS(iol_device_power_cycle(&device), 0);
     turns(20);
     IS(mode(), 4);

@@ -24,10 +24,11 @@ typedef struct { iol_port port; iol_device device; uint8_t value[2]; } end;
 
 static void answer(end *it)
 {
+    uint64_t number;
     iol_request asked;
-    IS(iol_device_handed(&it->device, &asked), 0);
+    IS(iol_device_handed(&it->device, &number, &asked), 0);
     if (asked.kind == 1)
-        IS(iol_device_answer_read(&it->device, it->value, 2), 0);
+        IS(iol_device_answer_read(&it->device, number, it->value, 2), 0);
 }
 
 static void turn(end *it)

@@ -43,6 +43,7 @@ static long heard(long count)
     iol_device device = {0};
     iol_reply reply;
     iol_request request;
+    uint64_t number, last = 0;
     uint8_t octets[80];
     long replies = 0;
     if (iol_device_open(&device, page) != 0)
@@ -55,9 +56,14 @@ static long heard(long count)
             iol_device_raise(&device, octets[0], next() & 0xFFFF);
         iol_device_hear(&device, octets, length, &reply);
         replies += reply.length > 0;
-        iol_device_handed(&device, &request);
-        if (request.kind)
-            iol_device_answer_refused(&device, 0x80, 0x11);
+        iol_device_handed(&device, &number, &request);
+        if (iol_device_answer_refused(&device, last, 0x80, 0x11) != 37)
+            return -1;
+        if (request.kind) {
+            if (number != last + 1 || iol_device_answer_refused(&device, number, 0x80, 0x11) != 0)
+                return -1;
+            last = number;
+        }
     }
     return iol_device_close(&device) == 0 ? replies : -1;
 }

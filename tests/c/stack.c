@@ -75,14 +75,15 @@ static const uint8_t largest[10] = {0x17, 0x0D, 0x11, 0x9F, 0x9F, 0x12, 0x34, 0,
 /* The application: parameter 16 has the longest octets, every other is refused. */
 static void work(void)
 {
+    uint64_t number;
     iol_request asked;
-    CALL(iol_device_handed, &device, &asked);
+    CALL(iol_device_handed, &device, &number, &asked);
     if (asked.kind == 1 && asked.index == 16)
-        CALL(iol_device_answer_read, &device, longest, LONGEST);
+        CALL(iol_device_answer_read, &device, number, longest, LONGEST);
     else if (asked.kind == 2 && asked.index == 16)
-        CALL(iol_device_answer_written, &device);
+        CALL(iol_device_answer_written, &device, number);
     else if (asked.kind != 0)
-        CALL(iol_device_answer_refused, &device, 0x80, 0x11);
+        CALL(iol_device_answer_refused, &device, number, 0x80, 0x11);
 }
 
 /* The reply is lost in one of so many turns, in none for 0. */

@@ -54,9 +54,11 @@ const TABLE: &str = "\
 27 TakenAlready
 28 Outstanding
 36 NotInFlight
+14 WrongAnswerKind
 16 MemoryFull
 24 OutOfMemory
 29 WrongImageLength
+37 OtherRequest
 24 OutOfMemory
 35 BadParam
 24 OutOfMemory
@@ -160,9 +162,11 @@ fn add_requests(table: &mut String) -> Result<(), AllocError> {
 /// Faults of a device, its line, a cell, a link and an output.
 fn add_ends(table: &mut String) -> Result<(), AllocError> {
     for fault in [
+        DeviceFault::WrongAnswerKind,
         DeviceFault::MemoryFull,
         DeviceFault::OutOfMemory,
         DeviceFault::WrongImageLength,
+        DeviceFault::OtherRequest,
     ] {
         add(table, fault.code(), &fault)?;
     }

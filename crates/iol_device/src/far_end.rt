@@ -69,8 +69,10 @@ impl<R: Record> FarEnd<R> {
     ghost use Rattle.iol_far.specs.Far as far;
     ghost use Rattle.iol_far.specs.Far.{layout_of, moved};
     ghost use Rattle.iol_far.specs.Isdu.{handed};
-    ghost use Rattle.iol_far.specs.Local.{local, woken, is_input, takes_answer, LocalStep};
+    ghost use Rattle.iol_far.specs.Local.{local, woken, is_input, has_room, LocalStep};
     ghost use Rattle.iol_device.specs.App.{IsCarriedOut};
+    ghost use Rattle.iol_device.specs.Number.{misfit};
+    ghost use Rattle.std.specs.Result.{result_err};
     ghost use Rattle.iol_device.specs.Inside.{new_mode};
     ghost use Rattle.iol_far.specs.Octets.{buffered};
     ghost use Rattle.iol_far.specs.Laws.{IsRegular};
@@ -366,6 +368,13 @@ impl<R: Record> FarEnd<R> {
         self.isdu.handed()
     }
 
+    /// Whether a request is handed over.
+    pub fn is_handed(&self) -> bool
+        ensures { result ≡ is_some (handed self.now.isdu) }
+    {
+        self.isdu.is_handed()
+    }
+
     /// A handed request is carried out, where the record has room.
     ///
     /// Rule DEV-15.
@@ -374,7 +383,7 @@ impl<R: Record> FarEnd<R> {
             (handed self.old.isdu) self.old app.old self.new app.new }
     {
         // Most calls find none.
-        if self.isdu.handed().is_some() {
+        if self.isdu.is_handed() {
             self.carry_out(app);
         }
     }
@@ -399,22 +408,26 @@ impl<R: Record> FarEnd<R> {
     }
 
     /// A handed request has this answer, where it fits and the record has room.
-    /// Answers whether it had.
     ///
     /// Rule DEV-15.
-    pub fn answer(&mut self, answer: Answer) -> bool
+    pub fn answer(&mut self, answer: Answer) -> Result<(), DeviceFault>
         ensures far { self.new ≡ local self.old (LocalStep.Carry answer) }
-        ensures took { result ≡ takes_answer self.old answer }
+        ensures refusal { result_err result
+            ≡ misfit (handed self.old.isdu) (has_room self.old) answer }
+        ensures unchanged { OnErr result (self.new ≡ self.old) }
     {
         let Some(request) = self.isdu.handed() else {
-            return false;
+            return Err(DeviceFault::OtherRequest);
         };
-        if !self.carried.has_room() || !is_kind_of(request, &answer) {
-            return false;
+        if !is_kind_of(request, &answer) {
+            Err(DeviceFault::WrongAnswerKind)
+        } else if !self.carried.has_room() {
+            Err(DeviceFault::OutOfMemory)
+        } else {
+            self.carried.push(request, &answer);
+            self.isdu.answer(answer);
+            Ok(())
         }
-        self.carried.push(request, &answer);
-        self.isdu.answer(answer);
-        true
     }
 
     /// An event is raised.

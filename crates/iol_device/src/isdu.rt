@@ -1,5 +1,5 @@
 //! The request under way, and the answer to it (IEC 61131-9, 7.3.6).
-ghost use Rattle.std.specs.Prelude.{◌≡◌, ◌<◌, ◌≤◌, ◌+◌, ◌++◌, ◌%◌, true, false, None, Some, List, ℕ, IsTrue, IfSome, option_copied, length};
+ghost use Rattle.std.specs.Prelude.{◌≡◌, ◌<◌, ◌≤◌, ◌+◌, ◌++◌, ◌%◌, true, false, is_some, None, Some, List, ℕ, IsTrue, IfSome, option_copied, length};
 ghost use Rattle.iol_segment.specs.Join.{is_whole};
 ghost use Rattle.iol_segment.specs.Cut.{flow_at};
 ghost use Rattle.iol_octets.specs.Flow.{IsFlow};
@@ -121,6 +121,13 @@ impl IsduSide {
             Stage::Handed(request) => Some(request),
             _ => None,
         }
+    }
+
+    /// Whether the application has a request, or will have it.
+    pub fn is_handed(&self) -> bool
+        ensures { result ≡ is_some (handed self.now.state) }
+    {
+        matches!(self.stage, Stage::Handed(_))
     }
 
     /// The request that is handed over has this answer.

@@ -6,9 +6,9 @@ use crate::events::event;
 use crate::fault::LineFault;
 use crate::pages::{page_of, print_page_fault};
 use crate::printing::{
-    print_named, print_octets, print_ok, print_pair, print_refused, print_request, yes_or_no,
+    print_named, print_octets, print_ok, print_pair, print_refused, print_request,
 };
-use crate::reading::{Bytes, answer, end, is, octets, packed, place, positive, word};
+use crate::reading::{Bytes, answer, end, is, number, octets, packed, place, positive, word};
 use iol_device::{Apart, App, Carried, Device, DeviceFault, Record, Unkept};
 use iol_event::Event;
 use iol_image::Image;
@@ -115,13 +115,13 @@ impl Devices {
         Ok(())
     }
 
-    /// The answer to the request that is handed over. Whether it was taken.
+    /// A number, and the answer to the request that is handed over under it.
     fn take_answer(&mut self, output: &mut String, words: &mut Words<'_>) -> Result<(), LineFault> {
         let Held::Apart(device) = &mut self.held else {
             return Err(LineFault::Bad);
         };
-        let took = yes_or_no(device.answer(answer(words)?));
-        writeln!(output, "took {took}")?;
+        let number = number(words, u64::MAX)?;
+        print_done(output, device.answer(number, answer(words)?))?;
         Ok(())
     }
 
@@ -233,7 +233,7 @@ fn look<P: App, R: Record>(
     name: &[u8],
 ) -> Result<bool, AllocError> {
     if is(name, b"handed") {
-        print_handed(output, device.handed())?;
+        print_handed(output, device.handed_number(), device.handed())?;
     } else if is(name, b"output") {
         print_image(output, "output", device.output())?;
     } else if is(name, b"page") {
@@ -269,11 +269,19 @@ fn print_reply(output: &mut String, reply: Option<Message>) -> Result<(), AllocE
     }
 }
 
-fn print_handed(output: &mut String, handed: Option<&Request>) -> Result<(), AllocError> {
+/// The request that is handed over, behind its number.
+fn print_handed(
+    output: &mut String,
+    number: Option<u64>,
+    handed: Option<&Request>,
+) -> Result<(), AllocError> {
     output.push_str("handed")?;
-    match handed {
-        Some(request) => print_request(output, request)?,
-        None => output.push_str(" none")?,
+    match (number, handed) {
+        (Some(number), Some(request)) => {
+            write!(output, " {number}")?;
+            print_request(output, request)?;
+        }
+        _ => output.push_str(" none")?,
     }
     output.push_str("\n")
 }

@@ -29,7 +29,7 @@
 //! device param INDEX SUB ro|rw WORD
 //! device open|apart ROOM OCTETS                      device bare OCTETS
 //! device hear OCTETS|raise QQ CCCC|input OCTETS|clear|wake|work|power
-//! device handed|answer ANSWER (where apart)|output|record|page
+//! device handed|answer N ANSWER (where apart)|output|record|page
 //! port open JOURNAL BUSY GIVEN
 //! port send|asks|awaits|receive OCTETS|silence|woken com1|com2|com3|none
 //! port submit|urgent REQUEST|collect T|withdraw T|cancel T|archive

@@ -3,6 +3,7 @@ use Rattle.std.specs.Prelude.{◌≡◌, ℕ, ◌-◌, Bool, true, false, not, �
 use Rattle.arrayvec.specs.ArrayVec.{ArrayVec}
 use Rattle.iol_octets.specs.Checksum.{with_flip}
 use Rattle.iol_device.specs.Device.{Running}
+use Rattle.iol_device.specs.Number.{with_far}
 use Rattle.iol_far.specs.Octets.{octets_in}
 use Rattle.iol_far.specs.Far.{Far, Heard, hear}
 use Rattle.iol_far.specs.Local.{woken}
@@ -113,7 +114,7 @@ pub record IsExchange {P : Type 0} (gives : Gives P) (old : Simulated P) (sent :
   pub ready_is : IsReady gives old ready
   pub new_is : new
       ≡ record (prepared old
-      (record ready { far = (exchanged (fate_now old) ready.far sent).far })) {
+      (with_far ready (exchanged (fate_now old) ready.far sent).far)) {
         silence =
             silence_by (fate_now old) old.silence (octets_in answer);
       }

@@ -64,6 +64,7 @@ impl<P: App, A: Allocator + Copy> Model for Sim<P, A> {
 impl<P: App, A: Allocator + Copy> Sim<P, A> {
     ghost use Rattle.iol_far.specs.Far.{hear};
     ghost use Rattle.iol_device.specs.App.{Follows};
+    ghost use Rattle.iol_device.specs.Number.{with_far};
     ghost use Rattle.iol_sim.specs.declared.fault.SimFault.{SimFault};
     ghost use Rattle.iol_sim.specs.declared.script.Fate.{Fate};
     ghost use Rattle.iol_sim.specs.Script.{fate_of, rest_of, auto_of, IsDone, AreDone};
@@ -223,16 +224,15 @@ impl<P: App, A: Allocator + Copy> Sim<P, A> {
     }
 
     /// The octets are sent. Answers whether a reply comes back; it is put into the buffer.
+    #[tactic(auto, using(crate::proofs::Calls::same_far))]
     fn pass(&mut self, fate: Fate, sent: &[u8], reply: &mut Message) -> bool
         ensures answer { buffered result reply.new
             ≡ (exchanged fate self.old.device.far sent.now).reply }
         ensures device { self.new
             ≡ record self.old {
               device =
-                  record self.old.device {
-                    far =
-                        (exchanged fate self.old.device.far sent.now).far;
-                  };
+                  with_far self.old.device
+                  (exchanged fate self.old.device.far sent.now).far;
             } }
         ensures octets { fate ≡ Fate.BackDamaged
             → IfSome (hear self.old.device.far sent.now).reply AreOctets }
@@ -261,10 +261,7 @@ impl<P: App, A: Allocator + Copy> Sim<P, A> {
         ensures device { self.new
             ≡ record self.old {
               device =
-                  record self.old.device {
-                    far =
-                        (hear self.old.device.far (damaged sent.now)).far;
-                  };
+                  with_far self.old.device (hear self.old.device.far (damaged sent.now)).far;
             } }
     {
         let mut message = Message::try_from(sent).unwrap();

@@ -1,14 +1,27 @@
 -- The calls of a device, as C sees them: by a handle, and with numbers in place of answers.
-use Rattle.std.specs.Prelude.{◌≡◌, ℕ, Bool, true, false, List}
+use Rattle.std.specs.Prelude.{◌≡◌, ℕ, List, Option, Some, None}
 use Rattle.iol_isdu.specs.declared.values.Answer.{Answer}
 use Rattle.iol_isdu.specs.declared.values.Answer.TheVariants.{Read}
 use Rattle.iol_far.specs.Far.{Far}
-use Rattle.iol_far.specs.Local.{LocalStep, local, takes_answer}
+use Rattle.iol_far.specs.Local.{LocalStep, local}
+use Rattle.iol_device.specs.Device.{Running}
+use Rattle.iol_device.specs.Faults.{fault_number}
+use Rattle.iol_device.specs.Number.{answer_refusal}
+use Rattle.iol_device.specs.declared.app.Apart.{Apart}
+use Rattle.iol_device.specs.declared.fault.DeviceFault.{DeviceFault}
 use Rattle.iolink_device_c.specs.declared.held.IolDevice.{IolDevice}
 
--- the far end of the line, which is the device that a handle holds
+-- the device that a handle holds
+abbrev pub device_of : IolDevice → Running Apart
+device_of handle = handle.held.value.device
+
+-- its end of the line
 abbrev pub far_of : IolDevice → Far
-far_of handle = handle.held.value.device.far
+far_of handle = (device_of handle).far
+
+-- the number of the request that was handed over last
+abbrev pub number_of : IolDevice → ℕ
+number_of handle = (device_of handle).number
 
 -- a call of a closed handle: refused, with nothing changed
 abbrev pub IsRefused : ℕ → IolDevice → IolDevice → Type 0
@@ -18,14 +31,15 @@ IsRefused result old new = (result ≡ 252) × (new ≡ old)
 abbrev pub read_of : List ℕ → Answer
 read_of octets = Read (record { items = octets })
 
--- whether an answer was taken, as a number
-abbrev pub number_of : Bool → ℕ
-number_of true = 0
-number_of false = 255
+-- an answer is brought, by what it is refused with: the step that carries the handed
+-- request out with it, or the number of the refusal, with nothing changed
+abbrev pub AnswersBy : Option DeviceFault → Answer → IolDevice → ℕ → IolDevice → Type 0
+AnswersBy None answer old result new = (result ≡ 0)
+    × (far_of new ≡ local (far_of old) (LocalStep.Carry answer))
+AnswersBy (Some fault) answer old result new = (result ≡ fault_number fault)
+    × (device_of new ≡ device_of old)
 
--- an answer is brought: the step that carries the handed request out with it, or
--- 255 where it isn't taken
-abbrev pub Answers : Answer → IolDevice → ℕ → IolDevice → Type 0
-Answers answer old result new =
-    (far_of new ≡ local (far_of old) (LocalStep.Carry answer))
-    × (result ≡ number_of (takes_answer (far_of old) answer))
+-- an answer is brought for a number
+abbrev pub Answers : ℕ → Answer → IolDevice → ℕ → IolDevice → Type 0
+Answers number answer old result new =
+    AnswersBy (answer_refusal (device_of old) number answer) answer old result new

@@ -5,7 +5,7 @@ ghost use Rattle.iol_page.specs.Fault.{fault_number};
 ghost use Rattle.iol_page.specs.Page.{layouts_of};
 ghost use Rattle.iol_far.specs.Far.{opened};
 ghost use Rattle.iol_far.specs.Local.{local, woken, LocalStep};
-ghost use Rattle.iolink_device_c.specs.Calls.{far_of, IsRefused};
+ghost use Rattle.iolink_device_c.specs.Calls.{far_of, number_of, IsRefused};
 
 use crate::held::{IolDevice, Sensor};
 use core::mem::replace_with;
@@ -29,6 +29,7 @@ pub extern "C" fn iol_device_open(alloc: Global, handle: &mut IolDevice, page: &
     ensures kept { ¬ (result ≡ 0) → handle.new ≡ handle.old }
     ensures opened { result ≡ 0 → handle.new.is_open ≡ true }
     ensures far { result ≡ 0 → far_of handle.new ≡ opened page.now None }
+    ensures number { result ≡ 0 → number_of handle.new ≡ 0 }
 {
     if handle.is_open {
         return IS_OPEN;
@@ -70,6 +71,7 @@ pub extern "C" fn iol_device_close(alloc: Global, handle: &mut IolDevice) -> u8
 pub extern "C" fn iol_device_wake(alloc: Global, handle: &mut IolDevice) -> u8
     ensures closed { IsFalse handle.old.is_open → IsRefused result handle.old handle.new }
     ensures stays { handle.new.is_open ≡ handle.old.is_open }
+    ensures number { number_of handle.new ≡ number_of handle.old }
     ensures far { IsTrue handle.old.is_open → (result ≡ 0)
         × (far_of handle.new ≡ woken (far_of handle.old)) }
 {
@@ -89,6 +91,7 @@ pub extern "C" fn iol_device_wake(alloc: Global, handle: &mut IolDevice) -> u8
 pub extern "C" fn iol_device_power_cycle(alloc: Global, handle: &mut IolDevice) -> u8
     ensures closed { IsFalse handle.old.is_open → IsRefused result handle.old handle.new }
     ensures stays { handle.new.is_open ≡ handle.old.is_open }
+    ensures number { number_of handle.new ≡ number_of handle.old }
     ensures far { IsTrue handle.old.is_open →
         (result ≡ 0) × (far_of handle.new ≡ local (far_of handle.old) LocalStep.Power) }
 {
@@ -114,6 +117,7 @@ pub extern "C" fn iol_device_raise(
 ) -> u8
     ensures closed { IsFalse handle.old.is_open → IsRefused result handle.old handle.new }
     ensures stays { handle.new.is_open ≡ handle.old.is_open }
+    ensures number { number_of handle.new ≡ number_of handle.old }
     ensures far { IsTrue handle.old.is_open → far_of handle.new ≡ local (far_of handle.old)
         (LocalStep.Raise (record { qualifier = qualifier; code = code })) }
     ensures full { IsTrue handle.old.is_open → IsTrue (is_full (far_of handle.old).events) →

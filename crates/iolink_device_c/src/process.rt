@@ -3,7 +3,7 @@ ghost use Rattle.std.specs.Prelude.{◌≡◌, length, take, unwrap_or, [], IsTr
 ghost use Rattle.iol_image.specs.Image.{IsImage};
 ghost use Rattle.iol_far.specs.Far.{output_of};
 ghost use Rattle.iol_far.specs.Local.{local, is_input, LocalStep};
-ghost use Rattle.iolink_device_c.specs.Calls.{far_of, IsRefused};
+ghost use Rattle.iolink_device_c.specs.Calls.{far_of, number_of, IsRefused};
 
 use crate::held::IolDevice;
 use core::mem::replace_with;
@@ -17,6 +17,7 @@ use std::alloc::Global;
 pub extern "C" fn iol_device_set_input(alloc: Global, handle: &mut IolDevice, octets: &[u8]) -> u8
     ensures closed { IsFalse handle.old.is_open → IsRefused result handle.old handle.new }
     ensures stays { handle.new.is_open ≡ handle.old.is_open }
+    ensures number { number_of handle.new ≡ number_of handle.old }
     ensures far { IsTrue handle.old.is_open → IsImage octets.now →
         far_of handle.new ≡ local (far_of handle.old) (LocalStep.Input octets.now) }
     ensures done { IsTrue handle.old.is_open → IsImage octets.now →
@@ -49,6 +50,7 @@ pub extern "C" fn iol_device_set_input(alloc: Global, handle: &mut IolDevice, oc
 pub extern "C" fn iol_device_clear_input(alloc: Global, handle: &mut IolDevice) -> u8
     ensures closed { IsFalse handle.old.is_open → IsRefused result handle.old handle.new }
     ensures stays { handle.new.is_open ≡ handle.old.is_open }
+    ensures number { number_of handle.new ≡ number_of handle.old }
     ensures far { IsTrue handle.old.is_open →
         (result ≡ 0) × (far_of handle.new ≡ local (far_of handle.old) LocalStep.NoInput) }
 {

@@ -7,7 +7,7 @@
 //! of what came.
 //!
 //! Each export answers the number of a refusal, or 0. The numbers are those of the
-//! library, 1 to 36, and four of its own ([`iolink_handle`]).
+//! library, 1 to 37, and four of its own ([`iolink_handle`]).
 #![tactic(auto)]
 
 mod archive;
