@@ -1,12 +1,10 @@
 -- The calls that aren't turns, over the core's own data.
-use Rattle.std.proofs.lemmas.Grind.{common_steps}
-use Rattle.std.proofs.Common.{arith, ◌≡◌, ℕ, true, false, refl, sym, subst, Option, Some, None}
+use Rattle.std.proofs.Common.{◌≡◌, ℕ, true, false, refl, sym, subst, Option, Some, None}
 use Rattle.std.specs.Prelude.{IsSome, IfSome}
 use Rattle.iol_isdu.specs.declared.values.Request.{Request}
 use Rattle.iol_isdu.specs.declared.values.Cause.{Cause}
 use Rattle.iol_isdu.specs.declared.values.Cause.TheVariants.{BusyTooLong, Cancelled}
 use Rattle.iol_image.specs.Image.{IsImage}
-use Rattle.iol_far.specs.Far.{Far}
 use Rattle.iol_mode.specs.declared.states.Operate.{Operate}
 use Rattle.iol_mode.specs.declared.states.State.{State}
 use Rattle.iol_mode.specs.declared.states.State.TheVariants.{Down as AtDown, Startup as AtStartup, Preoperate as AtPreoperate, Operate as AtOperate}
@@ -15,10 +13,10 @@ use Rattle.iol_steps.specs.Step.{Image, Deny}
 use Rattle.iol_steps.specs.Session.{MaySession, cancelling, session_through}
 use Rattle.iol_steps.specs.Kinds.{restart_steps}
 use Rattle.iol_app.specs.declared.request.Current.{Current}
-use Rattle.iol_app.specs.Requests.{aborted, request_in}
+use Rattle.iol_app.specs.Requests.{request_in}
 use Rattle.iol_app.specs.State.{SessionState, OutSuits, begun_in, aborted_in}
 use Rattle.iol_app.specs.StationState.{mode_in, StateFits as Joined}
-use Rattle.iol_app.specs.Core.{Core, Ghost, Stands, Opens, Wants, Restarts, Begins, BeginGives, Aborts, session_in, operate_core, asking_ghost, opened_core, opened_ghost, wanting_core, restarted_core, restarted_ghost}
+use Rattle.iol_app.specs.Core.{Core, Stands, Opens, Wants, Restarts, Begins, BeginGives, Aborts, session_in, operate_core, asking_ghost, opened_core, opened_ghost, wanting_core, restarted_core, restarted_ghost}
 use Rattle.iol_app.specs.Seen.{NewSteps, BeginSteps, DenySteps, AbortSteps, CancelSteps, WantSteps, RestartSteps}
 
 pub new_steps : Opens → (busy : ℕ) (new : Core) → new ≡ opened_core busy → NewSteps new

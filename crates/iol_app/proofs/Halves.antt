@@ -1,16 +1,16 @@
 -- A message goes out, and what comes back is taken up, with no call between: one call of the wire and one list of steps.
-use Rattle.std.proofs.Common.{◌≡◌, ◌∷◌, [], ◌++◌, List, ℕ, Bool, true, Option, refl, sym, ap, ◌∙◌, subst, filter}
+use Rattle.std.proofs.Common.{◌≡◌, ◌∷◌, [], ◌++◌, List, ℕ, true, Option, refl, sym, ap, ◌∙◌, subst, filter}
 use Rattle.std.specs.Prelude.{IsTrue}
 use Rattle.iol_far.specs.Far.{Far}
 use Rattle.iol_steps.specs.declared.mode.Mode.{Mode}
 use Rattle.iol_steps.specs.declared.said.Said.{Said}
-use Rattle.iol_steps.specs.Step.{Step, Make, WireCall, Moment, Terms, CallFits, is_for_book, no_make, woke_up, book_said}
+use Rattle.iol_steps.specs.Step.{Make, WireCall, Moment, CallFits, is_for_book, no_make, woke_up, book_said}
 use Rattle.iol_steps.specs.Session.{Session, MaySessionAll, session_through}
 use Rattle.iol_steps.specs.FrozenEvents.{Frozen, MayFrozenAll, frozen_through}
 use Rattle.iol_steps.specs.Images.{Images, MayImagesAll, images_after, images_through}
 use Rattle.iol_steps.specs.Turn.{ImageIsLast, OutputIsWanted}
 use Rattle.iol_app.specs.StationState.{mode_in}
-use Rattle.iol_app.specs.Core.{Core, Ghost, SendGives, CallGives, ordered, moment_of, session_in, frozen_in, images_in}
+use Rattle.iol_app.specs.Core.{Core, Ghost, SendGives, CallGives, ordered, moment_of, session_in, images_in}
 use Rattle.iol_app.proofs.Clash.{made_before}
 
 abbrev moment_by : ℕ → List ℕ → Mode → ℕ → WireCall → Moment

@@ -1,6 +1,6 @@
 -- What the messages of OPERATE are for the device.
 use Rattle.std.proofs.lemmas.Grind.{common_steps}
-use Rattle.std.proofs.Common.{◌≡◌, ℕ, Bool, true, List, refl, ap, ◌∙◌, Option, Some, None, zero, suc, ◌-◌, ◌≤◌, [], ◌∷◌, ◌++◌, length, replicate, drop, sym, arith}
+use Rattle.std.proofs.Common.{◌≡◌, ℕ, Bool, List, refl, ap, ◌∙◌, Option, Some, None, zero, suc, ◌-◌, ◌≤◌, [], ◌∷◌, ◌++◌, length, replicate, drop, sym, arith}
 use Rattle.std.specs.Prelude.{◌⊎◌}
 use Rattle.iol_octets.specs.declared.control.Channel.{Channel}
 use Rattle.iol_octets.specs.declared.control.Channel.TheVariants.{Isdu, Page}
@@ -18,7 +18,7 @@ use Rattle.iol_mseq.specs.Texts.{master_text}
 use Rattle.iol_page.specs.Commands.{command_octet}
 use Rattle.iol_page.specs.declared.master_command.MasterCommand.TheVariants.{ProcessDataOutputOperate, DeviceOperate}
 use Rattle.iol_mseq.specs.Parts.{first_of_zeros}
-use Rattle.iol_mode.specs.Messages.{command_message, stays}
+use Rattle.iol_mode.specs.Messages.{command_message}
 use Rattle.iol_steps.specs.declared.mode.Mode.TheVariants.{Operate}
 use Rattle.iol_steps.specs.Station.{confirms, output_by}
 use Rattle.iol_app.specs.Ends.{output_for}
@@ -49,12 +49,6 @@ exchange_confirms exchange reading current message e = ap is_confirm_head e ∙ 
 pub exchange_command : (exchange : Exchange) (reading : Reading) (current : Option Current) (size : ℕ) (message : MasterMsg) → head_of message.mc ≡ head_for exchange reading current
     → message.od.items ≡ data_for exchange size current → output_by Operate (command_in message) ≡ output_for exchange
 exchange_command exchange reading current size message e d = grind (arith, common_steps)
-
--- no message of OPERATE is a command that leaves it
-
-pub exchange_stays : (exchange : Exchange) (reading : Reading) (current : Option Current) (size : ℕ) (message : MasterMsg) → head_of message.mc ≡ head_for exchange reading current
-    → message.od.items ≡ data_for exchange size current → stays message ≡ true
-exchange_stays exchange reading current size message e d = grind (arith, common_steps)
 
 -- ProcessDataOutputOperate in OPERATE isn't DeviceOperate in PREOPERATE
 

@@ -1,7 +1,6 @@
 -- The two pieces of a turn, over the core's own data.
 use Rattle.std.proofs.lemmas.Grind.{common_steps}
 use Rattle.std.proofs.Common.{◌≡◌, ◌<◌, inl, inr, ℕ, Bool, true, false, List, [], ◌∷◌, refl, sym, ap, ◌∙◌, subst, lit<, Option, Some, None, arith}
-use Rattle.std.specs.Prelude.{◌⊎◌, IsTrue}
 use Rattle.iol_octets.specs.Control.{control_of}
 use Rattle.iol_mseq.specs.Shape.{startup_shape}
 use Rattle.iol_mseq.specs.Master.{HasMasterParts}
@@ -15,8 +14,8 @@ use Rattle.iol_mode.specs.declared.states.Operate.{Operate}
 use Rattle.iol_mode.specs.declared.states.State.{State}
 use Rattle.iol_mode.specs.declared.states.State.TheVariants.{Down as AtDown, Startup as AtStartup, Preoperate as AtPreoperate, Operate as AtOperate}
 use Rattle.iol_mode.specs.Messages.{page_read, unsent}
-use Rattle.iol_mode.specs.Next.{EnteredFits, message_out}
-use Rattle.iol_mode.specs.States.{Outcome, OutcomeFits, StateFits, IsDown, is_starting, state_of, waked, operate_by, counted, sending_of}
+use Rattle.iol_mode.specs.Next.{EnteredFits}
+use Rattle.iol_mode.specs.States.{Outcome, OutcomeFits, StateFits, IsDown, is_starting, state_of, waked, operate_by, counted}
 use Rattle.iol_mode.specs.Exchanges.{IsSending, AreFew, ExchangeGives, AcceptedBy, StandsOn, WakeStands, judged, text_out}
 use Rattle.iol_mode.specs.Turns.{IsRisen}
 use Rattle.iol_mode.specs.Stands.{StateStands}
@@ -32,7 +31,7 @@ use Rattle.iol_app.specs.State.{SessionState, IsSession, IsOutBy, IsMessageFor, 
 use Rattle.iol_app.specs.StationState.{StateFits as Joined, IsStill, NextFits, IsSettledSaid, settled_session, waked_session, mode_in}
 use Rattle.iol_app.specs.StationLaws.{StationLaws}
 use Rattle.iol_app.specs.Core.{Core, Ghost, Stands, CallGives, ReceiveGives, SendGives, made_ghost, IsAttempted, ordered, moment_of, images_in, after_exchange, after_wake, core_out}
-use Rattle.iol_app.specs.Pieces.{IsSent, NewOut, SendSteps, Received, WakeSteps, ReceiveSteps}
+use Rattle.iol_app.specs.Pieces.{SendSteps, Received, WakeSteps, ReceiveSteps}
 use Rattle.iol_app.proofs.Turns.{startup_next, preoperate_next, operate_next}
 use Rattle.iol_app.proofs.Settling.{settled_fits}
 

@@ -1,7 +1,7 @@
 -- An abort that waits at the busy limit changes nothing of what is seen, one that the program asks for sets the mark.
-use Rattle.std.proofs.Common.{◌≡◌, subst, ap, sym}
+use Rattle.std.proofs.Common.{subst, ap, sym}
 use Rattle.std.specs.Prelude.{IsSome}
-use Rattle.iol_app.specs.State.{SessionState, aborted_in}
+use Rattle.iol_app.specs.State.{SessionState}
 use Rattle.iol_app.specs.Core.{Core}
 use Rattle.iol_app.specs.Seen.{AbortSteps, CancelSteps}
 use Rattle.iol_app.proofs.CoreCalls.{abort_steps, cancel_steps}

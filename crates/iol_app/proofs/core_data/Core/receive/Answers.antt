@@ -1,9 +1,9 @@
 -- What comes back is taken up: over every wire, and over an honest one.
-use Rattle.std.proofs.Common.{◌≡◌, refl, sym, subst, false}
+use Rattle.std.proofs.Common.{refl, sym, subst, false}
 use Rattle.iol_far.specs.Octets.{octets_in}
 use Rattle.iol_mode.specs.Exchanges.{judged}
 use Rattle.iol_app.specs.Reports.{is_reading, ReadingAfter}
-use Rattle.iol_app.specs.Core.{Core, after_exchange}
+use Rattle.iol_app.specs.Core.{Core}
 use Rattle.iol_app.proofs.Ending.{settled_ends}
 use Rattle.iol_app.proofs.Reporting.{judged_reading}
 use Rattle.iol_app.proofs.Pieces.{receive_steps}

@@ -3,7 +3,7 @@ use Rattle.std.proofs.Common.{◌≡◌, ◌∙◌, subst, sym, ap}
 use Rattle.iol_far.specs.Octets.{octets_in}
 use Rattle.iol_mode.specs.declared.states.State.{State}
 use Rattle.iol_mode.specs.States.{Outcome, OutcomeFits, outcome_with, state_of, StateFits as ModeFits}
-use Rattle.iol_mode.specs.Exchanges.{IsSending, AreFew, ExchangeGives, judged}
+use Rattle.iol_mode.specs.Exchanges.{IsSending, ExchangeGives, judged}
 use Rattle.iol_app.specs.State.{SessionState}
 use Rattle.iol_app.specs.StationState.{StateFits, NextFits, settled_session, IsSettledSaid}
 use Rattle.iol_app.specs.Core.{Core, after_exchange}
