@@ -71,9 +71,8 @@ module _ (old new : Option Current) (progress : progress_of old ≡ progress_of 
 
   joined_same : (t : SessionState) (e : Option Exchange) (m : Option MasterMsg) → ((x : Exchange) → e ≡ Some x → SameFor old new x) → IsOutBy e (record t { current = old }) m → IsOutBy e (record t { current = new }) m
   joined_same t None None same h = h
-  joined_same t (Some x) None same h = absurd h
-  joined_same t None (Some m) same h = absurd h
   joined_same t (Some x) (Some m) same h = record { head = h.head ∙ (same x refl).head t.events.reading; octets = h.octets ∙ (same x refl).data_out (od_size t.layout) }
+  joined_same t e m same h = absurd h
 
 -- Begun
 

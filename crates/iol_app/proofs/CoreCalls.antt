@@ -7,8 +7,8 @@ use Rattle.iol_isdu.specs.declared.values.Cause.TheVariants.{BusyTooLong, Cancel
 use Rattle.iol_image.specs.Image.{IsImage}
 use Rattle.iol_mode.specs.declared.states.Operate.{Operate}
 use Rattle.iol_mode.specs.declared.states.State.{State}
-use Rattle.iol_mode.specs.declared.states.State.TheVariants.{Down as AtDown, Startup as AtStartup, Preoperate as AtPreoperate, Operate as AtOperate}
-use Rattle.iol_steps.specs.declared.mode.Mode.TheVariants.{Down as ModeDown, Startup as ModeStartup, Preoperate as ModePreoperate, Operate as ModeOperate}
+use Rattle.iol_mode.specs.declared.states.State.TheVariants.{Down as AtDown, Operate as AtOperate}
+use Rattle.iol_steps.specs.declared.mode.Mode.TheVariants.{Operate as ModeOperate}
 use Rattle.iol_steps.specs.Step.{Image, Deny}
 use Rattle.iol_steps.specs.Session.{MaySession, cancelling, session_through}
 use Rattle.iol_steps.specs.Kinds.{restart_steps}
@@ -27,21 +27,18 @@ new_steps law busy new e = λ far n told due. subst (λ (c : Core). Stands c (op
 at_free : (P : Core → Type 0) (state : State) (session : SessionState) → mode_in state ≡ ModeOperate → session.current ≡ None
     → ((s : Operate) → P (operate_core s session None)) → P (record { state = state; session = session })
 at_free P (AtOperate s) session mode free f = subst (λ (c : Option Current). P (operate_core s session c)) (sym free) (f s)
-at_free P (AtDown s) session mode free f = absurd (let k : ModeDown ≡ ModeOperate = mode in cc)
-at_free P (AtStartup s) session mode free f = absurd (let k : ModeStartup ≡ ModeOperate = mode in cc)
-at_free P (AtPreoperate s) session mode free f = absurd (let k : ModePreoperate ≡ ModeOperate = mode in cc)
+at_free P state session mode free f = absurd (let k : mode_in state ≡ ModeOperate = mode in cc)
 
 -- with a request under way, so in OPERATE
 at_request : (P : Core → Type 0) (state : State) (session : SessionState) → Joined state session → IsSome session.current
     → ((s : Operate) (current : Current) → P (operate_core s session (Some current))) → P (record { state = state; session = session })
 at_request P (AtDown s) session joined some f = absurd (let k : false ≡ true = subst IsSome joined.0 some in cc)
-at_request P (AtStartup s) session joined some f = absurd (let k : false ≡ true = subst IsSome joined.0.0 some in cc)
-at_request P (AtPreoperate s) session joined some f = absurd (let k : false ≡ true = subst IsSome joined.0.0 some in cc)
 at_request P (AtOperate s) session joined some f = by_current session.current refl some
   where
     by_current : (current : Option Current) → session.current ≡ current → IsSome current → P (operate_core s session session.current)
     by_current None e k = absurd (let n : false ≡ true = k in cc)
     by_current (Some current) e k = subst (λ (c : Option Current). P (operate_core s session c)) (sym e) (f s current)
+at_request P state session joined some f = absurd (let k : false ≡ true = subst IsSome joined.0.0 some in cc)
 
 pub deny_steps : Begins → (old : Core) → mode_in old.state ≡ ModeOperate → old.session.current ≡ None → old.session.isdu ≡ Some false → DenySteps old
 unfolding DenySteps

@@ -6,7 +6,7 @@ use Rattle.iol_mseq.specs.declared.master.MasterMsg.{MasterMsg}
 use Rattle.iol_isdu.specs.declared.values.Request.{Request}
 use Rattle.iol_event.specs.declared.event.Event.{Event}
 use Rattle.iol_event.specs.Memory.{Events, confirmed, released}
-use Rattle.iol_link.specs.Honest.{Passage, OutLost, BackLost, Clean, far_after}
+use Rattle.iol_link.specs.Honest.{Passage, OutLost, far_after}
 use Rattle.iol_far.specs.Codec.{layout_in}
 use Rattle.iol_far.specs.Far.{Far, moved, hear, heard_as, worked, output_of, events_after}
 use Rattle.iol_far.specs.Local.{LocalStep, local, locals, woken}
@@ -57,10 +57,9 @@ release_frozen f w h t = grind (arith, common_steps)
 
 confirm_frozen : (f w : List Event) (h : Bool) (t : Bool) → t ≡ true →
     let m : Events = record { frozen = f; waiting = w; held = h } in FrozenRuns f t (confirm_steps m) (confirmed m).frozen t
-confirm_frozen [] w true t told = (tt, refl)
 confirm_frozen [] w false t told = (tt, refl)
-confirm_frozen (x ∷ xs) w true t told = (tt, refl)
 confirm_frozen (x ∷ xs) w false t told = ((told, tt), refl)
+confirm_frozen f w h t told = (tt, refl)
 
 event_frozen : (m : Events) (confirms : Bool) (t : Bool) → (confirms ≡ true → t ≡ true) → FrozenRuns m.frozen t (event_steps m confirms) (events_after m confirms).frozen (told_worked m confirms t)
 event_frozen m true t told = confirm_frozen m.frozen m.waiting m.held t (told refl)
@@ -92,8 +91,7 @@ heard_frozen far o t told = by_accepted P far o (tt, refl)
 
 pub passed_frozen : (passage : Passage) (far : Far) (o : List ℕ) (t : Bool) → ConfirmsTold o far t → FrozenRuns far.events.frozen t (passed_steps passage far o) (far_after passage far o).events.frozen (told_passed passage far o t)
 passed_frozen OutLost far o t told = (tt, refl)
-passed_frozen BackLost far o t told = heard_frozen far o t told
-passed_frozen Clean far o t told = heard_frozen far o t told
+passed_frozen other far o t told = heard_frozen far o t told
 
 -- the far end's part of an exchange
 pub exchange_frozen : (request : Option Request) (far : Far) (steps : List LocalStep) (passage : Passage) (o : List ℕ) (t : Bool) → ConfirmsTold o (locals far steps) (told_through far steps t) →

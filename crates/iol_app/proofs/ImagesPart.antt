@@ -6,10 +6,10 @@ use Rattle.iol_mseq.specs.declared.master.MasterMsg.{MasterMsg}
 use Rattle.iol_isdu.specs.declared.values.Request.{Request}
 use Rattle.iol_isdu.specs.declared.values.Answer.{Answer}
 use Rattle.iol_event.specs.Memory.{Events, is_empty, freezes_at_once}
-use Rattle.iol_link.specs.Honest.{Passage, OutLost, BackLost, Clean, far_after}
+use Rattle.iol_link.specs.Honest.{Passage, OutLost, far_after}
 use Rattle.iol_far.specs.Isdu.{IsduState, fits}
 use Rattle.iol_far.specs.Far.{Far, accepted, moved, hear, heard_as, worked, output_of}
-use Rattle.iol_far.specs.Local.{LocalStep, local, locals, carried_by, is_input, woken, Carry as OwnCarry, Raise as OwnRaise, Input as OwnInput, NoInput as OwnNoInput, Power as OwnPower}
+use Rattle.iol_far.specs.Local.{LocalStep, local, locals, carried_by, is_input, woken, Carry as OwnCarry, Raise as OwnRaise, Input as OwnInput}
 use Rattle.iol_steps.specs.Step.{Step, Freeze, OutputOff, Input, Image, Moment}
 use Rattle.iol_steps.specs.Images.{Images, images_through, MayImagesAll}
 use Rattle.iol_steps.specs.Bridge.{carry_steps, own_step, own_steps, release_steps, worked_steps, heard_steps_as, heard_steps, passed_steps, exchange_steps, woken_steps, wake_steps}
@@ -47,8 +47,7 @@ own_images_step m request s far (OwnRaise e) =
 own_images_step m request s far (OwnInput image) =
     elim (is_input far image)
     as (λ b. ImagesRuns m (images_of s far) (if b then Input (Some image) ∷ [] else []) (images_of s (if b then record far { input = Some image } else far))) [ true ↦ ((tt, tt), refl) | false ↦ (tt, refl) ]
-own_images_step m request s far OwnNoInput = ((tt, tt), refl)
-own_images_step m request s far OwnPower = ((tt, tt), refl)
+own_images_step m request s far other = ((tt, tt), refl)
 
 pub own_images : (m : Moment) (request : Option Request) (s : Shown) (steps : List LocalStep) (far : Far) → ImagesRuns m (images_of s far) (own_steps request far steps) (images_of s (locals far steps))
 own_images m request s [] far = (tt, refl)
@@ -83,8 +82,7 @@ heard_images m s far o fits = by_accepted P far o (λ f. (tt, refl))
 
 pub passed_images : (m : Moment) (s : Shown) (passage : Passage) (far : Far) (o : List ℕ) → OutputsSent s.sent far o → ImagesRuns m (images_of s far) (passed_steps passage far o) (images_of s (far_after passage far o))
 passed_images m s OutLost far o fits = (tt, refl)
-passed_images m s BackLost far o fits = heard_images m s far o fits
-passed_images m s Clean far o fits = heard_images m s far o fits
+passed_images m s other far o fits = heard_images m s far o fits
 
 -- the far end's part of an exchange
 pub exchange_images : (m : Moment) (request : Option Request) (s : Shown) (far : Far) (steps : List LocalStep) (passage : Passage) (o : List ℕ) → OutputsSent s.sent (locals far steps) o →

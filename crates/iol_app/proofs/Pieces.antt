@@ -19,7 +19,7 @@ use Rattle.iol_mode.specs.States.{Outcome, OutcomeFits, StateFits, IsDown, is_st
 use Rattle.iol_mode.specs.Exchanges.{IsSending, AreFew, ExchangeGives, AcceptedBy, StandsOn, WakeStands, judged, text_out}
 use Rattle.iol_mode.specs.Turns.{IsRisen}
 use Rattle.iol_mode.specs.Stands.{StateStands}
-use Rattle.iol_steps.specs.declared.mode.Mode.TheVariants.{Down as ModeDown, Startup as ModeStartup, Preoperate as ModePreoperate, Operate as ModeOperate}
+use Rattle.iol_steps.specs.declared.mode.Mode.TheVariants.{Down as ModeDown, Operate as ModeOperate}
 use Rattle.iol_steps.specs.declared.said.Said.{Said}
 use Rattle.iol_steps.specs.declared.said.Said.TheVariants.{Idle}
 use Rattle.iol_steps.specs.Step.{Step, Make, Moment, no_make}
@@ -138,11 +138,10 @@ module _ (laws : StationLaws) (t : SessionState) (came : Option (List ℕ)) (sai
 
   state_gives : (state : State) → IsSending state → Gives state
   state_gives (AtDown s) sends stands x few fits gives says = absurd sends
-  state_gives (AtStartup s) sends stands x few fits gives says =
-      rise_gives (AtStartup s) refl (λ e. absurd (let k : ModeStartup ≡ ModeOperate = e in cc)) stands.joined.0 (startup_next s _ t stands.joined.0 stands.joined.1) stands x fits (gives far far' n n' stands.link x) says
-  state_gives (AtPreoperate s) sends stands x few fits gives says =
-      rise_gives (AtPreoperate s) refl (λ e. absurd (let k : ModePreoperate ≡ ModeOperate = e in cc)) stands.joined.0 (preoperate_next s _ t stands.joined.0 stands.joined.1) stands x fits (gives far far' n n' stands.link x) says
   state_gives (AtOperate s) sends stands x few fits gives says = operate_gives s.out s.layouts sends stands x few fits gives says
+  state_gives state sends stands x few fits gives says =
+      rise_gives state refl (λ e. absurd (let k : mode_in state ≡ ModeOperate = e in cc)) stands.joined.0
+      (judged_next state came t sends stands.joined) stands x fits (gives far far' n n' stands.link x) says
 
 pub receive_steps : StationLaws → (old : Core) (came : Option (List ℕ)) (said : Said) (new : Core) → IsSession old.session → IsSending old.state → AreFew old.state → OutcomeFits (judged old.state came) → ExchangeGives old.state came (judged old.state came)
     → IsSettledSaid (judged old.state came) old.session said → new ≡ after_exchange (judged old.state came) old.session → ReceiveSteps old came said new
@@ -180,6 +179,4 @@ wake_steps laws old answered new down stands_by e = λ g far far' n stands x.
   where
     not_up : (state : State) → IsDown state → mode_in state ≡ ModeOperate → ⊥
     not_up (AtDown s) k e = let z : ModeDown ≡ ModeOperate = e in cc
-    not_up (AtStartup s) k e = k
-    not_up (AtPreoperate s) k e = k
-    not_up (AtOperate s) k e = k
+    not_up state k e = k

@@ -150,9 +150,7 @@ progress_data_length current (Sending flow segment) e h =
     by_given : (given : ℕ) → last_given current.cutter.size (text_of current.cutter) given ≡ Some (flow, segment) → length segment.items ≡ current.cutter.size
     by_given zero e = absurd (let k : None ≡ Some (flow, segment) = e in cc)
     by_given (suc i) e = ap length (is_pair current.cutter.size (text_of current.cutter) i flow segment e).octets ∙ length-segment current.cutter.size (text_of current.cutter) i
-progress_data_length current (Asking busy) e h = refl
-progress_data_length current (Receiving joining had) e h = refl
-progress_data_length current Refused e h = refl
+progress_data_length current other e h = refl
 
 request_data_length : (size : ℕ) (current : Option Current) → IfSome current IsCurrent → IfSome current (λ c. c.cutter.size ≡ size) → IsData size (request_head current).read (request_data current)
 request_data_length size None h same = refl
