@@ -5,8 +5,8 @@ use Rattle.iol_app.proofs.core_data.Core.abort.Goals as goal
 
 pub returns-clause-steps : goal.returns-clause-steps
 returns-clause-steps c =
-    abort_steps c.args.self.now _ c.args.cause c.requires (search rules) c.calls_give.ensures.aborts
+    abort_steps c.args.self.now _ c.args.cause c.requires (search rules)
 
 pub returns-clause-cancel : goal.returns-clause-cancel
 returns-clause-cancel c =
-    cancel_steps c.args.self.now _ c.args.cause c.requires (search rules) c.calls_give.ensures.aborts
+    cancel_steps c.args.self.now _ c.args.cause c.requires (search rules)

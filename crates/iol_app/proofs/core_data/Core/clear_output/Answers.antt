@@ -5,4 +5,4 @@ use Rattle.iol_app.proofs.core_data.Core.clear_output.Goals as goal
 
 pub returns-clause-steps : goal.returns-clause-steps
 returns-clause-steps c =
-    want_steps c.calls_give.ensures.wants None c.args.self.now _ tt (search rules)
+    want_steps None c.args.self.now _ tt (search rules)

@@ -5,4 +5,4 @@ use Rattle.iol_app.proofs.core_data.Core.restart.Goals as goal
 
 pub returns-clause-steps : goal.returns-clause-steps
 returns-clause-steps c =
-    restart_steps_of c.calls_give.ensures.restarts c.args.self.now _ (search rules)
+    restart_steps_of c.args.self.now _ (search rules)
