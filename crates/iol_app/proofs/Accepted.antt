@@ -13,5 +13,5 @@ module _ (P : Option (Far × MasterMsg) → Type 0) (g : Far) (o : List ℕ) (no
   pub by_accepted : P (accepted g o)
   by_accepted = grind (arith, common_steps)
 
-  pub accepted_as : (there : Far) (m : MasterMsg) → accepted g o ≡ Some (there, m) → P (Some (there, m))
-  accepted_as there m e = subst P e by_accepted
+  pub accepted_as : (t : Far) (m : MasterMsg) → accepted g o ≡ Some (t, m) → P (Some (t, m))
+  accepted_as t m e = subst P e by_accepted

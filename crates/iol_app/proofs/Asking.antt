@@ -31,20 +31,17 @@ use Rattle.iol_app.specs.State.{SessionState, IsOutBy, OutSuits, od_size}
 use Rattle.iol_app.specs.Core.{Ghost, Stands, BeginGives, OutBy, LevelOut, operate_core, begun_ghost, asking_ghost, session_in, reading_in}
 
 begun_busy : (cutter : Cutting Request) (b : Bool) → BusyAt (sending (if b then Some (pair cutter.size (text_of cutter) cutter.given) else None)) 0
-begun_busy cutter true = refl
-begun_busy cutter false = refl
+begun_busy cutter b = grind (arith, common_steps)
 
 begun_quiet : (request : Request) (size : ℕ) (b : Bool) → let cutter : Cutting Request = record { source = request; size = size; given = 0 } in
     progress_at (record cutter { given = if b then 1 else 0 }) (sending (if b then Some (pair size (text_of cutter) 0) else None)) ≡ Quiet
-begun_quiet request size true = refl
-begun_quiet request size false = refl
+begun_quiet request size b = grind (arith, common_steps)
 
 begun_progress : (size : ℕ) (request : Request) → progress_of (Some (begun size request)) ≡ Quiet
 begun_progress size request = begun_quiet request size (nat_lt (0 * size) (length (text_of (record { source = request; size = size; given = 0 }))))
 
 pub waiting_at : (limit busy : ℕ) (asked : Bool) (cause : Cause) (abort : Option Cause) → AbortAt limit abort busy asked → MayAbort limit busy asked cause → AbortAt limit (waiting abort cause) busy asked
-waiting_at limit busy asked cause None h may = may
-waiting_at limit busy asked cause (Some first) h may = h
+waiting_at limit busy asked cause abort h may = grind (arith, common_steps)
 
 pub marked_at : (limit busy : ℕ) (asked : Bool) (abort : Option Cause) → AbortAt limit abort busy asked → AbortAt limit abort busy true
 marked_at limit busy asked abort h = grind (arith, common_steps)

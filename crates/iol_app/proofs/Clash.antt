@@ -51,7 +51,7 @@ own_all request [] far = tt
 own_all request (step ∷ steps) far = all_own-append (own_step request far step) (own_steps request (local far step) steps) (own_all_step request far step) (own_all request steps (local far step))
 
 release_own : (e : Events) → AllOwn (release_steps e)
-release_own e = elim (is_empty e.frozen && not (is_empty e.waiting)) as (λ b. AllOwn (if b then Freeze (take 6 e.waiting) ∷ [] else [])) [ true ↦ (refl, tt) | false ↦ tt ]
+release_own e = grind (arith, common_steps)
 
 -- own steps clash with a busy reply alone
 

@@ -186,7 +186,8 @@ module _ (laws : Laws) (page : List ℕ) (run : Shape) (base : List Carried) (li
   -- and as told
   there_told : (g : Far) → OutputsAt g → g.awake ≡ true → (there : Far) (m : MasterMsg) → accepted g o ≡ Some (there, m) → there.mode ≡ far_mode mode → command ≡ None → there.valid ≡ told
   there_told g h awake =
-      accepted_as (λ q. IfSome q (λ x. x.0.mode ≡ far_mode mode → command ≡ None → x.0.valid ≡ told))
+      accepted_as
+      (λ q. IfSome q (λ x. x.0.mode ≡ far_mode mode → command ≡ None → x.0.valid ≡ told))
       g o tt (λ a m e md none. h.1 awake none) (λ a c q m e. by_mode mode refl c q)
     where
       elsewhere : (c : WaitingCommand) → g.waits ≡ Some c → is_mode g.mode c.into ≡ false

@@ -1,7 +1,7 @@
 -- The frozen events: own steps, what is heard, and a wake are allowed there, and leave what the far end's memory says.
 use Rattle.std.proofs.lemmas.Grind.{common_steps}
 use Rattle.std.proofs.Common.{◌≡◌, ℕ, Bool, true, false, List, [], ◌∷◌, ◌++◌, refl, sym, ◌∙◌, ap, subst, arith}
-use Rattle.std.specs.Prelude.{Option, Some, None}
+use Rattle.std.specs.Prelude.{Option, None}
 use Rattle.iol_mseq.specs.declared.master.MasterMsg.{MasterMsg}
 use Rattle.iol_isdu.specs.declared.values.Request.{Request}
 use Rattle.iol_event.specs.declared.event.Event.{Event}
@@ -57,17 +57,13 @@ release_frozen f w h t = grind (arith, common_steps)
 
 confirm_frozen : (f w : List Event) (h : Bool) (t : Bool) → t ≡ true →
     let m : Events = record { frozen = f; waiting = w; held = h } in FrozenRuns f t (confirm_steps m) (confirmed m).frozen t
-confirm_frozen [] w false t told = (tt, refl)
-confirm_frozen (x ∷ xs) w false t told = ((told, tt), refl)
-confirm_frozen f w h t told = (tt, refl)
+confirm_frozen f w h t told = grind (arith, common_steps)
 
 event_frozen : (m : Events) (confirms : Bool) (t : Bool) → (confirms ≡ true → t ≡ true) → FrozenRuns m.frozen t (event_steps m confirms) (events_after m confirms).frozen (told_worked m confirms t)
-event_frozen m true t told = confirm_frozen m.frozen m.waiting m.held t (told refl)
-event_frozen m false t told = release_frozen m.frozen m.waiting m.held t
+event_frozen m confirms t told = grind (arith, common_steps)
 
 output_frozen : (f : List Event) (t : Bool) (output : Option Image) → FrozenRuns f t (output_steps output) f t
-output_frozen f t None = ((tt, tt), refl)
-output_frozen f t (Some image) = ((tt, tt), refl)
+output_frozen f t output = grind (arith, common_steps)
 
 worked_frozen : (there : Far) (o : List ℕ) (m : MasterMsg) (t : Bool) → (confirms_by m.mc ≡ true → t ≡ true) →
     FrozenRuns there.events.frozen t (worked_steps there o m) (worked there o m).events.frozen (told_worked there.events (confirms_by m.mc) t)

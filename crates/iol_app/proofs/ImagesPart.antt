@@ -1,11 +1,11 @@
 -- The images: own steps, what is heard, and a wake are allowed there, and leave the far end's input and output.
 use Rattle.std.proofs.lemmas.Grind.{common_steps}
-use Rattle.std.proofs.Common.{arith, ◌≡◌, ℕ, Bool, true, false, not, ◌&&◌, List, [], ◌∷◌, ◌++◌, take, refl, sym, ◌∙◌, ap, subst}
+use Rattle.std.proofs.Common.{arith, ◌≡◌, ℕ, Bool, true, false, List, [], ◌∷◌, ◌++◌, refl, sym, ◌∙◌, ap, subst}
 use Rattle.std.specs.Prelude.{Option, Some, None, if◌then◌else◌, IfSome}
 use Rattle.iol_mseq.specs.declared.master.MasterMsg.{MasterMsg}
 use Rattle.iol_isdu.specs.declared.values.Request.{Request}
 use Rattle.iol_isdu.specs.declared.values.Answer.{Answer}
-use Rattle.iol_event.specs.Memory.{Events, is_empty, freezes_at_once}
+use Rattle.iol_event.specs.Memory.{Events, freezes_at_once}
 use Rattle.iol_link.specs.Honest.{Passage, OutLost, far_after}
 use Rattle.iol_far.specs.Isdu.{IsduState, fits}
 use Rattle.iol_far.specs.Far.{Far, accepted, moved, hear, heard_as, worked, output_of}
@@ -58,7 +58,7 @@ own_images m request s (step ∷ steps) far =
 -- What is heard
 
 release_images : (m : Moment) (i : Images) (e : Events) → ImagesRuns m i (release_steps e) i
-release_images m i e = elim (is_empty e.frozen && not (is_empty e.waiting)) as (λ b. ImagesRuns m i (if b then Freeze (take 6 e.waiting) ∷ [] else []) i) [ true ↦ ((tt, tt), refl) | false ↦ (tt, refl) ]
+release_images m i e = grind (arith, common_steps)
 
 -- the output that the far end has once it worked the message is the image that the master sent
 abbrev pub OutputIsSent : Option Image → Far → List ℕ → MasterMsg → Type 0

@@ -29,7 +29,7 @@ use Rattle.iol_app.specs.declared.session.Exchange.TheVariants.{Request as NextM
 use Rattle.iol_app.specs.Requests.{text_of, ProgressFits, IsAllGiven, IsJoining, IsCurrent, sending, sent_on, one_more, IsFirst, IsUnsent}
 use Rattle.iol_app.specs.State.{od_size}
 use Rattle.iol_app.specs.Messages.{head_for, data_for, progress_head, progress_data, request_head, request_data}
-use Rattle.iol_app.specs.Moves.{written, before_last, asked_for, progress_of, progress_at, segment_move, move_at, request_move, IsMoveOf, MessagesAreMoves}
+use Rattle.iol_app.specs.Moves.{before_last, asked_for, progress_of, progress_at, segment_move, move_at, request_move, IsMoveOf, MessagesAreMoves}
 use Rattle.iol_app.proofs.Joining.{more_follow}
 use Rattle.iol_app.proofs.Cutting.{is_pair}
 use Rattle.iol_isdu.specs.declared.values.Cause.{Cause}
@@ -60,9 +60,7 @@ segment_moves size request flow piece (suc (suc i)) h e =
 
 asking_moves : (cutter : Cutting Request) (busy : ℕ) (given : ℕ) → cutter.given ≡ given → IsAllGiven cutter.size (text_of cutter) given
     → IsMove cutter.size Ask (asked_for cutter busy) Isdu true Start []
-asking_moves cutter zero zero e h = absurd h
-asking_moves cutter zero (suc i) e h = subst (λ (n : ℕ). IsMove cutter.size Ask (written cutter.source n) Isdu true Start []) (sym e) h
-asking_moves cutter (suc busy) given e h = tt
+asking_moves cutter busy given e h = grind (arith, common_steps)
 
 receiving_moves : AnswersFit → (size : ℕ) → TextLaws size → (request : Request) (joining : Joining) (had : ℕ) → IsJoining size had joining
     → IsMove size Next (Had request had joining.text) Isdu true (Count (suc had % 16)) []
@@ -105,12 +103,10 @@ messages_are_moves fit laws s layout exchange h told =
 
 sent_progress : (cutter : Cutting Request) (i : ℕ) → cutter.given ≡ suc i → (b : Bool)
     → progress_at (record cutter { given = if b then cutter.given + 1 else cutter.given }) (sending (if b then Some (pair cutter.size (text_of cutter) cutter.given) else None)) ≡ Written cutter.source i
-sent_progress cutter i e true = rw (add-one cutter.given, e) refl
-sent_progress cutter i e false = rw e refl
+sent_progress cutter i e b = grind (arith, common_steps)
 
 segment_follows : (request : Request) (i : ℕ) (od : List ℕ) → after (before_last request (suc i)) (segment_move request (suc i)) od ≡ Written request i
-segment_follows request zero od = refl
-segment_follows request (suc i) od = refl
+segment_follows request i od = grind (arith, common_steps)
 
 pub sent_follows : (cutter : Cutting Request) (abort : Option Cause) (flow : Flow) (piece : ArrayVec ℕ) (od : List ℕ) (given : ℕ) → cutter.given ≡ given
     → last_given cutter.size (text_of cutter) given ≡ Some (flow, piece)
@@ -126,15 +122,12 @@ busy_follows cutter busy = grind (arith, common_steps)
 
 pub asked_after : (cutter : Cutting Request) (busy given : ℕ) (od : List ℕ) → cutter.given ≡ given → IsAllGiven cutter.size (text_of cutter) given
     → after (asked_for cutter busy) Ask od ≡ level_asked cutter.source od
-asked_after cutter zero zero od e h = absurd h
-asked_after cutter zero (suc i) od e h = rw e refl
-asked_after cutter (suc busy) given od e h = refl
+asked_after cutter busy given od e h = grind (arith, common_steps)
 
 -- The reply to any other message
 
 idle_quiet : (cutter : Cutting Request) (p : Cursor) → IsFirst p cutter.given → progress_at cutter p ≡ Quiet
-idle_quiet cutter (Sending flow piece) h = rw h refl
-idle_quiet cutter other h = absurd h
+idle_quiet cutter p h = grind (arith, common_steps)
 
 pub unsent_quiet : (current : Option Current) → IsUnsent current → progress_of current ≡ Quiet
 unsent_quiet None h = refl

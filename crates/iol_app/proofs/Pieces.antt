@@ -1,6 +1,6 @@
 -- The two pieces of a turn, over the core's own data.
 use Rattle.std.proofs.lemmas.Grind.{common_steps}
-use Rattle.std.proofs.Common.{◌≡◌, ◌<◌, inl, inr, ℕ, Bool, true, false, List, [], ◌∷◌, refl, sym, ap, ◌∙◌, subst, lit<, Option, Some, None, arith}
+use Rattle.std.proofs.Common.{◌≡◌, ◌<◌, inl, inr, ℕ, Bool, true, false, List, [], ◌∷◌, refl, sym, ap, subst, lit<, Option, Some, None, arith}
 use Rattle.iol_octets.specs.Control.{control_of}
 use Rattle.iol_mseq.specs.Shape.{startup_shape}
 use Rattle.iol_mseq.specs.Master.{HasMasterParts}
@@ -27,7 +27,7 @@ use Rattle.iol_steps.specs.Images.{Images, MayImagesAll, images_after}
 use Rattle.iol_app.specs.declared.session.Exchange.{Exchange}
 use Rattle.iol_app.specs.Due.{due_of}
 use Rattle.iol_app.specs.Outputs.{carried_by}
-use Rattle.iol_app.specs.State.{SessionState, IsSession, IsOutBy, IsMessageFor, sending, lost_said}
+use Rattle.iol_app.specs.State.{SessionState, IsSession, IsOutBy, IsMessageFor, sending}
 use Rattle.iol_app.specs.StationState.{StateFits as Joined, IsStill, NextFits, IsSettledSaid, settled_session, waked_session, mode_in}
 use Rattle.iol_app.specs.StationLaws.{StationLaws}
 use Rattle.iol_app.specs.Core.{Core, Ghost, Stands, CallGives, ReceiveGives, SendGives, made_ghost, IsAttempted, ordered, moment_of, images_in, after_exchange, after_wake, core_out}
@@ -45,8 +45,7 @@ waked_fits false = tt
 
 -- a wake says nothing
 pub idle_said : (answered : Bool) (s : SessionState) (said : Said) → s.current ≡ None → said ≡ Idle → IsSettledSaid (waked answered) (waked_session answered s) said
-idle_said true s said free idle = idle
-idle_said false s said free idle = idle ∙ sym (ap lost_said free)
+idle_said answered s said free idle = grind (arith, common_steps)
 
 -- in a start-up nothing is said
 pub still_said : (outcome : Outcome) (s : SessionState) (said : Said) → IsStill s → IsSettledSaid outcome s said → said ≡ Idle
@@ -58,8 +57,7 @@ some_exchange None s m h = absurd h
 some_exchange (Some x) s m h = (x, refl)
 
 pub no_exchange : (e : Option Exchange) (s : SessionState) → IsOutBy e s None → e ≡ None
-no_exchange None s h = refl
-no_exchange (Some x) s h = absurd h
+no_exchange e s h = grind (arith, common_steps)
 
 -- after a turn a message that is out was sent
 operate_tried : (w : Sending) (layouts : Layouts) (reply : Option Reply) → IsAttempted (state_of (operate_by (counted w reply) layouts (attempt_of w.tries reply)))
@@ -69,8 +67,7 @@ entered_tried : (outcome : Outcome) (n : ℕ) (far : Far) → EnteredFits outcom
 entered_tried outcome n far h = grind (arith, common_steps)
 
 waked_tried : (answered : Bool) → IsAttempted (state_of (waked answered))
-waked_tried true = tt
-waked_tried false = tt
+waked_tried answered = grind (arith, common_steps)
 
 pub wanted_at : (state : State) (t : SessionState) (n : ℕ) (far : Far) → IsAttempted state → StateStands state n far → n ≡ 0 → ordered state t ≡ t.output.wanted
 wanted_at state t n far tried stands none = grind (arith, common_steps)
@@ -140,8 +137,9 @@ module _ (laws : StationLaws) (t : SessionState) (came : Option (List ℕ)) (sai
   state_gives (AtDown s) sends stands x few fits gives says = absurd sends
   state_gives (AtOperate s) sends stands x few fits gives says = operate_gives s.out s.layouts sends stands x few fits gives says
   state_gives state sends stands x few fits gives says =
-      rise_gives state refl (λ e. absurd (let k : mode_in state ≡ ModeOperate = e in cc)) stands.joined.0
-      (judged_next state came t sends stands.joined) stands x fits (gives far far' n n' stands.link x) says
+      rise_gives state refl (λ e. absurd (let k : mode_in state ≡ ModeOperate = e in cc))
+      stands.joined.0 (judged_next state came t sends stands.joined) stands x fits
+      (gives far far' n n' stands.link x) says
 
 pub receive_steps : StationLaws → (old : Core) (came : Option (List ℕ)) (said : Said) (new : Core) → IsSession old.session → IsSending old.state → AreFew old.state → OutcomeFits (judged old.state came) → ExchangeGives old.state came (judged old.state came)
     → IsSettledSaid (judged old.state came) old.session said → new ≡ after_exchange (judged old.state came) old.session → ReceiveSteps old came said new

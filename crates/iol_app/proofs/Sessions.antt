@@ -28,7 +28,7 @@ use Rattle.iol_app.specs.declared.session.Exchange.TheVariants.{TellOutput, Drop
 use Rattle.iol_steps.specs.declared.said.Said.{Said}
 use Rattle.iol_steps.specs.declared.said.Said.TheVariants.{Cut}
 use Rattle.iol_app.specs.Outputs.{output_after, carried_by, IsOutput}
-use Rattle.iol_app.specs.Requests.{text_of, Outcome, GoesOn, HasText, asked, replied_at, replied, going, current_after, request_in, request_after, IsOutcomeSaid, IsSaid, Suits, ProgressFits, IsCurrent}
+use Rattle.iol_app.specs.Requests.{text_of, Outcome, asked, replied_at, replied, going, current_after, request_in, request_after, IsOutcomeSaid, IsSaid, Suits, ProgressFits, IsCurrent}
 use Rattle.iol_app.specs.State.{SessionState, IsSession, od_size, output_length, absorbed}
 use Rattle.iol_app.specs.Messages.{head_of, head_for, data_for, progress_head, progress_data, request_head, request_data}
 use Rattle.iol_app.proofs.Cutting.{length-segment, is_pair, given_goes_on, sent_on_fits}
@@ -78,17 +78,14 @@ abbrev pub StaysGoing : ℕ → Option Current → Type 0
 StaysGoing size current = IfSome current IsCurrent × IfSome current (λ c. c.cutter.size ≡ size)
 
 going_stays : (cutter : Cutting Request) (outcome : Outcome) → StaysCurrent cutter outcome → StaysGoing cutter.size (going outcome)
-going_stays cutter (GoesOn current) h = (h.0, h.1)
-going_stays cutter (HasText text) h = (tt, tt)
+going_stays cutter outcome h = grind (arith, common_steps)
 
 going_request : (cutter : Cutting Request) (read : Bool) (outcome : Outcome) (said : Said) → StaysCurrent cutter outcome → IsOutcomeSaid read outcome said
     → request_in (going outcome) ≡ request_after (Some cutter.source) said
-going_request cutter read (GoesOn current) said stays h = ap Some stays.2 ∙ ap (request_after (Some cutter.source)) (sym h)
-going_request cutter read (HasText text) said stays h = ap (request_after (Some cutter.source)) (sym h.found.2)
+going_request cutter read outcome said stays h = grind (arith, common_steps)
 
 aborted_request : (request : Request) (abort : Option Cause) (said : Said) → IsTrue (is_some abort) → IfSome abort (λ cause. said ≡ Cut cause) → None ≡ request_after (Some request) said
-aborted_request request None said suits h = absurd (let k : false ≡ true = suits in cc)
-aborted_request request (Some cause) said suits h = ap (request_after (Some request)) (sym h)
+aborted_request request abort said suits h = grind (arith, common_steps)
 
 module _ (layout : Option Shape) (reading : Reading) (limit : ℕ) (od : List ℕ) where
   abbrev Fits : Exchange → Option Current → Type 0
@@ -132,8 +129,7 @@ absorbed_stays s exchange reply h fits =
 -- A new message has the parts of the layout
 
 carried_length : (size : ℕ) (wanted : Option (List ℕ)) (carried : List ℕ) → length carried ≡ size → IfSome wanted (λ image. length image ≡ size) → length (unwrap_or wanted carried) ≡ size
-carried_length size None carried e h = e
-carried_length size (Some image) carried e h = h
+carried_length size wanted carried e h = grind (arith, common_steps)
 
 length-first_of_zeros : (size octet : ℕ) → 1 ≤ size → length (first_of_zeros size octet) ≡ size
 length-first_of_zeros size octet some = grind (arith, common_steps)

@@ -99,16 +99,14 @@ none_rests : (awake : Bool) → false ≡ (awake && false)
 none_rests awake = grind (arith, common_steps)
 
 no_command : (mode : Mode) (command : Option MasterCommand) → mode ≢ ModeOperate → output_by mode command ≡ None
-no_command ModeOperate command below = absurd (below refl)
-no_command mode command below = refl
+no_command mode command below = grind (arith, common_steps)
 
 below : (start : Start) → mode_at start ≢ ModeOperate
 below (InStart s) e = absurd (let z : ModeStartup ≡ ModeOperate = e in cc)
 below (InPre s) e = absurd (let z : ModePreoperate ≡ ModeOperate = e in cc)
 
 waits_quiet : (waits : Option WaitingCommand) → IfSome waits (λ command. Quiet ≡ Quiet)
-waits_quiet None = tt
-waits_quiet (Some command) = refl
+waits_quiet waits = grind (arith, common_steps)
 
 -- Its message, and the level of both ends
 
@@ -243,8 +241,8 @@ module _ (laws : Laws) (heard : TextsAreHeard) (start : Start) (session : Sessio
     quiet : CalmAt state n'
 
   -- steps that clash with none of the far end's, and of which nothing is said
-  abbrev IsSilent : List Step → Type 0
-  IsSilent ys = (no_busy ys ≡ true) × (no_confirm ys ≡ true) × IsTrue (is_clash_free ys)
+  abbrev IsPlain : List Step → Type 0
+  IsPlain ys = (no_busy ys ≡ true) × (no_confirm ys ≡ true) × IsTrue (is_clash_free ys)
       × (filter is_for_book ys ≡ []) × (filter is_report ys ≡ [])
 
   -- what an outcome has to bring
@@ -253,7 +251,7 @@ module _ (laws : Laws) (heard : TextsAreHeard) (start : Start) (session : Sessio
     session_runs : SessionRuns (moment_of c g n (Exchanged answered)) (seen_in c g) h passed.carried ys (seen_in next after) h passed.carried
     frozen : FrozenRuns passed.events.frozen false ys passed.events.frozen false
     images : ImagesRuns (moment_of c g n (Exchanged answered)) (images_of (shown_in (still session) g.sent) passed) ys (images_of (shown_in next.session g.sent) passed)
-    silent : IsSilent ys
+    plain : IsPlain ys
     left : Left next.state next.session
     sent : SentSeen next.session.layout next.session.output.carried.items g.sent
     image : next.session.image ≡ None
@@ -272,7 +270,7 @@ module _ (laws : Laws) (heard : TextsAreHeard) (start : Start) (session : Sessio
   gives answered silence outcome u same ys b risen fits joined =
       let next : Core = record { state = state_of outcome; session = u } in
       let m = moment_of c g n (Exchanged answered) in
-      let before = exchange_before None far x.steps x.passage o ys b.silent.0 b.silent.1 b.silent.2 in
+      let before = exchange_before None far x.steps x.passage o ys b.plain.0 b.plain.1 b.plain.2 in
       let i' = images_of (shown_in (still session) g.sent) passed in
       subst (λ (v : SessionState). CallGives c g far n Idle (record { state = state_of outcome; session = v }) far' n') (sym same) (subst (λ (f : Far). CallGives c g far n Idle next f n') (sym x.far_is) (record {
         call = Exchanged answered;
@@ -283,8 +281,8 @@ module _ (laws : Laws) (heard : TextsAreHeard) (start : Start) (session : Sessio
         terms = (b.limit, refl);
         clash_free = before.free;
         fresh = λ e. absurd (rests.fresh e);
-        said_book = before.book ∙ b.silent.3 ∙ rw (not_woken start (mode_in next.state)) refl;
-        said_reports = before.reports ∙ b.silent.4;
+        said_book = before.book ∙ b.plain.3 ∙ rw (not_woken start (mode_in next.state)) refl;
+        said_reports = before.reports ∙ b.plain.4;
         session = session_runs-append m (seen_in c g) (seen_in c g) (seen_in next after) g.request.hidden h h far.carried passed.carried passed.carried xs ys
             (exchange_session m (seen_in c g) g.request.hidden far x.steps x.passage o rests.opens) b.session_runs;
         frozen = subst (λ (t : Bool). FrozenRuns far.events.frozen t (xs ++ ys) passed.events.frozen false) (sym rests.untold)
@@ -315,7 +313,8 @@ module _ (laws : Laws) (heard : TextsAreHeard) (start : Start) (session : Sessio
   kept (InStart s) = record { request = (tied.0, opens); events = (refl, refl); output = off; quiet = tt }
   kept (InPre s) = record { request = (tied.0, opens); events = (refl, refl); output = off; quiet = tt }
 
-  abbrev shown' : (state : State) (event : Bool) → ShownStands (record { state = state; session = entered event (still session) }) g.page
+  abbrev shown' : (state : State) (event : Bool)
+      → ShownStands (record { state = state; session = entered event (still session) }) g.page
   shown' state event = record { image = λ e. refl; wanted = stands.shown.wanted; lengths = stands.shown.lengths; isdu = stands.shown.isdu; no_form = refl }
 
   -- a start-up goes on in its mode
@@ -325,7 +324,7 @@ module _ (laws : Laws) (heard : TextsAreHeard) (start : Start) (session : Sessio
     session_runs = (tt, ap (λ (e : Seen). session_of e h passed.carried) (sym same));
     frozen = (tt, refl);
     images = (tt, refl);
-    silent = (refl, refl, refl, refl, refl);
+    plain = (refl, refl, refl, refl, refl);
     left = kept next;
     sent = stands.sent;
     image = refl;
@@ -334,7 +333,8 @@ module _ (laws : Laws) (heard : TextsAreHeard) (start : Start) (session : Sessio
 
   -- its mode alone moves; what is told of events may change
   moves : (answered event : Bool) (state : State)
-      → MayMove (moment_of c g n (Exchanged answered)) (mode_at start) (mode_in state) (why_in state)
+      → MayMove (moment_of c g n (Exchanged answered)) (mode_at start) (mode_in state)
+      (why_in state)
       → Left state (entered event (still session))
       → Ends answered (record { state = state; session = entered event (still session) })
       (MoveTo (mode_in state) (why_in state) ∷ [])
@@ -343,7 +343,7 @@ module _ (laws : Laws) (heard : TextsAreHeard) (start : Start) (session : Sessio
     session_runs = ((may, tt), refl);
     frozen = ((tt, tt), refl);
     images = ((tt, tt), refl);
-    silent = (refl, refl, refl, refl, refl);
+    plain = (refl, refl, refl, refl, refl);
     left = left;
     sent = stands.sent;
     image = refl;
@@ -375,7 +375,7 @@ module _ (laws : Laws) (heard : TextsAreHeard) (start : Start) (session : Sessio
         session_runs = ((tt, tt), ap (λ (e : Seen). session_of e h passed.carried) (sym same));
         frozen = ((tt, tt), refl);
         images = ((first, tt), λ i. let y : Images = images_of (record (shown_in (still session) g.sent) { wanted = w.wanted i; told = w.told i; isdu = w.isdu i }) passed in y);
-        silent = (refl, refl, refl, refl, refl);
+        plain = (refl, refl, refl, refl, refl);
         left = record {
           request = q.request;
           events = q.events;

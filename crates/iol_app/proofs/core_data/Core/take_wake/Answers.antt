@@ -1,1 +1,0 @@
--- What a wake brought is taken up.
