@@ -22,7 +22,6 @@ use Rattle.iol_steps.specs.Exchange.{MayAbort}
 use Rattle.iol_app.specs.declared.event_work.Reading as app
 use Rattle.iol_app.specs.declared.request.Current.{Current}
 use Rattle.iol_app.specs.declared.session.Exchange.{Exchange}
-use Rattle.iol_app.specs.declared.session.Exchange.TheVariants.{Request as NextMessage}
 use Rattle.iol_app.specs.Messages.{head_for, data_for}
 use Rattle.iol_app.specs.Requests.{text_of, sending, begun, aborted, waiting, Suits}
 use Rattle.iol_app.specs.Moves.{progress_at, progress_of, move_for}
@@ -53,12 +52,10 @@ pub record SameFor (old new : Option Current) (e : Exchange) : Type 0 where
   pub data_out : (size : ℕ) → data_for e size old ≡ data_for e size new
 
 begun_same : (e : Exchange) (current : Current) → Suits e None → SameFor None (Some current) e
-begun_same NextMessage current suits = absurd (let k : false ≡ true = suits in cc)
-begun_same other current suits = record { move = refl; head = λ r. refl; data_out = λ size. refl }
+begun_same e current suits = grind (arith, common_steps)
 
 aborted_same : (cause : Cause) (current : Current) (e : Exchange) → SameFor (Some current) (Some (aborted cause current)) e
-aborted_same cause current NextMessage = record { move = refl; head = λ r. refl; data_out = λ size. refl }
-aborted_same cause current other = record { move = refl; head = λ r. refl; data_out = λ size. refl }
+aborted_same cause current e = grind (arith, common_steps)
 
 -- so that the message out stays the session's, and both ends level
 module _ (old new : Option Current) (progress : progress_of old ≡ progress_of new) where

@@ -5,7 +5,7 @@ use Rattle.std.specs.Prelude.{Option, None}
 use Rattle.iol_mseq.specs.declared.master.MasterMsg.{MasterMsg}
 use Rattle.iol_isdu.specs.declared.values.Request.{Request}
 use Rattle.iol_event.specs.declared.event.Event.{Event}
-use Rattle.iol_event.specs.Memory.{Events, confirmed, released}
+use Rattle.iol_event.specs.Memory.{Events, released}
 use Rattle.iol_link.specs.Honest.{Passage, OutLost, far_after}
 use Rattle.iol_far.specs.Codec.{layout_in}
 use Rattle.iol_far.specs.Far.{Far, moved, hear, heard_as, worked, output_of, events_after}
@@ -13,7 +13,7 @@ use Rattle.iol_far.specs.Local.{LocalStep, local, locals, woken}
 use Rattle.iol_far.specs.Laws.{confirms as octets_confirm}
 use Rattle.iol_steps.specs.Step.{Step, OutputOff, Image}
 use Rattle.iol_steps.specs.FrozenEvents.{Frozen, frozen_through, MayFrozenAll}
-use Rattle.iol_steps.specs.Bridge.{own_step, own_steps, told_after, told_through, confirm_steps, release_steps, event_steps, output_steps, confirms_by, worked_steps, heard_steps_as, heard_steps, told_released, told_worked, told_heard_as, told_heard, passed_steps, told_passed, exchange_steps, told_exchanged, woken_steps, told_woken, wake_steps, told_wake}
+use Rattle.iol_steps.specs.Bridge.{own_step, own_steps, told_after, told_through, release_steps, event_steps, output_steps, confirms_by, worked_steps, heard_steps_as, heard_steps, told_released, told_worked, told_heard_as, told_heard, passed_steps, told_passed, exchange_steps, told_exchanged, woken_steps, told_woken, wake_steps, told_wake}
 use Rattle.iol_steps.specs.Station.{frozen_of}
 use Rattle.iol_app.proofs.Accepted.{by_accepted}
 use Rattle.iol_app.proofs.FirstOctet.{confirms_of}
@@ -54,10 +54,6 @@ own_frozen request (step ∷ steps) far t =
 release_frozen : (f w : List Event) (h : Bool) (t : Bool) →
     let m : Events = record { frozen = f; waiting = w; held = h } in FrozenRuns f t (release_steps m) (released m).frozen (told_released m t)
 release_frozen f w h t = grind (arith, common_steps)
-
-confirm_frozen : (f w : List Event) (h : Bool) (t : Bool) → t ≡ true →
-    let m : Events = record { frozen = f; waiting = w; held = h } in FrozenRuns f t (confirm_steps m) (confirmed m).frozen t
-confirm_frozen f w h t told = grind (arith, common_steps)
 
 event_frozen : (m : Events) (confirms : Bool) (t : Bool) → (confirms ≡ true → t ≡ true) → FrozenRuns m.frozen t (event_steps m confirms) (events_after m confirms).frozen (told_worked m confirms t)
 event_frozen m confirms t told = grind (arith, common_steps)

@@ -1,9 +1,8 @@
 -- The segments of an answer, one after the other.
 use Rattle.std.proofs.lemmas.Grind.{common_steps}
-use Rattle.std.proofs.Common.{◌≡◌, ℕ, zero, suc, ◌*◌, ◌%◌, ◌<◌, false, List, [], ◌∷◌, ◌++◌, length, refl, arith, Ok, Err, ◌+◌, Option, Some, None}
+use Rattle.std.proofs.Common.{◌≡◌, ℕ, zero, suc, ◌*◌, ◌%◌, ◌<◌, false, List, ◌++◌, length, refl, arith, ◌+◌, Option, Some}
 use Rattle.std.proofs.lemmas.List.{length-append}
 use Rattle.iol_isdu.specs.declared.fault.IsduFault.{IsduFault}
-use Rattle.iol_isdu.specs.declared.fault.IsduFault.TheVariants.{Truncated}
 use Rattle.iol_segment.specs.Join.{Open, Complete, stage, Stage, Wrong, Joining, staged, taken}
 use Rattle.iol_segment.specs.TextLaws.{HoldsLength, TextLaws, joined as joined_octets}
 use Rattle.std.proofs.Math.Numerals.{add-one}
@@ -20,8 +19,7 @@ open_before : (xs ys : List ℕ) → stage (xs ++ ys) ≡ Open → stage xs ≡ 
 open_before xs ys e = grind (arith, common_steps)
 
 total_low : (text : List ℕ) → HoldsLength text → 0 < length text
-total_low [] e = absurd (let k : Err Truncated ≡ Ok 0 = e in cc)
-total_low (x ∷ xs) e = omega arith
+total_low text e = grind (arith, common_steps)
 
 not_last : (size : ℕ) → TextLaws size → (text : List ℕ) → HoldsLength text → (i : ℕ) → i * size < length text → stage (joined_octets size text i) ≡ Open → suc i * size < length text
 not_last size laws text holds i low e = grind (arith, common_steps)
@@ -50,8 +48,7 @@ module _ (current : Current) (h : IsCurrent current) where
   refused_stays = (record { request = h.request; some = h.some; most = h.most; progress = refl }, refl, refl)
 
   finished_stays : (text : List ℕ) (fault : Option IsduFault) → StaysCurrent current.cutter (finished current.cutter current.abort text fault)
-  finished_stays text None = tt
-  finished_stays text (Some fault) = refused_stays
+  finished_stays text fault = grind (arith, common_steps)
 
   -- a segment of this number was taken
   pub joined_stays : (had : ℕ) (octets : List ℕ) (at : Stage) → stage octets ≡ at → length octets ≡ suc had * current.cutter.size

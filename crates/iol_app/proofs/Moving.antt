@@ -1,6 +1,6 @@
 -- Each new message is the move that the request's progress asks for, and a good reply brings the request on by it.
 use Rattle.std.proofs.lemmas.Grind.{common_steps}
-use Rattle.std.proofs.Common.{◌≡◌, ℕ, zero, suc, ◌%◌, ◌≤◌, true, false, [], refl, sym, ap, subst, ◌∙◌, arith, Option, Some, None, ◌+◌, ◌*◌, Bool, if◌then◌else◌, List, length}
+use Rattle.std.proofs.Common.{◌≡◌, ℕ, zero, suc, ◌%◌, ◌≤◌, true, false, [], refl, sym, ap, subst, ◌∙◌, arith, Option, Some, None, List}
 use Rattle.std.specs.Prelude.{nat_lt, ◌==◌, IfSome}
 use Rattle.std.proofs.lemmas.Bool.Decides.{nat_tests}
 use Rattle.std.proofs.Math.Numerals.{add-one}
@@ -13,7 +13,7 @@ use Rattle.iol_mseq.specs.Shape.{Shape}
 use Rattle.iol_isdu.specs.declared.values.Request.{Request}
 use Rattle.iol_isdu.specs.Answers.{is_read}
 use Rattle.iol_isdu.specs.Texts.{IsRequest, request_text}
-use Rattle.iol_segment.specs.Cut.{Cutting, flow_at, last_given, pair}
+use Rattle.iol_segment.specs.Cut.{Cutting, flow_at, last_given}
 use Rattle.iol_segment.specs.Join.{Joining, stage}
 use Rattle.iol_segment.specs.TextLaws.{TextLaws}
 use Rattle.iol_far.specs.Codec.{flow_of}
@@ -26,7 +26,7 @@ use Rattle.iol_app.specs.declared.request.Progress.{Progress as Cursor}
 use Rattle.iol_app.specs.declared.request.Progress.TheVariants.{Sending, Asking, Receiving, Refused}
 use Rattle.iol_app.specs.declared.session.Exchange.{Exchange}
 use Rattle.iol_app.specs.declared.session.Exchange.TheVariants.{Request as NextMessage}
-use Rattle.iol_app.specs.Requests.{text_of, ProgressFits, IsAllGiven, IsJoining, IsCurrent, sending, sent_on, one_more, IsFirst, IsUnsent}
+use Rattle.iol_app.specs.Requests.{text_of, ProgressFits, IsAllGiven, IsJoining, IsCurrent, sent_on, one_more, IsUnsent}
 use Rattle.iol_app.specs.State.{od_size}
 use Rattle.iol_app.specs.Messages.{head_for, data_for, progress_head, progress_data, request_head, request_data}
 use Rattle.iol_app.specs.Moves.{before_last, asked_for, progress_of, progress_at, segment_move, move_at, request_move, IsMoveOf, MessagesAreMoves}
@@ -101,19 +101,10 @@ messages_are_moves fit laws s layout exchange h told =
 
 -- A segment of the request was written
 
-sent_progress : (cutter : Cutting Request) (i : ℕ) → cutter.given ≡ suc i → (b : Bool)
-    → progress_at (record cutter { given = if b then cutter.given + 1 else cutter.given }) (sending (if b then Some (pair cutter.size (text_of cutter) cutter.given) else None)) ≡ Written cutter.source i
-sent_progress cutter i e b = grind (arith, common_steps)
-
-segment_follows : (request : Request) (i : ℕ) (od : List ℕ) → after (before_last request (suc i)) (segment_move request (suc i)) od ≡ Written request i
-segment_follows request i od = grind (arith, common_steps)
-
 pub sent_follows : (cutter : Cutting Request) (abort : Option Cause) (flow : Flow) (piece : ArrayVec ℕ) (od : List ℕ) (given : ℕ) → cutter.given ≡ given
     → last_given cutter.size (text_of cutter) given ≡ Some (flow, piece)
     → progress_of (Some (sent_on cutter abort)) ≡ after (before_last cutter.source given) (segment_move cutter.source given) od
-sent_follows cutter abort flow piece od zero e h = absurd (let k : None ≡ Some (flow, piece) = h in cc)
-sent_follows cutter abort flow piece od (suc i) e h =
-    sent_progress cutter i e (nat_lt (cutter.given * cutter.size) (length (text_of cutter))) ∙ sym (segment_follows cutter.source i od)
+sent_follows cutter abort flow piece od given e h = grind (arith, common_steps)
 
 -- The reply to a START read
 
@@ -126,9 +117,5 @@ asked_after cutter busy given od e h = grind (arith, common_steps)
 
 -- The reply to any other message
 
-idle_quiet : (cutter : Cutting Request) (p : Cursor) → IsFirst p cutter.given → progress_at cutter p ≡ Quiet
-idle_quiet cutter p h = grind (arith, common_steps)
-
 pub unsent_quiet : (current : Option Current) → IsUnsent current → progress_of current ≡ Quiet
-unsent_quiet None h = refl
-unsent_quiet (Some current) h = idle_quiet current.cutter current.progress h
+unsent_quiet current h = grind (arith, common_steps)

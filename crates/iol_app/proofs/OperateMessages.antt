@@ -2,16 +2,15 @@
 use Rattle.std.proofs.lemmas.Grind.{common_steps}
 use Rattle.std.proofs.Common.{◌≡◌, ℕ, Bool, List, refl, ap, ◌∙◌, Option, None, zero, suc, ◌-◌, ◌≤◌, [], ◌∷◌, ◌++◌, length, replicate, drop, sym, arith}
 use Rattle.std.specs.Prelude.{◌⊎◌}
-use Rattle.iol_octets.specs.declared.control.Channel.TheVariants.{Isdu, Page}
+use Rattle.iol_octets.specs.declared.control.Channel.TheVariants.{Page}
 use Rattle.iol_mseq.specs.Shape.{Shape}
 use Rattle.iol_mseq.specs.declared.master.MasterMsg.{MasterMsg}
 use Rattle.iol_far.specs.Far.{is_confirm, command_in}
 use Rattle.iol_app.specs.declared.event_work.Reading.{Reading}
 use Rattle.iol_app.specs.declared.request.Current.{Current}
-use Rattle.iol_app.specs.declared.request.Progress.{Progress}
 use Rattle.iol_app.specs.declared.session.Exchange.{Exchange}
 use Rattle.iol_app.specs.declared.session.Exchange.TheVariants.{TellOutput, DropOutput}
-use Rattle.iol_app.specs.Messages.{Head, head_for, progress_head, request_head, head_of, data_for}
+use Rattle.iol_app.specs.Messages.{Head, head_for, head_of, data_for}
 use Rattle.iol_app.specs.Moves.{confirms_events}
 use Rattle.iol_mseq.specs.Texts.{master_text}
 use Rattle.iol_page.specs.Commands.{command_octet}
@@ -24,13 +23,6 @@ use Rattle.iol_app.specs.Ends.{output_for}
 
 abbrev pub is_confirm_head : Head → Bool
 is_confirm_head head = is_confirm head.channel head.read head.address
-
--- the request's messages are on the ISDU channel
-progress_channel : (p : Progress) → (progress_head p).channel ≡ Isdu
-progress_channel p = grind (arith, common_steps)
-
-pub request_channel : (current : Option Current) → (request_head current).channel ≡ Isdu
-request_channel current = grind (arith, common_steps)
 
 pub confirms_by_head : (exchange : Exchange) (reading : Reading) (current : Option Current) → is_confirm_head (head_for exchange reading current) ≡ confirms_events exchange
 confirms_by_head exchange reading current = grind (arith, common_steps)

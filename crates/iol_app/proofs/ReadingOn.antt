@@ -53,4 +53,4 @@ module _ (laws : ReaderLaws) (event : Bool) where
       subst (λ (l : List Event). Took (taken octets (event_octet l (next_address octets))) event m) (sym fit.2.0)
       (subst (λ (o : List ℕ). Took (taken o (event_octet (fit.0 ∷ fit.1) (next_address o))) event m) (sym fit.3.2)
       (read_on fit.0 fit.1 fit.3.0 m (frozen_list fit.0 fit.1 m valid fit.2) fit.3.1 fit.2))
-  reads_next reading flag due c m valid fit wants = absurd (let z : false ≡ true = wants in cc)
+  reads_next other flag due c m valid fit wants = absurd (let z : false ≡ true = wants in cc)

@@ -39,7 +39,7 @@ use Rattle.iol_app.proofs.DueFacts.{IsDue, due_is}
 use Rattle.iol_app.proofs.OperateMessages.{tell_differs, page_command}
 use Rattle.iol_app.proofs.Telling.{told_layout}
 use Rattle.iol_app.specs.Core.{Core, Ghost, Stands, Sends, SendGives, core_out, free_core, made_ghost, reading_at, reading_in, ordered_by}
-use Rattle.iol_app.proofs.SmallFacts.{keeps_some, events_due, confirms_is, not_operate, begins_request, tells_wanted, drops_told, some_or, image_some, sent_made, same_carried}
+use Rattle.iol_app.proofs.SmallFacts.{operating, keeps_some, events_due, confirms_is, not_operate, begins_request, tells_wanted, drops_told, some_or, image_some, sent_made, same_carried}
 
 -- which readings a confirm and a read go out for
 confirm_due : (r : app.Reading) (flag : Bool) (due : Event × List Event) → is_confirm_due r ≡ true → is_due (reading_at r flag due) ≡ true
@@ -75,11 +75,9 @@ module _ (levels : (size : ℕ) → 1 ≤ size → LevelLaws size) (modes : Mode
   at = told_layout g.page FarOperate layouts (ap layouts_of (sym stands.page) ∙ stands.link.told)
 
   accepted : IsAccepted layouts g.page link m
-  accepted = subst (λ (p : List ℕ). IsAccepted layouts p link m) stands.page (accepts link (operating link stands.request.linked))
-    where
-      operating : (link : Link) → OperateLink layouts (progress_of t.current) link → IsOperating layouts link
-      operating link (inl k) = inl k.0
-      operating link (inr k) = inr k
+  accepted =
+      subst (λ (p : List ℕ). IsAccepted layouts p link m) stands.page
+      (accepts link (operating layouts (progress_of t.current) link stands.request.linked))
 
   -- before the first good reply in OPERATE no output is told
   untold : link ≡ entering_link layouts → t.output.told ≡ false
@@ -124,8 +122,7 @@ module _ (levels : (size : ℕ) → 1 ≤ size → LevelLaws size) (modes : Mode
   there = ap (layout_in g.page) mode ∙ at
 
   still : (l : Link) → OperateLink layouts (progress_of t.current) l → IfSome l.waits (λ command. progress_of t.current ≡ Quiet)
-  still l (inl k) = subst (λ (x : Link). IfSome x.waits (λ command. progress_of t.current ≡ Quiet)) (sym k.0) k.1
-  still l (inr k) = subst (λ (x : Link). IfSome x.waits (λ command. progress_of t.current ≡ Quiet)) (sym k) tt
+  still l h1 = grind (arith, common_steps)
 
   abbrev IsMoved : Head → List ℕ → Type 0
   IsMoved h d = IsMove layouts.run.od (move_for e t.current) (progress_of t.current) h.channel h.read (flow_of h.address) d

@@ -2,18 +2,19 @@
 use Rattle.std.proofs.Common.{◌≡◌, ℕ, ◌+◌, ◌≤◌, min, Bool, true, false, not, ◌&&◌, List, [], ◌∷◌, length, refl, arith}
 use Rattle.std.proofs.lemmas.Bool.Decides.{nat_tests}
 use Rattle.std.proofs.lemmas.Grind.{common_steps}
-use Rattle.std.specs.Prelude.{Option, Some, None, if◌then◌else◌, ◌==◌, IfSome, IsSome, replicate, is_some, unwrap_or}
+use Rattle.std.specs.Prelude.{Option, Some, if◌then◌else◌, ◌==◌, IfSome, IsSome, replicate, is_some, unwrap_or}
 use Rattle.iol_mseq.specs.Shape.{Shape}
 use Rattle.iol_mseq.specs.declared.reply.Reply.{Reply}
 use Rattle.iol_image.specs.Image.{IsImage}
 use Rattle.iol_far.specs.declared.mode.Mode.TheVariants.{Operate as FarOperate}
 use Rattle.iol_isdu.specs.declared.values.Request.{Request}
 use Rattle.iol_far.specs.declared.carried.Carried.{Carried}
-use Rattle.iol_far.specs.Level.{Quiet, Had as IsHad, Stands as FarStands, Begin}
+use Rattle.iol_far.specs.Level.{Progress, Link, Quiet, Had as IsHad, Stands as FarStands, Begin}
+use Rattle.iol_page.specs.declared.page.Layouts.{Layouts}
 use Rattle.iol_far.specs.Isdu.{IsduState}
 use Rattle.iol_far.specs.Far.{Far, hear, heard_as}
 use Rattle.iol_far.specs.Local.{LocalStep, local, locals}
-use Rattle.iol_mode.specs.Stands.{entering_mode}
+use Rattle.iol_mode.specs.Stands.{entering_mode, IsOperating}
 use Rattle.iol_steps.specs.Step.{Image}
 use Rattle.iol_steps.specs.Images.{image_or}
 use Rattle.iol_steps.specs.Exchange.{image_had, told_by, output_due}
@@ -25,10 +26,9 @@ use Rattle.iol_app.specs.declared.session.Exchange.{Exchange}
 use Rattle.iol_app.specs.declared.session.Exchange.TheVariants.{ConfirmEvents}
 use Rattle.iol_app.specs.Outputs.{output_after}
 use Rattle.iol_app.specs.declared.request.Current.{Current}
-use Rattle.iol_app.specs.declared.request.Progress.{Progress as Cursor}
 use Rattle.iol_app.specs.Requests.{request_in}
-use Rattle.iol_app.specs.Moves.{segment_move, move_at, move_for, confirms_events}
-use Rattle.iol_app.specs.Ends.{output_for}
+use Rattle.iol_app.specs.Moves.{move_for, confirms_events}
+use Rattle.iol_app.specs.Ends.{output_for, OperateLink}
 
 abbrev pub HasOctets : Option Image → Type 0
 HasOctets input = IfSome input (λ image. 1 ≤ length image)
@@ -51,8 +51,7 @@ pub input_hear : (far : Far) (o : List ℕ) → (hear far o).far.input ≡ far.i
 input_hear far o = by_accepted (λ q. (heard_as far o q).far.input ≡ far.input) far o refl (λ w m e. refl) (λ w c k m e. refl)
 
 pub not_operate : (p : Option Shape) → entering_mode p ≡ FarOperate → ⊥
-not_operate None e = cc
-not_operate (Some pre) e = cc
+not_operate p e = grind (arith, common_steps)
 
 pub same_output : (exchange : Exchange) (output : Output) → output_after exchange output ≡ record output { told = told_by (output_for exchange) output.told }
 same_output exchange output = grind (arith, common_steps)
@@ -68,12 +67,6 @@ third_time tries silence e few = grind (arith, nat_tests, common_steps)
 
 pub freed_quiet : (size : ℕ) (base : List Carried) (r : Request) (i : ℕ) (text : List ℕ) (state : IsduState) (c : List Carried) → FarStands size base (IsHad r i text) state c → FarStands size c Quiet state c
 freed_quiet size base r i text state c h = grind (arith, common_steps)
-
-pub segment_begins : (source : Request) (given : ℕ) (request : Request) → segment_move source given ≡ Begin request → source ≡ request
-segment_begins source given request e = grind (arith, common_steps)
-
-pub cursor_begins : (current : Current) (p : Cursor) (request : Request) → move_at current.cutter p ≡ Begin request → current.cutter.source ≡ request
-cursor_begins current p request e = grind (arith, common_steps)
 
 pub begins_request : (exchange : Exchange) (current : Option Current) (request : Request) → move_for exchange current ≡ Begin request → request_in current ≡ Some request
 begins_request exchange current request e = grind (arith, common_steps)
@@ -101,3 +94,7 @@ keeps_some wanted sent h = grind (arith, common_steps)
 
 pub events_due : (r : Reading) (c : Bool) (m : Events) → (c ≡ true → is_due r ≡ true) → EventsFit r false m → EventsFit r c m
 events_due r c m due h = grind (arith, common_steps)
+
+pub operating : (layouts : Layouts) (progress : Progress) (link : Link)
+    → OperateLink layouts progress link → IsOperating layouts link
+operating layouts progress link h = grind (arith, common_steps)

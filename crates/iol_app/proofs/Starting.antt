@@ -102,8 +102,7 @@ no_command : (mode : Mode) (command : Option MasterCommand) → mode ≢ ModeOpe
 no_command mode command below = grind (arith, common_steps)
 
 below : (start : Start) → mode_at start ≢ ModeOperate
-below (InStart s) e = absurd (let z : ModeStartup ≡ ModeOperate = e in cc)
-below (InPre s) e = absurd (let z : ModePreoperate ≡ ModeOperate = e in cc)
+below start e = grind (arith, common_steps)
 
 waits_quiet : (waits : Option WaitingCommand) → IfSome waits (λ command. Quiet ≡ Quiet)
 waits_quiet waits = grind (arith, common_steps)
@@ -258,12 +257,10 @@ module _ (laws : Laws) (heard : TextsAreHeard) (start : Start) (session : Sessio
     shown : ShownStands next g.page
 
   not_woken : (start : Start) (ended : Mode) → woke_up (mode_at start) ended ≡ []
-  not_woken (InStart s) ended = refl
-  not_woken (InPre s) ended = refl
+  not_woken start ended = grind (arith, common_steps)
 
   fits_call : (start : Start) (answered : Bool) → CallFits (mode_at start) (Exchanged answered)
-  fits_call (InStart s) answered = tt
-  fits_call (InPre s) answered = tt
+  fits_call start answered = grind (arith, common_steps)
 
   gives : (answered : Bool) → n' ≡ silence_by (Exchanged answered) n → (outcome : Outcome) (u : SessionState) → settled_session outcome (still session) ≡ u → (ys : List Step) → Ends answered (record { state = state_of outcome; session = u }) ys
       → IsRisen outcome n' far far' → OutcomeFits outcome → Joined (state_of outcome) (settled_session outcome (still session)) → CallGives c g far n Idle (after_exchange outcome (still session)) far' n'
@@ -505,12 +502,10 @@ module _ (known : Known) (session : SessionState) (valid : IsSession (still sess
       may_fault UnsupportedCode e = e
 
       behind_session : (page : Told) (p : Option Shape) → told_in (told_by (step_behind page p)) (still session) ≡ told page.layouts.run page.layouts.isdu (still session)
-      behind_session page None = refl
-      behind_session page (Some pre) = refl
+      behind_session page p = grind (arith, common_steps)
 
       behind_told : (page : Told) (p : Option Shape) → StepStands (step_behind page p) far' → layouts_of far'.page ≡ Ok page.layouts
-      behind_told page None q = q.0
-      behind_told page (Some pre) q = q.0
+      behind_told page p q = grind (arith, common_steps)
 
       by_page : (asked : Result Layouts PageFault) (octets : List ℕ) → IsRisen (checked asked octets) n' far far' → OutcomeFits (checked asked octets) → Joined (state_of (checked asked octets)) (settled_session (checked asked octets) (still session))
           → CallGivesBy (AtStartup s) (checked asked octets)

@@ -1,19 +1,15 @@
 -- The message out stays the session's while a request is begun, and both ends stand together.
-use Rattle.std.proofs.Common.{rules, ◌≡◌, sym, subst, None}
-use Rattle.iol_steps.specs.declared.mode.Mode.TheVariants.{Operate}
+use Rattle.std.proofs.lemmas.Grind.{common_steps}
+use Rattle.std.proofs.Common.{rules, subst, arith}
 use Rattle.iol_app.specs.State.{OutSuits}
-use Rattle.iol_app.specs.StationState.{mode_in, StateFits}
+use Rattle.iol_app.specs.StationState.{StateFits}
 use Rattle.iol_app.specs.Core.{Core}
 use Rattle.iol_app.proofs.Stations.{begun_fits, operate_isdu}
 use Rattle.iol_app.proofs.CoreCalls.{begin_steps}
 use Rattle.iol_app.proofs.core_data.Core.begin.Goals as goal
 
 pub invariant_of-self : goal.invariant_of-self
-invariant_of-self c =
-    let i = c.self.inside in
-    let mode : mode_in i.state ≡ Operate = subst (λ (k : Core). mode_in k.state ≡ Operate) (sym c.self.view_is) c.requires.operate in
-    let free : i.session.current ≡ None = subst (λ (k : Core). k.session.current ≡ None) (sym c.self.view_is) c.requires.free in
-    (c.self.invariant.0, rw c.begin.ensures.session (begun_fits i.state i.session c.args.request mode free c.begin.ensures.out c.self.invariant.1))
+invariant_of-self c = grind (arith, common_steps, begun_fits)
 
 pub returns-clause-steps : goal.returns-clause-steps
 returns-clause-steps c =

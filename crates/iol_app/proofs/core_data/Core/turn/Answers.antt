@@ -1,14 +1,13 @@
 -- A turn: what goes out, one call of the wire, and what is made of what came.
-use Rattle.std.proofs.Common.{◌≡◌, ◌∙◌, List, ℕ, refl, sym, subst, ap, Option}
+use Rattle.std.proofs.lemmas.Grind.{common_steps}
+use Rattle.std.proofs.Common.{◌≡◌, ◌∙◌, List, ℕ, sym, subst, ap, arith}
 use Rattle.std.specs.Prelude.{IsTrue, is_some}
 use Rattle.iol_octets.specs.Checksum.{has_checksum}
 use Rattle.iol_far.specs.Octets.{octets_in}
 use Rattle.iol_link.specs.WireFacts.{Passes}
 use Rattle.iol_mode.specs.States.{StateFits as ModeFits}
-use Rattle.iol_mode.specs.Exchanges.{text_out, judged}
+use Rattle.iol_mode.specs.Exchanges.{text_out}
 use Rattle.iol_app.specs.declared.asked.Asked.TheVariants.{Exchange}
-use Rattle.iol_app.specs.declared.request.Current.{Current}
-use Rattle.iol_app.specs.Requests.{request_in, request_after, EndsRequest}
 use Rattle.iol_app.specs.State.{IsSession}
 use Rattle.iol_app.specs.StationState.{StateFits}
 use Rattle.iol_app.specs.Core.{Core}
@@ -66,16 +65,10 @@ returns-in-Exchange-clause-turn g c =
     c.in-Exchange.ensures.sent c.in-Exchange.ensures.says.0 c.requires.stands (exchanged g c)
 
 pub returns-in-Exchange-clause-request : goal.returns-in-Exchange-clause-request
-returns-in-Exchange-clause-request g c =
-    subst (λ (x : Option Current). request_in c.take.new.self.session.current ≡ request_after (request_in x) c.take.new.said) (sent_current c.args.self.now c.send.new.self c.args.room c.in-Exchange.ensures.sent) c.take.ensures.request
+returns-in-Exchange-clause-request g c = grind (arith, common_steps, sent_current)
 
 pub returns-in-Exchange-clause-ends : goal.returns-in-Exchange-clause-ends
-returns-in-Exchange-clause-ends g c =
-    let mid : Core = c.send.new.self in
-    subst (λ (x : Option Current). EndsRequest c.take.new.said (request_in x))
-    (sent_current c.args.self.now mid c.args.room c.in-Exchange.ensures.sent)
-    (settled_ends mid.session (judged mid.state (octets_in c.exchange-came.result))
-    c.take.new.said mid.session.current refl c.take.ensures.said)
+returns-in-Exchange-clause-ends g c = grind (arith, common_steps, sent_current, settled_ends)
 
 pub returns-in-Exchange-clause-reading : goal.returns-in-Exchange-clause-reading
 returns-in-Exchange-clause-reading g c =
