@@ -1,7 +1,7 @@
 -- A request is begun, and an abort is let wait, in OPERATE.
 use Rattle.std.proofs.lemmas.Grind.{common_steps}
-use Rattle.std.proofs.Common.{arith, ◌≡◌, inl, ℕ, ◌*◌, Bool, length, true, false, List, refl, sym, ap, ◌∙◌, subst}
-use Rattle.std.specs.Prelude.{Option, Some, None, IfSome, IsTrue, if◌then◌else◌, nat_lt}
+use Rattle.std.proofs.Common.{arith, ◌≡◌, inl, ℕ, Bool, true, false, List, refl, sym, ap, ◌∙◌, subst}
+use Rattle.std.specs.Prelude.{Option, Some, None, IfSome, IsTrue, if◌then◌else◌}
 use Rattle.iol_mseq.specs.declared.master.MasterMsg.{MasterMsg}
 use Rattle.iol_page.specs.Page.{knows_isdu}
 use Rattle.iol_page.specs.declared.page.Layouts.{Layouts}
@@ -24,7 +24,7 @@ use Rattle.iol_app.specs.declared.request.Current.{Current}
 use Rattle.iol_app.specs.declared.session.Exchange.{Exchange}
 use Rattle.iol_app.specs.Messages.{head_for, data_for}
 use Rattle.iol_app.specs.Requests.{text_of, sending, begun, aborted, waiting, Suits}
-use Rattle.iol_app.specs.Moves.{progress_at, progress_of, move_for}
+use Rattle.iol_app.specs.Moves.{progress_of, move_for}
 use Rattle.iol_app.specs.Ends.{BusyAt, AbortAt, OperateLink}
 use Rattle.iol_app.specs.State.{SessionState, IsOutBy, OutSuits, od_size}
 use Rattle.iol_app.specs.Core.{Ghost, Stands, BeginGives, OutBy, LevelOut, operate_core, begun_ghost, asking_ghost, session_in, reading_in}
@@ -32,12 +32,8 @@ use Rattle.iol_app.specs.Core.{Ghost, Stands, BeginGives, OutBy, LevelOut, opera
 begun_busy : (cutter : Cutting Request) (b : Bool) → BusyAt (sending (if b then Some (pair cutter.size (text_of cutter) cutter.given) else None)) 0
 begun_busy cutter b = grind (arith, common_steps)
 
-begun_quiet : (request : Request) (size : ℕ) (b : Bool) → let cutter : Cutting Request = record { source = request; size = size; given = 0 } in
-    progress_at (record cutter { given = if b then 1 else 0 }) (sending (if b then Some (pair size (text_of cutter) 0) else None)) ≡ Quiet
-begun_quiet request size b = grind (arith, common_steps)
-
 begun_progress : (size : ℕ) (request : Request) → progress_of (Some (begun size request)) ≡ Quiet
-begun_progress size request = begun_quiet request size (nat_lt (0 * size) (length (text_of (record { source = request; size = size; given = 0 }))))
+begun_progress size request = grind (arith, common_steps)
 
 pub waiting_at : (limit busy : ℕ) (asked : Bool) (cause : Cause) (abort : Option Cause) → AbortAt limit abort busy asked → MayAbort limit busy asked cause → AbortAt limit (waiting abort cause) busy asked
 waiting_at limit busy asked cause abort h may = grind (arith, common_steps)

@@ -45,7 +45,7 @@ use Rattle.iol_app.proofs.Moves.{answers_data, data_after, answer_after}
 use Rattle.iol_app.proofs.TextHad.{had_text}
 use Rattle.iol_app.proofs.Missed.{quiet_book}
 use Rattle.iol_app.specs.declared.event_work.Reading as app
-use Rattle.iol_app.specs.declared.event_work.Reading.TheVariants.{Resting, Refused}
+use Rattle.iol_app.specs.declared.event_work.Reading.TheVariants.{Resting}
 use Rattle.iol_app.specs.declared.request.Current.{Current}
 use Rattle.iol_app.specs.declared.session.Exchange.{Exchange}
 use Rattle.iol_app.specs.EventReading.{is_refused, reader_of, read_on, list_read}
@@ -66,9 +66,7 @@ progress_fits current = grind (arith, common_steps)
 
 -- a reading that is under way goes on
 kept_at : (reading : app.Reading) (flag event : Bool) (due : Event × List Event) → is_refused reading ≡ false → reading_kept (reading_at reading flag due) event ≡ reading_at reading event due
-kept_at Refused flag event due h = absurd (let z : true ≡ false = h in cc)
-kept_at Resting true event due h = refl
-kept_at other flag event due h = refl
+kept_at other flag event due h = grind (arith, common_steps)
 
 -- one exchange that brought this reply, and what is said of it
 pub record Good : Type 0 where

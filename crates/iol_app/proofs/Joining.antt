@@ -3,13 +3,12 @@ use Rattle.std.proofs.lemmas.Grind.{common_steps}
 use Rattle.std.proofs.Common.{◌≡◌, ℕ, zero, suc, ◌*◌, ◌%◌, ◌<◌, false, List, ◌++◌, length, refl, arith, ◌+◌, Option, Some}
 use Rattle.std.proofs.lemmas.List.{length-append}
 use Rattle.iol_isdu.specs.declared.fault.IsduFault.{IsduFault}
-use Rattle.iol_segment.specs.Join.{Open, Complete, stage, Stage, Wrong, Joining, staged, taken}
+use Rattle.iol_segment.specs.Join.{Open, stage, Stage, Joining, staged, taken}
 use Rattle.iol_segment.specs.TextLaws.{HoldsLength, TextLaws, joined as joined_octets}
 use Rattle.std.proofs.Math.Numerals.{add-one}
 use Rattle.iol_octets.specs.declared.flow_control.Flow.TheVariants.{Count}
 use Rattle.iol_isdu.specs.declared.values.Request.{Request}
 use Rattle.iol_app.specs.declared.request.Current.{Current}
-use Rattle.iol_isdu.specs.Answers.{answer_fault, is_read}
 use Rattle.iol_segment.specs.Cut.{Cutting}
 use Rattle.iol_segment.specs.JoinLaws.{count_at}
 use Rattle.iol_app.specs.Requests.{Outcome, GoesOn, HasText, finished, joined, received, refused, IsJoining, IsCurrent}
@@ -53,11 +52,7 @@ module _ (current : Current) (h : IsCurrent current) where
   -- a segment of this number was taken
   pub joined_stays : (had : ℕ) (octets : List ℕ) (at : Stage) → stage octets ≡ at → length octets ≡ suc had * current.cutter.size
       → StaysCurrent current.cutter (joined current.cutter current.abort had (staged false (count_at had) octets at).took (staged false (count_at had) octets at).joining)
-  joined_stays had octets Open e size =
-      let joining : IsJoining current.cutter.size had (staged false (count_at had) octets Open).joining = record { answers = refl; started = refl; count = refl; open_text = e; size_of = size } in
-      (record { request = h.request; some = h.some; most = h.most; progress = joining }, refl, refl)
-  joined_stays had octets (Complete text) e size = finished_stays text (answer_fault (is_read current.cutter.source) text)
-  joined_stays had octets Wrong e size = refused_stays
+  joined_stays had octets at e size = grind (arith, common_steps, finished_stays, refused_stays)
 
   -- the reply to a COUNT read
   pub received_stays : (j : Joining) (had : ℕ) (od : List ℕ) → IsJoining current.cutter.size had j → length od ≡ current.cutter.size

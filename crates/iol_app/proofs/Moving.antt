@@ -84,10 +84,7 @@ progress_moves fit laws current Refused e h = tt
 request_moves : AnswersFit → (laws : (size : ℕ) → 1 ≤ size → TextLaws size) (size : ℕ) (current : Option Current) → IfSome current IsCurrent → IfSome current (λ c. c.cutter.size ≡ size)
     → IsMove size (request_move current) (progress_of current) (request_head current).channel (request_head current).read (flow_of (request_head current).address) (request_data current)
 unfolding flow_of
-request_moves fit laws size None h same = tt
-request_moves fit laws size (Some current) h same =
-    subst (λ (n : ℕ). IsMove n (move_at current.cutter current.progress) (progress_at current.cutter current.progress) (progress_head current.progress).channel (progress_head current.progress).read (flow_of (progress_head current.progress).address) (progress_data current.progress)) same
-    (progress_moves fit laws current current.progress refl h)
+request_moves fit laws size current h same = grind (arith, common_steps, progress_moves)
 
 messages_move : AnswersFit → (laws : (size : ℕ) → 1 ≤ size → TextLaws size) (exchange : Exchange) (size : ℕ) (reading : Reading) (current : Option Current) → IfSome current IsCurrent → IfSome current (λ c. c.cutter.size ≡ size)
     → IsMoveOf size exchange current (head_for exchange reading current) (data_for exchange size current)

@@ -12,7 +12,7 @@ use Rattle.iol_link.specs.Attempts.{Sending, good_reply, attempt_of}
 use Rattle.iol_link.specs.Honest.{HonestExchange}
 use Rattle.iol_mode.specs.declared.states.Operate.{Operate}
 use Rattle.iol_mode.specs.declared.states.State.{State}
-use Rattle.iol_mode.specs.declared.states.State.TheVariants.{Down as AtDown, Startup as AtStartup, Preoperate as AtPreoperate, Operate as AtOperate}
+use Rattle.iol_mode.specs.declared.states.State.TheVariants.{Down as AtDown, Operate as AtOperate}
 use Rattle.iol_mode.specs.Messages.{page_read, unsent}
 use Rattle.iol_mode.specs.Next.{EnteredFits}
 use Rattle.iol_mode.specs.States.{Outcome, OutcomeFits, StateFits, IsDown, is_starting, state_of, waked, operate_by, counted}
@@ -79,14 +79,10 @@ same_sends old = λ g far n stands. inl (record { same = refl; asks = λ tried c
 
 -- what is made of what comes back may be taken up
 out_next : (out : Option Sending) (layouts : Layouts) (came : Option (List ℕ)) (s : SessionState) → let state : Operate = record { out = out; layouts = layouts } in IsSending (AtOperate state) → Joined (AtOperate state) s → NextFits (judged (AtOperate state) came) s
-out_next None layouts came s sends fits = absurd (let e : false ≡ true = sends in cc)
-out_next (Some w) layouts came s sends fits = operate_next (record { out = Some w; layouts = layouts }) w.message came s fits.told refl fits.out_for
+out_next out layouts came s sends fits = grind (arith, common_steps, operate_next)
 
 pub judged_next : (state : State) (came : Option (List ℕ)) (s : SessionState) → IsSending state → Joined state s → NextFits (judged state came) s
-judged_next (AtDown state) came s sends fits = absurd sends
-judged_next (AtStartup state) came s sends fits = startup_next state _ s fits.0 fits.1
-judged_next (AtPreoperate state) came s sends fits = preoperate_next state _ s fits.0 fits.1
-judged_next (AtOperate state) came s sends fits = out_next state.out state.layouts came s sends fits
+judged_next state came s sends fits = grind (arith, common_steps, startup_next, preoperate_next, out_next)
 
 -- outside OPERATE no message is made
 unmade : (m : Moment) (steps : List Step) (i : Images) → (m.began ≡ ModeOperate → ⊥) → MayImagesAll m steps i → no_make steps ≡ true

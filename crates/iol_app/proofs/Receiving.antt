@@ -127,8 +127,8 @@ module _ (names : TextNamesAnswer) (taken : AnswersAreTakenUp) (laws : Laws) (re
             out_is = replied_out laws g.page layouts.run g.request.base stands.request.link (progress_of t.current) (master_text layouts.run w.message) w.message (move_for e t.current) ModeOperate g.sent t.output.told (going laws layouts w t g far n x.steps e t.current stands)
                 w.tries (locals far x.steps) (page_here laws layouts w t g far n x.steps e t.current stands) (level laws layouts w t g far n x.steps e t.current stands) refl is.octets is.replies;
             accepted = subst (λ (p : List ℕ). IsAccepted layouts p stands.request.link w.message)
-                stands.page (accepts stands.request.link
-                (operating layouts (progress_of t.current) stands.request.link stands.request.linked));
+                stands.page (accepts stands.request.link (operating layouts
+                (progress_of t.current) stands.request.link stands.request.linked));
             valid = valid;
             sized = (good_parts layouts.run w.message came r good).input;
           } in

@@ -90,8 +90,7 @@ module _ (laws : Laws) (s : Down) (t : SessionState) (g : Ghost) (far : Far) (si
       }
 
   opens_woken : (wakes : Bool) → IsOpen (woken_if wakes (locals far steps)).isdu None (hidden_through None far steps g.request.hidden)
-  opens_woken true = tt
-  opens_woken false = own_open None g.request.hidden steps far stands.request
+  opens_woken wakes = grind (arith, common_steps, own_open)
 
   page_woken : (wakes : Bool) → (woken_if wakes (locals far steps)).page ≡ g.page
   page_woken true = page_now
