@@ -294,5 +294,4 @@ module _ (laws : Laws) (page : List ℕ) (run : Shape) (base : List Carried) (li
         (replied_opens page run.od base link progress o message what (hear g o) request h (says_of most g level r.0 r.1) fits answer)
 
     pub opens_after : (passage : Passage) → IsOpen (far_after passage g o).isdu request h
-    opens_after OutLost = before
-    opens_after other = opens_heard (accepted g o) refl
+    opens_after passage = grind (arith, common_steps, opens_heard)

@@ -1,6 +1,6 @@
 -- The frozen events: own steps, what is heard, and a wake are allowed there, and leave what the far end's memory says.
 use Rattle.std.proofs.lemmas.Grind.{common_steps}
-use Rattle.std.proofs.Common.{◌≡◌, ℕ, Bool, true, false, List, [], ◌∷◌, ◌++◌, refl, sym, ◌∙◌, ap, subst, arith}
+use Rattle.std.proofs.Common.{◌≡◌, ℕ, Bool, true, List, [], ◌∷◌, ◌++◌, refl, sym, ◌∙◌, ap, subst, arith}
 use Rattle.std.specs.Prelude.{Option, None}
 use Rattle.iol_mseq.specs.declared.master.MasterMsg.{MasterMsg}
 use Rattle.iol_isdu.specs.declared.values.Request.{Request}
@@ -9,9 +9,9 @@ use Rattle.iol_event.specs.Memory.{Events, released}
 use Rattle.iol_link.specs.Honest.{Passage, OutLost, far_after}
 use Rattle.iol_far.specs.Codec.{layout_in}
 use Rattle.iol_far.specs.Far.{Far, moved, hear, heard_as, worked, output_of, events_after}
-use Rattle.iol_far.specs.Local.{LocalStep, local, locals, woken}
+use Rattle.iol_far.specs.Local.{LocalStep, local, locals}
 use Rattle.iol_far.specs.Laws.{confirms as octets_confirm}
-use Rattle.iol_steps.specs.Step.{Step, OutputOff, Image}
+use Rattle.iol_steps.specs.Step.{Step, Image}
 use Rattle.iol_steps.specs.FrozenEvents.{Frozen, frozen_through, MayFrozenAll}
 use Rattle.iol_steps.specs.Bridge.{own_step, own_steps, told_after, told_through, release_steps, event_steps, output_steps, confirms_by, worked_steps, heard_steps_as, heard_steps, told_released, told_worked, told_heard_as, told_heard, passed_steps, told_passed, exchange_steps, told_exchanged, woken_steps, told_woken, wake_steps, told_wake}
 use Rattle.iol_steps.specs.Station.{frozen_of}
@@ -94,10 +94,7 @@ exchange_frozen request far steps passage o t told =
     (own_frozen request steps far t) (passed_frozen passage (locals far steps) o (told_through far steps t) told)
 
 woken_frozen : (wakes : Bool) (far : Far) (t : Bool) → FrozenRuns far.events.frozen t (woken_steps wakes far) (woken_if wakes far).events.frozen (told_woken wakes far t)
-woken_frozen false far t = (tt, refl)
-woken_frozen true far t =
-    frozen_runs-append far.events.frozen (woken far).events.frozen (woken far).events.frozen t (told_released far.events t) (told_released far.events t)
-    (release_steps far.events) (OutputOff ∷ []) (release_frozen far.events.frozen far.events.waiting far.events.held t) ((tt, tt), refl)
+woken_frozen wakes far t = grind (arith, common_steps, release_frozen, frozen_runs-append)
 
 -- the far end's part of a wake
 pub wake_frozen : (far : Far) (steps : List LocalStep) (wakes : Bool) (t : Bool) → FrozenRuns far.events.frozen t (wake_steps far steps wakes) (woken_if wakes (locals far steps)).events.frozen (told_wake far steps wakes t)

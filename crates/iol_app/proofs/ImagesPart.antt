@@ -9,8 +9,8 @@ use Rattle.iol_event.specs.Memory.{Events, freezes_at_once}
 use Rattle.iol_link.specs.Honest.{Passage, OutLost, far_after}
 use Rattle.iol_far.specs.Isdu.{IsduState, fits}
 use Rattle.iol_far.specs.Far.{Far, accepted, moved, hear, heard_as, worked, output_of}
-use Rattle.iol_far.specs.Local.{LocalStep, local, locals, carried_by, is_input, woken, Carry as OwnCarry, Raise as OwnRaise, Input as OwnInput}
-use Rattle.iol_steps.specs.Step.{Step, Freeze, OutputOff, Input, Image, Moment}
+use Rattle.iol_far.specs.Local.{LocalStep, local, locals, carried_by, is_input, Carry as OwnCarry, Raise as OwnRaise, Input as OwnInput}
+use Rattle.iol_steps.specs.Step.{Step, Freeze, Input, Image, Moment}
 use Rattle.iol_steps.specs.Images.{Images, images_through, MayImagesAll}
 use Rattle.iol_steps.specs.Bridge.{carry_steps, own_step, own_steps, release_steps, worked_steps, heard_steps_as, heard_steps, passed_steps, exchange_steps, woken_steps, wake_steps}
 use Rattle.iol_steps.specs.Station.{Shown, images_of}
@@ -92,9 +92,7 @@ exchange_images m request s far steps passage o fits =
     (own_images m request s steps far) (passed_images m s passage (locals far steps) o fits)
 
 woken_images : (m : Moment) (s : Shown) (wakes : Bool) (far : Far) → ImagesRuns m (images_of s far) (woken_steps wakes far) (images_of s (woken_if wakes far))
-woken_images m s false far = (tt, refl)
-woken_images m s true far =
-    images_runs-append m (images_of s far) (images_of s far) (images_of s (woken far)) (release_steps far.events) (OutputOff ∷ []) (release_images m (images_of s far) far.events) ((tt, tt), refl)
+woken_images m s wakes far = grind (arith, common_steps, release_images, images_runs-append)
 
 -- the far end's part of a wake
 pub wake_images : (m : Moment) (s : Shown) (far : Far) (steps : List LocalStep) (wakes : Bool) → ImagesRuns m (images_of s far) (wake_steps far steps wakes) (images_of s (woken_if wakes (locals far steps)))

@@ -82,7 +82,8 @@ out_next : (out : Option Sending) (layouts : Layouts) (came : Option (List ℕ))
 out_next out layouts came s sends fits = grind (arith, common_steps, operate_next)
 
 pub judged_next : (state : State) (came : Option (List ℕ)) (s : SessionState) → IsSending state → Joined state s → NextFits (judged state came) s
-judged_next state came s sends fits = grind (arith, common_steps, startup_next, preoperate_next, out_next)
+judged_next state came s sends fits =
+    grind (arith, common_steps, startup_next, preoperate_next, out_next)
 
 -- outside OPERATE no message is made
 unmade : (m : Moment) (steps : List Step) (i : Images) → (m.began ≡ ModeOperate → ⊥) → MayImagesAll m steps i → no_make steps ≡ true

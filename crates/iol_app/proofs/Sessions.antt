@@ -10,7 +10,6 @@ use Rattle.iol_mseq.specs.declared.reply.Reply.{Reply}
 use Rattle.iol_mseq.specs.declared.master.MasterMsg.{MasterMsg}
 use Rattle.iol_isdu.specs.declared.values.Request.{Request}
 use Rattle.iol_isdu.specs.declared.values.Cause.{Cause}
-use Rattle.iol_isdu.specs.Answers.{is_read}
 use Rattle.iol_isdu.specs.Texts.{request_front}
 use Rattle.iol_mseq.specs.Parts.{first_of_zeros}
 use Rattle.iol_segment.specs.Cut.{Cutting}
@@ -20,7 +19,7 @@ use Rattle.iol_app.specs.declared.request.Current.{Current}
 use Rattle.iol_app.specs.declared.request.Progress.{Progress}
 use Rattle.iol_app.specs.declared.request.Progress.TheVariants.{Asking}
 use Rattle.iol_app.specs.declared.session.Exchange.{Exchange}
-use Rattle.iol_app.specs.declared.session.Exchange.TheVariants.{Abort, Request as NextMessage}
+use Rattle.iol_app.specs.declared.session.Exchange.TheVariants.{Request as NextMessage}
 use Rattle.iol_steps.specs.declared.said.Said.{Said}
 use Rattle.iol_steps.specs.declared.said.Said.TheVariants.{Cut}
 use Rattle.iol_app.specs.Outputs.{output_after, carried_by, IsOutput}
@@ -37,7 +36,8 @@ text_some cutter = let whole = length-append (request_front cutter.source) in om
 -- the reply to a START read
 asked_stays : (current : Current) (busy limit : ℕ) (od : List ℕ) → IsCurrent current → ProgressFits current.cutter current.abort (Asking busy) → length od ≡ current.cutter.size
     → StaysCurrent current.cutter (asked current.cutter current.abort busy limit od)
-asked_stays current busy limit od h all size = grind (arith, common_steps, refused_stays, joined_stays)
+asked_stays current busy limit od h all size =
+    grind (arith, common_steps, refused_stays, joined_stays)
 
 -- on-request data of the reply to a message of the request that was a read
 abbrev pub IsAnswered : ℕ → Progress → List ℕ → Type 0
@@ -77,19 +77,12 @@ module _ (layout : Option Shape) (reading : Reading) (limit : ℕ) (od : List �
 
   pub current_stays : (exchange : Exchange) (current : Option Current) → IfSome current IsCurrent → IfSome current (λ c. c.cutter.size ≡ od_size layout) → Fits exchange current
       → StaysGoing (od_size layout) (current_after exchange limit od current)
-  current_stays NextMessage (Some current) h size fits =
-      subst (λ n. StaysGoing n (going (replied limit od current))) size (going_stays current.cutter (replied limit od current) (stays current h size fits))
-  current_stays Abort (Some current) h size fits = (tt, tt)
-  current_stays other (Some current) h size fits = (h, size)
-  current_stays exchange None h size fits = (tt, tt)
+  current_stays exchange current h size fits = grind (arith, common_steps, going_stays, stays)
 
   pub current_request : (exchange : Exchange) (current : Option Current) (said : Said) → IfSome current IsCurrent → IfSome current (λ c. c.cutter.size ≡ od_size layout) → Fits exchange current
       → Suits exchange current → IsSaid exchange limit od current said → request_in (current_after exchange limit od current) ≡ request_after (request_in current) said
-  current_request NextMessage (Some current) said h size fits suits said_is =
-      going_request current.cutter (is_read current.cutter.source) (replied limit od current) said (stays current h size fits) said_is
-  current_request Abort (Some current) said h size fits suits said_is = aborted_request current.cutter.source current.abort said suits said_is
-  current_request other (Some current) said h size fits suits said_is = ap (request_after (Some current.cutter.source)) (sym said_is)
-  current_request exchange None said h size fits suits said_is = ap (request_after None) (sym said_is)
+  current_request exchange current said h size fits suits said_is =
+      grind (arith, common_steps, going_request, aborted_request, stays)
 
 output_stays : (size : ℕ) (exchange : Exchange) (output : Output) → IsOutput size output → IsOutput size (output_after exchange output)
 output_stays size exchange output h = grind (arith, common_steps)
@@ -129,7 +122,8 @@ request_data_length size (Some current) h same =
 
 data_length : (exchange : Exchange) (size : ℕ) (reading : Reading) (current : Option Current) → 1 ≤ size → IfSome current IsCurrent → IfSome current (λ c. c.cutter.size ≡ size)
     → IsData size (head_for exchange reading current).read (data_for exchange size current)
-data_length exchange size reading current some h same = grind (arith, common_steps, length-first_of_zeros, request_data_length)
+data_length exchange size reading current some h same =
+    grind (arith, common_steps, length-first_of_zeros, request_data_length)
 
 od_some : (layout : Shape) → IsLayout layout → 1 ≤ layout.od
 od_some layout h = grind (arith, common_steps)
