@@ -1,6 +1,6 @@
 -- Hearing, by its three cases: not accepted, accepted in the present layout, accepted in the layout of the command that waits.
 use Rattle.std.proofs.lemmas.Grind.{common_steps}
-use Rattle.std.proofs.Common.{arith, ◌≡◌, ℕ, true, List}
+use Rattle.std.proofs.Common.{arith, ◌≡◌, ℕ, true, List, subst}
 use Rattle.std.specs.Prelude.{Option, Some, None}
 use Rattle.iol_mseq.specs.declared.master.MasterMsg.{MasterMsg}
 use Rattle.iol_far.specs.Codec.{layout_in, message_in}
@@ -12,3 +12,6 @@ module _ (P : Option (Far × MasterMsg) → Type 0) (g : Far) (o : List ℕ) (no
   -- only an awake far end accepts
   pub by_accepted : P (accepted g o)
   by_accepted = grind (arith, common_steps)
+
+  pub accepted_as : (t : Far) (m : MasterMsg) → accepted g o ≡ Some (t, m) → P (Some (t, m))
+  accepted_as t m e = subst P e by_accepted

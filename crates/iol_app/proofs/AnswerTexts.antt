@@ -1,7 +1,7 @@
 -- What octets say of the answer whose text they are, or begin with.
-use Rattle.std.proofs.Common.{◌≡◌, ◌⊎◌, inl, inr, ℕ, zero, suc, ◌+◌, ◌-◌, ◌*◌, ◌≤◌, Bool, true, false, ◌&&◌, List, [], ◌∷◌, ◌++◌, length, take, drop, refl, sym, ◌∙◌, ap, subst, arith}
+use Rattle.std.proofs.Common.{◌≡◌, ◌⊎◌, inl, inr, ℕ, zero, suc, ◌+◌, ◌-◌, ◌*◌, ◌≤◌, Bool, true, false, ◌&&◌, List, [], ◌++◌, length, take, drop, refl, sym, ◌∙◌, ap, subst, arith, append_assoc}
 use Rattle.std.specs.Prelude.{nat_le, replicate}
-use Rattle.std.proofs.lemmas.List.{length-append, length-take-le, take-append-drop, take-append-le}
+use Rattle.std.proofs.lemmas.List.{length-append, length-take-le, take-append-drop, take-append-le, append-nil}
 use Rattle.std.proofs.Math.Nat.{suc-mul}
 use Rattle.std.proofs.Math.Seq.{drop-append_seam, take-append-add}
 use Rattle.std.proofs.lemmas.Bool.Decides.{nat_tests}
@@ -14,14 +14,6 @@ use Rattle.iol_segment.specs.Cut.{segment}
 use Rattle.iol_segment.specs.TextLaws.{joined}
 use Rattle.iol_far.specs.Isdu.{is_kind, answer_text}
 use Rattle.iol_steps.specs.Exchange.{TextNamesAnswer}
-
-assoc : (xs ys zs : List ℕ) → (xs ++ ys) ++ zs ≡ xs ++ (ys ++ zs)
-assoc [] ys zs = refl
-assoc (x ∷ xs) ys zs = ap (λ (t : List ℕ). x ∷ t) (assoc xs ys zs)
-
-nothing : (xs : List ℕ) → xs ++ [] ≡ xs
-nothing [] = refl
-nothing (x ∷ xs) = ap (λ (t : List ℕ). x ∷ t) (nothing xs)
 
 -- the first octets of a text that is filled up: a part of it, or all of it and more
 abbrev Filled : ℕ → List ℕ → List ℕ → Type 0
@@ -65,13 +57,13 @@ joined_filled size text (suc i) = next (joined_filled size text i)
 
     by_part : (more : List ℕ) → text ≡ joined size text i ++ more → length (joined size text i) ≡ suc i * size → Filled size more (segment size text (suc i)) → Filled (suc (suc i) * size) text (joined size text i ++ segment size text (suc i))
     by_part more is long (inl h) =
-        inl (h.0, is ∙ ap (λ (t : List ℕ). joined size text i ++ t) h.1 ∙ sym (assoc (joined size text i) (segment size text (suc i)) h.0), grown (joined size text i) long (segment size text (suc i)) h.2)
+        inl (h.0, is ∙ ap (λ (t : List ℕ). joined size text i ++ t) h.1 ∙ sym (append_assoc (joined size text i) (segment size text (suc i)) h.0), grown (joined size text i) long (segment size text (suc i)) h.2)
     by_part more is long (inr h) =
-        inr (h.0, ap (λ (t : List ℕ). joined size text i ++ t) h.1 ∙ sym (assoc (joined size text i) more h.0) ∙ ap (λ (t : List ℕ). t ++ h.0) (sym is))
+        inr (h.0, ap (λ (t : List ℕ). joined size text i ++ t) h.1 ∙ sym (append_assoc (joined size text i) more h.0) ∙ ap (λ (t : List ℕ). t ++ h.0) (sym is))
 
     next : Filled (suc i * size) text (joined size text i) → Filled (suc (suc i) * size) text (joined size text i ++ segment size text (suc i))
     next (inl h) = by_part h.0 h.1 h.2 (segment_filled size text (joined size text i) h.0 (suc i) h.1 h.2)
-    next (inr h) = inr (h.0 ++ segment size text (suc i), ap (λ (t : List ℕ). t ++ segment size text (suc i)) h.1 ∙ assoc text h.0 (segment size text (suc i)))
+    next (inr h) = inr (h.0 ++ segment size text (suc i), ap (λ (t : List ℕ). t ++ segment size text (suc i)) h.1 ∙ append_assoc text h.0 (segment size text (suc i)))
 
 -- an answer that fits is one that its type holds
 fits_answer : (read : Bool) (answer : Answer) → (is_kind read answer && nat_le (length (answer_body answer)) 232) ≡ true → FitsAnswer read answer
@@ -87,6 +79,6 @@ text_names front each size request i octets answer begins other fitting is =
     by_part : (text : List ℕ) → IsAnswerText (is_read request) other text → Filled (suc i * size) text (joined size text i) → octets ≡ joined size text i → other ≡ answer
     by_part text spells (inl h) same =
         (front (is_read request) other answer text begins.text [] (begins.rest ++ h.0) spells begins.spells
-        (nothing text ∙ h.1 ∙ ap (λ (t : List ℕ). t ++ h.0) (sym same ∙ begins.whole) ∙ assoc begins.text begins.rest h.0)).1
+        (append-nil text ∙ h.1 ∙ ap (λ (t : List ℕ). t ++ h.0) (sym same ∙ begins.whole) ∙ append_assoc begins.text begins.rest h.0)).1
     by_part text spells (inr h) same =
         (front (is_read request) other answer text begins.text h.0 begins.rest spells begins.spells (sym h.1 ∙ sym same ∙ begins.whole)).1

@@ -1,6 +1,6 @@
 -- The good replies of OPERATE, kind by kind, by the code's own data.
 use Rattle.std.proofs.lemmas.Grind.{common_steps}
-use Rattle.std.proofs.Common.{◌≡◌, ⊎_elim, ℕ, zero, suc, ◌+◌, ◌*◌, ◌<◌, min, Bool, true, false, ◌==◌, List, [], ◌∷◌, length, refl, sym, ap, ◌∙◌, subst, arith, Option, Some, None}
+use Rattle.std.proofs.Common.{◌≡◌, ⊎_elim, ℕ, ◌+◌, ◌*◌, ◌<◌, min, Bool, true, false, ◌==◌, List, [], ◌∷◌, length, refl, sym, ap, ◌∙◌, subst, arith, Option, Some, None}
 use Rattle.std.specs.Prelude.{IfSome, IsTrue, is_some, if◌then◌else◌, nat_lt, slice_index, MatchOption}
 use Rattle.std.proofs.lemmas.Bool.{cases_Bool}
 use Rattle.arrayvec.specs.ArrayVec.{ArrayVec}
@@ -49,13 +49,10 @@ use Rattle.iol_app.proofs.SmallFacts.{freed_quiet}
 
 -- a request's segment was written: busy replies are counted from here
 sent_busy : (cutter : Cutting Request) (b : Bool) (busy : ℕ) → busy ≡ 0 → BusyAt (sending (if b then Some (pair cutter.size (text_of cutter) cutter.given) else None)) busy
-sent_busy cutter true busy e = e
-sent_busy cutter false busy e = omega (arith, e)
+sent_busy cutter b busy e = grind (arith, common_steps)
 
 first_quiet : (source : Request) (given : ℕ) → segment_move source given ≡ Leave → before_last source given ≡ Quiet
-first_quiet source zero e = refl
-first_quiet source (suc zero) e = refl
-first_quiet source (suc (suc i)) e = absurd (cc)
+first_quiet source given e = grind (arith, common_steps)
 
 busy_waits : (limit busy : ℕ) (cancels : Bool) (abort : Option Cause) (counted : ℕ) → counted ≡ min busy 65535 → AbortAt limit abort busy cancels
     → AbortAt limit (if one_more counted == limit then waiting abort BusyTooLong else abort) (busy + 1) cancels

@@ -1,5 +1,5 @@
 -- The steps of the far end stand beside each other, and say nothing to the book nor of reports.
-use Rattle.std.proofs.Common.{append_assoc, ◌≡◌, ℕ, Bool, true, false, not, ◌&&◌, List, [], ◌∷◌, ◌++◌, take, filter, refl, sym, ◌∙◌, ap, arith}
+use Rattle.std.proofs.Common.{◌≡◌, ℕ, Bool, true, false, not, ◌&&◌, List, [], ◌∷◌, ◌++◌, take, filter, refl, sym, ◌∙◌, arith}
 use Rattle.std.proofs.lemmas.Grind.{common_steps}
 use Rattle.std.specs.Prelude.{Option, Some, None, if◌then◌else◌, IsTrue, ⊤}
 use Rattle.std.specs.List.{list_all}
@@ -7,13 +7,12 @@ use Rattle.iol_mseq.specs.declared.master.MasterMsg.{MasterMsg}
 use Rattle.iol_isdu.specs.declared.values.Request.{Request}
 use Rattle.iol_isdu.specs.declared.values.Answer.{Answer}
 use Rattle.iol_event.specs.Memory.{Events, is_empty, freezes_at_once}
-use Rattle.iol_link.specs.Honest.{Passage, OutLost, BackLost, Clean}
-use Rattle.iol_far.specs.Isdu.{IsduState, Empty, Receiving, Whole, Handed, Answered, fits}
+use Rattle.iol_link.specs.Honest.{Passage, OutLost}
+use Rattle.iol_far.specs.Isdu.{IsduState, Handed, fits}
 use Rattle.iol_far.specs.Far.{Far, accepted, worked, output_of}
-use Rattle.iol_far.specs.Local.{LocalStep, local, locals, has_room, is_input, Carry as OwnCarry, Raise as OwnRaise, Input as OwnInput, NoInput as OwnNoInput, Power as OwnPower}
+use Rattle.iol_far.specs.Local.{LocalStep, local, locals, has_room, is_input, Carry as OwnCarry, Raise as OwnRaise, Input as OwnInput}
 use Rattle.iol_steps.specs.Step.{Step, Carry, LateCarry, Freeze, Confirm, Make, OutputOn, OutputOff, Input, PowerLoss, Busy, Image, clash, is_clash_free, is_for_book, is_report, no_make}
 use Rattle.iol_steps.specs.Bridge.{Hidden, carry_step, carry_steps, own_step, own_steps, hidden_carried, hidden_carry, hidden_after, hidden_through, release_steps, event_steps, output_steps, confirms_by, heard_steps_as, passed_steps, exchange_steps, woken_steps, wake_steps}
-use Rattle.iol_steps.specs.Kinds.{made_steps}
 
 -- a step of the far end but the confirm
 abbrev pub is_own : Step → Bool
@@ -52,14 +51,7 @@ own_all request [] far = tt
 own_all request (step ∷ steps) far = all_own-append (own_step request far step) (own_steps request (local far step) steps) (own_all_step request far step) (own_all request steps (local far step))
 
 release_own : (e : Events) → AllOwn (release_steps e)
-release_own e = elim (is_empty e.frozen && not (is_empty e.waiting)) as (λ b. AllOwn (if b then Freeze (take 6 e.waiting) ∷ [] else [])) [ true ↦ (refl, tt) | false ↦ tt ]
-
-pub woken_own : (wakes : Bool) (far : Far) → AllOwn (woken_steps wakes far)
-woken_own true far = all_own-append (release_steps far.events) (OutputOff ∷ []) (release_own far.events) (refl, tt)
-woken_own false far = tt
-
-pub wake_own : (far : Far) (steps : List LocalStep) (wakes : Bool) → AllOwn (wake_steps far steps wakes)
-wake_own far steps wakes = all_own-append (own_steps None far steps) (woken_steps wakes (locals far steps)) (own_all None steps far) (woken_own wakes (locals far steps))
+release_own e = grind (arith, common_steps)
 
 -- own steps clash with a busy reply alone
 
@@ -84,23 +76,10 @@ own_apart _ ys own h = absurd (let z : false ≡ true = own in cc)
 own_no_busy : (x : Step) (ys : List Step) → is_own x ≡ true → no_busy ys ≡ true → no_busy (x ∷ ys) ≡ true
 own_no_busy x ys given given2 = grind (arith, common_steps)
 
-pub busy_free : (xs ys : List Step) → AllOwn xs → no_busy ys ≡ true → no_busy (xs ++ ys) ≡ true
-busy_free [] ys h k = k
-busy_free (x ∷ xs) ys h k = own_no_busy x (xs ++ ys) h.0 (busy_free xs ys h.1 k)
-
-pub own_clash_free : (xs ys : List Step) → AllOwn xs → no_busy ys ≡ true → IsTrue (is_clash_free ys) → IsTrue (is_clash_free (xs ++ ys))
-own_clash_free [] ys h k free = free
-own_clash_free (x ∷ xs) ys h k free = rw (own_apart x (xs ++ ys) h.0 (busy_free xs ys h.1 k)) (own_clash_free xs ys h.1 k free)
-
 -- they are no business of the book, and no reports
 
 own_unbooked : (x : Step) (ys : List Step) → is_own x ≡ true → (filter is_for_book (x ∷ ys) ≡ filter is_for_book ys) × (filter is_report (x ∷ ys) ≡ filter is_report ys)
 own_unbooked x ys given = grind (arith, common_steps)
-
-pub own_said : (xs ys : List Step) → AllOwn xs → (filter is_for_book (xs ++ ys) ≡ filter is_for_book ys) × (filter is_report (xs ++ ys) ≡ filter is_report ys)
-own_said [] ys h = (refl, refl)
-own_said (x ∷ xs) ys h =
-    let k = own_unbooked x (xs ++ ys) h.0 in let n = own_said xs ys h.1 in (k.0 ∙ n.0, k.1 ∙ n.1)
 
 -- What is heard, with its one confirm at most
 
@@ -108,7 +87,7 @@ confirm_apart : (ys : List Step) → no_confirm ys ≡ true → list_all (λ oth
 confirm_apart [] h = refl
 confirm_apart (y ∷ ys) h = grind (arith, common_steps, confirm_apart ys)
 
-make_apart : (ys : List Step) → no_make ys ≡ true → list_all (λ other. not (clash Make other)) ys ≡ true
+pub make_apart : (ys : List Step) → no_make ys ≡ true → list_all (λ other. not (clash Make other)) ys ≡ true
 make_apart [] h = refl
 make_apart (y ∷ ys) h = grind (arith, common_steps, make_apart ys)
 
@@ -126,14 +105,26 @@ pub record Before (xs ys : List Step) : Type 0 where
 before_none : (ys : List Step) → IsTrue (is_clash_free ys) → Before [] ys
 before_none ys free = record { busy = λ h. h; make = λ h. h; free = free; book = refl; reports = refl }
 
-before_calm : (x : Step) (xs ys : List Step) → is_own x ≡ true → ((y : Step) → clash x y ≡ false) → Before xs ys → Before (x ∷ xs) ys
-before_calm x xs ys own calm h = record {
+before_own : (x : Step) (xs ys : List Step) → is_own x ≡ true
+    → list_all (λ other. not (clash x other)) (xs ++ ys) ≡ true → Before xs ys → Before (x ∷ xs) ys
+before_own x xs ys own apart h = record {
   busy = λ k. own_no_busy x (xs ++ ys) own (h.busy k);
   make = λ k. own_no_make x (xs ++ ys) own (h.make k);
-  free = rw (plain_apart x calm (xs ++ ys)) h.free;
+  free = rw apart h.free;
   book = (own_unbooked x (xs ++ ys) own).0 ∙ h.book;
   reports = (own_unbooked x (xs ++ ys) own).1 ∙ h.reports;
 }
+
+before_calm : (x : Step) (xs ys : List Step) → is_own x ≡ true → ((y : Step) → clash x y ≡ false) → Before xs ys → Before (x ∷ xs) ys
+before_calm x xs ys own calm h = before_own x xs ys own (plain_apart x calm (xs ++ ys)) h
+
+-- own steps stand before what stands before no busy reply
+own_before : (xs ys zs : List Step) → AllOwn xs → no_busy zs ≡ true → Before ys zs
+    → Before (xs ++ ys) zs
+own_before [] ys zs h calm k = k
+own_before (x ∷ xs) ys zs h calm k =
+    let n = own_before xs ys zs h.1 calm k in
+    before_own x (xs ++ ys) zs h.0 (own_apart x ((xs ++ ys) ++ zs) h.0 (n.busy calm)) n
 
 before_confirm : (xs ys : List Step) → no_confirm (xs ++ ys) ≡ true → Before xs ys → Before (Confirm ∷ xs) ys
 before_confirm xs ys once h = record { busy = h.busy; make = h.make; free = rw (confirm_apart (xs ++ ys) once) h.free; book = h.book; reports = h.reports }
@@ -159,32 +150,28 @@ heard_before_as (Some (there, m)) o ys once free = worked_before there.events (c
 
 passed_before : (passage : Passage) (far : Far) (o : List ℕ) (ys : List Step) → no_confirm ys ≡ true → IsTrue (is_clash_free ys) → Before (passed_steps passage far o) ys
 passed_before OutLost far o ys once free = before_none ys free
-passed_before BackLost far o ys once free = heard_before_as (accepted far o) o ys once free
-passed_before Clean far o ys once free = heard_before_as (accepted far o) o ys once free
-
-own_makes : (xs ys : List Step) → AllOwn xs → no_make ys ≡ true → no_make (xs ++ ys) ≡ true
-own_makes [] ys h k = k
-own_makes (x ∷ xs) ys h k = own_no_make x (xs ++ ys) h.0 (own_makes xs ys h.1 k)
+passed_before other far o ys once free = heard_before_as (accepted far o) o ys once free
 
 -- an exchange before what it brought, where that is no busy reply
 pub exchange_before : (request : Option Request) (far : Far) (steps : List LocalStep) (passage : Passage) (o : List ℕ) (ys : List Step) → no_busy ys ≡ true → no_confirm ys ≡ true → IsTrue (is_clash_free ys) →
     Before (exchange_steps request far steps passage o) ys
 exchange_before request far steps passage o ys calm once free =
-    let xs = own_steps request far steps in let zs = passed_steps passage (locals far steps) o in
-    let own = own_all request steps far in let k = passed_before passage (locals far steps) o ys once free in
-    record {
-      busy = λ n. rw (append_assoc xs zs ys) (busy_free xs (zs ++ ys) own (k.busy n));
-      make = λ n. rw (append_assoc xs zs ys) (own_makes xs (zs ++ ys) own (k.make n));
-      free = rw (append_assoc xs zs ys) (own_clash_free xs (zs ++ ys) own (k.busy calm) k.free);
-      book = ap (filter is_for_book) (append_assoc xs zs ys) ∙ (own_said xs (zs ++ ys) own).0 ∙ k.book;
-      reports = ap (filter is_report) (append_assoc xs zs ys) ∙ (own_said xs (zs ++ ys) own).1 ∙ k.reports;
-    }
+    own_before (own_steps request far steps) (passed_steps passage (locals far steps) o) ys
+    (own_all request steps far) calm (passed_before passage (locals far steps) o ys once free)
 
--- and behind a message that is made
-pub made_before : (new : Bool) (xs ys : List Step) → no_make ys ≡ true → Before xs ys →
-    IsTrue (is_clash_free (made_steps new ++ xs ++ ys)) × (filter is_for_book (made_steps new ++ xs ++ ys) ≡ filter is_for_book ys) × (filter is_report (made_steps new ++ xs ++ ys) ≡ filter is_report ys)
-made_before false xs ys once h = (h.free, h.book, h.reports)
-made_before true xs ys once h = (rw (make_apart (xs ++ ys) (h.make once)) h.free, h.book, h.reports)
+-- and a wake
+woken_before : (wakes : Bool) (far : Far) (ys : List Step) → no_busy ys ≡ true
+    → IsTrue (is_clash_free ys) → Before (woken_steps wakes far) ys
+woken_before true far ys calm free =
+    own_before (release_steps far.events) (OutputOff ∷ []) ys (release_own far.events) calm
+    (output_before None ys free)
+woken_before false far ys calm free = before_none ys free
+
+pub wake_before : (far : Far) (steps : List LocalStep) (wakes : Bool) (ys : List Step)
+    → no_busy ys ≡ true → IsTrue (is_clash_free ys) → Before (wake_steps far steps wakes) ys
+wake_before far steps wakes ys calm free =
+    own_before (own_steps None far steps) (woken_steps wakes (locals far steps)) ys
+    (own_all None steps far) calm (woken_before wakes (locals far steps) ys calm free)
 
 -- While the answer is none nothing was carried out, so the own steps clash with nothing at all
 
@@ -201,42 +188,32 @@ calm_before [] ys zs h k = k
 calm_before (x ∷ xs) ys zs h k = before_calm x (xs ++ ys) zs h.0 h.1 (calm_before xs ys zs h.2 k)
 
 answered_carry : (r : Request) (b : Answer) (s : IsduState) (far : Far) (a : Answer) (h : Hidden) → h.answer ≡ Some b → (c : Answer) × ((hidden_carry (Some r) s far a h).answer ≡ Some c)
-answered_carry r b Empty far a h e = (b, e)
-answered_carry r b (Receiving t l) far a h e = (b, e)
-answered_carry r b (Whole q l) far a h e = (b, e)
-answered_carry r b (Answered q c l) far a h e = (b, e)
 answered_carry r b (Handed q) far a h e =
     elim (has_room far && fits q a) as (λ t. (c : Answer) × ((if t then hidden_carried (Some r) a h else h).answer ≡ Some c)) [ true ↦ (a, refl) | false ↦ (b, e) ]
+answered_carry r b state far a h e = (b, e)
 
 answered_step : (r : Request) (b : Answer) (far : Far) (step : LocalStep) (h : Hidden) → h.answer ≡ Some b → (c : Answer) × ((hidden_after (Some r) far step h).answer ≡ Some c)
 answered_step r b far (OwnCarry a) h e = answered_carry r b far.isdu far a h e
-answered_step r b far (OwnRaise x) h e = (b, e)
-answered_step r b far (OwnInput i) h e = (b, e)
-answered_step r b far OwnNoInput h e = (b, e)
-answered_step r b far OwnPower h e = (b, e)
+answered_step r b far other h e = (b, e)
 
 answered_stays : (r : Request) (steps : List LocalStep) (b : Answer) (far : Far) (h : Hidden) → h.answer ≡ Some b → (hidden_through (Some r) far steps h).answer ≡ None → ⊥
 answered_stays r [] b far h e n = let k : None ≡ Some b = sym n ∙ e in absurd (cc)
 answered_stays r (step ∷ steps) b far h e n = let k = answered_step r b far step h e in answered_stays r steps k.0 (local far step) (hidden_after (Some r) far step h) k.1 n
 
 calm_carry : (r : Request) (s : IsduState) (far : Far) (a : Answer) (h : Hidden) → ((b : Answer) → (hidden_carry (Some r) s far a h).answer ≡ Some b → ⊥) → AllCalm (carry_steps (Some r) s far a)
-calm_carry r Empty far a h n = tt
-calm_carry r (Receiving t l) far a h n = tt
-calm_carry r (Whole q l) far a h n = tt
-calm_carry r (Answered q c l) far a h n = tt
 calm_carry r (Handed q) far a h n = split (has_room far && fits q a) n
   where
     split : (t : Bool) → ((b : Answer) → (if t then hidden_carried (Some r) a h else h).answer ≡ Some b → ⊥) → AllCalm (if t then carry_step (Some r) a ∷ [] else [])
     split true n = absurd (n a refl)
     split false n = tt
+calm_carry r state far a h n = tt
 
 calm_step : (r : Request) (far : Far) (step : LocalStep) (h : Hidden) → ((b : Answer) → (hidden_after (Some r) far step h).answer ≡ Some b → ⊥) → AllCalm (own_step (Some r) far step)
 calm_step r far (OwnCarry a) h n = calm_carry r far.isdu far a h n
 calm_step r far (OwnRaise e) h n = elim (freezes_at_once far.events) as (λ b. AllCalm (if b then Freeze (e ∷ []) ∷ [] else [])) [ true ↦ (refl, (λ y. refl), tt) | false ↦ tt ]
 calm_step r far (OwnInput image) h n =
     elim (is_input far image) as (λ b. AllCalm (if b then Input (Some image) ∷ [] else [])) [ true ↦ (refl, (λ y. refl), tt) | false ↦ tt ]
-calm_step r far OwnNoInput h n = (refl, (λ y. refl), tt)
-calm_step r far OwnPower h n = (refl, (λ y. refl), tt)
+calm_step r far other h n = (refl, (λ y. refl), tt)
 
 pub own_calm : (r : Request) (steps : List LocalStep) (far : Far) (h : Hidden) → (hidden_through (Some r) far steps h).answer ≡ None → AllCalm (own_steps (Some r) far steps)
 own_calm r [] far h n = tt
@@ -260,30 +237,19 @@ pub no_clash-append : (xs ys : List Step) → no_clash xs → no_clash ys → no
 no_clash-append [] ys h k = k
 no_clash-append (x ∷ xs) ys h k = grind (arith, common_steps, no_clash-append xs ys)
 
-calm_no_clash : (x : Step) (xs : List Step) → is_own x ≡ true → clash x Busy ≡ false → no_clash xs → no_clash (x ∷ xs)
-calm_no_clash x xs own calm h = grind (arith, common_steps)
+last_calm : (x : Step) (xs : List Step)
+    → list_all (λ other. not (clash x other)) (xs ++ Busy ∷ []) ≡ true → clash Busy x ≡ false
+last_calm x [] h = grind (arith, common_steps)
+last_calm x (y ∷ ys) h = grind (arith, common_steps, last_calm x ys)
 
-pub all_calm_no_clash : (xs : List Step) → AllCalm xs → no_clash xs
-all_calm_no_clash [] h = refl
-all_calm_no_clash (x ∷ xs) h = calm_no_clash x xs h.0 (h.1 Busy) (all_calm_no_clash xs h.2)
+free_calm : (xs : List Step) → IsTrue (is_clash_free (xs ++ Busy ∷ [])) → no_clash xs
+free_calm [] h = refl
+free_calm (x ∷ xs) h = grind (arith, common_steps, free_calm xs, last_calm x xs)
 
-output_no_clash : (output : Option Image) → no_clash (output_steps output)
-output_no_clash None = refl
-output_no_clash (Some image) = refl
-
-worked_no_clash : (e : Events) (c : Bool) (output : Option Image) → no_clash (event_steps e c ++ output_steps output)
-worked_no_clash e true output = elim (not e.held && not (is_empty e.frozen)) as (λ b. no_clash ((if b then Confirm ∷ [] else []) ++ output_steps output)) [ true ↦ output_no_clash output | false ↦ output_no_clash output ]
-worked_no_clash e false output = elim (is_empty e.frozen && not (is_empty e.waiting)) as (λ b. no_clash ((if b then Freeze (take 6 e.waiting) ∷ [] else []) ++ output_steps output)) [ true ↦ output_no_clash output | false ↦ output_no_clash output ]
-
-heard_no_clash : (q : Option (Far × MasterMsg)) (o : List ℕ) → no_clash (heard_steps_as q o)
-heard_no_clash None o = refl
-heard_no_clash (Some (there, m)) o = worked_no_clash there.events (confirms_by m.mc) (output_of (worked there o m))
-
-pub passed_no_clash : (passage : Passage) (far : Far) (o : List ℕ) → no_clash (passed_steps passage far o)
-passed_no_clash OutLost far o = refl
-passed_no_clash BackLost far o = heard_no_clash (accepted far o) o
-passed_no_clash Clean far o = heard_no_clash (accepted far o) o
-
-pub made_no_clash : (new : Bool) → no_clash (made_steps new)
-made_no_clash true = refl
-made_no_clash false = refl
+-- an exchange whose own steps are calm
+pub calm_passed : (xs : List Step) (passage : Passage) (far : Far) (o : List ℕ) → AllCalm xs
+    → no_clash (xs ++ passed_steps passage far o)
+calm_passed xs passage far o h =
+    free_calm (xs ++ passed_steps passage far o)
+    (calm_before xs (passed_steps passage far o) (Busy ∷ []) h
+    (passed_before passage far o (Busy ∷ []) refl refl)).free

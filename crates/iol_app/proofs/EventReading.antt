@@ -1,5 +1,5 @@
 -- The reading of events goes with the far end's frozen list.
-use Rattle.std.proofs.Common.{◌≡◌, ℕ, Bool, true, false, not, List, [], ◌∷◌, take, drop, refl, sym, subst, arith}
+use Rattle.std.proofs.Common.{◌≡◌, ℕ, Bool, true, false, not, List, [], ◌∷◌, sym, subst, arith}
 use Rattle.std.specs.Prelude.{Option, Some, None, if◌then◌else◌}
 use Rattle.iol_mseq.specs.declared.master.MasterMsg.{MasterMsg}
 use Rattle.iol_isdu.specs.declared.values.Answer.{Answer}
@@ -58,7 +58,7 @@ kept_fits r event m is held fit = grind (arith, common_steps)
 
 -- what is heard and is no confirm ends the hold
 released_held : (m : Events) → (released m).held ≡ false
-released_held m = elim (is_empty m.frozen) as (λ b. (if b then (let x : Events = record { frozen = take 6 m.waiting; waiting = drop 6 m.waiting; held = false } in x) else record m { held = false }).held ≡ false) [ true ↦ refl | false ↦ refl ]
+released_held m = grind (arith, common_steps)
 
 pub ends_hold : (far : Far) (o reply : List ℕ) → octets_confirm o ≡ false → (hear far o).reply ≡ Some reply → (hear far o).far.events.held ≡ false
 ends_hold far o reply other = by_accepted P far o (λ r. absurd (let z : Path (Option (List ℕ)) None (Some reply) = r in cc))

@@ -14,7 +14,7 @@ use Rattle.iol_far.specs.Local.{LocalStep, locals}
 use Rattle.iol_far.specs.Level.{IsLevel, taken}
 use Rattle.iol_far.specs.Laws.{confirms as octets_confirm}
 use Rattle.iol_link.specs.Attempts.{Sending}
-use Rattle.iol_link.specs.Honest.{Passage, OutLost, BackLost, Clean, far_after}
+use Rattle.iol_link.specs.Honest.{Passage, OutLost, far_after}
 use Rattle.iol_mode.specs.Stands.{StateStands}
 use Rattle.iol_mode.specs.States.{InDown, StateFits}
 use Rattle.iol_mode.specs.declared.why.Why.TheVariants.{Lost}
@@ -105,8 +105,7 @@ module _ (laws : Laws) (layouts : Layouts) (w : Sending) (t : SessionState) (g :
 
     tied_by : (q : Passage) → IsTied g.request.base request h (far_after q (locals far steps) o).carried
     tied_by OutLost = tied_here
-    tied_by BackLost = subst (IsTied g.request.base request h) (sym (hear_carried (locals far steps) o)) tied_here
-    tied_by Clean = subst (IsTied g.request.base request h) (sym (hear_carried (locals far steps) o)) tied_here
+    tied_by other = subst (IsTied g.request.base request h) (sym (hear_carried (locals far steps) o)) tied_here
 
     pub tied' : IsTied g.request.base request h passed.carried
     tied' = tied_by passage
@@ -159,7 +158,7 @@ module _ (laws : Laws) (layouts : Layouts) (w : Sending) (t : SessionState) (g :
               silent = silent;
               terms = (b.limit, b.page);
               clash_free = b.apart.free;
-              fresh = λ k. fresh_turn false request far steps passage o ys (stands.fresh k).1 (b.calm k);
+              fresh = λ k. fresh_turn request far steps passage o ys (stands.fresh k).1 (b.calm k);
               said_book = b.apart.book ∙ b.book;
               said_reports = b.apart.reports ∙ b.reports;
               session = session_runs-append m (seen_in c g) (seen_in c g) (seen_in next after) g.request.hidden h after.request.hidden far.carried passed.carried passed.carried xs ys (exchange_session m (seen_in c g) g.request.hidden far steps passage o up.opens) b.session;

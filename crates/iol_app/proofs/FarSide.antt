@@ -9,7 +9,7 @@ use Rattle.iol_mseq.specs.declared.master.MasterMsg.{MasterMsg}
 use Rattle.iol_mseq.specs.declared.reply.Reply.{Reply}
 use Rattle.iol_page.specs.declared.master_command.MasterCommand.{MasterCommand}
 use Rattle.iol_page.specs.declared.master_command.MasterCommand.TheVariants.{ProcessDataOutputOperate}
-use Rattle.iol_link.specs.Honest.{Passage, OutLost, BackLost, Clean, far_after, HonestExchange, IsUnread, IsAnswer, brought, silence_after}
+use Rattle.iol_link.specs.Honest.{Passage, OutLost, Clean, far_after, HonestExchange, IsUnread, IsAnswer, brought, silence_after}
 use Rattle.iol_link.specs.Attempts.{good_reply}
 use Rattle.iol_far.specs.declared.carried.Carried.{Carried}
 use Rattle.iol_far.specs.declared.mode.Mode as device
@@ -20,7 +20,7 @@ use Rattle.iol_far.specs.Local.{locals}
 use Rattle.iol_far.specs.Level.{Link, Progress, Move, taken as taken_link, IsSent, IsLevel}
 use Rattle.iol_far.specs.Laws.{IsSized, ReplySays}
 use Rattle.iol_steps.specs.declared.mode.Mode.{Mode}
-use Rattle.iol_steps.specs.declared.mode.Mode.TheVariants.{Down, Startup, Preoperate, Operate}
+use Rattle.iol_steps.specs.declared.mode.Mode.TheVariants.{Operate}
 use Rattle.iol_steps.specs.Step.{Image}
 use Rattle.iol_steps.specs.Station.{far_mode, output_by, WaitsElsewhere, AnswerFits, ProgressFits}
 use Rattle.iol_steps.specs.Exchange.{told_by}
@@ -28,7 +28,7 @@ use Rattle.iol_isdu.specs.declared.values.Request.{Request}
 use Rattle.iol_steps.specs.Bridge.{Hidden, IsOpen}
 use Rattle.iol_app.proofs.OpenLevel.{replied_opens}
 use Rattle.iol_app.proofs.Given.{Laws, level_locals, sized_locals}
-use Rattle.iol_app.proofs.Accepted.{by_accepted}
+use Rattle.iol_app.proofs.Accepted.{accepted_as}
 use Rattle.iol_app.proofs.ImagesPart.{OutputsSent}
 use Rattle.iol_app.proofs.Replying.{accepts_reply}
 use Rattle.iol_app.specs.Ends.{OutputTold}
@@ -95,22 +95,18 @@ module _ (laws : Laws) (page : List ℕ) (run : Shape) (base : List Carried) (li
   accepts_as most far same level there m e =
       let r = accepts_reply far o there m e in
       let says = says_of most far level r.0 r.1 in
-      let there_mode : there.mode ≡ far_mode mode = sym (ap (λ (q : Option (Far × MasterMsg)). (heard_as far o q).far.mode) e) ∙ ap (λ (l : Link). l.mode) says.before.link_is ∙ sending.at_mode in
-      (again there m (by_accepted P far o no (λ a n f. here far n f) (λ a c q n f. here (moved far c.into) n f) there m e) there_mode, there_mode)
+      let there_mode : there.mode ≡ far_mode mode = sym (ap (λ (q : Option (Far × MasterMsg)). (heard_as far o q).far.mode) e) ∙ ap (λ (l : Link). l.mode) says.before.link_is ∙ sending.at_mode in (
+        again there m (accepted_as (λ q. IfSome q Spells) far o tt (λ a n f. here far n f)
+            (λ a c q n f. here (moved far c.into) n f) there m e) there_mode,
+        there_mode,
+      )
     where
-      P : Option (Far × MasterMsg) → Type 0
-      P q = (there : Far) (m : MasterMsg) → q ≡ Some (there, m) → message_in (layout_in page there.mode) o ≡ Some m
-
-      no : P None
-      no t n k = absurd (let z : Path (Option (Far × MasterMsg)) None (Some (t, n)) = k in cc)
-
       Spells : Far × MasterMsg → Type 0
       Spells x = message_in (layout_in page x.0.mode) o ≡ Some x.1
 
-      here : (t : Far) (n : MasterMsg) → message_in (layout_in far.page t.mode) o ≡ Some n → P (Some (t, n))
-      here t n f there m e =
-          let z : Path (Option (Far × MasterMsg)) (Some (t, n)) (Some (there, m)) = e in let pair : Path (Far × MasterMsg) (t, n) (there, m) = cc in
-          subst Spells pair (subst (λ (x : List ℕ). message_in (layout_in x t.mode) o ≡ Some n) same f)
+      here : (t : Far) (n : MasterMsg) → message_in (layout_in far.page t.mode) o ≡ Some n
+          → Spells (t, n)
+      here t n f = subst (λ (x : List ℕ). message_in (layout_in x t.mode) o ≡ Some n) same f
 
       again : (there : Far) (m : MasterMsg) → message_in (layout_in page there.mode) o ≡ Some m → there.mode ≡ far_mode mode → m ≡ message
       again there m given given2 = grind (arith, common_steps)
@@ -149,9 +145,8 @@ module _ (laws : Laws) (page : List ℕ) (run : Shape) (base : List Carried) (li
             let z : Path (Option Reply) None (Some (reply_to (hear (locals from h.steps) o).far run message)) = sym none ∙ ap (good_reply run message) a ∙ reads_reply reply e in absurd (cc)
 
         by_passage : (p : Passage) → IsAnswer p (locals from h.steps) o answer → silence_after n (brought p (locals from h.steps) o) ≡ min 3 (n + 1)
-        by_passage OutLost a = refl
-        by_passage BackLost a = refl
         by_passage Clean a = by_reply (hear (locals from h.steps) o).reply refl a
+        by_passage other a = refl
 
     -- a good reply is the far end's, unaltered
     pub record IsReplied (reply : Reply) : Type 0 where
@@ -179,36 +174,22 @@ module _ (laws : Laws) (page : List ℕ) (run : Shape) (base : List Carried) (li
         }
 
         by_passage : (p : Passage) → h.passage ≡ p → IsAnswer p (locals from h.steps) o answer → IsReplied reply
-        by_passage OutLost is a = bad a
-        by_passage BackLost is a = bad a
         by_passage Clean is a = by_reply is (hear (locals from h.steps) o).reply refl a
+        by_passage other is a = bad a
 
   -- where it is accepted the output is valid only as before
   there_valid : (g : Far) → OutputsAt g → g.awake ≡ true → (there : Far) (m : MasterMsg) → accepted g o ≡ Some (there, m) → (there.valid ≡ true → (there.mode ≡ FarOperate) × IsSome sent)
-  there_valid g h awake = by_accepted P g o (λ t m k. absurd (let z : Path (Option (Far × MasterMsg)) None (Some (t, m)) = k in cc))
-      (λ a m e t n k. let z : Path (Option (Far × MasterMsg)) (Some (g, m)) (Some (t, n)) = k in let pair : Path (Far × MasterMsg) (g, m) (t, n) = cc in subst Q pair (h.0 awake))
-      (λ a c q m e t n k. let z : Path (Option (Far × MasterMsg)) (Some (moved g c.into, m)) (Some (t, n)) = k in let pair : Path (Far × MasterMsg) (moved g c.into, m) (t, n) = cc in
-      subst Q pair (λ v. absurd (let y : false ≡ true = v in cc)))
-    where
-      Q : Far × MasterMsg → Type 0
-      Q x = x.0.valid ≡ true → (x.0.mode ≡ FarOperate) × IsSome sent
-
-      P : Option (Far × MasterMsg) → Type 0
-      P q = (t : Far) (m : MasterMsg) → q ≡ Some (t, m) → (t.valid ≡ true → (t.mode ≡ FarOperate) × IsSome sent)
+  there_valid g h awake =
+      accepted_as (λ q. IfSome q (λ x. x.0.valid ≡ true → (x.0.mode ≡ FarOperate) × IsSome sent))
+      g o tt (λ a m e. h.0 awake) (λ a c q m e v. absurd (let y : false ≡ true = v in cc))
 
   -- and as told
   there_told : (g : Far) → OutputsAt g → g.awake ≡ true → (there : Far) (m : MasterMsg) → accepted g o ≡ Some (there, m) → there.mode ≡ far_mode mode → command ≡ None → there.valid ≡ told
-  there_told g h awake = by_accepted P g o (λ t m k. absurd (let z : Path (Option (Far × MasterMsg)) None (Some (t, m)) = k in cc))
-      (λ a m e t n k. let z : Path (Option (Far × MasterMsg)) (Some (g, m)) (Some (t, n)) = k in let pair : Path (Far × MasterMsg) (g, m) (t, n) = cc in subst Q pair (λ md none. h.1 awake none))
-      (λ a c q m e t n k. let z : Path (Option (Far × MasterMsg)) (Some (moved g c.into, m)) (Some (t, n)) = k in let pair : Path (Far × MasterMsg) (moved g c.into, m) (t, n) = cc in
-      subst Q pair (λ md none. fresh_layout c q md none))
+  there_told g h awake =
+      accepted_as
+      (λ q. IfSome q (λ x. x.0.mode ≡ far_mode mode → command ≡ None → x.0.valid ≡ told))
+      g o tt (λ a m e md none. h.1 awake none) (λ a c q m e. by_mode mode refl c q)
     where
-      Q : Far × MasterMsg → Type 0
-      Q x = x.0.mode ≡ far_mode mode → command ≡ None → x.0.valid ≡ told
-
-      P : Option (Far × MasterMsg) → Type 0
-      P q = (t : Far) (m : MasterMsg) → q ≡ Some (t, m) → t.mode ≡ far_mode mode → command ≡ None → t.valid ≡ told
-
       elsewhere : (c : WaitingCommand) → g.waits ≡ Some c → is_mode g.mode c.into ≡ false
       elsewhere c q = subst (λ (x : Option WaitingCommand). IfSome x (λ d. is_mode g.mode d.into ≡ false)) q h.2
 
@@ -218,12 +199,8 @@ module _ (laws : Laws) (page : List ℕ) (run : Shape) (base : List Carried) (li
           let into : c.into ≡ FarOperate = md ∙ ap far_mode is in
           let f : is_mode FarOperate FarOperate ≡ false = sym (ap (λ (x : device.Mode). is_mode x c.into) op ∙ ap (is_mode FarOperate) into) ∙ elsewhere c q in
           absurd (let z : true ≡ false = f in cc))
-      by_mode Down is c q md none = sym (sending.starting (λ op. let z : Down ≡ Operate = sym is ∙ op in absurd (cc)))
-      by_mode Startup is c q md none = sym (sending.starting (λ op. let z : Startup ≡ Operate = sym is ∙ op in absurd (cc)))
-      by_mode Preoperate is c q md none = sym (sending.starting (λ op. let z : Preoperate ≡ Operate = sym is ∙ op in absurd (cc)))
-
-      fresh_layout : (c : WaitingCommand) → g.waits ≡ Some c → c.into ≡ far_mode mode → command ≡ None → false ≡ told
-      fresh_layout c q md none = by_mode mode refl c q md none
+      by_mode other is c q md none =
+          sym (sending.starting (λ op. let z : other ≡ Operate = sym is ∙ op in absurd (cc)))
 
   -- the output once the message is worked
   module _ (most : ℕ) (g : Far) (same : g.page ≡ page) (level : IsLevel page run.od base link progress o most g) (h : OutputsAt g) (awake : g.awake ≡ true)
@@ -261,18 +238,13 @@ module _ (laws : Laws) (page : List ℕ) (run : Shape) (base : List Carried) (li
         split false n f = tt
 
     worked_outputs : OutputsAt (worked there o m)
-    worked_outputs = ((λ a v. worked_valid v), (λ a none. worked_as_told ∙ ap (λ (c : Option Bool). told_by c told) none), waits_stay there.mode there.waits o (known_mode there.page (mode_asked (command_in m))) (there_waits there m e))
-      where
-        P : Option (Far × MasterMsg) → Type 0
-        P q = (t : Far) (n : MasterMsg) → q ≡ Some (t, n) → WaitsElsewhere t
-
-        Q : Far × MasterMsg → Type 0
-        Q x = WaitsElsewhere x.0
-
-        there_waits : (t : Far) (n : MasterMsg) → accepted g o ≡ Some (t, n) → WaitsElsewhere t
-        there_waits = by_accepted P g o (λ t n k. absurd (let z : Path (Option (Far × MasterMsg)) None (Some (t, n)) = k in cc))
-            (λ a m e t n k. let z : Path (Option (Far × MasterMsg)) (Some (g, m)) (Some (t, n)) = k in let pair : Path (Far × MasterMsg) (g, m) (t, n) = cc in subst Q pair h.2)
-            (λ a c q m e t n k. let z : Path (Option (Far × MasterMsg)) (Some (moved g c.into, m)) (Some (t, n)) = k in let pair : Path (Far × MasterMsg) (moved g c.into, m) (t, n) = cc in subst Q pair tt)
+    worked_outputs = (
+      (λ a v. worked_valid v),
+      (λ a none. worked_as_told ∙ ap (λ (c : Option Bool). told_by c told) none),
+      waits_stay there.mode there.waits o (known_mode there.page (mode_asked (command_in m)))
+          (accepted_as (λ q. IfSome q (λ x. WaitsElsewhere x.0)) g o tt (λ a m e. h.2)
+          (λ a c q m e. tt) there m e),
+    )
 
   -- only an awake far end accepts
   pub accepts_awake : (g : Far) (there : Far) (m : MasterMsg) → accepted g o ≡ Some (there, m) → g.awake ≡ true
@@ -290,8 +262,7 @@ module _ (laws : Laws) (page : List ℕ) (run : Shape) (base : List Carried) (li
 
   pub outputs_after : (passage : Passage) (most : ℕ) (g : Far) → g.page ≡ page → IsLevel page run.od base link progress o most g → OutputsAt g → OutputsAt (far_after passage g o)
   outputs_after OutLost most g same level h = h
-  outputs_after BackLost most g same level h = outputs_hear most g same level h
-  outputs_after Clean most g same level h = outputs_hear most g same level h
+  outputs_after other most g same level h = outputs_hear most g same level h
 
   -- with a reply the output is as told then
   pub replied_told : (most : ℕ) (g : Far) → g.page ≡ page → IsLevel page run.od base link progress o most g → OutputsAt g → (reply : List ℕ) → (hear g o).reply ≡ Some reply
@@ -323,6 +294,4 @@ module _ (laws : Laws) (page : List ℕ) (run : Shape) (base : List Carried) (li
         (replied_opens page run.od base link progress o message what (hear g o) request h (says_of most g level r.0 r.1) fits answer)
 
     pub opens_after : (passage : Passage) → IsOpen (far_after passage g o).isdu request h
-    opens_after OutLost = before
-    opens_after BackLost = opens_heard (accepted g o) refl
-    opens_after Clean = opens_heard (accepted g o) refl
+    opens_after passage = grind (arith, common_steps, opens_heard)

@@ -1,5 +1,5 @@
 -- In the turn of a request begun since the last one, no step clashes with its taking: nothing is handed yet.
-use Rattle.std.proofs.Common.{◌≡◌, ℕ, Bool, List, [], ◌∷◌, ◌++◌, arith}
+use Rattle.std.proofs.Common.{◌≡◌, ℕ, List, [], ◌∷◌, ◌++◌, arith}
 use Rattle.std.proofs.lemmas.Grind.{common_steps}
 use Rattle.std.specs.Prelude.{Option, None, IsTrue}
 use Rattle.std.specs.List.{list_all}
@@ -9,10 +9,9 @@ use Rattle.iol_far.specs.Isdu.{handed}
 use Rattle.iol_far.specs.Far.{Far}
 use Rattle.iol_far.specs.Local.{LocalStep, local, locals}
 use Rattle.iol_steps.specs.Step.{Step}
-use Rattle.iol_steps.specs.Bridge.{own_step, own_steps, passed_steps, exchange_steps}
-use Rattle.iol_steps.specs.Kinds.{made_steps}
+use Rattle.iol_steps.specs.Bridge.{own_step, own_steps, exchange_steps}
 use Rattle.iol_steps.specs.Turn.{is_calm}
-use Rattle.iol_app.proofs.Clash.{AllCalm, calm-append, no_clash, no_clash-append, made_no_clash, all_calm_no_clash, passed_no_clash}
+use Rattle.iol_app.proofs.Clash.{AllCalm, calm-append, no_clash, no_clash-append, calm_passed}
 
 step_unhanded : (far : Far) (step : LocalStep) → handed far.isdu ≡ None → handed (local far step).isdu ≡ None
 step_unhanded far step given = grind (arith, common_steps)
@@ -24,10 +23,10 @@ calm_owns : (request : Option Request) (steps : List LocalStep) (far : Far) → 
 calm_owns request [] far h = tt
 calm_owns request (step ∷ steps) far h = calm-append (own_step request far step) (own_steps request (local far step) steps) (calm_own request far step h) (calm_owns request steps (local far step) (step_unhanded far step h))
 
-pub fresh_turn : (new : Bool) (request : Option Request) (far : Far) (steps : List LocalStep) (passage : Passage) (o : List ℕ) (ys : List Step) → handed far.isdu ≡ None → no_clash ys →
-    IsTrue (list_all is_calm (made_steps new ++ exchange_steps request far steps passage o ++ ys))
-fresh_turn new request far steps passage o ys h k =
-    no_clash-append (made_steps new ++ exchange_steps request far steps passage o) ys
-    (no_clash-append (made_steps new) (exchange_steps request far steps passage o) (made_no_clash new)
-    (no_clash-append (own_steps request far steps) (passed_steps passage (locals far steps) o) (all_calm_no_clash (own_steps request far steps) (calm_owns request steps far h)) (passed_no_clash passage (locals far steps) o)))
-    k
+pub fresh_turn : (request : Option Request) (far : Far) (steps : List LocalStep)
+    (passage : Passage) (o : List ℕ) (ys : List Step) → handed far.isdu ≡ None → no_clash ys
+    → IsTrue (list_all is_calm (exchange_steps request far steps passage o ++ ys))
+fresh_turn request far steps passage o ys h k =
+    no_clash-append (exchange_steps request far steps passage o) ys
+    (calm_passed (own_steps request far steps) passage (locals far steps) o
+    (calm_owns request steps far h)) k

@@ -1,19 +1,19 @@
 -- The frozen events: own steps, what is heard, and a wake are allowed there, and leave what the far end's memory says.
 use Rattle.std.proofs.lemmas.Grind.{common_steps}
-use Rattle.std.proofs.Common.{◌≡◌, ℕ, Bool, true, false, List, [], ◌∷◌, ◌++◌, refl, sym, ◌∙◌, ap, subst, arith}
-use Rattle.std.specs.Prelude.{Option, Some, None}
+use Rattle.std.proofs.Common.{◌≡◌, ℕ, Bool, true, List, [], ◌∷◌, ◌++◌, refl, sym, ◌∙◌, ap, subst, arith}
+use Rattle.std.specs.Prelude.{Option, None}
 use Rattle.iol_mseq.specs.declared.master.MasterMsg.{MasterMsg}
 use Rattle.iol_isdu.specs.declared.values.Request.{Request}
 use Rattle.iol_event.specs.declared.event.Event.{Event}
-use Rattle.iol_event.specs.Memory.{Events, confirmed, released}
-use Rattle.iol_link.specs.Honest.{Passage, OutLost, BackLost, Clean, far_after}
+use Rattle.iol_event.specs.Memory.{Events, released}
+use Rattle.iol_link.specs.Honest.{Passage, OutLost, far_after}
 use Rattle.iol_far.specs.Codec.{layout_in}
 use Rattle.iol_far.specs.Far.{Far, moved, hear, heard_as, worked, output_of, events_after}
-use Rattle.iol_far.specs.Local.{LocalStep, local, locals, woken}
+use Rattle.iol_far.specs.Local.{LocalStep, local, locals}
 use Rattle.iol_far.specs.Laws.{confirms as octets_confirm}
-use Rattle.iol_steps.specs.Step.{Step, OutputOff, Image}
+use Rattle.iol_steps.specs.Step.{Step, Image}
 use Rattle.iol_steps.specs.FrozenEvents.{Frozen, frozen_through, MayFrozenAll}
-use Rattle.iol_steps.specs.Bridge.{own_step, own_steps, told_after, told_through, confirm_steps, release_steps, event_steps, output_steps, confirms_by, worked_steps, heard_steps_as, heard_steps, told_released, told_worked, told_heard_as, told_heard, passed_steps, told_passed, exchange_steps, told_exchanged, woken_steps, told_woken, wake_steps, told_wake}
+use Rattle.iol_steps.specs.Bridge.{own_step, own_steps, told_after, told_through, release_steps, event_steps, output_steps, confirms_by, worked_steps, heard_steps_as, heard_steps, told_released, told_worked, told_heard_as, told_heard, passed_steps, told_passed, exchange_steps, told_exchanged, woken_steps, told_woken, wake_steps, told_wake}
 use Rattle.iol_steps.specs.Station.{frozen_of}
 use Rattle.iol_app.proofs.Accepted.{by_accepted}
 use Rattle.iol_app.proofs.FirstOctet.{confirms_of}
@@ -55,20 +55,11 @@ release_frozen : (f w : List Event) (h : Bool) (t : Bool) →
     let m : Events = record { frozen = f; waiting = w; held = h } in FrozenRuns f t (release_steps m) (released m).frozen (told_released m t)
 release_frozen f w h t = grind (arith, common_steps)
 
-confirm_frozen : (f w : List Event) (h : Bool) (t : Bool) → t ≡ true →
-    let m : Events = record { frozen = f; waiting = w; held = h } in FrozenRuns f t (confirm_steps m) (confirmed m).frozen t
-confirm_frozen [] w true t told = (tt, refl)
-confirm_frozen [] w false t told = (tt, refl)
-confirm_frozen (x ∷ xs) w true t told = (tt, refl)
-confirm_frozen (x ∷ xs) w false t told = ((told, tt), refl)
-
 event_frozen : (m : Events) (confirms : Bool) (t : Bool) → (confirms ≡ true → t ≡ true) → FrozenRuns m.frozen t (event_steps m confirms) (events_after m confirms).frozen (told_worked m confirms t)
-event_frozen m true t told = confirm_frozen m.frozen m.waiting m.held t (told refl)
-event_frozen m false t told = release_frozen m.frozen m.waiting m.held t
+event_frozen m confirms t told = grind (arith, common_steps)
 
 output_frozen : (f : List Event) (t : Bool) (output : Option Image) → FrozenRuns f t (output_steps output) f t
-output_frozen f t None = ((tt, tt), refl)
-output_frozen f t (Some image) = ((tt, tt), refl)
+output_frozen f t output = grind (arith, common_steps)
 
 worked_frozen : (there : Far) (o : List ℕ) (m : MasterMsg) (t : Bool) → (confirms_by m.mc ≡ true → t ≡ true) →
     FrozenRuns there.events.frozen t (worked_steps there o m) (worked there o m).events.frozen (told_worked there.events (confirms_by m.mc) t)
@@ -92,8 +83,7 @@ heard_frozen far o t told = by_accepted P far o (tt, refl)
 
 pub passed_frozen : (passage : Passage) (far : Far) (o : List ℕ) (t : Bool) → ConfirmsTold o far t → FrozenRuns far.events.frozen t (passed_steps passage far o) (far_after passage far o).events.frozen (told_passed passage far o t)
 passed_frozen OutLost far o t told = (tt, refl)
-passed_frozen BackLost far o t told = heard_frozen far o t told
-passed_frozen Clean far o t told = heard_frozen far o t told
+passed_frozen other far o t told = heard_frozen far o t told
 
 -- the far end's part of an exchange
 pub exchange_frozen : (request : Option Request) (far : Far) (steps : List LocalStep) (passage : Passage) (o : List ℕ) (t : Bool) → ConfirmsTold o (locals far steps) (told_through far steps t) →
@@ -104,10 +94,7 @@ exchange_frozen request far steps passage o t told =
     (own_frozen request steps far t) (passed_frozen passage (locals far steps) o (told_through far steps t) told)
 
 woken_frozen : (wakes : Bool) (far : Far) (t : Bool) → FrozenRuns far.events.frozen t (woken_steps wakes far) (woken_if wakes far).events.frozen (told_woken wakes far t)
-woken_frozen false far t = (tt, refl)
-woken_frozen true far t =
-    frozen_runs-append far.events.frozen (woken far).events.frozen (woken far).events.frozen t (told_released far.events t) (told_released far.events t)
-    (release_steps far.events) (OutputOff ∷ []) (release_frozen far.events.frozen far.events.waiting far.events.held t) ((tt, tt), refl)
+woken_frozen wakes far t = grind (arith, common_steps, release_frozen, frozen_runs-append)
 
 -- the far end's part of a wake
 pub wake_frozen : (far : Far) (steps : List LocalStep) (wakes : Bool) (t : Bool) → FrozenRuns far.events.frozen t (wake_steps far steps wakes) (woken_if wakes (locals far steps)).events.frozen (told_wake far steps wakes t)

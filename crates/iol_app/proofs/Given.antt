@@ -2,7 +2,7 @@
 use Rattle.std.proofs.Common.{◌≡◌, ℕ, suc, ◌≤◌, List, [], ◌∷◌, refl, ◌∙◌, arith}
 use Rattle.std.proofs.lemmas.Grind.{common_steps}
 use Rattle.iol_event.specs.declared.event.Event.{Event}
-use Rattle.iol_link.specs.Honest.{Passage, OutLost, BackLost, Clean, far_after}
+use Rattle.iol_link.specs.Honest.{Passage, OutLost, far_after}
 use Rattle.iol_far.specs.declared.carried.Carried.{Carried}
 use Rattle.iol_far.specs.Far.{Far}
 use Rattle.iol_far.specs.Local.{LocalStep, local, locals}
@@ -39,5 +39,4 @@ module _ (laws : Laws) where
 
     pub level_after : (most : ℕ) (passage : Passage) (far : Far) → IsLevel page size base link p o most far → IsLevel page size base link p o (suc most) (far_after passage far o)
     level_after most OutLost far h = ((laws.level size has).stays page base link p o).loses most far h
-    level_after most BackLost far h = ((laws.level size has).stays page base link p o).hears most far h
-    level_after most Clean far h = ((laws.level size has).stays page base link p o).hears most far h
+    level_after most other far h = ((laws.level size has).stays page base link p o).hears most far h

@@ -45,15 +45,13 @@ use Rattle.iol_app.proofs.Moves.{answers_data, data_after, answer_after}
 use Rattle.iol_app.proofs.TextHad.{had_text}
 use Rattle.iol_app.proofs.Missed.{quiet_book}
 use Rattle.iol_app.specs.declared.event_work.Reading as app
-use Rattle.iol_app.specs.declared.event_work.Reading.TheVariants.{Resting, UnderWay, ConfirmDue, Refused}
+use Rattle.iol_app.specs.declared.event_work.Reading.TheVariants.{Resting}
 use Rattle.iol_app.specs.declared.request.Current.{Current}
 use Rattle.iol_app.specs.declared.session.Exchange.{Exchange}
 use Rattle.iol_app.specs.EventReading.{is_refused, reader_of, read_on, list_read}
 use Rattle.iol_app.specs.Messages.{Head, head_of, read_of}
 use Rattle.iol_app.specs.Requests.{request_in, current_after}
-use Rattle.iol_app.specs.Moves.{progress_at, progress_of, move_for, confirms_events}
-use Rattle.iol_app.specs.declared.request.Progress.{Progress as Cursor}
-use Rattle.iol_segment.specs.Cut.{Cutting}
+use Rattle.iol_app.specs.Moves.{progress_of, move_for, confirms_events}
 use Rattle.iol_image.specs.Image.{IsImage}
 use Rattle.iol_app.specs.State.{SessionState, IsSession, absorbed, image_in}
 use Rattle.iol_app.specs.StationState.{StateFits as Joined}
@@ -63,20 +61,12 @@ use Rattle.iol_app.proofs.ReadingOn.{Took, reads_next}
 use Rattle.iol_app.proofs.SmallFacts.{confirms_is, same_output, input_is, input_hear, input_locals, image_octets, HasOctets}
 use Rattle.iol_app.proofs.Exchanging.{Passes, gives, at, tied', confirms, told'}
 
-cursor_fits : (cutter : Cutting Request) (p : Cursor) → ProgressFits (progress_at cutter p) (Some cutter.source)
-cursor_fits cutter p = grind (arith, common_steps)
-
 pub progress_fits : (current : Option Current) → ProgressFits (progress_of current) (request_in current)
-progress_fits None = tt
-progress_fits (Some current) = cursor_fits current.cutter current.progress
+progress_fits current = grind (arith, common_steps)
 
 -- a reading that is under way goes on
 kept_at : (reading : app.Reading) (flag event : Bool) (due : Event × List Event) → is_refused reading ≡ false → reading_kept (reading_at reading flag due) event ≡ reading_at reading event due
-kept_at Resting true event due h = refl
-kept_at Resting false event due h = refl
-kept_at (UnderWay octets) flag event due h = refl
-kept_at ConfirmDue flag event due h = refl
-kept_at Refused flag event due h = absurd (let z : true ≡ false = h in cc)
+kept_at other flag event due h = grind (arith, common_steps)
 
 -- one exchange that brought this reply, and what is said of it
 pub record Good : Type 0 where

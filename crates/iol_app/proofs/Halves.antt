@@ -1,17 +1,17 @@
 -- A message goes out, and what comes back is taken up, with no call between: one call of the wire and one list of steps.
-use Rattle.std.proofs.Common.{◌≡◌, ◌∷◌, [], ◌++◌, List, ℕ, Bool, true, Option, refl, sym, ap, ◌∙◌, subst, filter}
+use Rattle.std.proofs.Common.{◌≡◌, ◌∷◌, ◌++◌, List, ℕ, true, Option, sym, ap, ◌∙◌, subst, filter}
 use Rattle.std.specs.Prelude.{IsTrue}
 use Rattle.iol_far.specs.Far.{Far}
 use Rattle.iol_steps.specs.declared.mode.Mode.{Mode}
 use Rattle.iol_steps.specs.declared.said.Said.{Said}
-use Rattle.iol_steps.specs.Step.{Step, Make, WireCall, Moment, Terms, CallFits, is_for_book, no_make, woke_up, book_said}
+use Rattle.iol_steps.specs.Step.{Make, WireCall, Moment, CallFits, is_for_book, no_make, woke_up, book_said}
 use Rattle.iol_steps.specs.Session.{Session, MaySessionAll, session_through}
 use Rattle.iol_steps.specs.FrozenEvents.{Frozen, MayFrozenAll, frozen_through}
 use Rattle.iol_steps.specs.Images.{Images, MayImagesAll, images_after, images_through}
 use Rattle.iol_steps.specs.Turn.{ImageIsLast, OutputIsWanted}
 use Rattle.iol_app.specs.StationState.{mode_in}
-use Rattle.iol_app.specs.Core.{Core, Ghost, SendGives, CallGives, ordered, moment_of, session_in, frozen_in, images_in}
-use Rattle.iol_app.proofs.Clash.{made_before}
+use Rattle.iol_app.specs.Core.{Core, Ghost, SendGives, CallGives, ordered, moment_of, session_in, images_in}
+use Rattle.iol_app.proofs.Clash.{make_apart}
 
 abbrev moment_by : ℕ → List ℕ → Mode → ℕ → WireCall → Moment
 moment_by limit page began n call = record { terms = record { busy_limit = limit; page = page }; began = began; silence = n; call = call }
@@ -21,7 +21,6 @@ turn_of c mid next g after far far' n n' said s r unmade =
     let m : Moment = moment_of c g n r.call in
     let at : moment_of mid after n r.call ≡ m =
     ap (λ (l : ℕ). moment_by l after.page (mode_in mid.state) n r.call) s.terms.0 ∙ ap (λ (p : List ℕ). moment_by c.session.limit p (mode_in mid.state) n r.call) s.terms.1 ∙ ap (λ (b : Mode). moment_by c.session.limit g.page b n r.call) s.mode in
-    let made = made_before true [] r.steps unmade (record { busy = λ k. k; make = λ k. k; free = r.clash_free; book = refl; reports = refl }) in
     let images : images_after m Make (images_in c g far) ≡ images_in mid after far = s.images r.call in
     let last : ImageIsLast m (mode_in next.state) (images_in mid after far) (images_in next r.after far') = subst (λ (k : Moment). ImageIsLast k (mode_in next.state) (images_in mid after far) (images_in next r.after far')) at r.image_is_last in
     let wanted : OutputIsWanted m (record (images_in mid after far) { wanted = ordered mid.state mid.session }) (images_in next r.after far') =
@@ -33,7 +32,7 @@ turn_of c mid next g after far far' n n' said s r unmade =
       fits = subst (λ (b : Mode). CallFits b r.call) s.mode r.fits;
       silent = r.silent;
       terms = (r.terms.0 ∙ s.terms.0, r.terms.1 ∙ s.terms.1);
-      clash_free = made.0;
+      clash_free = rw (make_apart r.steps unmade) r.clash_free;
       fresh = λ k. r.fresh (subst IsTrue s.fresh k);
       said_book = subst (λ (b : Mode). filter is_for_book r.steps ≡ woke_up b (mode_in next.state) ++ book_said said) s.mode r.said_book;
       said_reports = r.said_reports;

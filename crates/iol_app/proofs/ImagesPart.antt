@@ -1,16 +1,16 @@
 -- The images: own steps, what is heard, and a wake are allowed there, and leave the far end's input and output.
 use Rattle.std.proofs.lemmas.Grind.{common_steps}
-use Rattle.std.proofs.Common.{arith, ◌≡◌, ℕ, Bool, true, false, not, ◌&&◌, List, [], ◌∷◌, ◌++◌, take, refl, sym, ◌∙◌, ap, subst}
+use Rattle.std.proofs.Common.{arith, ◌≡◌, ℕ, Bool, true, false, List, [], ◌∷◌, ◌++◌, refl, sym, ◌∙◌, ap, subst}
 use Rattle.std.specs.Prelude.{Option, Some, None, if◌then◌else◌, IfSome}
 use Rattle.iol_mseq.specs.declared.master.MasterMsg.{MasterMsg}
 use Rattle.iol_isdu.specs.declared.values.Request.{Request}
 use Rattle.iol_isdu.specs.declared.values.Answer.{Answer}
-use Rattle.iol_event.specs.Memory.{Events, is_empty, freezes_at_once}
-use Rattle.iol_link.specs.Honest.{Passage, OutLost, BackLost, Clean, far_after}
+use Rattle.iol_event.specs.Memory.{Events, freezes_at_once}
+use Rattle.iol_link.specs.Honest.{Passage, OutLost, far_after}
 use Rattle.iol_far.specs.Isdu.{IsduState, fits}
 use Rattle.iol_far.specs.Far.{Far, accepted, moved, hear, heard_as, worked, output_of}
-use Rattle.iol_far.specs.Local.{LocalStep, local, locals, carried_by, is_input, woken, Carry as OwnCarry, Raise as OwnRaise, Input as OwnInput, NoInput as OwnNoInput, Power as OwnPower}
-use Rattle.iol_steps.specs.Step.{Step, Freeze, OutputOff, Input, Image, Moment}
+use Rattle.iol_far.specs.Local.{LocalStep, local, locals, carried_by, is_input, Carry as OwnCarry, Raise as OwnRaise, Input as OwnInput}
+use Rattle.iol_steps.specs.Step.{Step, Freeze, Input, Image, Moment}
 use Rattle.iol_steps.specs.Images.{Images, images_through, MayImagesAll}
 use Rattle.iol_steps.specs.Bridge.{carry_steps, own_step, own_steps, release_steps, worked_steps, heard_steps_as, heard_steps, passed_steps, exchange_steps, woken_steps, wake_steps}
 use Rattle.iol_steps.specs.Station.{Shown, images_of}
@@ -47,8 +47,7 @@ own_images_step m request s far (OwnRaise e) =
 own_images_step m request s far (OwnInput image) =
     elim (is_input far image)
     as (λ b. ImagesRuns m (images_of s far) (if b then Input (Some image) ∷ [] else []) (images_of s (if b then record far { input = Some image } else far))) [ true ↦ ((tt, tt), refl) | false ↦ (tt, refl) ]
-own_images_step m request s far OwnNoInput = ((tt, tt), refl)
-own_images_step m request s far OwnPower = ((tt, tt), refl)
+own_images_step m request s far other = ((tt, tt), refl)
 
 pub own_images : (m : Moment) (request : Option Request) (s : Shown) (steps : List LocalStep) (far : Far) → ImagesRuns m (images_of s far) (own_steps request far steps) (images_of s (locals far steps))
 own_images m request s [] far = (tt, refl)
@@ -59,7 +58,7 @@ own_images m request s (step ∷ steps) far =
 -- What is heard
 
 release_images : (m : Moment) (i : Images) (e : Events) → ImagesRuns m i (release_steps e) i
-release_images m i e = elim (is_empty e.frozen && not (is_empty e.waiting)) as (λ b. ImagesRuns m i (if b then Freeze (take 6 e.waiting) ∷ [] else []) i) [ true ↦ ((tt, tt), refl) | false ↦ (tt, refl) ]
+release_images m i e = grind (arith, common_steps)
 
 -- the output that the far end has once it worked the message is the image that the master sent
 abbrev pub OutputIsSent : Option Image → Far → List ℕ → MasterMsg → Type 0
@@ -83,8 +82,7 @@ heard_images m s far o fits = by_accepted P far o (λ f. (tt, refl))
 
 pub passed_images : (m : Moment) (s : Shown) (passage : Passage) (far : Far) (o : List ℕ) → OutputsSent s.sent far o → ImagesRuns m (images_of s far) (passed_steps passage far o) (images_of s (far_after passage far o))
 passed_images m s OutLost far o fits = (tt, refl)
-passed_images m s BackLost far o fits = heard_images m s far o fits
-passed_images m s Clean far o fits = heard_images m s far o fits
+passed_images m s other far o fits = heard_images m s far o fits
 
 -- the far end's part of an exchange
 pub exchange_images : (m : Moment) (request : Option Request) (s : Shown) (far : Far) (steps : List LocalStep) (passage : Passage) (o : List ℕ) → OutputsSent s.sent (locals far steps) o →
@@ -94,9 +92,7 @@ exchange_images m request s far steps passage o fits =
     (own_images m request s steps far) (passed_images m s passage (locals far steps) o fits)
 
 woken_images : (m : Moment) (s : Shown) (wakes : Bool) (far : Far) → ImagesRuns m (images_of s far) (woken_steps wakes far) (images_of s (woken_if wakes far))
-woken_images m s false far = (tt, refl)
-woken_images m s true far =
-    images_runs-append m (images_of s far) (images_of s far) (images_of s (woken far)) (release_steps far.events) (OutputOff ∷ []) (release_images m (images_of s far) far.events) ((tt, tt), refl)
+woken_images m s wakes far = grind (arith, common_steps, release_images, images_runs-append)
 
 -- the far end's part of a wake
 pub wake_images : (m : Moment) (s : Shown) (far : Far) (steps : List LocalStep) (wakes : Bool) → ImagesRuns m (images_of s far) (wake_steps far steps wakes) (images_of s (woken_if wakes (locals far steps)))

@@ -1,16 +1,14 @@
 -- The segments of an answer, one after the other.
 use Rattle.std.proofs.lemmas.Grind.{common_steps}
-use Rattle.std.proofs.Common.{◌≡◌, ℕ, zero, suc, ◌*◌, ◌%◌, ◌<◌, false, List, [], ◌∷◌, ◌++◌, length, refl, arith, Ok, Err, ◌+◌, Option, Some, None}
+use Rattle.std.proofs.Common.{◌≡◌, ℕ, zero, suc, ◌*◌, ◌%◌, ◌<◌, false, List, ◌++◌, length, refl, arith, ◌+◌, Option, Some}
 use Rattle.std.proofs.lemmas.List.{length-append}
 use Rattle.iol_isdu.specs.declared.fault.IsduFault.{IsduFault}
-use Rattle.iol_isdu.specs.declared.fault.IsduFault.TheVariants.{Truncated}
-use Rattle.iol_segment.specs.Join.{Open, Complete, stage, Stage, Wrong, Joining, staged, taken}
+use Rattle.iol_segment.specs.Join.{Open, stage, Stage, Joining, staged, taken}
 use Rattle.iol_segment.specs.TextLaws.{HoldsLength, TextLaws, joined as joined_octets}
 use Rattle.std.proofs.Math.Numerals.{add-one}
 use Rattle.iol_octets.specs.declared.flow_control.Flow.TheVariants.{Count}
 use Rattle.iol_isdu.specs.declared.values.Request.{Request}
 use Rattle.iol_app.specs.declared.request.Current.{Current}
-use Rattle.iol_isdu.specs.Answers.{answer_fault, is_read}
 use Rattle.iol_segment.specs.Cut.{Cutting}
 use Rattle.iol_segment.specs.JoinLaws.{count_at}
 use Rattle.iol_app.specs.Requests.{Outcome, GoesOn, HasText, finished, joined, received, refused, IsJoining, IsCurrent}
@@ -20,8 +18,7 @@ open_before : (xs ys : List ℕ) → stage (xs ++ ys) ≡ Open → stage xs ≡ 
 open_before xs ys e = grind (arith, common_steps)
 
 total_low : (text : List ℕ) → HoldsLength text → 0 < length text
-total_low [] e = absurd (let k : Err Truncated ≡ Ok 0 = e in cc)
-total_low (x ∷ xs) e = omega arith
+total_low text e = grind (arith, common_steps)
 
 not_last : (size : ℕ) → TextLaws size → (text : List ℕ) → HoldsLength text → (i : ℕ) → i * size < length text → stage (joined_octets size text i) ≡ Open → suc i * size < length text
 not_last size laws text holds i low e = grind (arith, common_steps)
@@ -50,17 +47,12 @@ module _ (current : Current) (h : IsCurrent current) where
   refused_stays = (record { request = h.request; some = h.some; most = h.most; progress = refl }, refl, refl)
 
   finished_stays : (text : List ℕ) (fault : Option IsduFault) → StaysCurrent current.cutter (finished current.cutter current.abort text fault)
-  finished_stays text None = tt
-  finished_stays text (Some fault) = refused_stays
+  finished_stays text fault = grind (arith, common_steps)
 
   -- a segment of this number was taken
   pub joined_stays : (had : ℕ) (octets : List ℕ) (at : Stage) → stage octets ≡ at → length octets ≡ suc had * current.cutter.size
       → StaysCurrent current.cutter (joined current.cutter current.abort had (staged false (count_at had) octets at).took (staged false (count_at had) octets at).joining)
-  joined_stays had octets Open e size =
-      let joining : IsJoining current.cutter.size had (staged false (count_at had) octets Open).joining = record { answers = refl; started = refl; count = refl; open_text = e; size_of = size } in
-      (record { request = h.request; some = h.some; most = h.most; progress = joining }, refl, refl)
-  joined_stays had octets (Complete text) e size = finished_stays text (answer_fault (is_read current.cutter.source) text)
-  joined_stays had octets Wrong e size = refused_stays
+  joined_stays had octets at e size = grind (arith, common_steps, finished_stays, refused_stays)
 
   -- the reply to a COUNT read
   pub received_stays : (j : Joining) (had : ℕ) (od : List ℕ) → IsJoining current.cutter.size had j → length od ≡ current.cutter.size

@@ -30,8 +30,6 @@ pub mod DueFacts
 pub mod OperateMessages
 pub mod Reporting
 pub mod Ending
-pub mod Askings
-pub mod AskedTurns
 pub mod SmallFacts
 pub mod Waking
 pub mod Starting

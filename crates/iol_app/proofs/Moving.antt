@@ -1,6 +1,6 @@
 -- Each new message is the move that the request's progress asks for, and a good reply brings the request on by it.
 use Rattle.std.proofs.lemmas.Grind.{common_steps}
-use Rattle.std.proofs.Common.{◌≡◌, ℕ, zero, suc, ◌%◌, ◌≤◌, true, false, [], refl, sym, ap, subst, ◌∙◌, arith, Option, Some, None, ◌+◌, ◌*◌, Bool, if◌then◌else◌, List, length}
+use Rattle.std.proofs.Common.{◌≡◌, ℕ, zero, suc, ◌%◌, ◌≤◌, true, false, [], refl, sym, ap, subst, ◌∙◌, arith, Option, Some, None, List}
 use Rattle.std.specs.Prelude.{nat_lt, ◌==◌, IfSome}
 use Rattle.std.proofs.lemmas.Bool.Decides.{nat_tests}
 use Rattle.std.proofs.Math.Numerals.{add-one}
@@ -13,7 +13,7 @@ use Rattle.iol_mseq.specs.Shape.{Shape}
 use Rattle.iol_isdu.specs.declared.values.Request.{Request}
 use Rattle.iol_isdu.specs.Answers.{is_read}
 use Rattle.iol_isdu.specs.Texts.{IsRequest, request_text}
-use Rattle.iol_segment.specs.Cut.{Cutting, flow_at, last_given, pair}
+use Rattle.iol_segment.specs.Cut.{Cutting, flow_at, last_given}
 use Rattle.iol_segment.specs.Join.{Joining, stage}
 use Rattle.iol_segment.specs.TextLaws.{TextLaws}
 use Rattle.iol_far.specs.Codec.{flow_of}
@@ -26,10 +26,10 @@ use Rattle.iol_app.specs.declared.request.Progress.{Progress as Cursor}
 use Rattle.iol_app.specs.declared.request.Progress.TheVariants.{Sending, Asking, Receiving, Refused}
 use Rattle.iol_app.specs.declared.session.Exchange.{Exchange}
 use Rattle.iol_app.specs.declared.session.Exchange.TheVariants.{Request as NextMessage}
-use Rattle.iol_app.specs.Requests.{text_of, ProgressFits, IsAllGiven, IsJoining, IsCurrent, sending, sent_on, one_more, IsFirst, IsUnsent}
+use Rattle.iol_app.specs.Requests.{text_of, ProgressFits, IsAllGiven, IsJoining, IsCurrent, sent_on, one_more, IsUnsent}
 use Rattle.iol_app.specs.State.{od_size}
 use Rattle.iol_app.specs.Messages.{head_for, data_for, progress_head, progress_data, request_head, request_data}
-use Rattle.iol_app.specs.Moves.{written, before_last, asked_for, progress_of, progress_at, segment_move, move_at, request_move, IsMoveOf, MessagesAreMoves}
+use Rattle.iol_app.specs.Moves.{before_last, asked_for, progress_of, progress_at, segment_move, move_at, request_move, IsMoveOf, MessagesAreMoves}
 use Rattle.iol_app.proofs.Joining.{more_follow}
 use Rattle.iol_app.proofs.Cutting.{is_pair}
 use Rattle.iol_isdu.specs.declared.values.Cause.{Cause}
@@ -60,9 +60,7 @@ segment_moves size request flow piece (suc (suc i)) h e =
 
 asking_moves : (cutter : Cutting Request) (busy : ℕ) (given : ℕ) → cutter.given ≡ given → IsAllGiven cutter.size (text_of cutter) given
     → IsMove cutter.size Ask (asked_for cutter busy) Isdu true Start []
-asking_moves cutter zero zero e h = absurd h
-asking_moves cutter zero (suc i) e h = subst (λ (n : ℕ). IsMove cutter.size Ask (written cutter.source n) Isdu true Start []) (sym e) h
-asking_moves cutter (suc busy) given e h = tt
+asking_moves cutter busy given e h = grind (arith, common_steps)
 
 receiving_moves : AnswersFit → (size : ℕ) → TextLaws size → (request : Request) (joining : Joining) (had : ℕ) → IsJoining size had joining
     → IsMove size Next (Had request had joining.text) Isdu true (Count (suc had % 16)) []
@@ -86,10 +84,7 @@ progress_moves fit laws current Refused e h = tt
 request_moves : AnswersFit → (laws : (size : ℕ) → 1 ≤ size → TextLaws size) (size : ℕ) (current : Option Current) → IfSome current IsCurrent → IfSome current (λ c. c.cutter.size ≡ size)
     → IsMove size (request_move current) (progress_of current) (request_head current).channel (request_head current).read (flow_of (request_head current).address) (request_data current)
 unfolding flow_of
-request_moves fit laws size None h same = tt
-request_moves fit laws size (Some current) h same =
-    subst (λ (n : ℕ). IsMove n (move_at current.cutter current.progress) (progress_at current.cutter current.progress) (progress_head current.progress).channel (progress_head current.progress).read (flow_of (progress_head current.progress).address) (progress_data current.progress)) same
-    (progress_moves fit laws current current.progress refl h)
+request_moves fit laws size current h same = grind (arith, common_steps, progress_moves)
 
 messages_move : AnswersFit → (laws : (size : ℕ) → 1 ≤ size → TextLaws size) (exchange : Exchange) (size : ℕ) (reading : Reading) (current : Option Current) → IfSome current IsCurrent → IfSome current (λ c. c.cutter.size ≡ size)
     → IsMoveOf size exchange current (head_for exchange reading current) (data_for exchange size current)
@@ -103,21 +98,10 @@ messages_are_moves fit laws s layout exchange h told =
 
 -- A segment of the request was written
 
-sent_progress : (cutter : Cutting Request) (i : ℕ) → cutter.given ≡ suc i → (b : Bool)
-    → progress_at (record cutter { given = if b then cutter.given + 1 else cutter.given }) (sending (if b then Some (pair cutter.size (text_of cutter) cutter.given) else None)) ≡ Written cutter.source i
-sent_progress cutter i e true = rw (add-one cutter.given, e) refl
-sent_progress cutter i e false = rw e refl
-
-segment_follows : (request : Request) (i : ℕ) (od : List ℕ) → after (before_last request (suc i)) (segment_move request (suc i)) od ≡ Written request i
-segment_follows request zero od = refl
-segment_follows request (suc i) od = refl
-
 pub sent_follows : (cutter : Cutting Request) (abort : Option Cause) (flow : Flow) (piece : ArrayVec ℕ) (od : List ℕ) (given : ℕ) → cutter.given ≡ given
     → last_given cutter.size (text_of cutter) given ≡ Some (flow, piece)
     → progress_of (Some (sent_on cutter abort)) ≡ after (before_last cutter.source given) (segment_move cutter.source given) od
-sent_follows cutter abort flow piece od zero e h = absurd (let k : None ≡ Some (flow, piece) = h in cc)
-sent_follows cutter abort flow piece od (suc i) e h =
-    sent_progress cutter i e (nat_lt (cutter.given * cutter.size) (length (text_of cutter))) ∙ sym (segment_follows cutter.source i od)
+sent_follows cutter abort flow piece od given e h = grind (arith, common_steps)
 
 -- The reply to a START read
 
@@ -126,16 +110,9 @@ busy_follows cutter busy = grind (arith, common_steps)
 
 pub asked_after : (cutter : Cutting Request) (busy given : ℕ) (od : List ℕ) → cutter.given ≡ given → IsAllGiven cutter.size (text_of cutter) given
     → after (asked_for cutter busy) Ask od ≡ level_asked cutter.source od
-asked_after cutter zero zero od e h = absurd h
-asked_after cutter zero (suc i) od e h = rw e refl
-asked_after cutter (suc busy) given od e h = refl
+asked_after cutter busy given od e h = grind (arith, common_steps)
 
 -- The reply to any other message
 
-idle_quiet : (cutter : Cutting Request) (p : Cursor) → IsFirst p cutter.given → progress_at cutter p ≡ Quiet
-idle_quiet cutter (Sending flow piece) h = rw h refl
-idle_quiet cutter other h = absurd h
-
 pub unsent_quiet : (current : Option Current) → IsUnsent current → progress_of current ≡ Quiet
-unsent_quiet None h = refl
-unsent_quiet (Some current) h = idle_quiet current.cutter current.progress h
+unsent_quiet current h = grind (arith, common_steps)

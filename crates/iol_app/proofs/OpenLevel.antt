@@ -1,11 +1,11 @@
 -- What the two ends' level says of the request that may still be carried out, and of its answer.
-use Rattle.std.proofs.Common.{◌≡◌, ℕ, List, [], ◌∷◌, refl, ◌∙◌, subst, arith}
+use Rattle.std.proofs.Common.{◌≡◌, ℕ, List, [], ◌∷◌, refl, arith}
 use Rattle.std.proofs.lemmas.Grind.{common_steps}
 use Rattle.std.specs.Prelude.{Option, Some, None}
 use Rattle.iol_mseq.specs.declared.master.MasterMsg.{MasterMsg}
 use Rattle.iol_isdu.specs.declared.values.Request.{Request}
 use Rattle.iol_far.specs.declared.carried.Carried.{Carried}
-use Rattle.iol_far.specs.Isdu.{IsduState, Empty, Receiving, Whole, Handed, Answered, fits, isdu_data}
+use Rattle.iol_far.specs.Isdu.{IsduState, Handed, fits}
 use Rattle.iol_far.specs.Far.{Far, Heard, hear, heard_as}
 use Rattle.iol_far.specs.Local.{LocalStep, local, locals}
 use Rattle.iol_far.specs.Level.{Progress, Busy as IsBusy, Stands as FarStands, Move, after, base_after, Link}
@@ -52,15 +52,5 @@ busy_named p what d base carried request q = grind (arith, common_steps)
 -- the far end once it heard a message that it replies to
 pub replied_opens : (page : List ℕ) (size : ℕ) (base : List Carried) (link : Link) (p : Progress) (o : List ℕ) (m : MasterMsg) (what : Move) (heard : Heard) (request : Option Request) (h : Hidden) →
     ReplySays page size base link p o m what heard → ProgressFits p request → AnswerFits base request h heard.far.carried → IsOpen heard.far.isdu request h
-replied_opens page size base link p o m what heard request h says fits answer = split heard.far.isdu refl
-  where
-    split : (state : IsduState) → heard.far.isdu ≡ state → IsOpen state request h
-    split Empty e = tt
-    split (Receiving t l) e = tt
-    split (Whole r l) e = tt
-    split (Answered r a l) e = tt
-    split (Handed q) e =
-        let k = stands_handed size (base_after what base heard.far.carried) (after p what (isdu_data size heard.far.isdu)) q heard.far.carried
-        (subst (λ (x : IsduState). FarStands size (base_after what base heard.far.carried) (after p what (isdu_data size heard.far.isdu)) x heard.far.carried) e says.before.stands) in
-        let n = busy_named p what (isdu_data size heard.far.isdu) base heard.far.carried request q k.0 fits in
-        handed_opens base request h heard.far.carried q n.0 (k.1 ∙ n.1) answer
+replied_opens page size base link p o m what heard request h says fits answer =
+    grind (arith, common_steps, stands_handed, busy_named, handed_opens)

@@ -1,24 +1,22 @@
 -- What the messages of OPERATE are for the device.
 use Rattle.std.proofs.lemmas.Grind.{common_steps}
-use Rattle.std.proofs.Common.{◌≡◌, ℕ, Bool, true, List, refl, ap, ◌∙◌, Option, Some, None, zero, suc, ◌-◌, ◌≤◌, [], ◌∷◌, ◌++◌, length, replicate, drop, sym, arith}
+use Rattle.std.proofs.Common.{◌≡◌, ℕ, Bool, List, refl, ap, ◌∙◌, Option, None, zero, suc, ◌-◌, ◌≤◌, [], ◌∷◌, ◌++◌, length, replicate, drop, sym, arith}
 use Rattle.std.specs.Prelude.{◌⊎◌}
-use Rattle.iol_octets.specs.declared.control.Channel.{Channel}
-use Rattle.iol_octets.specs.declared.control.Channel.TheVariants.{Isdu, Page}
+use Rattle.iol_octets.specs.declared.control.Channel.TheVariants.{Page}
 use Rattle.iol_mseq.specs.Shape.{Shape}
 use Rattle.iol_mseq.specs.declared.master.MasterMsg.{MasterMsg}
 use Rattle.iol_far.specs.Far.{is_confirm, command_in}
 use Rattle.iol_app.specs.declared.event_work.Reading.{Reading}
 use Rattle.iol_app.specs.declared.request.Current.{Current}
-use Rattle.iol_app.specs.declared.request.Progress.{Progress}
 use Rattle.iol_app.specs.declared.session.Exchange.{Exchange}
-use Rattle.iol_app.specs.declared.session.Exchange.TheVariants.{Request as NextMessage, TellOutput, DropOutput}
-use Rattle.iol_app.specs.Messages.{Head, head_for, progress_head, request_head, head_of, data_for}
+use Rattle.iol_app.specs.declared.session.Exchange.TheVariants.{TellOutput, DropOutput}
+use Rattle.iol_app.specs.Messages.{Head, head_for, head_of, data_for}
 use Rattle.iol_app.specs.Moves.{confirms_events}
 use Rattle.iol_mseq.specs.Texts.{master_text}
 use Rattle.iol_page.specs.Commands.{command_octet}
 use Rattle.iol_page.specs.declared.master_command.MasterCommand.TheVariants.{ProcessDataOutputOperate, DeviceOperate}
 use Rattle.iol_mseq.specs.Parts.{first_of_zeros}
-use Rattle.iol_mode.specs.Messages.{command_message, stays}
+use Rattle.iol_mode.specs.Messages.{command_message}
 use Rattle.iol_steps.specs.declared.mode.Mode.TheVariants.{Operate}
 use Rattle.iol_steps.specs.Station.{confirms, output_by}
 use Rattle.iol_app.specs.Ends.{output_for}
@@ -26,17 +24,8 @@ use Rattle.iol_app.specs.Ends.{output_for}
 abbrev pub is_confirm_head : Head → Bool
 is_confirm_head head = is_confirm head.channel head.read head.address
 
--- the request's messages are on the ISDU channel
-progress_channel : (p : Progress) → (progress_head p).channel ≡ Isdu
-progress_channel p = grind (arith, common_steps)
-
-pub request_channel : (current : Option Current) → (request_head current).channel ≡ Isdu
-request_channel None = refl
-request_channel (Some current) = progress_channel current.progress
-
 pub confirms_by_head : (exchange : Exchange) (reading : Reading) (current : Option Current) → is_confirm_head (head_for exchange reading current) ≡ confirms_events exchange
-confirms_by_head NextMessage _ current = ap (λ (c : Channel). is_confirm c (request_head current).read (request_head current).address) (request_channel current)
-confirms_by_head other _ current = refl
+confirms_by_head exchange reading current = grind (arith, common_steps)
 
 -- a confirm, a read of events
 
@@ -49,12 +38,6 @@ exchange_confirms exchange reading current message e = ap is_confirm_head e ∙ 
 pub exchange_command : (exchange : Exchange) (reading : Reading) (current : Option Current) (size : ℕ) (message : MasterMsg) → head_of message.mc ≡ head_for exchange reading current
     → message.od.items ≡ data_for exchange size current → output_by Operate (command_in message) ≡ output_for exchange
 exchange_command exchange reading current size message e d = grind (arith, common_steps)
-
--- no message of OPERATE is a command that leaves it
-
-pub exchange_stays : (exchange : Exchange) (reading : Reading) (current : Option Current) (size : ℕ) (message : MasterMsg) → head_of message.mc ≡ head_for exchange reading current
-    → message.od.items ≡ data_for exchange size current → stays message ≡ true
-exchange_stays exchange reading current size message e d = grind (arith, common_steps)
 
 -- ProcessDataOutputOperate in OPERATE isn't DeviceOperate in PREOPERATE
 
@@ -73,14 +56,11 @@ parts_differ (x ∷ xs) m n low e =
     let k : x ∷ (xs ++ 0x98 ∷ replicate (m - 1) 0) ≡ 0x99 ∷ replicate (n - 1) 0 = e in
     not_zero 0x98 refl (zeros_only xs 0x98 (replicate (m - 1) 0) (n - 1) cc)
 
-text_parts : (layout : Shape) (message : MasterMsg) → drop 2 (master_text layout message) ≡ message.out.items ++ message.od.items
-text_parts layout message = refl
-
 pub tell_differs : (run pre : Shape) (message : MasterMsg) (size : ℕ) → 1 ≤ length message.out.items → message.od.items ≡ data_for TellOutput size None
     → master_text run message ≡ master_text pre (command_message pre DeviceOperate) → ⊥
 tell_differs run pre message size low od e =
     parts_differ message.out.items size pre.od low
-    (ap (λ (o : List ℕ). message.out.items ++ o) (sym od) ∙ sym (text_parts run message) ∙ ap (drop 2) e ∙ text_parts pre (command_message pre DeviceOperate))
+    (ap (λ (o : List ℕ). message.out.items ++ o) (sym od) ∙ ap (drop 2) e)
 
 -- only output commands are of the page
 

@@ -5,7 +5,7 @@ use Rattle.std.specs.Prelude.{Option, None, if◌then◌else◌}
 use Rattle.iol_mseq.specs.declared.master.MasterMsg.{MasterMsg}
 use Rattle.iol_isdu.specs.declared.values.Request.{Request}
 use Rattle.iol_event.specs.Memory.{Events, is_empty}
-use Rattle.iol_link.specs.Honest.{Passage, OutLost, BackLost, Clean, far_after}
+use Rattle.iol_link.specs.Honest.{Passage, OutLost, far_after}
 use Rattle.iol_far.specs.declared.carried.Carried.{Carried}
 use Rattle.iol_far.specs.Far.{Far, moved, hear, heard_as}
 use Rattle.iol_far.specs.Local.{LocalStep, local, locals, woken}
@@ -75,8 +75,7 @@ heard_session m seen h far o = by_accepted (λ q. SessionRuns m seen h far.carri
 
 pub passed_session : (m : Moment) (seen : Seen) (h : Hidden) (passage : Passage) (far : Far) (o : List ℕ) → SessionRuns m seen h far.carried (passed_steps passage far o) seen h (far_after passage far o).carried
 passed_session m seen h OutLost far o = (tt, refl)
-passed_session m seen h BackLost far o = heard_session m seen h far o
-passed_session m seen h Clean far o = heard_session m seen h far o
+passed_session m seen h other far o = heard_session m seen h far o
 
 -- the far end's part of an exchange
 pub exchange_session : (m : Moment) (seen : Seen) (h : Hidden) (far : Far) (steps : List LocalStep) (passage : Passage) (o : List ℕ) → IsOpen far.isdu seen.request h →

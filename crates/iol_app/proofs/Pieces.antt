@@ -1,7 +1,6 @@
 -- The two pieces of a turn, over the core's own data.
 use Rattle.std.proofs.lemmas.Grind.{common_steps}
-use Rattle.std.proofs.Common.{◌≡◌, ◌<◌, inl, inr, ℕ, Bool, true, false, List, [], ◌∷◌, refl, sym, ap, ◌∙◌, subst, lit<, Option, Some, None, arith}
-use Rattle.std.specs.Prelude.{◌⊎◌, IsTrue}
+use Rattle.std.proofs.Common.{◌≡◌, ◌<◌, inl, inr, ℕ, Bool, true, false, List, [], ◌∷◌, refl, sym, ap, subst, lit<, Option, Some, None, arith}
 use Rattle.iol_octets.specs.Control.{control_of}
 use Rattle.iol_mseq.specs.Shape.{startup_shape}
 use Rattle.iol_mseq.specs.Master.{HasMasterParts}
@@ -13,14 +12,14 @@ use Rattle.iol_link.specs.Attempts.{Sending, good_reply, attempt_of}
 use Rattle.iol_link.specs.Honest.{HonestExchange}
 use Rattle.iol_mode.specs.declared.states.Operate.{Operate}
 use Rattle.iol_mode.specs.declared.states.State.{State}
-use Rattle.iol_mode.specs.declared.states.State.TheVariants.{Down as AtDown, Startup as AtStartup, Preoperate as AtPreoperate, Operate as AtOperate}
+use Rattle.iol_mode.specs.declared.states.State.TheVariants.{Down as AtDown, Operate as AtOperate}
 use Rattle.iol_mode.specs.Messages.{page_read, unsent}
-use Rattle.iol_mode.specs.Next.{EnteredFits, message_out}
-use Rattle.iol_mode.specs.States.{Outcome, OutcomeFits, StateFits, IsDown, is_starting, state_of, waked, operate_by, counted, sending_of}
+use Rattle.iol_mode.specs.Next.{EnteredFits}
+use Rattle.iol_mode.specs.States.{Outcome, OutcomeFits, StateFits, IsDown, is_starting, state_of, waked, operate_by, counted}
 use Rattle.iol_mode.specs.Exchanges.{IsSending, AreFew, ExchangeGives, AcceptedBy, StandsOn, WakeStands, judged, text_out}
 use Rattle.iol_mode.specs.Turns.{IsRisen}
 use Rattle.iol_mode.specs.Stands.{StateStands}
-use Rattle.iol_steps.specs.declared.mode.Mode.TheVariants.{Down as ModeDown, Startup as ModeStartup, Preoperate as ModePreoperate, Operate as ModeOperate}
+use Rattle.iol_steps.specs.declared.mode.Mode.TheVariants.{Down as ModeDown, Operate as ModeOperate}
 use Rattle.iol_steps.specs.declared.said.Said.{Said}
 use Rattle.iol_steps.specs.declared.said.Said.TheVariants.{Idle}
 use Rattle.iol_steps.specs.Step.{Step, Make, Moment, no_make}
@@ -28,11 +27,11 @@ use Rattle.iol_steps.specs.Images.{Images, MayImagesAll, images_after}
 use Rattle.iol_app.specs.declared.session.Exchange.{Exchange}
 use Rattle.iol_app.specs.Due.{due_of}
 use Rattle.iol_app.specs.Outputs.{carried_by}
-use Rattle.iol_app.specs.State.{SessionState, IsSession, IsOutBy, IsMessageFor, sending, lost_said}
+use Rattle.iol_app.specs.State.{SessionState, IsSession, IsOutBy, IsMessageFor, sending}
 use Rattle.iol_app.specs.StationState.{StateFits as Joined, IsStill, NextFits, IsSettledSaid, settled_session, waked_session, mode_in}
 use Rattle.iol_app.specs.StationLaws.{StationLaws}
 use Rattle.iol_app.specs.Core.{Core, Ghost, Stands, CallGives, ReceiveGives, SendGives, made_ghost, IsAttempted, ordered, moment_of, images_in, after_exchange, after_wake, core_out}
-use Rattle.iol_app.specs.Pieces.{IsSent, NewOut, SendSteps, Received, WakeSteps, ReceiveSteps}
+use Rattle.iol_app.specs.Pieces.{SendSteps, Received, WakeSteps, ReceiveSteps}
 use Rattle.iol_app.proofs.Turns.{startup_next, preoperate_next, operate_next}
 use Rattle.iol_app.proofs.Settling.{settled_fits}
 
@@ -46,8 +45,7 @@ waked_fits false = tt
 
 -- a wake says nothing
 pub idle_said : (answered : Bool) (s : SessionState) (said : Said) → s.current ≡ None → said ≡ Idle → IsSettledSaid (waked answered) (waked_session answered s) said
-idle_said true s said free idle = idle
-idle_said false s said free idle = idle ∙ sym (ap lost_said free)
+idle_said answered s said free idle = grind (arith, common_steps)
 
 -- in a start-up nothing is said
 pub still_said : (outcome : Outcome) (s : SessionState) (said : Said) → IsStill s → IsSettledSaid outcome s said → said ≡ Idle
@@ -59,8 +57,7 @@ some_exchange None s m h = absurd h
 some_exchange (Some x) s m h = (x, refl)
 
 pub no_exchange : (e : Option Exchange) (s : SessionState) → IsOutBy e s None → e ≡ None
-no_exchange None s h = refl
-no_exchange (Some x) s h = absurd h
+no_exchange e s h = grind (arith, common_steps)
 
 -- after a turn a message that is out was sent
 operate_tried : (w : Sending) (layouts : Layouts) (reply : Option Reply) → IsAttempted (state_of (operate_by (counted w reply) layouts (attempt_of w.tries reply)))
@@ -70,8 +67,7 @@ entered_tried : (outcome : Outcome) (n : ℕ) (far : Far) → EnteredFits outcom
 entered_tried outcome n far h = grind (arith, common_steps)
 
 waked_tried : (answered : Bool) → IsAttempted (state_of (waked answered))
-waked_tried true = tt
-waked_tried false = tt
+waked_tried answered = grind (arith, common_steps)
 
 pub wanted_at : (state : State) (t : SessionState) (n : ℕ) (far : Far) → IsAttempted state → StateStands state n far → n ≡ 0 → ordered state t ≡ t.output.wanted
 wanted_at state t n far tried stands none = grind (arith, common_steps)
@@ -83,14 +79,11 @@ same_sends old = λ g far n stands. inl (record { same = refl; asks = λ tried c
 
 -- what is made of what comes back may be taken up
 out_next : (out : Option Sending) (layouts : Layouts) (came : Option (List ℕ)) (s : SessionState) → let state : Operate = record { out = out; layouts = layouts } in IsSending (AtOperate state) → Joined (AtOperate state) s → NextFits (judged (AtOperate state) came) s
-out_next None layouts came s sends fits = absurd (let e : false ≡ true = sends in cc)
-out_next (Some w) layouts came s sends fits = operate_next (record { out = Some w; layouts = layouts }) w.message came s fits.told refl fits.out_for
+out_next out layouts came s sends fits = grind (arith, common_steps, operate_next)
 
 pub judged_next : (state : State) (came : Option (List ℕ)) (s : SessionState) → IsSending state → Joined state s → NextFits (judged state came) s
-judged_next (AtDown state) came s sends fits = absurd sends
-judged_next (AtStartup state) came s sends fits = startup_next state _ s fits.0 fits.1
-judged_next (AtPreoperate state) came s sends fits = preoperate_next state _ s fits.0 fits.1
-judged_next (AtOperate state) came s sends fits = out_next state.out state.layouts came s sends fits
+judged_next state came s sends fits =
+    grind (arith, common_steps, startup_next, preoperate_next, out_next)
 
 -- outside OPERATE no message is made
 unmade : (m : Moment) (steps : List Step) (i : Images) → (m.began ≡ ModeOperate → ⊥) → MayImagesAll m steps i → no_make steps ≡ true
@@ -139,11 +132,11 @@ module _ (laws : StationLaws) (t : SessionState) (came : Option (List ℕ)) (sai
 
   state_gives : (state : State) → IsSending state → Gives state
   state_gives (AtDown s) sends stands x few fits gives says = absurd sends
-  state_gives (AtStartup s) sends stands x few fits gives says =
-      rise_gives (AtStartup s) refl (λ e. absurd (let k : ModeStartup ≡ ModeOperate = e in cc)) stands.joined.0 (startup_next s _ t stands.joined.0 stands.joined.1) stands x fits (gives far far' n n' stands.link x) says
-  state_gives (AtPreoperate s) sends stands x few fits gives says =
-      rise_gives (AtPreoperate s) refl (λ e. absurd (let k : ModePreoperate ≡ ModeOperate = e in cc)) stands.joined.0 (preoperate_next s _ t stands.joined.0 stands.joined.1) stands x fits (gives far far' n n' stands.link x) says
   state_gives (AtOperate s) sends stands x few fits gives says = operate_gives s.out s.layouts sends stands x few fits gives says
+  state_gives state sends stands x few fits gives says =
+      rise_gives state refl (λ e. absurd (let k : mode_in state ≡ ModeOperate = e in cc))
+      stands.joined.0 (judged_next state came t sends stands.joined) stands x fits
+      (gives far far' n n' stands.link x) says
 
 pub receive_steps : StationLaws → (old : Core) (came : Option (List ℕ)) (said : Said) (new : Core) → IsSession old.session → IsSending old.state → AreFew old.state → OutcomeFits (judged old.state came) → ExchangeGives old.state came (judged old.state came)
     → IsSettledSaid (judged old.state came) old.session said → new ≡ after_exchange (judged old.state came) old.session → ReceiveSteps old came said new
@@ -181,6 +174,4 @@ wake_steps laws old answered new down stands_by e = λ g far far' n stands x.
   where
     not_up : (state : State) → IsDown state → mode_in state ≡ ModeOperate → ⊥
     not_up (AtDown s) k e = let z : ModeDown ≡ ModeOperate = e in cc
-    not_up (AtStartup s) k e = k
-    not_up (AtPreoperate s) k e = k
-    not_up (AtOperate s) k e = k
+    not_up state k e = k

@@ -11,7 +11,7 @@ use Rattle.iol_far.specs.Laws.{IsFrozen}
 use Rattle.iol_steps.specs.Station.{is_due, wants_octet, EventsFit}
 use Rattle.iol_app.proofs.EventReading.{ReaderLaws}
 use Rattle.iol_app.specs.declared.event_work.Reading.{Reading}
-use Rattle.iol_app.specs.declared.event_work.Reading.TheVariants.{Resting, UnderWay, ConfirmDue, Refused}
+use Rattle.iol_app.specs.declared.event_work.Reading.TheVariants.{Resting, UnderWay}
 use Rattle.iol_app.specs.EventReading.{is_refused, reader_of, reading_by, list_by}
 use Rattle.iol_app.specs.Core.{reading_at}
 
@@ -53,6 +53,4 @@ module _ (laws : ReaderLaws) (event : Bool) where
       subst (λ (l : List Event). Took (taken octets (event_octet l (next_address octets))) event m) (sym fit.2.0)
       (subst (λ (o : List ℕ). Took (taken o (event_octet (fit.0 ∷ fit.1) (next_address o))) event m) (sym fit.3.2)
       (read_on fit.0 fit.1 fit.3.0 m (frozen_list fit.0 fit.1 m valid fit.2) fit.3.1 fit.2))
-  reads_next Resting false due c m valid fit wants = absurd (let z : false ≡ true = wants in cc)
-  reads_next ConfirmDue flag due c m valid fit wants = absurd (let z : false ≡ true = wants in cc)
-  reads_next Refused flag due c m valid fit wants = absurd (let z : false ≡ true = wants in cc)
+  reads_next other flag due c m valid fit wants = absurd (let z : false ≡ true = wants in cc)

@@ -1,5 +1,5 @@
 -- What comes back in OPERATE: from the wire's own words.
-use Rattle.std.proofs.Common.{◌≡◌, inl, inr, ℕ, ◌+◌, ◌≤◌, ◌<◌, min, Bool, true, false, ◌==◌, List, refl, sym, ◌∙◌, ap, subst, arith}
+use Rattle.std.proofs.Common.{◌≡◌, ℕ, ◌+◌, ◌≤◌, ◌<◌, min, Bool, true, false, ◌==◌, List, refl, sym, ◌∙◌, ap, subst, arith}
 use Rattle.std.proofs.lemmas.Bool.Decides.{nat_tests}
 use Rattle.std.specs.Prelude.{Option, Some, None, if◌then◌else◌}
 use Rattle.iol_mseq.specs.Texts.{master_text}
@@ -26,7 +26,7 @@ use Rattle.iol_steps.specs.Exchange.{TextNamesAnswer, told_by}
 use Rattle.iol_app.proofs.Given.{Laws, all_laws, page_locals}
 use Rattle.iol_app.proofs.EventReading.{ReaderLaws}
 use Rattle.iol_app.proofs.OwnSession.{own_open}
-use Rattle.iol_app.specs.Ends.{OutputTold, OperateLink, output_for}
+use Rattle.iol_app.specs.Ends.{OutputTold, output_for}
 use Rattle.iol_app.proofs.Outputs.{outputs_locals}
 use Rattle.iol_app.specs.declared.request.Current.{Current}
 use Rattle.iol_app.specs.declared.session.Exchange.{Exchange}
@@ -39,7 +39,7 @@ use Rattle.iol_app.proofs.OperateMessages.{exchange_command}
 use Rattle.iol_app.proofs.Turns.{good_parts}
 use Rattle.iol_mseq.specs.Shape.{Shape}
 use Rattle.iol_app.specs.Core.{Core, Ghost, Stands, ReceiveGives, Receives, core_out, after_exchange}
-use Rattle.iol_app.proofs.SmallFacts.{third_time}
+use Rattle.iol_app.proofs.SmallFacts.{operating, third_time}
 use Rattle.iol_app.proofs.FarSide.{Goes, silent, replied, says_of, outputs_sent, outputs_after, opens_after, replied_told, replied_out}
 use Rattle.iol_app.proofs.Exchanging.{Passes, gives, misses, loses, at, level_here, tied'}
 use Rattle.iol_app.proofs.Had.{Good, Replied, progress_fits, had}
@@ -91,10 +91,6 @@ module _ (names : TextNamesAnswer) (taken : AnswersAreTakenUp) (laws : Laws) (re
 
     module _ (stands : Stands c g far n) (valid : IsSession c.session) (x : HonestExchange far n (master_text layouts.run w.message) came far' n') (few : w.tries < 3)
         (accepts : (link : Link) → IsOperating layouts link → IsAccepted layouts far.page link w.message) where
-      operating : (link : Link) → OperateLink layouts (progress_of t.current) link → IsOperating layouts link
-      operating link (inl k) = inl k.0
-      operating link (inr k) = inr k
-
       by_tries : (b : Bool) → (w.tries == 2) ≡ b → n' ≡ min 3 (n + 1) → let o : Outcome = operate_by (record { message = w.message; tries = if b then 0 else w.tries + 1 }) layouts (if b then WasLost else Again) in
           IsMet o n' far' → OutcomeFits o → Joined (state_of o) (settled_session o c.session) → IsSettledSaid o c.session said → ReceiveGives c g far n said (after_exchange o c.session) far' n'
       by_tries true two silence met fits joined says =
@@ -130,7 +126,9 @@ module _ (names : TextNamesAnswer) (taken : AnswersAreTakenUp) (laws : Laws) (re
                 ∙ ap (λ (k : Option Bool). told_by k t.output.told) (commands laws layouts w t g far n x.steps e t.current stands);
             out_is = replied_out laws g.page layouts.run g.request.base stands.request.link (progress_of t.current) (master_text layouts.run w.message) w.message (move_for e t.current) ModeOperate g.sent t.output.told (going laws layouts w t g far n x.steps e t.current stands)
                 w.tries (locals far x.steps) (page_here laws layouts w t g far n x.steps e t.current stands) (level laws layouts w t g far n x.steps e t.current stands) refl is.octets is.replies;
-            accepted = subst (λ (p : List ℕ). IsAccepted layouts p stands.request.link w.message) stands.page (accepts stands.request.link (operating stands.request.link stands.request.linked));
+            accepted = subst (λ (p : List ℕ). IsAccepted layouts p stands.request.link w.message)
+                stands.page (accepts stands.request.link (operating layouts
+                (progress_of t.current) stands.request.link stands.request.linked));
             valid = valid;
             sized = (good_parts layouts.run w.message came r good).input;
           } in

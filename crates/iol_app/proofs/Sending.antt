@@ -1,9 +1,8 @@
 -- A new message goes out in OPERATE.
-use Rattle.std.proofs.Common.{◌≡◌, ◌⊎◌, inl, inr, ⊎_elim, ℕ, ◌≤◌, Bool, true, false, List, [], ◌∷◌, length, refl, sym, ap, ◌∙◌, subst, arith}
-use Rattle.std.specs.Prelude.{Option, Some, None, IfSome, IsSome, is_some, bytes_eq, unwrap_or, nat_lt, if◌then◌else◌}
+use Rattle.std.proofs.Common.{◌≡◌, ◌⊎◌, inl, inr, ⊎_elim, ℕ, ◌≤◌, Bool, true, false, List, length, refl, sym, ap, ◌∙◌, subst, arith}
+use Rattle.std.specs.Prelude.{Option, IfSome, IsSome, is_some, bytes_eq, unwrap_or, if◌then◌else◌}
 use Rattle.std.proofs.lemmas.Grind.{common_steps}
 use Rattle.std.proofs.lemmas.Bool.{cases_Bool}
-use Rattle.std.proofs.lemmas.Bool.Decides.{nat_tests}
 use Rattle.std.proofs.lemmas.Slice.Eq.{bytes_eq-Decides}
 use Rattle.iol_octets.specs.declared.control.Channel.TheVariants.{Page}
 use Rattle.iol_mseq.specs.Shape.{Shape}
@@ -28,7 +27,6 @@ use Rattle.iol_steps.specs.Images.{image_or}
 use Rattle.iol_steps.specs.Station.{is_due, wants_octet}
 use Rattle.iol_steps.specs.Exchange.{output_due, told_by}
 use Rattle.iol_app.specs.declared.event_work.Reading as app
-use Rattle.iol_app.specs.declared.event_work.Reading.TheVariants.{ConfirmDue}
 use Rattle.iol_app.specs.declared.session.Exchange.{Exchange}
 use Rattle.iol_app.specs.declared.session.Exchange.TheVariants.{TellOutput, DropOutput}
 use Rattle.iol_app.specs.Due.{due_of, is_under_way, is_confirm_due, is_resting}
@@ -41,28 +39,18 @@ use Rattle.iol_app.proofs.DueFacts.{IsDue, due_is}
 use Rattle.iol_app.proofs.OperateMessages.{tell_differs, page_command}
 use Rattle.iol_app.proofs.Telling.{told_layout}
 use Rattle.iol_app.specs.Core.{Core, Ghost, Stands, Sends, SendGives, core_out, free_core, made_ghost, reading_at, reading_in, ordered_by}
-use Rattle.iol_app.proofs.SmallFacts.{keeps_some, events_due, confirms_is, not_operate, begins_request, tells_wanted, drops_told, some_or, image_some, sent_made, same_carried}
+use Rattle.iol_app.proofs.SmallFacts.{operating, keeps_some, events_due, confirms_is, not_operate, begins_request, tells_wanted, drops_told, some_or, image_some, sent_made, same_carried}
 
 -- which readings a confirm and a read go out for
 confirm_due : (r : app.Reading) (flag : Bool) (due : Event × List Event) → is_confirm_due r ≡ true → is_due (reading_at r flag due) ≡ true
-confirm_due ConfirmDue flag due k = refl
-confirm_due other flag due k = absurd (let z : false ≡ true = k in cc)
+confirm_due r flag due k = grind (arith, common_steps)
 
 octet_due : (r : app.Reading) (flag room : Bool) (due : Event × List Event) → (is_under_way r ≡ true) ⊎ ((is_resting r ≡ true) × (flag ≡ true) × (room ≡ true)) → wants_octet (reading_at r flag due) ≡ true
 octet_due r flag room due k = grind (arith, common_steps)
 
 -- what a message asks for is what is wanted, where the command that is due goes with it
 asks_wanted : (wanted : Option Image) (told : Bool) (carried : List ℕ) → IfSome wanted IsImage → ordered_by (told_by (output_due wanted told) told) (unwrap_or wanted carried) ≡ wanted
-asks_wanted None true carried h = refl
-asks_wanted None false carried h = refl
-asks_wanted (Some image) told carried h = by_told told
-  where
-    some : (if nat_lt 0 (length image) then Some image else None) ≡ Some image
-    some = let t : nat_lt 0 (length image) ≡ true = (let low : 1 ≤ length image = h.some_octet in grind (arith, nat_tests)) in rw t refl
-
-    by_told : (told : Bool) → ordered_by (told_by (output_due (Some image) told) told) image ≡ Some image
-    by_told true = some
-    by_told false = some
+asks_wanted wanted told carried h = grind (arith, common_steps)
 
 module _ (levels : (size : ℕ) → 1 ≤ size → LevelLaws size) (modes : ModesHaveLayouts) (moves : MessagesAreMoves)
     (layouts : Layouts) (t : SessionState) (room : Bool) (m : MasterMsg) (g : Ghost) (far : Far) (n : ℕ)
@@ -87,11 +75,9 @@ module _ (levels : (size : ℕ) → 1 ≤ size → LevelLaws size) (modes : Mode
   at = told_layout g.page FarOperate layouts (ap layouts_of (sym stands.page) ∙ stands.link.told)
 
   accepted : IsAccepted layouts g.page link m
-  accepted = subst (λ (p : List ℕ). IsAccepted layouts p link m) stands.page (accepts link (operating link stands.request.linked))
-    where
-      operating : (link : Link) → OperateLink layouts (progress_of t.current) link → IsOperating layouts link
-      operating link (inl k) = inl k.0
-      operating link (inr k) = inr k
+  accepted =
+      subst (λ (p : List ℕ). IsAccepted layouts p link m) stands.page
+      (accepts link (operating layouts (progress_of t.current) link stands.request.linked))
 
   -- before the first good reply in OPERATE no output is told
   untold : link ≡ entering_link layouts → t.output.told ≡ false
@@ -136,8 +122,7 @@ module _ (levels : (size : ℕ) → 1 ≤ size → LevelLaws size) (modes : Mode
   there = ap (layout_in g.page) mode ∙ at
 
   still : (l : Link) → OperateLink layouts (progress_of t.current) l → IfSome l.waits (λ command. progress_of t.current ≡ Quiet)
-  still l (inl k) = subst (λ (x : Link). IfSome x.waits (λ command. progress_of t.current ≡ Quiet)) (sym k.0) k.1
-  still l (inr k) = subst (λ (x : Link). IfSome x.waits (λ command. progress_of t.current ≡ Quiet)) (sym k) tt
+  still l h1 = grind (arith, common_steps)
 
   abbrev IsMoved : Head → List ℕ → Type 0
   IsMoved h d = IsMove layouts.run.od (move_for e t.current) (progress_of t.current) h.channel h.read (flow_of h.address) d

@@ -1,8 +1,7 @@
 -- What always holds of a session.
 use Rattle.std.proofs.lemmas.Grind.{common_steps}
-use Rattle.std.proofs.Common.{◌≡◌, ⊎_elim, ℕ, zero, suc, ◌*◌, ◌<◌, ◌≤◌, Bool, true, false, ◌==◌, if◌then◌else◌, List, length, refl, sym, ap, subst, ◌∙◌, arith, Option, Some, None}
-use Rattle.std.specs.Prelude.{slice_index, is_some, IfSome, IsTrue, unwrap_or}
-use Rattle.std.proofs.lemmas.Bool.{cases_Bool}
+use Rattle.std.proofs.Common.{◌≡◌, ℕ, ◌<◌, ◌≤◌, Bool, true, if◌then◌else◌, List, length, refl, sym, ap, subst, ◌∙◌, arith, Option, Some, None}
+use Rattle.std.specs.Prelude.{is_some, IfSome, IsTrue, unwrap_or}
 use Rattle.std.proofs.lemmas.List.{length-append}
 use Rattle.iol_mseq.specs.Shape.{Shape, IsLayout}
 use Rattle.iol_mseq.specs.Master.{HasMasterParts}
@@ -11,24 +10,20 @@ use Rattle.iol_mseq.specs.declared.reply.Reply.{Reply}
 use Rattle.iol_mseq.specs.declared.master.MasterMsg.{MasterMsg}
 use Rattle.iol_isdu.specs.declared.values.Request.{Request}
 use Rattle.iol_isdu.specs.declared.values.Cause.{Cause}
-use Rattle.iol_isdu.specs.Answers.{is_read}
 use Rattle.iol_isdu.specs.Texts.{request_front}
-use Rattle.iol_page.specs.Commands.{command_octet}
-use Rattle.iol_page.specs.declared.master_command.MasterCommand.TheVariants.{ProcessDataOutputOperate, DeviceOperate}
 use Rattle.iol_mseq.specs.Parts.{first_of_zeros}
-use Rattle.iol_segment.specs.Cut.{Cutting, last_given}
-use Rattle.iol_segment.specs.Join.{stage}
+use Rattle.iol_segment.specs.Cut.{Cutting}
 use Rattle.iol_app.specs.declared.output.Output.{Output}
 use Rattle.iol_app.specs.declared.event_work.Reading.{Reading}
 use Rattle.iol_app.specs.declared.request.Current.{Current}
 use Rattle.iol_app.specs.declared.request.Progress.{Progress}
-use Rattle.iol_app.specs.declared.request.Progress.TheVariants.{Sending, Asking, Receiving, Refused}
+use Rattle.iol_app.specs.declared.request.Progress.TheVariants.{Asking}
 use Rattle.iol_app.specs.declared.session.Exchange.{Exchange}
-use Rattle.iol_app.specs.declared.session.Exchange.TheVariants.{TellOutput, DropOutput, Abort, ConfirmEvents, Request as NextMessage}
+use Rattle.iol_app.specs.declared.session.Exchange.TheVariants.{Request as NextMessage}
 use Rattle.iol_steps.specs.declared.said.Said.{Said}
 use Rattle.iol_steps.specs.declared.said.Said.TheVariants.{Cut}
 use Rattle.iol_app.specs.Outputs.{output_after, carried_by, IsOutput}
-use Rattle.iol_app.specs.Requests.{text_of, Outcome, GoesOn, HasText, asked, replied_at, replied, going, current_after, request_in, request_after, IsOutcomeSaid, IsSaid, Suits, ProgressFits, IsCurrent}
+use Rattle.iol_app.specs.Requests.{text_of, Outcome, asked, replied_at, replied, going, current_after, request_in, request_after, IsOutcomeSaid, IsSaid, Suits, ProgressFits, IsCurrent}
 use Rattle.iol_app.specs.State.{SessionState, IsSession, od_size, output_length, absorbed}
 use Rattle.iol_app.specs.Messages.{head_of, head_for, data_for, progress_head, progress_data, request_head, request_data}
 use Rattle.iol_app.proofs.Cutting.{length-segment, is_pair, given_goes_on, sent_on_fits}
@@ -42,15 +37,7 @@ text_some cutter = let whole = length-append (request_front cutter.source) in om
 asked_stays : (current : Current) (busy limit : ℕ) (od : List ℕ) → IsCurrent current → ProgressFits current.cutter current.abort (Asking busy) → length od ≡ current.cutter.size
     → StaysCurrent current.cutter (asked current.cutter current.abort busy limit od)
 asked_stays current busy limit od h all size =
-    let one : length od ≡ suc 0 * current.cutter.size = omega arith in
-    ⊎_elim
-    (λ (b : (slice_index od 0 == 1) ≡ true). rw b (record { request = h.request; some = h.some; most = h.most; progress = all }, refl, refl))
-    (λ (n : (slice_index od 0 == 1) ≡ false).
-    ⊎_elim
-    (λ (z : (slice_index od 0 == 0) ≡ true). rw (n, z) (refused_stays current h))
-    (λ (m : (slice_index od 0 == 0) ≡ false). rw (n, m) (joined_stays current h 0 od (stage od) refl one))
-    (cases_Bool (slice_index od 0 == 0)))
-    (cases_Bool (slice_index od 0 == 1))
+    grind (arith, common_steps, refused_stays, joined_stays)
 
 -- on-request data of the reply to a message of the request that was a read
 abbrev pub IsAnswered : ℕ → Progress → List ℕ → Type 0
@@ -58,13 +45,7 @@ IsAnswered size p od = (progress_head p).read ≡ true → length od ≡ size
 
 replied_stays : (current : Current) (p : Progress) (limit : ℕ) (od : List ℕ) → IsCurrent current → current.progress ≡ p → IsAnswered current.cutter.size p od
     → StaysCurrent current.cutter (replied_at p limit od current)
-replied_stays current (Sending flow segment) limit od h e size =
-    let fits : ProgressFits current.cutter current.abort (Sending flow segment) = subst (ProgressFits current.cutter current.abort) e h.progress in
-    let on = given_goes_on current.cutter.size (text_of current.cutter) current.cutter.given flow segment fits in
-    (sent_on_fits current.cutter current.abort h.request h.some h.most (text_some current.cutter) on, refl, refl)
-replied_stays current (Asking busy) limit od h e size = asked_stays current busy limit od h (subst (ProgressFits current.cutter current.abort) e h.progress) (size refl)
-replied_stays current (Receiving joining had) limit od h e size = received_stays current h joining had od (subst (ProgressFits current.cutter current.abort) e h.progress) (size refl)
-replied_stays current Refused limit od h e size = (h, refl, refl)
+replied_stays current p limit od h e size = grind (arith, common_steps, asked_stays, received_stays, sent_on_fits, given_goes_on, text_some)
 
 -- the reply has on-request data of the layout's size where the request's message was a read
 answered_as : (layout : Option Shape) (current : Current) (od : List ℕ) → IsCurrent current → current.cutter.size ≡ od_size layout
@@ -78,17 +59,14 @@ abbrev pub StaysGoing : ℕ → Option Current → Type 0
 StaysGoing size current = IfSome current IsCurrent × IfSome current (λ c. c.cutter.size ≡ size)
 
 going_stays : (cutter : Cutting Request) (outcome : Outcome) → StaysCurrent cutter outcome → StaysGoing cutter.size (going outcome)
-going_stays cutter (GoesOn current) h = (h.0, h.1)
-going_stays cutter (HasText text) h = (tt, tt)
+going_stays cutter outcome h = grind (arith, common_steps)
 
 going_request : (cutter : Cutting Request) (read : Bool) (outcome : Outcome) (said : Said) → StaysCurrent cutter outcome → IsOutcomeSaid read outcome said
     → request_in (going outcome) ≡ request_after (Some cutter.source) said
-going_request cutter read (GoesOn current) said stays h = ap Some stays.2 ∙ ap (request_after (Some cutter.source)) (sym h)
-going_request cutter read (HasText text) said stays h = ap (request_after (Some cutter.source)) (sym h.found.2)
+going_request cutter read outcome said stays h = grind (arith, common_steps)
 
 aborted_request : (request : Request) (abort : Option Cause) (said : Said) → IsTrue (is_some abort) → IfSome abort (λ cause. said ≡ Cut cause) → None ≡ request_after (Some request) said
-aborted_request request None said suits h = absurd (let k : false ≡ true = suits in cc)
-aborted_request request (Some cause) said suits h = ap (request_after (Some request)) (sym h)
+aborted_request request abort said suits h = grind (arith, common_steps)
 
 module _ (layout : Option Shape) (reading : Reading) (limit : ℕ) (od : List ℕ) where
   abbrev Fits : Exchange → Option Current → Type 0
@@ -99,19 +77,12 @@ module _ (layout : Option Shape) (reading : Reading) (limit : ℕ) (od : List �
 
   pub current_stays : (exchange : Exchange) (current : Option Current) → IfSome current IsCurrent → IfSome current (λ c. c.cutter.size ≡ od_size layout) → Fits exchange current
       → StaysGoing (od_size layout) (current_after exchange limit od current)
-  current_stays NextMessage (Some current) h size fits =
-      subst (λ n. StaysGoing n (going (replied limit od current))) size (going_stays current.cutter (replied limit od current) (stays current h size fits))
-  current_stays Abort (Some current) h size fits = (tt, tt)
-  current_stays other (Some current) h size fits = (h, size)
-  current_stays exchange None h size fits = (tt, tt)
+  current_stays exchange current h size fits = grind (arith, common_steps, going_stays, stays)
 
   pub current_request : (exchange : Exchange) (current : Option Current) (said : Said) → IfSome current IsCurrent → IfSome current (λ c. c.cutter.size ≡ od_size layout) → Fits exchange current
       → Suits exchange current → IsSaid exchange limit od current said → request_in (current_after exchange limit od current) ≡ request_after (request_in current) said
-  current_request NextMessage (Some current) said h size fits suits said_is =
-      going_request current.cutter (is_read current.cutter.source) (replied limit od current) said (stays current h size fits) said_is
-  current_request Abort (Some current) said h size fits suits said_is = aborted_request current.cutter.source current.abort said suits said_is
-  current_request other (Some current) said h size fits suits said_is = ap (request_after (Some current.cutter.source)) (sym said_is)
-  current_request exchange None said h size fits suits said_is = ap (request_after None) (sym said_is)
+  current_request exchange current said h size fits suits said_is =
+      grind (arith, common_steps, going_request, aborted_request, stays)
 
 output_stays : (size : ℕ) (exchange : Exchange) (output : Output) → IsOutput size output → IsOutput size (output_after exchange output)
 output_stays size exchange output h = grind (arith, common_steps)
@@ -132,8 +103,7 @@ absorbed_stays s exchange reply h fits =
 -- A new message has the parts of the layout
 
 carried_length : (size : ℕ) (wanted : Option (List ℕ)) (carried : List ℕ) → length carried ≡ size → IfSome wanted (λ image. length image ≡ size) → length (unwrap_or wanted carried) ≡ size
-carried_length size None carried e h = e
-carried_length size (Some image) carried e h = h
+carried_length size wanted carried e h = grind (arith, common_steps)
 
 length-first_of_zeros : (size octet : ℕ) → 1 ≤ size → length (first_of_zeros size octet) ≡ size
 length-first_of_zeros size octet some = grind (arith, common_steps)
@@ -143,16 +113,7 @@ abbrev IsData : ℕ → Bool → List ℕ → Type 0
 IsData size read od = length od ≡ (if read then 0 else size)
 
 progress_data_length : (current : Current) (p : Progress) → current.progress ≡ p → IsCurrent current → IsData current.cutter.size (progress_head p).read (progress_data p)
-progress_data_length current (Sending flow segment) e h =
-    let fits : ProgressFits current.cutter current.abort (Sending flow segment) = subst (ProgressFits current.cutter current.abort) e h.progress in
-    by_given current.cutter.given fits
-  where
-    by_given : (given : ℕ) → last_given current.cutter.size (text_of current.cutter) given ≡ Some (flow, segment) → length segment.items ≡ current.cutter.size
-    by_given zero e = absurd (let k : None ≡ Some (flow, segment) = e in cc)
-    by_given (suc i) e = ap length (is_pair current.cutter.size (text_of current.cutter) i flow segment e).octets ∙ length-segment current.cutter.size (text_of current.cutter) i
-progress_data_length current (Asking busy) e h = refl
-progress_data_length current (Receiving joining had) e h = refl
-progress_data_length current Refused e h = refl
+progress_data_length current p e h = grind (arith, common_steps, is_pair, length-segment)
 
 request_data_length : (size : ℕ) (current : Option Current) → IfSome current IsCurrent → IfSome current (λ c. c.cutter.size ≡ size) → IsData size (request_head current).read (request_data current)
 request_data_length size None h same = refl
@@ -161,11 +122,8 @@ request_data_length size (Some current) h same =
 
 data_length : (exchange : Exchange) (size : ℕ) (reading : Reading) (current : Option Current) → 1 ≤ size → IfSome current IsCurrent → IfSome current (λ c. c.cutter.size ≡ size)
     → IsData size (head_for exchange reading current).read (data_for exchange size current)
-data_length TellOutput size _ current some h same = length-first_of_zeros size (command_octet ProcessDataOutputOperate) some
-data_length DropOutput size _ current some h same = length-first_of_zeros size (command_octet DeviceOperate) some
-data_length ConfirmEvents size _ current some h same = length-first_of_zeros size 0 some
-data_length NextMessage size _ current some h same = request_data_length size current h same
-data_length other size _ current some h same = refl
+data_length exchange size reading current some h same =
+    grind (arith, common_steps, length-first_of_zeros, request_data_length)
 
 od_some : (layout : Shape) → IsLayout layout → 1 ≤ layout.od
 od_some layout h = grind (arith, common_steps)

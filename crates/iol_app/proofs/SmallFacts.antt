@@ -1,19 +1,20 @@
 -- Facts of the parts of a session: the input that is shown, the output, the request, the events.
-use Rattle.std.proofs.Common.{◌≡◌, ℕ, zero, suc, ◌+◌, ◌≤◌, min, Bool, true, false, not, ◌&&◌, List, [], ◌∷◌, length, refl, sym, ap, ◌∙◌, arith}
+use Rattle.std.proofs.Common.{◌≡◌, ℕ, ◌+◌, ◌≤◌, min, Bool, true, false, not, ◌&&◌, List, [], ◌∷◌, length, refl, arith}
 use Rattle.std.proofs.lemmas.Bool.Decides.{nat_tests}
 use Rattle.std.proofs.lemmas.Grind.{common_steps}
-use Rattle.std.specs.Prelude.{Option, Some, None, if◌then◌else◌, ◌==◌, IfSome, IsSome, replicate, is_some, unwrap_or}
+use Rattle.std.specs.Prelude.{Option, Some, if◌then◌else◌, ◌==◌, IfSome, IsSome, replicate, is_some, unwrap_or}
 use Rattle.iol_mseq.specs.Shape.{Shape}
 use Rattle.iol_mseq.specs.declared.reply.Reply.{Reply}
 use Rattle.iol_image.specs.Image.{IsImage}
 use Rattle.iol_far.specs.declared.mode.Mode.TheVariants.{Operate as FarOperate}
 use Rattle.iol_isdu.specs.declared.values.Request.{Request}
 use Rattle.iol_far.specs.declared.carried.Carried.{Carried}
-use Rattle.iol_far.specs.Level.{Quiet, Had as IsHad, Stands as FarStands, Begin}
+use Rattle.iol_far.specs.Level.{Progress, Link, Quiet, Had as IsHad, Stands as FarStands, Begin}
+use Rattle.iol_page.specs.declared.page.Layouts.{Layouts}
 use Rattle.iol_far.specs.Isdu.{IsduState}
 use Rattle.iol_far.specs.Far.{Far, hear, heard_as}
 use Rattle.iol_far.specs.Local.{LocalStep, local, locals}
-use Rattle.iol_mode.specs.Stands.{entering_mode}
+use Rattle.iol_mode.specs.Stands.{entering_mode, IsOperating}
 use Rattle.iol_steps.specs.Step.{Image}
 use Rattle.iol_steps.specs.Images.{image_or}
 use Rattle.iol_steps.specs.Exchange.{image_had, told_by, output_due}
@@ -22,21 +23,18 @@ use Rattle.iol_steps.specs.Station.{Reading, is_due, EventsFit}
 use Rattle.iol_app.proofs.Accepted.{by_accepted}
 use Rattle.iol_app.specs.declared.output.Output.{Output}
 use Rattle.iol_app.specs.declared.session.Exchange.{Exchange}
-use Rattle.iol_app.specs.declared.session.Exchange.TheVariants.{ConfirmEvents, Request as NextMessage}
+use Rattle.iol_app.specs.declared.session.Exchange.TheVariants.{ConfirmEvents}
 use Rattle.iol_app.specs.Outputs.{output_after}
 use Rattle.iol_app.specs.declared.request.Current.{Current}
-use Rattle.iol_app.specs.declared.request.Progress.{Progress as Cursor}
-use Rattle.iol_app.specs.declared.request.Progress.TheVariants.{Sending}
 use Rattle.iol_app.specs.Requests.{request_in}
-use Rattle.iol_app.specs.Moves.{segment_move, move_at, move_for, confirms_events}
-use Rattle.iol_app.specs.Ends.{output_for}
+use Rattle.iol_app.specs.Moves.{move_for, confirms_events}
+use Rattle.iol_app.specs.Ends.{output_for, OperateLink}
 
 abbrev pub HasOctets : Option Image → Type 0
 HasOctets input = IfSome input (λ image. 1 ≤ length image)
 
 pub image_octets : (input : Option Image) → IfSome input IsImage → HasOctets input
-image_octets None h = tt
-image_octets (Some image) h = h.some_octet
+image_octets input h = grind (arith, common_steps)
 
 pub input_is : (size : ℕ) (input : Option Image) (reply : Reply) → IfSome input (λ image. length image ≡ size) → HasOctets input
     → reply.input.items ≡ (if size == 0 then [] else unwrap_or input (replicate size 0)) → reply.invalid ≡ (not (size == 0) && not (is_some input)) → image_had size reply ≡ input
@@ -53,15 +51,13 @@ pub input_hear : (far : Far) (o : List ℕ) → (hear far o).far.input ≡ far.i
 input_hear far o = by_accepted (λ q. (heard_as far o q).far.input ≡ far.input) far o refl (λ w m e. refl) (λ w c k m e. refl)
 
 pub not_operate : (p : Option Shape) → entering_mode p ≡ FarOperate → ⊥
-not_operate None e = cc
-not_operate (Some pre) e = cc
+not_operate p e = grind (arith, common_steps)
 
 pub same_output : (exchange : Exchange) (output : Output) → output_after exchange output ≡ record output { told = told_by (output_for exchange) output.told }
 same_output exchange output = grind (arith, common_steps)
 
 pub confirms_is : (exchange : Exchange) → confirms_events exchange ≡ true → exchange ≡ ConfirmEvents
-confirms_is ConfirmEvents e = refl
-confirms_is other e = absurd (let k : false ≡ true = e in cc)
+confirms_is exchange e = grind (arith, common_steps)
 
 pub more_silence : (n : ℕ) → min 3 (n + 1) ≡ 0 → ⊥
 more_silence n e = grind (arith, nat_tests, common_steps)
@@ -72,48 +68,33 @@ third_time tries silence e few = grind (arith, nat_tests, common_steps)
 pub freed_quiet : (size : ℕ) (base : List Carried) (r : Request) (i : ℕ) (text : List ℕ) (state : IsduState) (c : List Carried) → FarStands size base (IsHad r i text) state c → FarStands size c Quiet state c
 freed_quiet size base r i text state c h = grind (arith, common_steps)
 
-pub segment_begins : (source : Request) (given : ℕ) (request : Request) → segment_move source given ≡ Begin request → source ≡ request
-segment_begins source zero request e = absurd (cc)
-segment_begins source (suc zero) request e = cc
-segment_begins source (suc (suc i)) request e = absurd (cc)
-
-pub cursor_begins : (current : Current) (p : Cursor) (request : Request) → move_at current.cutter p ≡ Begin request → current.cutter.source ≡ request
-cursor_begins current (Sending flow segment) request e = segment_begins current.cutter.source current.cutter.given request e
-cursor_begins current other request e = absurd (cc)
-
 pub begins_request : (exchange : Exchange) (current : Option Current) (request : Request) → move_for exchange current ≡ Begin request → request_in current ≡ Some request
-begins_request NextMessage (Some current) request e = ap (λ (r : Request). Some r) (cursor_begins current current.progress request e)
-begins_request other current request e = absurd (cc)
+begins_request exchange current request e = grind (arith, common_steps)
 
 pub tells_wanted : (wanted : Option Image) (told : Bool) → Some true ≡ output_due wanted told → IsSome wanted
-tells_wanted None true e = absurd (let k : Some true ≡ Some false = e in cc)
-tells_wanted None false e = absurd (let k : Some true ≡ None = e in cc)
-tells_wanted (Some image) told e = refl
+tells_wanted wanted told e = grind (arith, common_steps)
 
 pub drops_told : (wanted : Option Image) (told : Bool) → Some false ≡ output_due wanted told → told ≡ true
-drops_told wanted true e = refl
-drops_told None false e = absurd (let k : Some false ≡ None = e in cc)
-drops_told (Some image) false e = absurd (let k : Some false ≡ Some true = e in cc)
+drops_told wanted told e = grind (arith, common_steps)
 
 pub some_or : (wanted sent : Option Image) → IsSome wanted → IsSome (image_or wanted sent)
-some_or None sent h = absurd (let k : false ≡ true = h in cc)
-some_or (Some image) sent h = refl
+some_or wanted sent h = grind (arith, common_steps)
 
 pub image_some : (wanted : Option Image) (carried : List ℕ) → IsSome wanted → IfSome wanted IsImage → 1 ≤ length (unwrap_or wanted carried)
-image_some None carried some h = absurd (let k : false ≡ true = some in cc)
-image_some (Some image) carried some h = h.some_octet
+image_some wanted carried some h = grind (arith, common_steps)
 
 pub sent_made : (wanted sent : Option Image) (carried : List ℕ) → IfSome sent (λ image. image ≡ carried) → IfSome (image_or wanted sent) (λ image. image ≡ unwrap_or wanted carried)
-sent_made None sent carried h = h
-sent_made (Some image) sent carried h = refl
+sent_made wanted sent carried h = grind (arith, common_steps)
 
 pub same_carried : (sent : Option Image) (octets carried : List ℕ) → octets ≡ carried → IfSome sent (λ image. image ≡ carried) → IfSome sent (λ image. octets ≡ image)
-same_carried None octets carried e h = tt
-same_carried (Some image) octets carried e h = e ∙ sym h
+same_carried sent octets carried e h = grind (arith, common_steps)
 
 pub keeps_some : (wanted sent : Option Image) → IsSome sent → IsSome (image_or wanted sent)
-keeps_some None sent h = h
-keeps_some (Some image) sent h = refl
+keeps_some wanted sent h = grind (arith, common_steps)
 
 pub events_due : (r : Reading) (c : Bool) (m : Events) → (c ≡ true → is_due r ≡ true) → EventsFit r false m → EventsFit r c m
 events_due r c m due h = grind (arith, common_steps)
+
+pub operating : (layouts : Layouts) (progress : Progress) (link : Link)
+    → OperateLink layouts progress link → IsOperating layouts link
+operating layouts progress link h = grind (arith, common_steps)

@@ -66,7 +66,7 @@ use Rattle.iol_app.proofs.Told.{told_exchange}
 use Rattle.iol_app.proofs.FirstOctet.{confirms_of}
 use Rattle.iol_app.specs.declared.event_work.Reading.TheVariants.{Resting}
 use Rattle.iol_app.specs.State.{SessionState, IsSession, told, entered}
-use Rattle.iol_app.specs.StationState.{StateFits as Joined, IsTold as IsToldBy, settled_session, mode_in, told_in}
+use Rattle.iol_app.specs.StationState.{StateFits as Joined, IsTold as IsToldBy, settled_session, mode_in, why_in, told_in}
 use Rattle.iol_app.proofs.StartMessages.{step_channel, sends_channel, preoperate_turns, page_confirms}
 use Rattle.iol_app.proofs.Telling.{startup_layout, told_layout, told_stays, told_told, told_shown}
 use Rattle.iol_app.specs.Core.{Core, Ghost, Stands, CallGives, Rises, RequestStands, EventsStand, OutputStands, OutputOff, CalmAt, ShownStands, moment_of, seen_in, shown_in, images_in, after_exchange}
@@ -99,16 +99,13 @@ none_rests : (awake : Bool) → false ≡ (awake && false)
 none_rests awake = grind (arith, common_steps)
 
 no_command : (mode : Mode) (command : Option MasterCommand) → mode ≢ ModeOperate → output_by mode command ≡ None
-no_command ModeOperate command below = absurd (below refl)
-no_command mode command below = refl
+no_command mode command below = grind (arith, common_steps)
 
 below : (start : Start) → mode_at start ≢ ModeOperate
-below (InStart s) e = absurd (let z : ModeStartup ≡ ModeOperate = e in cc)
-below (InPre s) e = absurd (let z : ModePreoperate ≡ ModeOperate = e in cc)
+below start e = grind (arith, common_steps)
 
 waits_quiet : (waits : Option WaitingCommand) → IfSome waits (λ command. Quiet ≡ Quiet)
-waits_quiet None = tt
-waits_quiet (Some command) = refl
+waits_quiet waits = grind (arith, common_steps)
 
 -- Its message, and the level of both ends
 
@@ -123,7 +120,6 @@ record Message (start : Start) (n : ℕ) (far : Far) : Type 0 where
   mode : (taken link (master_text shape message)).mode ≡ far_mode (mode_at start)
   layout : layout_in far.page (far_mode (mode_at start)) ≡ shape
   level : IsLevel far.page shape.od far.carried link Quiet (master_text shape message) tries far
-  few : tries ≤ n
 
 abbrev message_of : (start : Start) (n : ℕ) (far : Far) → StateFits (state_at start) → StateStands (state_at start) n far → Message start n far
 message_of (InStart s) n far fits stands = record {
@@ -137,7 +133,6 @@ message_of (InStart s) n far fits stands = record {
   mode = refl;
   layout = startup_layout far.page;
   level = stands.level;
-  few = stands.tries;
 }
 message_of (InPre s) n far fits stands = record {
   shape = s.pre;
@@ -150,23 +145,19 @@ message_of (InPre s) n far fits stands = record {
   mode = (preoperate_turns far.page s.cycle_written s.pre s.layouts s.sent.message fits.layouts.pre_is fits.sends).mode_is;
   layout = told_layout far.page FarPreoperate s.layouts stands.told ∙ ap (λ (p : Option Shape). unwrap_or p startup_shape) fits.layouts.pre_is;
   level = stands.level;
-  few = stands.tries;
 }
 
 -- what both modes say of the rest
 record Rests (start : Start) (t : SessionState) (g : Ghost) (far : Far) : Type 0 where
   late : g.request.hidden.late ≡ None
   opens : IsOpen far.isdu None g.request.hidden
-  reading : t.events.reading ≡ Resting
   untold : g.events.told ≡ false
   output : OutputOff t.output.told far
-  current : t.current ≡ None
-  exchange : t.exchange ≡ None
   fresh : IsTrue g.fresh → ⊥
 
 rests_of : (start : Start) (t : SessionState) (g : Ghost) (far : Far) (n : ℕ) → Stands (record { state = state_at start; session = t }) g far n → Rests start t g far
-rests_of (InStart s) t g far n h = record { late = h.request.0; opens = h.request.1; reading = h.events.0; untold = h.events.1; output = h.output; current = h.joined.0.0; exchange = h.joined.0.1; fresh = h.fresh }
-rests_of (InPre s) t g far n h = record { late = h.request.0; opens = h.request.1; reading = h.events.0; untold = h.events.1; output = h.output; current = h.joined.0.0; exchange = h.joined.0.1; fresh = h.fresh }
+rests_of (InStart s) t g far n h = record { late = h.request.0; opens = h.request.1; untold = h.events.1; output = h.output; fresh = h.fresh }
+rests_of (InPre s) t g far n h = record { late = h.request.0; opens = h.request.1; untold = h.events.1; output = h.output; fresh = h.fresh }
 
 module _ (laws : Laws) (heard : TextsAreHeard) (start : Start) (session : SessionState) (g : Ghost) (far far' : Far) (n n' : ℕ) (came : Option (List ℕ))
     (stands : Stands (record { state = state_at start; session = still session }) g far n) (rests : Rests start (still session) g far) (k : Message start n far)
@@ -241,39 +232,42 @@ module _ (laws : Laws) (heard : TextsAreHeard) (start : Start) (session : Sessio
   told_is : told_exchanged far x.steps x.passage o false ≡ false
   told_is = (told_exchange laws.events o steps.Resting (λ e. absurd (let z : false ≡ true = sym unconfirmed ∙ e in cc)) x.steps x.passage far false ((λ a. tt), none_rests far.awake)).1 ∙ sym (none_rests passed.awake)
 
+  -- how the new mode and the session stand
+  record Left (state : State) (u : SessionState) : Type 0 where
+    request : RequestStands state u.limit u.current u.exchange u.events after passed
+    events : EventsStand state u.exchange u.events after.events passed
+    output : OutputStands state u.exchange u.output.told g.sent passed
+    quiet : CalmAt state n'
+
+  -- steps that clash with none of the far end's, and of which nothing is said
+  abbrev IsPlain : List Step → Type 0
+  IsPlain ys = (no_busy ys ≡ true) × (no_confirm ys ≡ true) × IsTrue (is_clash_free ys)
+      × (filter is_for_book ys ≡ []) × (filter is_report ys ≡ [])
+
   -- what an outcome has to bring
   record Ends (answered : Bool) (next : Core) (ys : List Step) : Type 0 where
     limit : next.session.limit ≡ session.limit
     session_runs : SessionRuns (moment_of c g n (Exchanged answered)) (seen_in c g) h passed.carried ys (seen_in next after) h passed.carried
     frozen : FrozenRuns passed.events.frozen false ys passed.events.frozen false
     images : ImagesRuns (moment_of c g n (Exchanged answered)) (images_of (shown_in (still session) g.sent) passed) ys (images_of (shown_in next.session g.sent) passed)
-    calm : no_busy ys ≡ true
-    once : no_confirm ys ≡ true
-    free : IsTrue (is_clash_free ys)
-    book : filter is_for_book ys ≡ []
-    reports : filter is_report ys ≡ []
-    request : RequestStands next.state next.session.limit next.session.current next.session.exchange next.session.events after passed
-    events : EventsStand next.state next.session.exchange next.session.events after.events passed
-    output : OutputStands next.state next.session.exchange next.session.output.told g.sent passed
-    quiet : CalmAt next.state n'
+    plain : IsPlain ys
+    left : Left next.state next.session
     sent : SentSeen next.session.layout next.session.output.carried.items g.sent
     image : next.session.image ≡ None
     shown : ShownStands next g.page
 
   not_woken : (start : Start) (ended : Mode) → woke_up (mode_at start) ended ≡ []
-  not_woken (InStart s) ended = refl
-  not_woken (InPre s) ended = refl
+  not_woken start ended = grind (arith, common_steps)
 
   fits_call : (start : Start) (answered : Bool) → CallFits (mode_at start) (Exchanged answered)
-  fits_call (InStart s) answered = tt
-  fits_call (InPre s) answered = tt
+  fits_call start answered = grind (arith, common_steps)
 
   gives : (answered : Bool) → n' ≡ silence_by (Exchanged answered) n → (outcome : Outcome) (u : SessionState) → settled_session outcome (still session) ≡ u → (ys : List Step) → Ends answered (record { state = state_of outcome; session = u }) ys
       → IsRisen outcome n' far far' → OutcomeFits outcome → Joined (state_of outcome) (settled_session outcome (still session)) → CallGives c g far n Idle (after_exchange outcome (still session)) far' n'
   gives answered silence outcome u same ys b risen fits joined =
       let next : Core = record { state = state_of outcome; session = u } in
       let m = moment_of c g n (Exchanged answered) in
-      let before = exchange_before None far x.steps x.passage o ys b.calm b.once b.free in
+      let before = exchange_before None far x.steps x.passage o ys b.plain.0 b.plain.1 b.plain.2 in
       let i' = images_of (shown_in (still session) g.sent) passed in
       subst (λ (v : SessionState). CallGives c g far n Idle (record { state = state_of outcome; session = v }) far' n') (sym same) (subst (λ (f : Far). CallGives c g far n Idle next f n') (sym x.far_is) (record {
         call = Exchanged answered;
@@ -284,8 +278,8 @@ module _ (laws : Laws) (heard : TextsAreHeard) (start : Start) (session : Sessio
         terms = (b.limit, refl);
         clash_free = before.free;
         fresh = λ e. absurd (rests.fresh e);
-        said_book = before.book ∙ b.book ∙ rw (not_woken start (mode_in next.state)) refl;
-        said_reports = before.reports ∙ b.reports;
+        said_book = before.book ∙ b.plain.3 ∙ rw (not_woken start (mode_in next.state)) refl;
+        said_reports = before.reports ∙ b.plain.4;
         session = session_runs-append m (seen_in c g) (seen_in c g) (seen_in next after) g.request.hidden h h far.carried passed.carried passed.carried xs ys
             (exchange_session m (seen_in c g) g.request.hidden far x.steps x.passage o rests.opens) b.session_runs;
         frozen = subst (λ (t : Bool). FrozenRuns far.events.frozen t (xs ++ ys) passed.events.frozen false) (sym rests.untold)
@@ -300,94 +294,69 @@ module _ (laws : Laws) (heard : TextsAreHeard) (start : Start) (session : Sessio
           fits = fits;
           link = subst (λ (f : Far). StateStands (state_of outcome) n' f) x.far_is risen.both.stands;
           joined = subst (Joined (state_of outcome)) same joined;
-          calm = b.quiet;
+          calm = b.left.quiet;
           fresh = λ e. absurd (let z : false ≡ true = e in cc);
           sent = b.sent;
-          request = b.request;
-          events = b.events;
-          output = b.output;
+          request = b.left.request;
+          events = b.left.events;
+          output = b.left.output;
           shown = b.shown;
         };
       }))
 
   -- The outcomes
 
-  record Kept (next : Start) : Type 0 where
-    request : RequestStands (state_at next) session.limit None None (still session).events after passed
-    events : EventsStand (state_at next) None (still session).events after.events passed
-    output : OutputStands (state_at next) None false g.sent passed
-    quiet : CalmAt (state_at next) n'
-
-  kept : (next : Start) → Kept next
+  kept : (next : Start) → Left (state_at next) (still session)
   kept (InStart s) = record { request = (tied.0, opens); events = (refl, refl); output = off; quiet = tt }
   kept (InPre s) = record { request = (tied.0, opens); events = (refl, refl); output = off; quiet = tt }
 
-  abbrev shown' : (state : State) → ShownStands (record { state = state; session = still session }) g.page
-  shown' state = record { image = λ e. refl; wanted = stands.shown.wanted; lengths = stands.shown.lengths; isdu = stands.shown.isdu; no_form = refl }
+  abbrev shown' : (state : State) (event : Bool)
+      → ShownStands (record { state = state; session = entered event (still session) }) g.page
+  shown' state event = record { image = λ e. refl; wanted = stands.shown.wanted; lengths = stands.shown.lengths; isdu = stands.shown.isdu; no_form = refl }
 
   -- a start-up goes on in its mode
   stays : (answered : Bool) (next : Start) → seen_in (record { state = state_at next; session = still session }) after ≡ seen_in c g → Ends answered (record { state = state_at next; session = still session }) []
-  stays answered next same = let q = kept next in record {
+  stays answered next same = record {
     limit = refl;
     session_runs = (tt, ap (λ (e : Seen). session_of e h passed.carried) (sym same));
     frozen = (tt, refl);
     images = (tt, refl);
-    calm = refl;
-    once = refl;
-    free = refl;
-    book = refl;
-    reports = refl;
-    request = q.request;
-    events = q.events;
-    output = q.output;
-    quiet = q.quiet;
+    plain = (refl, refl, refl, refl, refl);
+    left = kept next;
     sent = stands.sent;
     image = refl;
-    shown = shown' (state_at next);
+    shown = shown' (state_at next) session.events.flag;
+  }
+
+  -- its mode alone moves; what is told of events may change
+  moves : (answered event : Bool) (state : State)
+      → MayMove (moment_of c g n (Exchanged answered)) (mode_at start) (mode_in state)
+      (why_in state)
+      → Left state (entered event (still session))
+      → Ends answered (record { state = state; session = entered event (still session) })
+      (MoveTo (mode_in state) (why_in state) ∷ [])
+  moves answered event state may left = record {
+    limit = refl;
+    session_runs = ((may, tt), refl);
+    frozen = ((tt, tt), refl);
+    images = ((tt, tt), refl);
+    plain = (refl, refl, refl, refl, refl);
+    left = left;
+    sent = stands.sent;
+    image = refl;
+    shown = shown' state event;
   }
 
   -- it goes down, for a cause
   falls : (answered : Bool) (why : Why) → MayMove (moment_of c g n (Exchanged answered)) (mode_at start) ModeDown (Some why)
       → Ends answered (after_exchange (InDown (record { why = Some why })) (still session)) (MoveTo ModeDown (Some why) ∷ [])
-  falls answered why may = record {
-    limit = refl;
-    session_runs = ((may, tt), refl);
-    frozen = ((tt, tt), refl);
-    images = ((tt, tt), refl);
-    calm = refl;
-    once = refl;
-    free = refl;
-    book = refl;
-    reports = refl;
-    request = opens;
-    events = tt;
-    output = tt;
-    quiet = tt;
-    sent = stands.sent;
-    image = refl;
-    shown = record { image = λ e. refl; wanted = stands.shown.wanted; lengths = stands.shown.lengths; isdu = stands.shown.isdu; no_form = refl };
-  }
+  falls answered why may =
+      moves answered session.events.flag (AtDown (record { why = Some why })) may
+      (record { request = opens; events = tt; output = tt; quiet = tt })
 
   -- it comes to PREOPERATE
   climbs : (s : Preoperate) → MayMove (moment_of c g n (Exchanged true)) (mode_at start) ModePreoperate None → Ends true (record { state = AtPreoperate s; session = still session }) (MoveTo ModePreoperate None ∷ [])
-  climbs s may = let q = kept (InPre s) in record {
-    limit = refl;
-    session_runs = ((may, tt), refl);
-    frozen = ((tt, tt), refl);
-    images = ((tt, tt), refl);
-    calm = refl;
-    once = refl;
-    free = refl;
-    book = refl;
-    reports = refl;
-    request = q.request;
-    events = q.events;
-    output = q.output;
-    quiet = q.quiet;
-    sent = stands.sent;
-    image = refl;
-    shown = shown' (AtPreoperate s);
-  }
+  climbs s may = moves true session.events.flag (AtPreoperate s) may (kept (InPre s))
 
   -- the page is whole, and its lengths are told
   tells : (s : Startup) (layouts : Layouts) → mode_at start ≡ ModeStartup → seen_in (record { state = AtStartup s; session = still session }) after ≡ seen_in c g → layouts_of g.page ≡ Ok layouts → layouts.isdu ≡ knows_isdu g.page → IsSession (still session)
@@ -403,15 +372,13 @@ module _ (laws : Laws) (heard : TextsAreHeard) (start : Start) (session : Sessio
         session_runs = ((tt, tt), ap (λ (e : Seen). session_of e h passed.carried) (sym same));
         frozen = ((tt, tt), refl);
         images = ((first, tt), λ i. let y : Images = images_of (record (shown_in (still session) g.sent) { wanted = w.wanted i; told = w.told i; isdu = w.isdu i }) passed in y);
-        calm = refl;
-        once = refl;
-        free = refl;
-        book = refl;
-        reports = refl;
-        request = q.request;
-        events = q.events;
-        output = subst (λ (b : Bool). OutputOff b passed) (sym (told_told layouts.run.pd_out (still session).output)) off;
-        quiet = q.quiet;
+        plain = (refl, refl, refl, refl, refl);
+        left = record {
+          request = q.request;
+          events = q.events;
+          output = subst (λ (b : Bool). OutputOff b passed) (sym (told_told layouts.run.pd_out (still session).output)) off;
+          quiet = q.quiet;
+        };
         sent = w.sent;
         image = refl;
         shown = record { image = λ e. refl; wanted = subst (λ (o : Option (List ℕ)). IfSome o IsImage) w.wanted stands.shown.wanted; lengths = sym size; isdu = isdu; no_form = refl };
@@ -422,16 +389,7 @@ module _ (laws : Laws) (heard : TextsAreHeard) (start : Start) (session : Sessio
       → IsEntered (record { out = None; layouts = layouts }) n' far' r → Ends true (record { state = AtOperate (record { out = None; layouts = layouts }); session = entered r.event (still session) }) (MoveTo ModeOperate None ∷ [])
   enters layouts r may held event entered_is =
       let at = subst (λ (f : Far). IsEntered (record { out = None; layouts = layouts }) n' f r) x.far_is entered_is in
-      record {
-        limit = refl;
-        session_runs = ((may, tt), refl);
-        frozen = ((tt, tt), refl);
-        images = ((tt, tt), refl);
-        calm = refl;
-        once = refl;
-        free = refl;
-        book = refl;
-        reports = refl;
+      moves true r.event (AtOperate (record { out = None; layouts = layouts })) may (record {
         request = record {
           late = tied.0;
           opens = opens;
@@ -446,10 +404,7 @@ module _ (laws : Laws) (heard : TextsAreHeard) (start : Start) (session : Sessio
         events = ((λ awake. kept_fits steps.Resting r.event passed.events event held tt), none_due r.event passed.awake);
         output = ((λ a v. absurd (let z : false ≡ true = sym (off.off a) ∙ v in cc)), (λ a e. off.off a), off.waits);
         quiet = at.silent;
-        sent = stands.sent;
-        image = refl;
-        shown = record { image = λ e. refl; wanted = stands.shown.wanted; lengths = stands.shown.lengths; isdu = stands.shown.isdu; no_form = refl };
-      }
+      })
 
 -- what is known of every start-up
 record Known : Type 0 where
@@ -547,12 +502,10 @@ module _ (known : Known) (session : SessionState) (valid : IsSession (still sess
       may_fault UnsupportedCode e = e
 
       behind_session : (page : Told) (p : Option Shape) → told_in (told_by (step_behind page p)) (still session) ≡ told page.layouts.run page.layouts.isdu (still session)
-      behind_session page None = refl
-      behind_session page (Some pre) = refl
+      behind_session page p = grind (arith, common_steps)
 
       behind_told : (page : Told) (p : Option Shape) → StepStands (step_behind page p) far' → layouts_of far'.page ≡ Ok page.layouts
-      behind_told page None q = q.0
-      behind_told page (Some pre) q = q.0
+      behind_told page p q = grind (arith, common_steps)
 
       by_page : (asked : Result Layouts PageFault) (octets : List ℕ) → IsRisen (checked asked octets) n' far far' → OutcomeFits (checked asked octets) → Joined (state_of (checked asked octets)) (settled_session (checked asked octets) (still session))
           → CallGivesBy (AtStartup s) (checked asked octets)
@@ -604,8 +557,7 @@ rises_at known (AtPreoperate s) t g far far' n n' came up stands valid x risen f
     subst (λ (u : SessionState). CallGives (record { state = AtPreoperate s; session = u }) g far n Idle (after_exchange o u) far' n') (sym e)
     (pre_rises known t (subst IsSession e valid) g far far' n n' came s (subst (λ (u : SessionState). Stands (record { state = AtPreoperate s; session = u }) g far n) e stands) x (good_reply s.pre s.sent.message came) refl risen fits
     (subst (λ (u : SessionState). Joined (state_of o) (settled_session o u)) e joined))
-rises_at known (AtDown s) t g far far' n n' came up stands valid x risen fits joined = absurd (let z : false ≡ true = up in cc)
-rises_at known (AtOperate s) t g far far' n n' came up stands valid x risen fits joined = absurd (let z : false ≡ true = up in cc)
+rises_at known state t g far far' n n' came up stands valid x risen fits joined = absurd (let z : false ≡ true = up in cc)
 
 pub rises : ((size : ℕ) → 1 ≤ size → LevelLaws size) → MuchStays → RepliesAreRead → InputStaysSized → ((first : Event) (rest : List Event) → EventLaws first rest) → ModesHaveLayouts → TextsAreHeard → PagesAskForLayouts → Rises
 rises levels much reads sized events layouts heard asks = record {

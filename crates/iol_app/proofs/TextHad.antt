@@ -1,15 +1,15 @@
 -- The octets of an answer that the master has had.
 use Rattle.std.proofs.Common.{◌≡◌, ℕ, suc, ◌*◌, ◌<◌, Bool, List, ◌++◌, length, sym, ◌∙◌, ap, subst, arith}
 use Rattle.std.proofs.lemmas.Grind.{common_steps}
-use Rattle.std.specs.Prelude.{Some, None, IsTrue}
+use Rattle.std.specs.Prelude.{Some, IsTrue}
 use Rattle.iol_octets.specs.declared.control.Channel.{Channel}
 use Rattle.iol_octets.specs.declared.flow_control.Flow.{Flow}
 use Rattle.iol_isdu.specs.declared.values.Request.{Request}
 use Rattle.iol_isdu.specs.declared.values.Answer.{Answer}
 use Rattle.iol_segment.specs.TextLaws.{joined}
 use Rattle.iol_far.specs.declared.carried.Carried.{Carried}
-use Rattle.iol_far.specs.Isdu.{IsduState, Empty, Receiving, Whole, Handed, Answered, fits, answer_text, isdu_data}
-use Rattle.iol_far.specs.Level.{Progress, Quiet, Written, Busy as IsBusy, Had as IsHad, Stands as FarStands, Move, Begin, More, Ask, Next, Leave, Other, asked, after, IsMove}
+use Rattle.iol_far.specs.Isdu.{IsduState, Answered, fits, answer_text, isdu_data}
+use Rattle.iol_far.specs.Level.{Progress, Written, Busy as IsBusy, Had as IsHad, Stands as FarStands, Move, Ask, Next, asked, after, IsMove}
 use Rattle.iol_steps.specs.Exchange.{ReadsAnswer}
 use Rattle.std.proofs.lemmas.List.{append_cancel_right}
 use Rattle.iol_segment.specs.Cut.{segment}
@@ -35,18 +35,12 @@ next_begins size q j t r i octets data_in a channel read flow sent move e fittin
 
 begins : (size : ℕ) (what : Move) (p : Progress) (channel : Channel) (read : Bool) (flow : Flow) (sent data_in : List ℕ) (r : Request) (i : ℕ) (octets : List ℕ) (a : Answer) → ReadsAnswer what → IsMove size what p channel read flow sent →
     after p what data_in ≡ IsHad r i octets → IsTrue (fits r a) → octets ≡ joined size (answer_text r a) i → data_in ≡ segment size (answer_text r a) i → i * size < length (answer_text r a)
-begins size Ask Quiet channel read flow sent data_in r i octets a k move e fitting whole part = absurd move
 begins size Ask (Written q j) channel read flow sent data_in r i octets a k move e fitting whole part = first_begins size q r i octets data_in a e
 begins size Ask (IsBusy q) channel read flow sent data_in r i octets a k move e fitting whole part = first_begins size q r i octets data_in a e
-begins size Ask (IsHad q j t) channel read flow sent data_in r i octets a k move e fitting whole part = absurd move
-begins size Next Quiet channel read flow sent data_in r i octets a k move e fitting whole part = absurd move
-begins size Next (Written q j) channel read flow sent data_in r i octets a k move e fitting whole part = absurd move
-begins size Next (IsBusy q) channel read flow sent data_in r i octets a k move e fitting whole part = absurd move
 begins size Next (IsHad q j t) channel read flow sent data_in r i octets a k move e fitting whole part = next_begins size q j t r i octets data_in a channel read flow sent move e fitting whole part
-begins size (Begin q) p channel read flow sent data_in r i octets a k move e fitting whole part = absurd k
-begins size More p channel read flow sent data_in r i octets a k move e fitting whole part = absurd k
-begins size Leave p channel read flow sent data_in r i octets a k move e fitting whole part = absurd k
-begins size Other p channel read flow sent data_in r i octets a k move e fitting whole part = absurd k
+begins size Ask p channel read flow sent data_in r i octets a k move e fitting whole part = absurd move
+begins size Next p channel read flow sent data_in r i octets a k move e fitting whole part = absurd move
+begins size what p channel read flow sent data_in r i octets a k move e fitting whole part = absurd k
 
 -- they are the segments of an answer to the request, the last of which has octets of its text
 pub had_text : (size : ℕ) (base : List Carried) (r : Request) (i : ℕ) (octets : List ℕ) (s : IsduState) (c : List Carried) → FarStands size base (IsHad r i octets) s c →
@@ -58,8 +52,4 @@ had_text size base r i octets (Answered q a (Some j)) c h what p channel read fl
     let last : data_in ≡ segment size (answer_text r a) i =
     part ∙ ap (λ (n : ℕ). segment size (answer_text q a) n) h.2 ∙ ap (λ (x : Request). segment size (answer_text x a) i) h.0 in
     (a, fitting, whole, begins size what p channel read flow sent data_in r i octets a k move e fitting whole last)
-had_text size base r i octets (Answered q a None) c h what p channel read flow sent data_in k move part e = absurd h
-had_text size base r i octets Empty c h what p channel read flow sent data_in k move part e = absurd h
-had_text size base r i octets (Receiving t l) c h what p channel read flow sent data_in k move part e = absurd h
-had_text size base r i octets (Whole q l) c h what p channel read flow sent data_in k move part e = absurd h
-had_text size base r i octets (Handed q) c h what p channel read flow sent data_in k move part e = absurd h
+had_text size base r i octets state c h what p channel read flow sent data_in k move part e = absurd h

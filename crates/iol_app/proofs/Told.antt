@@ -4,7 +4,7 @@ use Rattle.std.proofs.lemmas.Grind.{common_steps}
 use Rattle.iol_event.specs.declared.event.Event.{Event}
 use Rattle.iol_event.specs.Memory.{Events}
 use Rattle.iol_event.specs.Reading.{reading}
-use Rattle.iol_link.specs.Honest.{Passage, OutLost, BackLost, Clean, far_after}
+use Rattle.iol_link.specs.Honest.{Passage, OutLost, far_after}
 use Rattle.iol_far.specs.Codec.{layout_in}
 use Rattle.iol_far.specs.Far.{Far, hear, heard_as}
 use Rattle.iol_far.specs.Local.{LocalStep, local, locals}
@@ -51,8 +51,7 @@ module _ (laws : (first : Event) (rest : List Event) → EventLaws first rest) w
 
     told_pass : (passage : Passage) (far : Far) (t : Bool) → EventsTold reading (octets_confirm o) far t → EventsTold reading (octets_confirm o) (far_after passage far o) (told_passed passage far o t)
     told_pass OutLost far t h = h
-    told_pass BackLost far t h = told_hear far t h
-    told_pass Clean far t h = told_hear far t h
+    told_pass other far t h = told_hear far t h
 
     -- an exchange keeps it
     pub told_exchange : (steps : List LocalStep) (passage : Passage) (far : Far) (t : Bool) → EventsTold reading (octets_confirm o) far t →

@@ -9,7 +9,7 @@ use Rattle.iol_far.specs.Laws.{RepliesAreRead, InputStaysSized, MuchStays, Level
 use Rattle.iol_link.specs.Honest.{HonestWake}
 use Rattle.iol_mode.specs.declared.states.Down.{Down}
 use Rattle.iol_mode.specs.declared.states.State.{State}
-use Rattle.iol_mode.specs.declared.states.State.TheVariants.{Down as AtDown, Startup as AtStartup, Preoperate as AtPreoperate, Operate as AtOperate}
+use Rattle.iol_mode.specs.declared.states.State.TheVariants.{Down as AtDown}
 use Rattle.iol_mode.specs.declared.why.Why.TheVariants.{NoWake}
 use Rattle.iol_mode.specs.States.{StateFits, IsDown, state_of, waked}
 use Rattle.iol_mode.specs.Stands.{StateStands}
@@ -23,7 +23,7 @@ use Rattle.iol_app.proofs.Given.{Laws, all_laws, page_locals}
 use Rattle.iol_app.proofs.OwnSession.{session_runs-append, wake_session, own_open, woken_if}
 use Rattle.iol_app.proofs.FrozenPart.{frozen_runs-append, wake_frozen}
 use Rattle.iol_app.proofs.ImagesPart.{images_runs-append, wake_images}
-use Rattle.iol_app.proofs.Clash.{wake_own, own_clash_free, own_said}
+use Rattle.iol_app.proofs.Clash.{wake_before}
 use Rattle.iol_app.specs.Requests.{request_in}
 use Rattle.iol_app.specs.State.{SessionState}
 use Rattle.iol_app.specs.Core.{Core, Ghost, Stands, CallGives, Wakes, moment_of, seen_in, shown_in, images_in, after_wake}
@@ -51,6 +51,7 @@ module _ (laws : Laws) (s : Down) (t : SessionState) (g : Ghost) (far : Far) (si
   answers link fits =
       let m = moment_of c g silence (Woke true) in
       let xs = wake_steps far steps true in
+      let before = wake_before far steps true (Reset ∷ []) refl refl in
       let h = hidden_through None far steps g.request.hidden in
       let far' = woken (locals far steps) in
       let i' = images_of (shown_in t g.sent) far' in
@@ -62,10 +63,10 @@ module _ (laws : Laws) (s : Down) (t : SessionState) (g : Ghost) (far : Far) (si
         fits = tt;
         silent = refl;
         terms = (refl, refl);
-        clash_free = own_clash_free xs (Reset ∷ []) (wake_own far steps true) refl refl;
+        clash_free = before.free;
         fresh = λ k. absurd (stands.fresh k);
-        said_book = (own_said xs (Reset ∷ []) (wake_own far steps true)).0;
-        said_reports = (own_said xs (Reset ∷ []) (wake_own far steps true)).1;
+        said_book = before.book;
+        said_reports = before.reports;
         session = session_runs-append m (seen_in c g) (seen_in c g) (seen_in (after_wake true t) after) g.request.hidden h after.request.hidden far.carried far'.carried far'.carried xs (Reset ∷ [])
             (wake_session m (seen_in c g) g.request.hidden far steps true free opens) (((refl, refl), tt), rw free refl);
         frozen = frozen_runs-append far.events.frozen far'.events.frozen far'.events.frozen g.events.told (told_wake far steps true g.events.told) false xs (Reset ∷ [])
@@ -89,8 +90,7 @@ module _ (laws : Laws) (s : Down) (t : SessionState) (g : Ghost) (far : Far) (si
       }
 
   opens_woken : (wakes : Bool) → IsOpen (woken_if wakes (locals far steps)).isdu None (hidden_through None far steps g.request.hidden)
-  opens_woken true = tt
-  opens_woken false = own_open None g.request.hidden steps far stands.request
+  opens_woken wakes = grind (arith, common_steps, own_open)
 
   page_woken : (wakes : Bool) → (woken_if wakes (locals far steps)).page ≡ g.page
   page_woken true = page_now
@@ -101,6 +101,7 @@ module _ (laws : Laws) (s : Down) (t : SessionState) (g : Ghost) (far : Far) (si
       let m = moment_of c g silence (Woke false) in
       let xs = wake_steps far steps wakes in
       let ys = MoveTo ModeDown (Some NoWake) ∷ [] in
+      let before = wake_before far steps wakes ys refl refl in
       let h = hidden_through None far steps g.request.hidden in
       let far' = woken_if wakes (locals far steps) in
       let told = told_wake far steps wakes g.events.told in
@@ -114,10 +115,10 @@ module _ (laws : Laws) (s : Down) (t : SessionState) (g : Ghost) (far : Far) (si
         fits = tt;
         silent = refl;
         terms = (refl, refl);
-        clash_free = own_clash_free xs ys (wake_own far steps wakes) refl refl;
+        clash_free = before.free;
         fresh = λ k. absurd (stands.fresh k);
-        said_book = (own_said xs ys (wake_own far steps wakes)).0;
-        said_reports = (own_said xs ys (wake_own far steps wakes)).1;
+        said_book = before.book;
+        said_reports = before.reports;
         session = session_runs-append m (seen_in c g) (seen_in c g) (seen_in (after_wake false t) after) g.request.hidden h h far.carried far'.carried far'.carried xs ys
             (wake_session m (seen_in c g) g.request.hidden far steps wakes free opens) ((refl, tt), rw free refl);
         frozen = frozen_runs-append far.events.frozen far'.events.frozen far'.events.frozen g.events.told told told xs ys (wake_frozen far steps wakes g.events.told) ((tt, tt), refl);
@@ -157,6 +158,4 @@ wakes level much reads sized events layouts = record { gives = λ c g far far_ne
     at : (state : State) (t : SessionState) (g : Ghost) (far far_new : Far) (silence : ℕ) (answered : Bool) → Stands (record { state = state; session = t }) g far silence → IsDown state → (w : HonestWake far answered far_new)
         → StateStands (state_of (waked answered)) silence far_new → StateFits (state_of (waked answered)) → CallGives (record { state = state; session = t }) g far silence Idle (after_wake answered t) far_new silence
     at (AtDown s) t g far far_new silence answered stands down w link fits = by_answer s t g far far_new silence answered stands w link fits
-    at (AtStartup s) t g far far_new silence answered stands down w link fits = absurd down
-    at (AtPreoperate s) t g far far_new silence answered stands down w link fits = absurd down
-    at (AtOperate s) t g far far_new silence answered stands down w link fits = absurd down
+    at other t g far far_new silence answered stands down w link fits = absurd down

@@ -22,12 +22,12 @@ use Rattle.iol_mode.specs.Stands.{StateStands, IsOperating, IsAccepted}
 use Rattle.iol_steps.specs.declared.mode.Mode.TheVariants.{Operate as ModeOperate}
 use Rattle.iol_steps.specs.declared.said.Said.{Said}
 use Rattle.iol_steps.specs.declared.said.Said.TheVariants.{Idle}
-use Rattle.iol_steps.specs.Step.{Step, Make, Take, Deny, WireCall, Moment, Image, silence_by, CallFits, is_clash_free, no_make, is_for_book, is_report, book_said, reports_said, woke_up, output_length}
-use Rattle.iol_steps.specs.Session.{Session, MaySession, MaySessionAll, session_after, session_through, cancelling}
+use Rattle.iol_steps.specs.Step.{Step, Make, Take, WireCall, Moment, Image, silence_by, CallFits, is_clash_free, no_make, is_for_book, is_report, book_said, reports_said, woke_up, output_length}
+use Rattle.iol_steps.specs.Session.{Session, MaySession, MaySessionAll, session_after, session_through}
 use Rattle.iol_steps.specs.FrozenEvents.{Frozen, MayFrozenAll, frozen_through}
 use Rattle.iol_steps.specs.Images.{Images, MayImages, MayImagesAll, images_after, images_through, image_or}
 use Rattle.iol_steps.specs.Bridge.{Hidden, IsOpen}
-use Rattle.iol_steps.specs.Kinds.{Seen, restart_steps}
+use Rattle.iol_steps.specs.Kinds.{Seen}
 use Rattle.iol_steps.specs.Station.{Shown, session_of, frozen_of, images_of, AnswerFits, WaitsElsewhere, Reading, is_due, wants_octet}
 use Rattle.iol_steps.specs.Station as steps
 use Rattle.iol_steps.specs.Exchange.{reading_flagged, told_by, hidden_lost}
@@ -37,13 +37,12 @@ use Rattle.iol_app.specs.declared.event_work.Reading as app
 use Rattle.iol_app.specs.declared.event_work.Reading.TheVariants.{Resting, UnderWay, ConfirmDue, Refused}
 use Rattle.iol_app.specs.declared.event_work.Events.{Events}
 use Rattle.iol_app.specs.declared.request.Current.{Current}
-use Rattle.iol_app.specs.Requests.{request_in, begun, aborted}
+use Rattle.iol_app.specs.Requests.{request_in}
 use Rattle.iol_isdu.specs.declared.values.Request.{Request}
-use Rattle.iol_isdu.specs.declared.values.Cause.TheVariants.{BusyTooLong, Cancelled}
 use Rattle.iol_app.specs.EventReading.{is_refused}
 use Rattle.iol_app.specs.Moves.{progress_of, move_for, confirms_events}
 use Rattle.iol_app.specs.Ends.{OutputTold, EventsTold, OperateLink, BusySeen, SentSeen, output_for}
-use Rattle.iol_app.specs.State.{IsSession, IsMessageFor, sending, OutSuits, od_size, SessionState, opened, wanting, left}
+use Rattle.iol_app.specs.State.{IsSession, IsMessageFor, sending, SessionState, opened, wanting, left}
 use Rattle.iol_app.specs.Due.{due_of}
 use Rattle.iol_app.specs.Outputs.{carried_by}
 use Rattle.iol_app.specs.StationState.{IsSettledSaid, StateFits as Joined, waked_session, settled_session, mode_in, why_in}
@@ -372,17 +371,8 @@ opened_ghost far told due = record {
   fresh = false;
 }
 
-pub record Opens : Type 0 where
-  pub stands : (limit : ℕ) (far : Far) (silence : ℕ) (told : Bool) (due : Event × List Event)
-      → Stands (opened_core limit) (opened_ghost far told due) far silence
-
 abbrev pub wanting_core : Option Image → Core → Core
 wanting_core image c = record c { session = wanting image c.session }
-
-pub record Wants : Type 0 where
-  pub stands : (c : Core) (g : Ghost) (far : Far) (silence : ℕ) (image : Option Image)
-      → IfSome image IsImage
-      → Stands c g far silence → Stands (wanting_core image c) g far silence
 
 abbrev pub restarted_core : Core → Core
 restarted_core c = record { state = AtDown (record { why = None }); session = left c.session }
@@ -394,19 +384,6 @@ restarted_ghost c g = record g {
   };
   fresh = false;
 }
-
-pub record Restarts : Type 0 where
-  pub session : (c : Core) (g : Ghost) (far : Far) (silence : ℕ) → Stands c g far silence
-      → session_through (restart_steps (request_in c.session.current)) (session_in c g far)
-      ≡ session_in (restarted_core c) (restarted_ghost c g) far
-  pub frozen : (c : Core) (g : Ghost) (far : Far)
-      → frozen_through (restart_steps (request_in c.session.current)) (frozen_in g far)
-      ≡ frozen_in (restarted_ghost c g) far
-  pub images : (moment : Moment) (c : Core) (g : Ghost) (far : Far)
-      → images_through moment (restart_steps (request_in c.session.current)) (images_in c g far)
-      ≡ images_in (restarted_core c) (restarted_ghost c g) far
-  pub stands : (c : Core) (g : Ghost) (far : Far) (silence : ℕ) → Stands c g far silence
-      → Stands (restarted_core c) (restarted_ghost c g) far silence
 
 -- In OPERATE: a request is begun where none is under way, or its abort is let wait
 
@@ -433,36 +410,9 @@ pub record BeginGives (c next : Core) (g : Ghost) (far : Far) (silence : ℕ) (r
       → session_after (Take ticket request) (session_in c g far)
       ≡ session_in next (begun_ghost g) far
 
-pub record Begins : Type 0 where
-  pub gives :
-      (s : Operate) (t : SessionState) (g : Ghost) (far : Far) (silence : ℕ) (request : Request)
-      → Stands (operate_core s t None) g far silence → OutSuits t.exchange None → t.isdu ≡ Some true
-      → BeginGives (operate_core s t None)
-      (operate_core s t (Some (begun (od_size t.layout) request))) g far silence request
-  pub denies :
-      (s : Operate) (t : SessionState) (g : Ghost) (far : Far) (silence : ℕ) (moment : Moment)
-      (ticket : ℕ)
-      → Stands (operate_core s t None) g far silence → t.isdu ≡ Some false
-      → moment.terms.page ≡ g.page
-      → MaySession moment (Deny ticket) (session_in (operate_core s t None) g far)
-
 -- because the device was busy as often as it may be, or because the program asked for it
 abbrev pub asking_ghost : Bool → Ghost → Ghost
 asking_ghost asks g = record g { request = record g.request { asked = asks } }
-
-pub record Aborts : Type 0 where
-  pub busy :
-      (s : Operate) (t : SessionState) (current : Current) (g : Ghost) (far : Far) (silence : ℕ)
-      → Stands (operate_core s t (Some current)) g far silence → t.limit ≤ g.request.busy
-      → Stands (operate_core s t (Some (aborted BusyTooLong current))) g far silence
-  pub asked :
-      (s : Operate) (t : SessionState) (current : Current) (g : Ghost) (far : Far) (silence : ℕ)
-      → Stands (operate_core s t (Some current)) g far silence
-      → Stands (operate_core s t (Some (aborted Cancelled current)))
-      (asking_ghost true g) far silence
-  pub marked : (s : Operate) (t : SessionState) (current : Current) (g : Ghost) (far : Far)
-      → cancelling (session_in (operate_core s t (Some current)) g far)
-      ≡ session_in (operate_core s t (Some (aborted Cancelled current))) (asking_ghost true g) far
 
 -- An exchange in OPERATE
 

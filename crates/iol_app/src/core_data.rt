@@ -20,7 +20,7 @@ ghost use Rattle.iol_app.specs.Pieces.{IsAskedOut, IsSent, ReadsOn, SendSteps, W
 ghost use Rattle.iol_app.specs.Seen.{station_of, NewSteps, BeginSteps, DenySteps, AbortSteps, CancelSteps, WantSteps, RestartSteps, TurnSteps};
 
 use crate::asked::Asked;
-use crate::laws::{calls_give, station_laws};
+use crate::laws::station_laws;
 use crate::output::OutputFault;
 use crate::session::Session;
 use iol_image::Image;
@@ -74,7 +74,6 @@ impl Core {
         ensures core { result ≡ opened_core busy }
         ensures steps { NewSteps result }
     {
-        calls_give();
         Core {
             state: State::Down(Down { why: None }),
             session: Session::new(busy),
@@ -151,9 +150,7 @@ impl Core {
         requires free { self.now.session.current ≡ None }
         requires isdu { self.now.session.isdu ≡ Some false }
         ensures steps { DenySteps self.now }
-    {
-        calls_give();
-    }
+    {}
 
     /// Begins a request, in OPERATE, while none is under way, at a device that has ISDU.
     pub fn begin(&mut self, request: Request)
@@ -163,7 +160,6 @@ impl Core {
         ensures core { self.new ≡ record self.old { session = begun_in request self.old.session } }
         ensures steps { BeginSteps request self.old self.new }
     {
-        calls_give();
         self.session.begin(request);
     }
 
@@ -183,7 +179,6 @@ impl Core {
         ensures steps { AbortSteps cause self.old self.new }
         ensures cancel { CancelSteps cause self.old self.new }
     {
-        calls_give();
         self.session.abort(cause);
     }
 
@@ -196,7 +191,6 @@ impl Core {
         ensures err { OnErr result (self.new ≡ self.old) }
         ensures steps { OnOk result (WantSteps self.old self.new) }
     {
-        calls_give();
         self.session.set_output(image)
     }
 
@@ -205,7 +199,6 @@ impl Core {
         ensures core { self.new ≡ wanting_core None self.old }
         ensures steps { WantSteps self.old self.new }
     {
-        calls_give();
         self.session.clear_output();
     }
 
@@ -220,7 +213,6 @@ impl Core {
         ensures cut { result ≡ is_some self.old.session.current }
         ensures steps { RestartSteps self.old self.new }
     {
-        calls_give();
         self.state = State::Down(Down { why: None });
         self.session.leave()
     }

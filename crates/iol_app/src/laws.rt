@@ -2,7 +2,7 @@
 ghost use Rattle.iol_app.specs.Moves.{MessagesAreMoves, AnswersAreTakenUp};
 ghost use Rattle.iol_app.specs.StationLaws.{StationLaws};
 ghost use Rattle.iol_steps.specs.Exchange.{TextNamesAnswer};
-ghost use Rattle.iol_app.specs.Core.{Wakes, Rises, Receives, Sends, Opens, Wants, Restarts, Begins, Aborts};
+ghost use Rattle.iol_app.specs.Core.{Wakes, Rises, Receives, Sends};
 
 use iol_event::{memory_stays_valid, reading_gives_the_frozen_list};
 use iol_far::{
@@ -58,16 +58,6 @@ pub(crate) fn rise_gives()
     texts_are_heard();
     pages_ask_for_layouts();
 }
-
-/// A port that is opened, another output, a restart, a request, an abort.
-#[tactic(auto, using(crate::proofs::Calling::opens, crate::proofs::Calling::wants, crate::proofs::Calling::restarts, crate::proofs::Asking::begins, crate::proofs::Asking::aborts))]
-pub(crate) fn calls_give()
-    ensures opens { Opens }
-    ensures wants { Wants }
-    ensures restarts { Restarts }
-    ensures begins { Begins }
-    ensures aborts { Aborts }
-{}
 
 /// Octets that begin with the text of an answer to a request name it: they are the
 /// text, or the first segments of the text, of no other answer.

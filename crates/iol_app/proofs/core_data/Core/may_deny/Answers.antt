@@ -2,4 +2,5 @@ use Rattle.iol_app.proofs.CoreCalls.{deny_steps}
 use Rattle.iol_app.proofs.core_data.Core.may_deny.Goals as goal
 
 pub returns : goal.returns
-returns c = record { steps = deny_steps c.calls_give.ensures.begins c.args.self.now c.requires.operate c.requires.free c.requires.isdu }
+returns c =
+    record { steps = deny_steps c.args.self.now c.requires.operate c.requires.free c.requires.isdu }

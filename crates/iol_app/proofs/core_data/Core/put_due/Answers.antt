@@ -1,5 +1,5 @@
 -- In OPERATE a new message is out, where none was.
-use Rattle.std.proofs.Common.{◌≡◌, ◌∙◌, refl, sym, subst, ap, Some, None, Option, arith}
+use Rattle.std.proofs.Common.{◌≡◌, ◌∙◌, refl, sym, subst, ap, None, Option, arith}
 use Rattle.std.specs.Prelude.{IfSome}
 use Rattle.std.proofs.lemmas.Grind.{common_steps}
 use Rattle.iol_mseq.specs.Shape.{Shape}
@@ -15,7 +15,7 @@ use Rattle.iol_app.specs.Due.{due_of}
 use Rattle.iol_app.specs.State.{SessionState, IsMessageFor, sending}
 use Rattle.iol_app.specs.StationState.{StateFits}
 use Rattle.iol_app.specs.Core.{Core, core_out}
-use Rattle.iol_app.specs.Pieces.{IsSent, NewOut, SendSteps}
+use Rattle.iol_app.specs.Pieces.{IsSent, SendSteps}
 use Rattle.iol_app.proofs.Pieces.{no_exchange, new_sends, same_sends}
 use Rattle.iol_app.proofs.core_data.Core.put_due.Goals as goal
 

@@ -1,23 +1,22 @@
 -- A turn: what goes out, one call of the wire, and what is made of what came.
-use Rattle.std.proofs.Common.{◌≡◌, ◌∙◌, List, ℕ, refl, sym, subst, ap, Option}
+use Rattle.std.proofs.lemmas.Grind.{common_steps}
+use Rattle.std.proofs.Common.{◌≡◌, ◌∙◌, List, ℕ, sym, subst, ap, arith}
 use Rattle.std.specs.Prelude.{IsTrue, is_some}
 use Rattle.iol_octets.specs.Checksum.{has_checksum}
 use Rattle.iol_far.specs.Octets.{octets_in}
 use Rattle.iol_link.specs.WireFacts.{Passes}
 use Rattle.iol_mode.specs.States.{StateFits as ModeFits}
 use Rattle.iol_mode.specs.Exchanges.{text_out}
-use Rattle.iol_app.specs.declared.request.Current.{Current}
-use Rattle.iol_app.specs.Requests.{request_in, request_after}
+use Rattle.iol_app.specs.declared.asked.Asked.TheVariants.{Exchange}
 use Rattle.iol_app.specs.State.{IsSession}
 use Rattle.iol_app.specs.StationState.{StateFits}
 use Rattle.iol_app.specs.Core.{Core}
 use Rattle.iol_app.specs.Pieces.{WakeSteps}
 use Rattle.iol_app.specs.Seen.{station_of}
-use Rattle.iol_app.proofs.AskedTurns.{turn_asked}
-use Rattle.iol_app.proofs.Ending.{turn_ends}
+use Rattle.iol_app.proofs.Ending.{settled_ends}
 use Rattle.iol_app.proofs.Reporting.{turn_reading}
 use Rattle.iol_app.proofs.Pieces.{receive_steps, wake_steps as core_wake_steps}
-use Rattle.iol_app.proofs.Stepping.{Exchanged, sent_down, sent_current, wake_steps, exchange_steps, exchange_is_turn}
+use Rattle.iol_app.proofs.Stepping.{Exchanged, sent_down, sent_current, wake_steps, exchange_steps, exchange_is_turn, exchange_is_exact}
 use Rattle.iol_app.proofs.core_data.Core.turn.Given as given
 use Rattle.iol_app.proofs.core_data.Core.turn.Goals as goal
 
@@ -53,21 +52,23 @@ exchanged g c = record {
   said_is = c.take.ensures.said;
 }
 
+fitting : (g : given.Over) (c : goal.After-take g) → ModeFits c.args.self.now.state
+fitting g c = subst (λ (k : Core). ModeFits k.state) c.self.view_is c.self.invariant.0
+
 joined : (g : given.Over) (c : goal.After-take g) → StateFits c.args.self.now.state c.args.self.now.session
 joined g c = subst (λ (k : Core). StateFits k.state k.session) c.self.view_is c.self.invariant.1
 
 pub returns-in-Exchange-clause-turn : goal.returns-in-Exchange-clause-turn
 returns-in-Exchange-clause-turn g c =
-    exchange_is_turn g.W.Wire.facts c.args.wire.now c.exchange-came.new.self c.args.room c.take.new.said c.args.self.now c.send.new.self c.take.new.self
-    (subst (λ (k : Core). ModeFits k.state) c.self.view_is c.self.invariant.0) (joined g c) c.in-Exchange.ensures.sent c.requires.stands c.in-Exchange.ensures.says.0 (exchanged g c)
+    exchange_is_turn g.W.Wire.facts c.args.wire.now c.exchange-came.new.self c.args.room
+    c.take.new.said c.args.self.now c.send.new.self c.take.new.self (fitting g c) (joined g c)
+    c.in-Exchange.ensures.sent c.in-Exchange.ensures.says.0 c.requires.stands (exchanged g c)
 
 pub returns-in-Exchange-clause-request : goal.returns-in-Exchange-clause-request
-returns-in-Exchange-clause-request g c =
-    subst (λ (x : Option Current). request_in c.take.new.self.session.current ≡ request_after (request_in x) c.take.new.said) (sent_current c.args.self.now c.send.new.self c.args.room c.in-Exchange.ensures.sent) c.take.ensures.request
+returns-in-Exchange-clause-request g c = grind (arith, common_steps, sent_current)
 
 pub returns-in-Exchange-clause-ends : goal.returns-in-Exchange-clause-ends
-returns-in-Exchange-clause-ends g c =
-    turn_ends g.W.Wire.facts c.args.room (station_of c.args.wire.now c.args.self.now) c.take.new.said (station_of c.exchange-came.new.self c.take.new.self) (returns-in-Exchange-clause-turn g c)
+returns-in-Exchange-clause-ends g c = grind (arith, common_steps, sent_current, settled_ends)
 
 pub returns-in-Exchange-clause-reading : goal.returns-in-Exchange-clause-reading
 returns-in-Exchange-clause-reading g c =
@@ -82,4 +83,8 @@ returns-in-Exchange-clause-steps g c =
 
 pub returns-in-Exchange-clause-exact : goal.returns-in-Exchange-clause-exact
 returns-in-Exchange-clause-exact g c =
-    turn_asked g.W.Wire.facts (station_of c.args.wire.now c.args.self.now) c.args.room c.take.new.said (station_of c.exchange-came.new.self c.take.new.self) (joined g c) (returns-in-Exchange-clause-turn g c)
+    exchange_is_exact g.W.Wire.facts c.args.wire.now c.exchange-came.new.self c.args.room
+    c.take.new.said c.args.self.now c.send.new.self c.take.new.self (fitting g c) (joined g c)
+    c.in-Exchange.ensures.sent c.in-Exchange.ensures.says.0 c.requires.stands (exchanged g c) _
+    (sym c.in-Exchange.ensures.asked
+    ∙ ap (λ (octets : List ℕ). Exchange (record { items = octets })) c.in-Exchange.ensures.says.1)
