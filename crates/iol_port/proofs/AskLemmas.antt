@@ -1,32 +1,24 @@
 -- A port asks what its station asks, and a turn is its station's turn.
-use Rattle.std.proofs.Common.{◌≡◌, ◌∷◌, [], ◌++◌, Bool, cond, not, ◌&&◌, subst, ap, ◌∙◌, Option}
+use Rattle.std.proofs.Common.{◌≡◌, ◌∷◌, [], ◌++◌, Bool, cond, not, ◌&&◌, subst, Option, arith}
+use Rattle.std.proofs.lemmas.Grind.{common_steps}
 use Rattle.iol_isdu.specs.declared.values.Request.{Request}
 use Rattle.iol_link.specs.WireFacts.{WireFacts}
 use Rattle.iol_book.specs.BookModel.{BookState}
 use Rattle.iol_steps.specs.declared.mode.Mode.{Mode}
 use Rattle.iol_steps.specs.declared.said.Said.{Said}
 use Rattle.iol_steps.specs.Step.{Reset, is_down, woke_up, book_said}
-use Rattle.iol_app.specs.StationState.{StationState, wire_of, mode_of, IsTurn}
-use Rattle.iol_app.specs.Asking.{asked_of, prepared, IsCall}
+use Rattle.iol_app.specs.StationState.{StationState, mode_of, IsTurn}
+use Rattle.iol_app.specs.Asking.{asked_of, prepared}
 use Rattle.iol_port.specs.Steps.{book_through}
 use Rattle.iol_app.specs.AskedCalls.{asked_facts}
 
 module _ {W : Type 0} where
-  -- the turn's call is the one that was asked of the port
-  pub call_asked : (facts : WireFacts W) (old mid new : StationState W) (next : Option Request) (room : Bool)
-      → mid ≡ prepared next old room → IsCall facts (asked_of mid room) (wire_of mid.link) (wire_of new.link)
-      → IsCall facts (asked_of (prepared next old room) room) (wire_of old.link) (wire_of new.link)
-  call_asked facts old mid new next room e call = subst (λ (s : StationState W). IsCall facts (asked_of s room) (wire_of s.link) (wire_of new.link)) e call
-
   -- a wake had success where the mode says so
   pub book_told : (old mid new : StationState W) (next : Option Request) (room woke : Bool) (began ended : Mode) (said : Said) (b : BookState)
       → mid ≡ prepared next old room → began ≡ mode_of mid.link → ended ≡ mode_of new.link → woke ≡ (is_down began && not (is_down ended))
       → book_through (cond woke (Reset ∷ []) [] ++ book_said said) b ≡ book_through (woke_up (mode_of old.link) (mode_of new.link) ++ book_said said) b
   book_told old mid new next room woke began ended said b begun from to is =
-      let from_old : began ≡ mode_of old.link = from ∙ ap (λ (s : StationState W). mode_of s.link) begun in
-      let woke_is : woke ≡ (is_down (mode_of old.link) && not (is_down (mode_of new.link))) =
-      is ∙ ap (λ (m : Mode). is_down m && not (is_down ended)) from_old ∙ ap (λ (m : Mode). is_down (mode_of old.link) && not (is_down m)) to in
-      ap (λ (w : Bool). book_through (cond w (Reset ∷ []) [] ++ book_said said) b) woke_is
+      grind (arith, common_steps)
 
 -- The exact turn of a port makes the call that the port asks for.
 

@@ -43,13 +43,7 @@ request_due s room c calm is abort = grind (arith, common_steps)
 
 -- a session that would send IDLE 1 is calm, without a request
 pub ready_calm : (s : SessionState) → is_ready s true ≡ true → IsCalm s
-ready_calm s e = record {
-  exchange = grind (arith, common_steps);
-  output = grind (arith, common_steps);
-  reading = grind (arith, common_steps);
-  confirm = grind (arith, common_steps);
-  flag = grind (arith, common_steps);
-}
+ready_calm s e = grind (arith, common_steps)
 
 -- whether there is room for events or not
 pub ready_any : (s : SessionState) (room : Bool) → is_ready s true ≡ true → is_ready s room ≡ true
@@ -65,13 +59,7 @@ begun_calm s current h = record { exchange = h.exchange; output = h.output; read
 
 -- after the good reply to the request's message, without the Event flag
 absorbed_calm : (s : SessionState) (reply : Reply) → IsCalm s → reply.event ≡ false → IsCalm (absorbed NextMessage reply (sending NextMessage s))
-absorbed_calm s reply h e = record {
-  exchange = refl;
-  output = h.output;
-  reading = h.reading;
-  confirm = h.confirm;
-  flag = grind (arith, common_steps);
-}
+absorbed_calm s reply h e = grind (arith, common_steps)
 
 -- The request's messages are of the ISDU channel
 

@@ -1,21 +1,17 @@
 -- A port without the wire: what goes out, and what comes back, are pieces of a run of the abstract port.
-use Rattle.std.proofs.Common.{◌≡◌, ◌∷◌, ◌++◌, [], List, ℕ, Bool, true, false, cond, not, Option, Some, None, filter, refl, ap, sym, ◌∙◌, subst, inl, inr, arith}
-use Rattle.std.specs.Prelude.{◌⊎◌, IsTrue, IsSome}
+use Rattle.std.proofs.Common.{◌≡◌, ◌∷◌, ◌++◌, [], List, ℕ, Bool, true, false, cond, not, Option, Some, None, refl, ap, sym, ◌∙◌, subst, inl, inr, arith, append-nil}
+use Rattle.std.specs.Prelude.{IsTrue, IsSome}
 use Rattle.std.specs.List.{list_all, list_any}
 use Rattle.std.specs.Option.{option_map}
 use Rattle.std.proofs.lemmas.Grind.{common_steps}
 use Rattle.iol_isdu.specs.declared.values.Request.{Request}
 use Rattle.iol_far.specs.Far.{Far}
-use Rattle.iol_link.specs.Honest.{HonestWake, HonestExchange}
-use Rattle.iol_link.specs.Attempts.{Sending}
-use Rattle.iol_page.specs.declared.page.Layouts.{Layouts}
 use Rattle.iol_link.specs.WireFacts.{WireFacts}
 use Rattle.iol_book.specs.declared.entries.Ticket.{Ticket}
 use Rattle.iol_book.specs.BookModel.{BookState, BookValue, next_taken, took, denied}
 use Rattle.iol_mode.specs.declared.states.State.{State}
-use Rattle.iol_mode.specs.declared.states.State.TheVariants.{Down as AtDown, Startup as AtStartup, Preoperate as AtPreoperate, Operate as AtOperate}
 use Rattle.iol_mode.specs.States.{IsDown, waked, state_of as state_after}
-use Rattle.iol_mode.specs.Exchanges.{IsSending, text_out}
+use Rattle.iol_mode.specs.Exchanges.{IsSending}
 use Rattle.iol_steps.specs.declared.mode.Mode.{Mode}
 use Rattle.iol_steps.specs.declared.mode.Mode.TheVariants.{Operate}
 use Rattle.iol_steps.specs.declared.said.Said.{Said}
@@ -26,19 +22,18 @@ use Rattle.iol_event.specs.declared.event.Event.{Event}
 use Rattle.iol_steps.specs.Images.{MayImagesAll, images_through}
 use Rattle.iol_app.specs.State.{begun_in}
 use Rattle.iol_app.specs.StationState.{StationState, mode_in}
-use Rattle.iol_app.specs.Core.{Core, Ghost, Stands, SendGives, CallGives, BeginGives, IsAttempted, ordered, session_in, frozen_in, images_in, moment_of, begun_ghost, made_ghost, after_wake}
-use Rattle.iol_app.specs.Pieces.{IsSent, SentBy, OutAfter, SendSteps, WakeSteps, ReceiveSteps, Received, SendsAgain}
+use Rattle.iol_app.specs.Core.{Core, Ghost, Stands, BeginGives, IsAttempted, ordered, session_in, frozen_in, images_in, moment_of, begun_ghost, made_ghost, after_wake}
+use Rattle.iol_app.specs.Pieces.{IsSent, SendSteps, WakeSteps, ReceiveSteps, Received}
 use Rattle.iol_app.specs.Seen.{BeginSteps, DenySteps, core_of, station_of}
 use Rattle.iol_port.specs.declared.call.Call.{Call}
-use Rattle.iol_port.specs.declared.call.Call.TheVariants as call
 use Rattle.iol_port.specs.declared.call.Answered.{Answered}
 use Rattle.iol_port.specs.declared.call.Answered.TheVariants as answered
 use Rattle.iol_port.specs.Steps.{MayBookAll, book_through, kept_through}
-use Rattle.iol_port.specs.Run.{PortState, Pending, SendOf, ReceiveOf, PieceOf, Send, Receive, CallOf, opened, is_sending, is_take, moment_by}
+use Rattle.iol_port.specs.Run.{PortState, Pending, PieceOf, Send, Receive, opened, is_sending, is_take, moment_by}
 use Rattle.iol_port.specs.declared.awaited.Awaited.TheVariants.{Nothing, Wake, Reply}
 use Rattle.iol_port.specs.View.{Parts, Choice, IsOut, IsTied, PendingAt, ShowsAt, StandsFor, OpensWell, IsOpened, opening_of, Follows, Does, BeginsNext, TakesNext, state_of}
 use Rattle.iol_book.specs.declared.entries.Limits.{Limits}
-use Rattle.iol_port.specs.CorePort.{IsNew, CoreOpens, bare, awaited, awaited_in, at_end, parts_over, CoreDoes, PieceDoes, SendDoes, ReceiveDoes, WakeDoes}
+use Rattle.iol_port.specs.CorePort.{IsNew, CoreOpens, bare, awaited, at_end, parts_over, CoreDoes, PieceDoes, SendDoes, ReceiveDoes, WakeDoes}
 use Rattle.iol_port.proofs.Filters.{book_through-filter, MayBookAll-filter, kept_through-filter, clash_free-deny, is_beside, may_book_said}
 use Rattle.iol_port.proofs.TurnLemmas.{none_down, terms_of}
 use Rattle.iol_port.proofs.CallLemmas.{none_pending}
@@ -54,35 +49,14 @@ out_with base g took wanted = record { base = base; ghost = g; pending = Some (r
 
 -- What waits for its answer
 
-nothing_at : (sent : Bool) (state : State) → cond sent (awaited_in state) Nothing ≡ Nothing → sent ≡ false
-nothing_at false state e = refl
-nothing_at true (AtDown s) e = absurd (let k : Wake ≡ Nothing = e in cc)
-nothing_at true (AtStartup s) e = absurd (let k : Reply ≡ Nothing = e in cc)
-nothing_at true (AtPreoperate s) e = absurd (let k : Reply ≡ Nothing = e in cc)
-nothing_at true (AtOperate s) e = absurd (let k : Reply ≡ Nothing = e in cc)
-
 pub nothing_out : (p : Bare) → awaited p ≡ Nothing → p.sent ≡ false
-nothing_out p e = nothing_at p.sent p.station.link.state e
-
-reply_at : (sent : Bool) (state : State) → (IsTrue sent → IsOut state) → cond sent (awaited_in state) Nothing ≡ Reply → (sent ≡ true) × IsSending state
-reply_at false state out e = absurd (let k : Nothing ≡ Reply = e in cc)
-reply_at true (AtDown s) out e = absurd (let k : Wake ≡ Reply = e in cc)
-reply_at true (AtStartup s) out e = (refl, tt)
-reply_at true (AtPreoperate s) out e = (refl, tt)
-reply_at true (AtOperate s) out e = (refl, out refl)
+nothing_out p e = grind (arith, common_steps)
 
 pub reply_out : (p : Bare) → IsTied p → awaited p ≡ Reply → (p.sent ≡ true) × IsSending p.station.link.state
-reply_out p tied e = reply_at p.sent p.station.link.state tied.out e
-
-wake_at : (sent : Bool) (state : State) → cond sent (awaited_in state) Nothing ≡ Wake → (sent ≡ true) × IsDown state
-wake_at false state e = absurd (let k : Nothing ≡ Wake = e in cc)
-wake_at true (AtDown s) e = (refl, tt)
-wake_at true (AtStartup s) e = absurd (let k : Reply ≡ Wake = e in cc)
-wake_at true (AtPreoperate s) e = absurd (let k : Reply ≡ Wake = e in cc)
-wake_at true (AtOperate s) e = absurd (let k : Reply ≡ Wake = e in cc)
+reply_out p tied e = grind (arith, common_steps, tied.out)
 
 pub wake_out : (p : Bare) → awaited p ≡ Wake → (p.sent ≡ true) × IsDown p.station.link.state
-wake_out p e = wake_at p.sent p.station.link.state e
+wake_out p e = grind (arith, common_steps)
 
 -- What goes out
 
@@ -331,25 +305,13 @@ unfolding WakeSteps WakeDoes
 wake_does p next answered sent down steps core free posts keeps = λ far far' n x.
     taken_up p next far far' n n Idle sent (λ g stands. steps g far far' n stands x) free
     (posts ∙ ap (λ (l : List Step). book_through l p.book.state)
-    (sym (ap (λ (k : Core). woke_up (mode_in p.station.link.state) (mode_in k.state) ++ []) core ∙ ap (λ (l : List Step). l ++ []) (woken_steps p.station.link.state answered down) ∙ end answered))) keeps
-  where
-    end : (b : Bool) → cond b (Reset ∷ []) [] ++ [] ≡ cond b (Reset ∷ []) []
-    end true = refl
-    end false = refl
+    (sym (append-nil (woke_up (mode_in p.station.link.state) (mode_in next.station.link.state))
+    ∙ ap (λ (k : Core). woke_up (mode_in p.station.link.state) (mode_in k.state)) core
+    ∙ woken_steps p.station.link.state answered down))) keeps
 
 -- what goes out a second time changes nothing
 pub sent_same : (room : Bool) (old new : Core) → IsOut old.state → IsSent room old new → new ≡ old
-sent_same room old new is_out sent = by_state old.state is_out sent
-  where
-    by_out : (out : Option Sending) (layouts : Layouts) → IsSome out → OutAfter out layouts old.session room old new → new ≡ old
-    by_out None layouts some put = absurd (let e : false ≡ true = some in cc)
-    by_out (Some w) layouts some same = same
-
-    by_state : (state : State) → IsOut state → SentBy state room old new → new ≡ old
-    by_state (AtOperate s) some put = by_out s.out s.layouts some put
-    by_state (AtDown s) some same = same
-    by_state (AtStartup s) some same = same
-    by_state (AtPreoperate s) some same = same
+sent_same room old new is_out sent = grind (arith, common_steps)
 
 -- A call of a port over a wire is that of the port without it
 

@@ -1,8 +1,5 @@
 -- What a call of a port without the wire leaves, over a wire.
-use Rattle.std.proofs.Common.{◌≡◌, List, Bool, true, false, Option, Result, Ok, Err, OnOk, OnErr, refl, ap, ◌∙◌, sym, subst, arith}
-use Rattle.std.specs.Prelude.{IsTrue}
-use Rattle.std.proofs.lemmas.Grind.{common_steps}
-use Rattle.iol_isdu.specs.declared.values.Request.{Request}
+use Rattle.std.proofs.Common.{List, Result, refl, ap}
 use Rattle.iol_event.specs.declared.event.Event.{Event}
 use Rattle.iol_book.specs.declared.entries.Ticket.{Ticket}
 use Rattle.iol_book.specs.declared.entries.Entry.{Entry}
@@ -45,3 +42,16 @@ module _ {W : Type 0} (wire : W) (p next : Parts (Unit {0})) where
 
   pub restart_over : RestartGives p next → RestartGives (over p) (over next)
   restart_over h = record { wire = refl; mode = h.mode; why = h.why; session_is = h.session_is; book = h.book; memory = h.memory; kept = h.kept; sent = h.sent }
+
+-- what each call answers and leaves, over a wire
+pub ruleset over_wire = (
+  submit_over,
+  collect_over,
+  withdraw_over,
+  cancel_over,
+  archive_over,
+  take_event_over,
+  set_output_over,
+  clear_output_over,
+  restart_over,
+)

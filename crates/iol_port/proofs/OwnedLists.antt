@@ -347,10 +347,8 @@ module _ (given : ℕ) (before : List Carried) (Asked : Ticket → Request → T
   }
 
   asked_push : (owned : List Owned) (o : Owned) → ((p : Owned) → IsOneOf p owned → Asked p.ticket p.request) → Asked o.ticket o.request → (p : Owned) → IsOneOf p (owned ++ o ∷ []) → Asked p.ticket p.request
-  asked_push [] o all this p (inl same) = subst (λ (x : Owned). Asked x.ticket x.request) same this
-  asked_push [] o all this p (inr i) = absurd i
-  asked_push (x ∷ owned) o all this p (inl same) = all p (inl same)
-  asked_push (x ∷ owned) o all this p (inr i) = asked_push owned o (λ y j. all y (inr j)) this p i
+  asked_push [] o all this p i = grind (arith, common_steps)
+  asked_push (x ∷ owned) o all this p i = grind (arith, common_steps, asked_push owned o)
 
   fits_more : (sent : Option (Request × Option Answer)) (taken : Option (Ticket × Request)) (owned : List Owned) (o : Owned) → Fits sent taken owned → Fits sent taken (owned ++ o ∷ [])
   fits_more None taken owned o fits = tt

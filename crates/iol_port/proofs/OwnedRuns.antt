@@ -35,8 +35,7 @@ down_stays : (m : Moment) (step : Step) (s : Session) → s.mode ≡ Down → Ma
 down_stays m step s given given2 = grind (arith, common_steps)
 
 restart_down : (s : Session) (job : Option Job) → (session_through (restart_steps (request_of job)) s).mode ≡ Down
-restart_down s None = refl
-restart_down s (Some job) = refl
+restart_down s job = grind (arith, common_steps)
 
 module _ (given : ℕ) (before : List Carried) (Happened : Piece → Answered → Type 0) where
   abbrev Asked : Ticket → Request → Type 0

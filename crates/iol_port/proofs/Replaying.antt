@@ -139,20 +139,12 @@ posted_free b o t q e = rw e refl
 
 -- the record fits the same, once the same requests ended
 fits_same : (job : Option Job) (late : Option Request) (journal next : List Entry) (pairs : List (Request × Answer)) → ended next ≡ ended journal → FitsOpen job late journal pairs → FitsOpen job late next pairs
-fits_same (Some job) late journal next pairs e (earlier, are, fits) = (earlier, are, subst (λ ts. FitsTakings ts earlier) (sym e) fits)
-fits_same None (Some q) journal next pairs e (earlier, cause, is, fits) = (earlier, cause, e ∙ is, fits)
-fits_same None None journal next pairs e fits = subst (λ ts. FitsTakings ts pairs) (sym e) fits
+fits_same job late journal next pairs e fits = grind (arith, common_steps)
 
 -- a book in which the same request is taken, and the same ended
 pub sound_book : (b next : BookState) (s : Session) (base : ℕ) → IsReplayed next → next.standing.taken ≡ b.standing.taken → next.unsure ≡ b.unsure → ended next.journal ≡ ended b.journal → Sound b s base → Sound next s base
-sound_book b next s base replayed taken unsure same sound = record {
-  replayed = replayed;
-  same = ap request_taken taken ∙ sound.same;
-  sure = λ h. sound.sure (sym unsure ∙ h);
-  alone = sound.alone;
-  within = sound.within;
-  fits = fits_same s.job s.late b.journal next.journal _ same sound.fits;
-}
+sound_book b next s base replayed taken unsure same sound =
+    grind (arith, common_steps, fits_same)
 
 -- what each step keeps, a list of steps keeps
 pub steps_keep : (P : BookState → Session → Type 0) (m : Moment)
@@ -183,16 +175,7 @@ module _ (laws : BookLaws) where
 
   sound_carry : (a : Answer) (job : Job) (b : BookState) (s : Session) (base : ℕ) → job.answer ≡ None → Sound b (record s { job = Some job }) base → Sound b (carried_out a (Some job) s) base
   sound_carry a job b s base none sound =
-      let (earlier, pairs_are, fits) = sound.fits in
-      let pairs : pairs_from base s.carried ≡ earlier = pairs_are ∙ unanswered_pairs job.request job.answer earlier none in
-      record {
-        replayed = sound.replayed;
-        same = sound.same;
-        sure = sound.sure;
-        alone = inr (alone_late job s.late sound.alone);
-        within = grown_within base s.carried _ sound.within;
-        fits = (earlier, pairs_from-grown base s.carried job.request a sound.within ∙ ap (λ xs. xs ++ (job.request, a) ∷ []) pairs, fits);
-      }
+      grind (arith, common_steps, unanswered_pairs, pairs_from-grown, grown_within, alone_late)
 
   -- the request under way has an outcome, and the record fits with what is written of it
   sound_post : (o : Outcome) (job : Job) (b : BookState) (s : Session) (base : ℕ)
@@ -271,31 +254,14 @@ module _ (laws : BookLaws) where
 
   -- after a wake nothing is late
   settled : (job : Option Job) (late : Option Request) (journal : List Entry) (pairs : List (Request × Answer)) → ((job ≡ None) ⊎ (late ≡ None)) → FitsOpen job late journal pairs → FitsOpen job None journal pairs
-  settled (Some job) late journal pairs alone fits = fits
-  settled None None journal pairs alone fits = fits
-  settled None (Some q) journal pairs alone (earlier, cause, ended_is, fits) =
-      subst (λ ts. FitsTakings ts pairs) (sym ended_is) (laws.without earlier (q, Some (outcome.Unknown cause)) pairs tt fits)
+  settled job late journal pairs alone fits = grind (arith, common_steps, laws.without)
 
   sound_reset : (b : BookState) (s : Session) (base : ℕ) → Sound b s base → Sound (reset b) (session_after Reset s) base
-  sound_reset b s base sound = record {
-    replayed = sound.replayed;
-    same = sound.same;
-    sure = λ _. refl;
-    alone = inr refl;
-    within = sound.within;
-    fits = settled s.job s.late b.journal _ sound.alone sound.fits;
-  }
+  sound_reset b s base sound = grind (arith, common_steps, settled)
 
   -- busy replies and the mark are no business of the record
   sound_again : (b : BookState) (s : Session) (base : ℕ) (job : Job) (busy : ℕ) (asked : Bool) → Sound b (record s { job = Some job }) base → Sound b (record s { job = Some (record job { busy = busy; asked = asked }) }) base
-  sound_again b s base job busy asked sound = record {
-    replayed = sound.replayed;
-    same = sound.same;
-    sure = sound.sure;
-    alone = inr (alone_late job s.late sound.alone);
-    within = sound.within;
-    fits = sound.fits;
-  }
+  sound_again b s base job busy asked sound = grind (arith, common_steps)
 
   sound_busy : (b : BookState) (s : Session) (base : ℕ) (job : Option Job) → Sound b (record s { job = job }) base → Sound b (record s { job = busy_once_more job }) base
   sound_busy b s base None sound = sound

@@ -7,15 +7,13 @@ use Rattle.iol_isdu.specs.declared.values.Answer.{Answer}
 use Rattle.iol_book.specs.declared.entries.Ticket.{Ticket}
 use Rattle.iol_book.specs.BookModel.{BookState, next_taken, took, denied}
 use Rattle.iol_steps.specs.declared.mode.Mode.{Mode}
-use Rattle.iol_steps.specs.declared.mode.Mode.TheVariants.{Down, Startup, Preoperate, Operate}
+use Rattle.iol_steps.specs.declared.mode.Mode.TheVariants.{Down}
 use Rattle.iol_steps.specs.declared.said.Said.{Said}
 use Rattle.iol_steps.specs.Step.{Step, Take, Deny, Moment, Terms, is_for_book, is_report, woke_up, book_said, reports_said}
 use Rattle.iol_steps.specs.Session.{Session, MaySession, MaySessionAll, session_through}
 use Rattle.iol_steps.specs.Station.{job_of}
 use Rattle.iol_link.specs.WireFacts.{WireFacts}
 use Rattle.iol_mode.specs.declared.states.State.{State}
-use Rattle.iol_mode.specs.declared.states.State.TheVariants.{Down as AtDown, Startup as AtStartup, Preoperate as AtPreoperate, Operate as AtOperate}
-use Rattle.iol_app.specs.declared.request.Current.{Current}
 use Rattle.iol_app.specs.Requests.{request_in}
 use Rattle.iol_app.specs.State.{SessionState, begun_in}
 use Rattle.iol_app.specs.StationState.{StationState, StateFits as Joined, mode_in, mode_of}
@@ -31,10 +29,7 @@ use Rattle.iol_port.proofs.CallLemmas.{does_by_choice, none_pending}
 
 -- down leaves no request under way
 pub none_down : (state : State) (session : SessionState) (g : Ghost) (answer : Option Answer) → Joined state session → mode_in state ≡ Down → job_of (request_in session.current) answer g.request.busy g.request.asked ≡ None
-none_down (AtDown s) session g answer fits down = ap (λ (c : Option Current). job_of (request_in c) answer g.request.busy g.request.asked) fits.0
-none_down (AtStartup s) session g answer fits down = absurd (let e : Startup ≡ Down = down in cc)
-none_down (AtPreoperate s) session g answer fits down = absurd (let e : Preoperate ≡ Down = down in cc)
-none_down (AtOperate s) session g answer fits down = absurd (let e : Operate ≡ Down = down in cc)
+none_down state session g answer fits down = grind (arith, common_steps)
 
 pub terms_of : (limit was : ℕ) (page old : List ℕ) → (limit ≡ was) × (page ≡ old) → let a : Terms = record { busy_limit = limit; page = page } in let b : Terms = record { busy_limit = was; page = old } in a ≡ b
 terms_of limit was page old (e, f) = ap (λ (n : ℕ). let x : Terms = record { busy_limit = n; page = page } in x) e ∙ ap (λ (l : List ℕ). let x : Terms = record { busy_limit = was; page = l } in x) f

@@ -1,9 +1,8 @@
 -- on every wire a run is its calls, one after another, and its wire comes from the first by calls alone
-use Rattle.std.proofs.Common.{◌<◌, ◌+◌, ◌∷◌, ◌++◌, [], List, ℕ, Option, Result, false, ◌≡◌, ◌∙◌, sym, inl, inr, length, take, get_or, refl, subst, arith}
+use Rattle.std.proofs.Common.{ap, Ok, Err, OnOk, OnErr, ◌<◌, ◌+◌, ◌∷◌, ◌++◌, [], List, ℕ, Result, false, ◌≡◌, ◌∙◌, sym, inl, inr, length, take, get_or, refl, subst, arith}
 use Rattle.std.proofs.lemmas.Grind.{common_steps}
 use Rattle.std.proofs.lemmas.List.{take_more}
 use Rattle.std.specs.Prelude.{◌⊎◌, IsTrue}
-use Rattle.std.specs.Result.{result_map_both}
 use Rattle.iol_far.specs.Far.{Far}
 use Rattle.iol_mode.specs.Next.{AnyLink}
 use Rattle.iol_mode.specs.Stands.{StateStands}
@@ -11,7 +10,6 @@ use Rattle.iol_mode.specs.declared.states.State.{State}
 use Rattle.iol_steps.specs.declared.mode.Mode.TheVariants.{Down}
 use Rattle.iol_app.specs.Asking.{IsCall}
 use Rattle.iol_link.specs.WireFacts.{WireFacts}
-use Rattle.iol_book.specs.declared.entries.Entry.{Entry}
 use Rattle.iol_app.specs.declared.asked.Asked.{Asked}
 use Rattle.iol_app.specs.StationState.{wire_of, mode_in, mode_of}
 use Rattle.iol_port.specs.declared.call.Call.{Call}
@@ -20,17 +18,32 @@ use Rattle.iol_port.specs.declared.call.Answered.{Answered}
 use Rattle.iol_port.specs.declared.call.Answered.TheVariants as answered
 use Rattle.iol_port.specs.declared.fault.PortFault.{PortFault}
 use Rattle.iol_port.specs.Asks.{asks_of}
-use Rattle.iol_port.specs.Replies.{archive_reply, reply_of}
 use Rattle.iol_port.specs.Run.{opened}
 use Rattle.iol_port.specs.WireCalls.{ComesFrom, AreCalls}
 use Rattle.iol_port.specs.View.{Parts, Opening, OpensWell, StandsFor, Does, IsPort}
 use Rattle.iol_port.specs.EveryWire.{CallGives, RunGives}
+use Rattle.iol_port.specs.CorePort.{CoreDoes, parts_over}
+use Rattle.iol_port.proofs.CorePorts.{call_over}
 use Rattle.iol_port.proofs.RunLemmas.{run_kept, run_new}
 
--- how many entries an archive hands out
-archived_reply : {X : Type 0} (items : X → List Entry) (result : Result X PortFault)
-    → archive_reply (result_map_both items (λ why. why) result) ≡ reply_of (λ x. answered.Archived (length (items x))) result
-archived_reply items result = grind (arith, common_steps)
+-- what each call but a turn leaves of the link: it stays, or it is down
+pub record Leaves (p next : Parts (Unit {0})) : Type 0 where
+  pub sent : next.sent ≡ p.sent
+  pub link : (next.station.link ≡ p.station.link) ⊎ (mode_of next.station.link ≡ Down)
+
+pub stays : {p next mid : Parts (Unit {0})} → next ≡ mid → mid.sent ≡ p.sent
+    → mid.station.link ≡ p.station.link → Leaves p next
+stays same sent link = record {
+  sent = ap (λ (q : Parts (Unit {0})). q.sent) same ∙ sent;
+  link = inl (ap (λ (q : Parts (Unit {0})). q.station.link) same ∙ link);
+}
+
+-- whether it was refused or not
+pub stays_by : {p next : Parts (Unit {0})} (mid : Parts (Unit {0}))
+    (r : Result (Unit {0}) PortFault) → OnOk r (next ≡ mid) → OnErr r (next ≡ p)
+    → mid.sent ≡ p.sent → mid.station.link ≡ p.station.link → Leaves p next
+stays_by mid (Ok value) changed same sent link = stays changed sent link
+stays_by mid (Err why) changed same sent link = stays same refl refl
 
 module _ {W : Type 0} (facts : WireFacts W) where
   open facts use {honest, far, silence}
@@ -67,42 +80,30 @@ module _ {W : Type 0} (facts : WireFacts W) where
   comes_more : (first old new : W) (asked : Asked) → IsCall facts asked old new → ComesFrom facts first old → ComesFrom facts first new
   comes_more first old new asked one (calls, are) = (calls ++ asked ∷ [], calls_snoc first old new calls asked are one)
 
-  same_wire : (first : W) (p next : Parts W) → wire_of next.station.link ≡ wire_of p.station.link → Comes first p → Comes first next
-  same_wire first p next same comes = subst (λ (w : W). ComesFrom facts first w) (sym same) comes
-
-  -- no call but a turn touches the wire, and a turn makes one call of it
-  wire_kept : (first : W) (p next : Parts W) (c : Call) (reply : Answered) → Called p c reply next → Comes first p → Comes first next
-  wire_kept first p next call.Turn reply (_, _, one) comes = comes_more first _ _ (asks_of p) one comes
-  wire_kept first p next c reply given comes = same_wire first p next (grind (arith, common_steps)) comes
-
-  -- no call but a turn sends, and none but a restart touches the link
-  sent_kept : (p next : Parts W) (c : Call) (reply : Answered) → Called p c reply next → (c ≡ call.Turn → ⊥) → next.sent ≡ p.sent
-  sent_kept p next call.Turn reply given other = absurd (other refl)
-  sent_kept p next c reply given other = grind (arith, common_steps)
-
-  link_kept : (p next : Parts W) (c : Call) (reply : Answered) → Called p c reply next → (c ≡ call.Turn → ⊥) → (next.station.link ≡ p.station.link) ⊎ (mode_of next.station.link ≡ Down)
-  link_kept p next call.Turn reply given other = absurd (other refl)
-  link_kept p next call.Restart reply given other = inr given.1.mode
-  link_kept p next c reply given other = inl (grind (arith, common_steps))
-
   abbrev Stands : AnyLink W → Type 0
   Stands link = IsTrue (honest link.wire) → StateStands link.state (silence link.wire) (far link.wire)
 
   down_stands : (state : State) (n : ℕ) (f : Far) → mode_in state ≡ Down → StateStands state n f
   down_stands state n f down = grind (arith, common_steps)
 
-  stands_kept : (p next : Parts W) → (next.station.link ≡ p.station.link) ⊎ (mode_of next.station.link ≡ Down) → Stands p.station.link → Stands next.station.link
-  stands_kept p next (inl same) stands = subst Stands (sym same) stands
-  stands_kept p next (inr down) stands = λ h. down_stands next.station.link.state _ _ down
+  stands_on : (wire : W) (p next : Parts (Unit {0}))
+      → (next.station.link ≡ p.station.link) ⊎ (mode_of next.station.link ≡ Down)
+      → StateStands p.station.link.state (silence wire) (far wire)
+      → StateStands next.station.link.state (silence wire) (far wire)
+  stands_on wire p next (inl same) stands =
+      subst (λ (l : AnyLink (Unit {0})). StateStands l.state (silence wire) (far wire))
+      (sym same) stands
+  stands_on wire p next (inr down) stands = down_stands next.station.link.state _ _ down
 
-  -- each call keeps what a port keeps
-  pub port_kept : (o : Opening W) (p next : Parts W) (c : Call) (reply : Answered) → IsPort facts o p → Does facts p c reply next → Called p c reply next → (c ≡ call.Turn → ⊥)
-      → IsPort facts o next
-  port_kept o p next c reply is does one other = record {
-    run = run_kept facts o p next c reply is.run does;
-    wire = wire_kept o.wire p next c reply one is.wire;
-    free = sent_kept p next c reply one other ∙ is.free;
-    stands = stands_kept p next (link_kept p next c reply one other) is.stands;
+  -- each call but a turn keeps what a port keeps
+  pub call_kept : {o : Opening W} {wire : W} {p next : Parts (Unit {0})} {c : Call}
+      {reply : Answered} → IsPort facts o (parts_over wire p) → CoreDoes p c reply next
+      → Leaves p next → IsPort facts o (parts_over wire next)
+  call_kept {wire = wire} {p = p} {next = next} is does leaves = record {
+    run = run_kept facts _ _ _ _ _ is.run (call_over facts wire p next _ _ does);
+    wire = is.wire;
+    free = leaves.sent ∙ is.free;
+    stands = λ h. stands_on wire p next leaves.link (is.stands h);
   }
 
   pub port_turned : (o : Opening W) (p next : Parts W) → IsPort facts o p → Does facts p call.Turn answered.Nothing next → IsCall facts (asks_of p) (wire_of p.station.link) (wire_of next.station.link) → next.sent ≡ false → Stands next.station.link
@@ -113,13 +114,6 @@ module _ {W : Type 0} (facts : WireFacts W) where
     free = free;
     stands = stands;
   }
-
-  pub port_archived : {X : Type 0} (items : X → List Entry) (o : Opening W) (p next : Parts W) (result : Result X PortFault) → IsPort facts o p
-      → Does facts p call.Archive (reply_of (λ x. answered.Archived (length (items x))) result) next
-      → Called p call.Archive (archive_reply (result_map_both items (λ why. why) result)) next → IsPort facts o next
-  port_archived items o p next result is does one =
-      port_kept o p next call.Archive _ is does (subst (λ (reply : Answered). Called p call.Archive reply next) (archived_reply items result) one)
-      (λ e. absurd (let k : call.Archive ≡ call.Turn = e in cc))
 
   -- a new port
   pub port_new : (o : Opening W) (p : Parts W) → (OpensWell o → StandsFor facts p (opened o.limits o.far o.silence)) → wire_of p.station.link ≡ o.wire → p.sent ≡ false → mode_of p.station.link ≡ Down

@@ -1,9 +1,7 @@
 -- in a run a device without ISDU carries out nothing, and one with ISDU has no request denied
-use Rattle.std.proofs.Common.{◌≡◌, List, ℕ, Bool, true, false, Option, Some, None, refl, ap, sym, ◌∙◌, subst, arith}
+use Rattle.std.proofs.Common.{◌≡◌, List, ℕ, Bool, true, false, Option, None, refl, ap, sym, ◌∙◌, subst, arith}
 use Rattle.std.proofs.lemmas.Grind.{common_steps}
 use Rattle.iol_page.specs.Page.{knows_isdu}
-use Rattle.iol_isdu.specs.declared.values.Request.{Request}
-use Rattle.iol_isdu.specs.declared.values.Cause.TheVariants.{Restarted}
 use Rattle.iol_far.specs.declared.carried.Carried.{Carried}
 use Rattle.iol_far.specs.Far.{Far}
 use Rattle.iol_book.specs.declared.entries.Limits.{Limits}
@@ -12,8 +10,8 @@ use Rattle.iol_book.specs.declared.entries.Outcome.{Outcome}
 use Rattle.iol_book.specs.declared.entries.Outcome.TheVariants as outcome
 use Rattle.iol_book.specs.declared.entries.Outcome.TheVariants.{NoIsdu}
 use Rattle.iol_book.specs.Replay.{same_ticket}
-use Rattle.iol_book.specs.BookModel.{BookState, posted, ended_with}
-use Rattle.iol_steps.specs.Step.{Step, Deny, Done, Unknown, Moment}
+use Rattle.iol_book.specs.BookModel.{BookState, posted}
+use Rattle.iol_steps.specs.Step.{Step, Moment}
 use Rattle.iol_steps.specs.Session.{Job, Session, MaySession, session_after, session_through, marked}
 use Rattle.iol_steps.specs.Kinds.{restart_steps}
 use Rattle.iol_port.specs.declared.call.Answered.{Answered}
@@ -33,21 +31,13 @@ abbrev AllOther : BookState → Type 0
 AllOther b = Each IsOther b.standing.outcomes
 
 posted_other : (b : BookState) (out : Outcome) → (out ≡ NoIsdu → ⊥) → AllOther b → AllOther (posted b out)
-posted_other b out other each = by_taken b.standing.taken
-  where
-    by_taken : (taken : Option (Ticket × Request)) → AllOther (ended_with b taken out)
-    by_taken None = each
-    by_taken (Some t) = each_inserted IsOther b.standing.outcomes t.0 out other each
+posted_other b out other each = grind (arith, common_steps, each_inserted)
 
 step_other : (m : Moment) (step : Step) (b : BookState) (s : Session) → knows_isdu m.terms.page ≡ true → MaySession m step s → AllOther b → AllOther (book_after step b)
-step_other m (Deny t) b s knows may each = absurd (let k : true ≡ false = sym knows ∙ may.0 in cc)
-step_other m (Done a) b s knows may each = posted_other b (outcome.Done a) (λ is. cc) each
-step_other m (Unknown cause) b s knows may each = posted_other b (outcome.Unknown cause) (λ is. cc) each
-step_other m _ b s knows may each = each
+step_other m step b s knows may each = grind (arith, common_steps, posted_other)
 
 restart_other : (job : Option Job) (b : BookState) → AllOther b → AllOther (book_through (restart_steps (request_of job)) b)
-restart_other None b each = each
-restart_other (Some job) b each = posted_other b (outcome.Unknown Restarted) (λ is. cc) each
+restart_other job b each = grind (arith, common_steps, posted_other)
 
 -- A session in which nothing was ever under way
 

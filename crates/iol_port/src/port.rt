@@ -71,6 +71,7 @@ impl<W: Wire, A: Handle> Model for Port<W, A> {
         (opening_of W.facts p.limits.value p.wire_then.value) (parts_over p.wire p.core) };
 }
 
+#[tactic(auto, using(crate::proofs::CorePorts::call_over, crate::proofs::OverWire::over_wire))]
 impl<W: Wire, A: Handle> Port<W, A> {
     /// A port over this wire, whose link is down and whose first ticket is `given` + 1.
     ///

@@ -50,20 +50,11 @@ pub(crate) fn by_output(answer: Result<(), OutputFault>) -> Result<(), PortFault
     }
 }
 
-fn is_down(mode: Mode) -> bool
-    ensures { result ≡ is_down_mode mode }
-{
-    match mode {
-        Mode::Down => true,
-        Mode::Startup | Mode::Preoperate | Mode::Operate => false,
-    }
-}
-
 /// A wake succeeded where a turn led out of down.
 pub(crate) fn woke_up(began: Mode, ended: Mode) -> bool
     ensures { result ≡ (is_down_mode began && not (is_down_mode ended)) }
 {
-    is_down(began) && !is_down(ended)
+    matches!(began, Mode::Down) && !matches!(ended, Mode::Down)
 }
 
 /// Whether a start-up told that the device has no ISDU.
@@ -72,10 +63,7 @@ pub(crate) fn woke_up(began: Mode, ended: Mode) -> bool
 pub(crate) fn lacks_isdu(told: Option<bool>) -> bool
     ensures { result ≡ lacks_isdu told }
 {
-    match told {
-        Some(has) => !has,
-        None => false,
-    }
+    matches!(told, Some(false))
 }
 
 /// The next request is taken and begun, or denied where the device has no ISDU,

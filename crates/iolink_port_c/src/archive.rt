@@ -9,7 +9,6 @@ ghost use Rattle.iolink_port_c.specs.Shown.{IsEntry, IsNext, HasNoRequest, HasNo
 
 use crate::held::{IolPort, Master};
 use crate::outcome::{IolOutcome, show_outcome};
-use core::mem::replace_with;
 use iol_book::{Entry, Ticket};
 use iolink_handle::{CLOSED, IolRequest, show_request};
 use std::alloc::Global;
@@ -62,24 +61,22 @@ pub extern "C" fn iol_port_archive(alloc: Global, handle: &mut IolPort, count: &
     ensures rest { IsTrue handle.old.is_open
         → IsBookCall (parts_of handle.old) (parts_of handle.new) }
 {
-    if !handle.is_open {
-        return CLOSED;
-    }
-    let (code, entries) = replace_with(handle, alloc, |handle, alloc| {
-        let mut master = handle.into_box(alloc);
-        let answer = match master.port.archive() {
-            Ok(entries) => {
-                let count = entries.len() as u32;
-                master.journal = entries;
-                master.read = 0;
-                (0, count)
-            }
-            Err(fault) => (fault.code(), 0),
-        };
-        (IolPort::of(master), answer)
+    let answer = handle.with(alloc, |master| match master.port.archive() {
+        Ok(entries) => {
+            let count = entries.len() as u32;
+            master.journal = entries;
+            master.read = 0;
+            (0, count)
+        }
+        Err(fault) => (fault.code(), 0),
     });
-    *count = entries;
-    code
+    match answer {
+        Some((code, entries)) => {
+            *count = entries;
+            code
+        }
+        None => CLOSED,
+    }
 }
 
 /// Hands out the next entry of the journal that was archived last, the oldest
@@ -102,17 +99,10 @@ pub extern "C" fn iol_port_entry(alloc: Global, handle: &mut IolPort, out: &mut 
         IsNone (slice_get handle.old.held.value.journal.items handle.old.held.value.read) →
         KeepsNone handle.new }
 {
-    if !handle.is_open {
-        return CLOSED;
-    }
-    let next = replace_with(handle, alloc, |handle, alloc| {
-        let mut master = handle.into_box(alloc);
-        let next = next_entry(alloc, &mut master);
-        (IolPort::of(master), next)
-    });
-    match next {
-        Some(entry) => show_entry(&entry, out),
-        None => show_end(out),
+    match handle.with(alloc, |master| next_entry(alloc, master)) {
+        Some(Some(entry)) => show_entry(&entry, out),
+        Some(None) => show_end(out),
+        None => return CLOSED,
     }
     0
 }

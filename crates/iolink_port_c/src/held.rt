@@ -1,7 +1,9 @@
 //! What a handle of C holds.
-ghost use Rattle.std.specs.Prelude.{◌≡◌, Bool, true, false};
+ghost use Rattle.std.specs.Prelude.{◌≡◌, Bool, true, false, is_some, IfSome, IfNone};
+ghost use Rattle.std.specs.Fn.{FnOnceReturnsAtMut};
 ghost use Rattle.iolink_port_c.specs.declared.held.Master.{Master};
 
+use core::mem::replace_with;
 use iol_book::Entry;
 use iol_port::PortCore;
 use iolink_handle::Loose;
@@ -96,11 +98,33 @@ impl IolPort {
         (closed, loose.into_box(alloc))
     }
 
-    pub(crate) fn into_box(self, alloc: Global) -> Box<Master>
-        requires { self.is_open ≡ true }
-        ensures { result.value ≡ self.held.value }
+    /// What `f` makes of the port behind the handle, none where the handle is closed.
+    pub(crate) fn with<R, F: FnOnce(&mut Master) -> R>(&mut self, alloc: Global, f: F) -> Option<R>
+        requires { F.IsAlwaysCallable f }
+        ensures open { is_some result ≡ self.old.is_open }
+        ensures stays { self.new.is_open ≡ self.old.is_open }
+        ensures closed { IfNone result (self.new ≡ self.old) }
+        ensures made { IfSome result (λ made. FnOnceReturnsAtMut F.FnOnce f
+            self.old.held.value made self.new.held.value) }
     {
-        let (_, master) = self.take(alloc);
-        master
+        if !self.is_open {
+            return None;
+        }
+        let made = replace_with(
+            self,
+            (),
+            move |handle, ()|
+                requires open { handle.is_open ≡ true }
+                requires callable { F.IsAlwaysCallable f }
+                ensures stays { result.0.is_open ≡ true }
+                ensures made { FnOnceReturnsAtMut F.FnOnce f
+                    handle.held.value result.1 result.0.held.value }
+            {
+                let (_, mut master) = handle.take(alloc);
+                let made = f(&mut master);
+                (IolPort::of(master), made)
+            },
+        );
+        Some(made)
     }
 }

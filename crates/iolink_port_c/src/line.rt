@@ -7,7 +7,6 @@ ghost use Rattle.iolink_port_c.specs.Calls.{rate_of, answer_of};
 ghost use Rattle.iolink_port_c.specs.LineCalls.{Sends, Receives, Wakes};
 
 use crate::held::IolPort;
-use core::mem::replace_with;
 use iol_app::Asked;
 use iol_link::Rate;
 use iol_mseq::Message;
@@ -34,20 +33,13 @@ pub extern "C" fn iol_port_asks(alloc: Global, handle: &mut IolPort, out: &mut I
     ensures stays { Stays handle.old handle.new }
     ensures sends { IsTrue handle.old.is_open → Sends handle.old result out.new handle.new }
 {
-    if !handle.is_open {
-        return CLOSED;
-    }
-    let asked = replace_with(handle, alloc, |handle, alloc| {
-        let mut master = handle.into_box(alloc);
-        let asked = master.port.send();
-        (IolPort::of(master), asked)
-    });
-    match asked {
-        Asked::Wake => out.length = 0,
-        Asked::Exchange(sent) => {
+    match handle.with(alloc, |master| master.port.send()) {
+        Some(Asked::Wake) => out.length = 0,
+        Some(Asked::Exchange(sent)) => {
             out.length = sent.len() as u8;
             put(sent.as_slice(), &mut out.octets);
         }
+        None => return CLOSED,
     }
     0
 }
@@ -77,17 +69,14 @@ pub extern "C" fn iol_port_turn_woken(alloc: Global, handle: &mut IolPort, rate:
         return OUT_OF_RANGE;
     }
     let rate = rate_named(rate);
-    replace_with(handle, (alloc, rate), |handle, (alloc, rate)| {
-        let mut master = handle.into_box(alloc);
-        let code = match master.port.awaits() {
-            Awaited::Wake => {
-                master.port.receive_wake(rate);
-                0
-            }
-            Awaited::Nothing | Awaited::Reply => NOT_ASKED,
-        };
-        (IolPort::of(master), code)
-    })
+    let code = handle.with(alloc, |master| match master.port.awaits() {
+        Awaited::Wake => {
+            master.port.receive_wake(rate);
+            0
+        }
+        Awaited::Nothing | Awaited::Reply => NOT_ASKED,
+    });
+    code.unwrap_or(CLOSED)
 }
 
 fn rate_named(number: u8) -> Option<Rate>
@@ -127,15 +116,12 @@ pub extern "C" fn iol_port_turn_answered(alloc: Global, handle: &mut IolPort, oc
         return OUT_OF_RANGE;
     };
     let answer = if came.is_empty() { None } else { Some(came) };
-    replace_with(handle, (alloc, answer), |handle, (alloc, answer)| {
-        let mut master = handle.into_box(alloc);
-        let code = match master.port.awaits() {
-            Awaited::Reply => {
-                master.port.receive(&answer);
-                0
-            }
-            Awaited::Nothing | Awaited::Wake => NOT_ASKED,
-        };
-        (IolPort::of(master), code)
-    })
+    let code = handle.with(alloc, |master| match master.port.awaits() {
+        Awaited::Reply => {
+            master.port.receive(&answer);
+            0
+        }
+        Awaited::Nothing | Awaited::Wake => NOT_ASKED,
+    });
+    code.unwrap_or(CLOSED)
 }

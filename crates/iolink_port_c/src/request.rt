@@ -1,15 +1,15 @@
 //! Requests: entered, collected, taken back and cut off.
-ghost use Rattle.std.specs.Prelude.{◌≡◌, ◌≤◌, ◌<◌, length, IsTrue, IsFalse};
+ghost use Rattle.std.specs.Prelude.{◌≡◌, ◌≤◌, ◌<◌, length, IsTrue, IsFalse, IfOk, IfErr, IfSome, IfNone};
+ghost use Rattle.iol_isdu.specs.Fault.{fault_number as isdu_number};
 ghost use Rattle.iolink_port_c.specs.declared.request.Urgency.{Urgency};
 ghost use Rattle.iolink_port_c.specs.RequestCalls.{Enters, Collects, Withdraws, Cancels};
-ghost use Rattle.iolink_port_c.specs.RequestCalls.{read_at, write_at, ticket_out};
+ghost use Rattle.iolink_port_c.specs.RequestCalls.{read_at, write_at};
 ghost use Rattle.iolink_port_c.specs.Calls.{IsRefused, Stays, number_of};
 
 use crate::held::IolPort;
 use crate::outcome::{IolOutcome, show_outcome};
-use core::mem::replace_with;
 use iol_book::Ticket;
-use iol_isdu::{Place, Request};
+use iol_isdu::{IsduFault, Place, Request};
 use iol_port::PortFault;
 use iolink_handle::CLOSED;
 use std::alloc::Global;
@@ -26,74 +26,49 @@ pub enum Urgency {
 fn enter(
     alloc: Global,
     handle: &mut IolPort,
-    request: Request,
+    request: Result<Request, IsduFault>,
     urgency: Urgency,
     ticket: &mut u64,
 ) -> u8
     ensures closed { IsFalse handle.old.is_open → IsRefused result handle.old handle.new }
     ensures unwritten { IsFalse handle.old.is_open → ticket.new ≡ ticket.old }
     ensures stays { Stays handle.old handle.new }
-    ensures enters { IsTrue handle.old.is_open →
-        Enters urgency request handle.old result ticket.new handle.new }
+    ensures refused { IsTrue handle.old.is_open → IfErr request (λ why.
+        (result ≡ isdu_number why) × (ticket.new ≡ 0) × (handle.new ≡ handle.old)) }
+    ensures enters { IsTrue handle.old.is_open → IfOk request (λ request.
+        Enters urgency request handle.old result ticket.new handle.new) }
 {
     if !handle.is_open {
         return CLOSED;
     }
-    let asked = (alloc, request, urgency);
-    let answer = replace_with(handle, asked, |handle, (alloc, request, urgency)| {
-        let mut master = handle.into_box(alloc);
-        let answer = match urgency {
-            Urgency::Ordinary => master.port.submit(request),
-            Urgency::Urgent => master.port.submit_urgent(request),
-        };
-        (IolPort::of(master), answer)
+    *ticket = 0;
+    let request = match request {
+        Ok(request) => request,
+        Err(fault) => return fault.code(),
+    };
+    let answer = handle.with(alloc, |master| match urgency {
+        Urgency::Ordinary => master.port.submit(request),
+        Urgency::Urgent => master.port.submit_urgent(request),
     });
-    told(answer, ticket)
-}
-
-fn enter_write(
-    alloc: Global,
-    handle: &mut IolPort,
-    place: Place,
-    octets: &[u8],
-    urgency: Urgency,
-    ticket: &mut u64,
-) -> u8
-    ensures closed { IsFalse handle.old.is_open → IsRefused result handle.old handle.new }
-    ensures unwritten { IsFalse handle.old.is_open → ticket.new ≡ ticket.old }
-    ensures stays { Stays handle.old handle.new }
-    ensures long { IsTrue handle.old.is_open → 232 < length octets.now →
-        (result ≡ 9) × (ticket.new ≡ 0) × (handle.new ≡ handle.old) }
-    ensures enters { IsTrue handle.old.is_open → length octets.now ≤ 232 →
-        Enters urgency (write_at place.index place.sub octets.now)
-        handle.old result ticket.new handle.new }
-{
-    if !handle.is_open {
-        return CLOSED;
-    }
-    match Request::write(place, octets) {
-        Ok(request) => enter(alloc, handle, request, urgency, ticket),
-        Err(fault) => {
-            *ticket = 0;
-            fault.code()
-        }
-    }
-}
-
-// The ticket, or 0 beside the number of the refusal.
-fn told(answer: Result<Ticket, PortFault>, ticket: &mut u64) -> u8
-    ensures number { result ≡ number_of answer }
-    ensures ticket { ticket.new ≡ ticket_out answer }
-{
     match answer {
-        Ok(Ticket(number)) => {
+        Some(Ok(Ticket(number))) => {
             *ticket = number;
             0
         }
-        Err(fault) => {
-            *ticket = 0;
-            fault.code()
-        }
+        Some(Err(fault)) => fault.code(),
+        None => CLOSED,
+    }
+}
+
+/// 0, or the number of the refusal: 252 where the handle is closed.
+pub(crate) fn code_of(answer: Option<Result<(), PortFault>>) -> u8
+    ensures closed { IfNone answer (result ≡ 252) }
+    ensures number { IfSome answer (λ answer. result ≡ number_of answer) }
+{
+    match answer {
+        Some(Ok(())) => 0,
+        Some(Err(fault)) => fault.code(),
+        None => CLOSED,
     }
 }
 
@@ -114,8 +89,8 @@ pub extern "C" fn iol_port_read(
     ensures enters { IsTrue handle.old.is_open →
         Enters Urgency.Ordinary (read_at index sub) handle.old result ticket.new handle.new }
 {
-    let request = Request::read(Place { index, sub });
-    enter(alloc, handle, request, Urgency::Ordinary, ticket)
+    let read = Ok(Request::read(Place { index, sub }));
+    enter(alloc, handle, read, Urgency::Ordinary, ticket)
 }
 
 /// Enters an urgent read, before all requests that wait and aren't urgent. Answers
@@ -134,8 +109,8 @@ pub extern "C" fn iol_port_read_urgent(
     ensures enters { IsTrue handle.old.is_open →
         Enters Urgency.Urgent (read_at index sub) handle.old result ticket.new handle.new }
 {
-    let request = Request::read(Place { index, sub });
-    enter(alloc, handle, request, Urgency::Urgent, ticket)
+    let read = Ok(Request::read(Place { index, sub }));
+    enter(alloc, handle, read, Urgency::Urgent, ticket)
 }
 
 /// Enters a write: 0 and its ticket, or the first of 252 where the handle is
@@ -159,8 +134,8 @@ pub extern "C" fn iol_port_write(
         Enters Urgency.Ordinary (write_at index sub octets.now)
         handle.old result ticket.new handle.new }
 {
-    let place = Place { index, sub };
-    enter_write(alloc, handle, place, octets, Urgency::Ordinary, ticket)
+    let write = Request::write(Place { index, sub }, octets);
+    enter(alloc, handle, write, Urgency::Ordinary, ticket)
 }
 
 /// Enters an urgent write, before all requests that wait and aren't urgent. Answers
@@ -183,8 +158,8 @@ pub extern "C" fn iol_port_write_urgent(
         Enters Urgency.Urgent (write_at index sub octets.now)
         handle.old result ticket.new handle.new }
 {
-    let place = Place { index, sub };
-    enter_write(alloc, handle, place, octets, Urgency::Urgent, ticket)
+    let write = Request::write(Place { index, sub }, octets);
+    enter(alloc, handle, write, Urgency::Urgent, ticket)
 }
 
 /// Hands out the outcome of a ticket: 0, or the first of 252 where the handle is
@@ -203,20 +178,13 @@ pub extern "C" fn iol_port_collect(
     ensures collects { IsTrue handle.old.is_open →
         Collects ticket handle.old result out.old out.new handle.new }
 {
-    if !handle.is_open {
-        return CLOSED;
-    }
-    let ended = replace_with(handle, (alloc, ticket), |handle, (alloc, ticket)| {
-        let mut master = handle.into_box(alloc);
-        let ended = master.port.collect(Ticket(ticket));
-        (IolPort::of(master), ended)
-    });
-    match ended {
-        Ok(outcome) => {
+    match handle.with(alloc, |master| master.port.collect(Ticket(ticket))) {
+        Some(Ok(outcome)) => {
             show_outcome(&outcome, out);
             0
         }
-        Err(fault) => fault.code(),
+        Some(Err(fault)) => fault.code(),
+        None => CLOSED,
     }
 }
 
@@ -231,18 +199,7 @@ pub extern "C" fn iol_port_withdraw(alloc: Global, handle: &mut IolPort, ticket:
     ensures withdraws { IsTrue handle.old.is_open →
         Withdraws ticket handle.old result handle.new }
 {
-    if !handle.is_open {
-        return CLOSED;
-    }
-    let answer = replace_with(handle, (alloc, ticket), |handle, (alloc, ticket)| {
-        let mut master = handle.into_box(alloc);
-        let answer = master.port.withdraw(Ticket(ticket));
-        (IolPort::of(master), answer)
-    });
-    match answer {
-        Ok(()) => 0,
-        Err(fault) => fault.code(),
-    }
+    code_of(handle.with(alloc, |master| master.port.withdraw(Ticket(ticket))))
 }
 
 /// Asks to cut off the request under way: 0, or the first of 252 where the handle is
@@ -254,16 +211,5 @@ pub extern "C" fn iol_port_cancel(alloc: Global, handle: &mut IolPort, ticket: u
     ensures cancels { IsTrue handle.old.is_open →
         Cancels ticket handle.old result handle.new }
 {
-    if !handle.is_open {
-        return CLOSED;
-    }
-    let answer = replace_with(handle, (alloc, ticket), |handle, (alloc, ticket)| {
-        let mut master = handle.into_box(alloc);
-        let answer = master.port.cancel(Ticket(ticket));
-        (IolPort::of(master), answer)
-    });
-    match answer {
-        Ok(()) => 0,
-        Err(fault) => fault.code(),
-    }
+    code_of(handle.with(alloc, |master| master.port.cancel(Ticket(ticket))))
 }

@@ -12,7 +12,7 @@ ghost use Rattle.iolink_port_c.specs.Calls.{parts_of, IsRefused, IsNotAsked, Sta
 ghost use Rattle.iolink_port_c.specs.StateCalls.{Restarts, SetsOutput, ClearsOutput, TakesEvent};
 
 use crate::held::IolPort;
-use core::mem::replace_with;
+use crate::request::code_of;
 use iol_app::{Mode, Status};
 use iol_image::Image;
 use iol_port::Awaited;
@@ -34,20 +34,14 @@ pub extern "C" fn iol_port_restart(alloc: Global, handle: &mut IolPort) -> u8
         awaited (parts_of handle.old) ≡ Awaited.Nothing →
         Restarts handle.old result handle.new }
 {
-    if !handle.is_open {
-        return CLOSED;
-    }
-    replace_with(handle, alloc, |handle, alloc| {
-        let mut master = handle.into_box(alloc);
-        let code = match master.port.awaits() {
-            Awaited::Nothing => {
-                master.port.restart();
-                0
-            }
-            Awaited::Wake | Awaited::Reply => NOT_ASKED,
-        };
-        (IolPort::of(master), code)
-    })
+    let code = handle.with(alloc, |master| match master.port.awaits() {
+        Awaited::Nothing => {
+            master.port.restart();
+            0
+        }
+        Awaited::Wake | Awaited::Reply => NOT_ASKED,
+    });
+    code.unwrap_or(CLOSED)
 }
 
 /// Wants this output of the device.
@@ -70,15 +64,7 @@ pub extern "C" fn iol_port_set_output(alloc: Global, handle: &mut IolPort, octet
         Ok(image) => image,
         Err(fault) => return fault.code(),
     };
-    let answer = replace_with(handle, (alloc, image), |handle, (alloc, image)| {
-        let mut master = handle.into_box(alloc);
-        let answer = master.port.set_output(&image);
-        (IolPort::of(master), answer)
-    });
-    match answer {
-        Ok(()) => 0,
-        Err(fault) => fault.code(),
-    }
+    code_of(handle.with(alloc, |master| master.port.set_output(&image)))
 }
 
 /// Wants no output of the device: 0, or 252 where the handle is closed.
@@ -88,15 +74,10 @@ pub extern "C" fn iol_port_clear_output(alloc: Global, handle: &mut IolPort) -> 
     ensures stays { Stays handle.old handle.new }
     ensures clears { IsTrue handle.old.is_open → ClearsOutput handle.old result handle.new }
 {
-    if !handle.is_open {
-        return CLOSED;
+    match handle.with(alloc, |master| master.port.clear_output()) {
+        Some(()) => 0,
+        None => CLOSED,
     }
-    replace_with(handle, alloc, |handle, alloc| {
-        let mut master = handle.into_box(alloc);
-        master.port.clear_output();
-        (IolPort::of(master), ())
-    });
-    0
 }
 
 /// The device's input: 0, or 252 where the handle is closed, which leaves `out` as it is.
@@ -112,18 +93,14 @@ pub extern "C" fn iol_port_image(alloc: Global, handle: &mut IolPort, out: &mut 
     ensures does { IsTrue handle.old.is_open → CallDoes handle.old
         call.Look (answered.Image (parts_of handle.old).station.session.image) handle.new }
 {
-    if !handle.is_open {
-        return CLOSED;
-    }
-    let image = replace_with(handle, alloc, |handle, alloc| {
-        let master = handle.into_box(alloc);
-        let image = match master.port.image() {
-            Some(image) => Some(image.clone().unwrap()),
-            None => None,
-        };
-        (IolPort::of(master), image)
+    let image = handle.with(alloc, |master| match master.port.image() {
+        Some(image) => Some(image.clone().unwrap()),
+        None => None,
     });
-    show_image(image, out);
+    match image {
+        Some(image) => show_image(image, out),
+        None => return CLOSED,
+    }
     0
 }
 
@@ -144,21 +121,14 @@ pub extern "C" fn iol_port_take_event(alloc: Global, handle: &mut IolPort, out: 
     ensures takes { IsTrue handle.old.is_open →
         TakesEvent handle.old result out.old out.new handle.new }
 {
-    if !handle.is_open {
-        return CLOSED;
-    }
-    let taken = replace_with(handle, alloc, |handle, alloc| {
-        let mut master = handle.into_box(alloc);
-        let taken = master.port.take_event();
-        (IolPort::of(master), taken)
-    });
-    match taken {
-        Ok(event) => {
+    match handle.with(alloc, |master| master.port.take_event()) {
+        Some(Ok(event)) => {
             out.qualifier = event.qualifier;
             out.code = event.code;
             0
         }
-        Err(fault) => fault.code(),
+        Some(Err(fault)) => fault.code(),
+        None => CLOSED,
     }
 }
 
@@ -186,15 +156,10 @@ pub extern "C" fn iol_port_status(alloc: Global, handle: &mut IolPort, out: &mut
     ensures does { IsTrue handle.old.is_open → CallDoes handle.old
         call.Status (answered.Status (status_of (parts_of handle.old).station)) handle.new }
 {
-    if !handle.is_open {
-        return CLOSED;
+    match handle.with(alloc, |master| master.port.status()) {
+        Some(status) => show_status(&status, out),
+        None => return CLOSED,
     }
-    let status = replace_with(handle, alloc, |handle, alloc| {
-        let master = handle.into_box(alloc);
-        let status = master.port.status();
-        (IolPort::of(master), status)
-    });
-    show_status(&status, out);
     0
 }
 

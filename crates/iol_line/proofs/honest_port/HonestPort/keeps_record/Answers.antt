@@ -1,17 +1,15 @@
 use Rattle.iol_line.proofs.Runs.{record_kept}
 use Rattle.iol_line.proofs.honest_port.HonestPort.keeps_record.Goals as goal
 
-pub returns-clause-run : goal.returns-clause-run
-returns-clause-run g c = rw (← c.self.view_is) c.self.invariant
-
-pub returns-clause-record_fits : goal.returns-clause-record_fits
-returns-clause-record_fits g c =
+pub returns : goal.returns
+returns g c =
     let laws = c.record_fits_journal.ensures in
+    let law = c.keeps_record.ensures in
+    let kept = record_kept laws.opens laws.pieces _ law.record_fits c.self.invariant in
     rw (← c.self.view_is)
-    (λ well. (record_kept laws.opens laws.pieces _ c.keeps_record.ensures.record_fits c.self.invariant well).0)
-
-pub returns-clause-level : goal.returns-clause-level
-returns-clause-level g c =
-    let laws = c.record_fits_journal.ensures in
-    rw (← c.self.view_is)
-    (λ well. (record_kept laws.opens laws.pieces _ c.keeps_record.ensures.record_fits c.self.invariant well).1)
+    (record {
+      replayed = law.replayed;
+      run = c.self.invariant;
+      record_fits = λ well. (kept well).0;
+      level = λ well. (kept well).1;
+    })

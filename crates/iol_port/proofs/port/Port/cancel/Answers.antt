@@ -1,17 +1,9 @@
-use Rattle.std.proofs.Common.{◌≡◌, refl}
-use Rattle.iol_port.specs.declared.call.Call.TheVariants as call
-use Rattle.iol_port.proofs.CorePorts.{call_over}
-use Rattle.iol_port.proofs.OverWire.{cancel_over}
-use Rattle.iol_port.proofs.WireLemmas.{port_kept}
+use Rattle.std.proofs.Common.{refl}
+use Rattle.iol_port.proofs.WireLemmas.{call_kept, stays_by}
 use Rattle.iol_port.proofs.port.Port.cancel.Goals as goal
-
-pub returns-clause-does : goal.returns-clause-does
-returns-clause-does g c = rw (← c.self.view_is) (call_over g.W.Wire.facts c.self.inside.wire _ _ _ _ c.cancel.ensures.does)
-
-pub returns-clause-gives : goal.returns-clause-gives
-returns-clause-gives g c = rw (← c.self.view_is) (cancel_over c.self.inside.wire _ _ c.cancel.ensures.gives)
 
 pub invariant_of-self : goal.invariant_of-self
 invariant_of-self g c =
-    port_kept g.W.Wire.facts _ _ _ _ _ c.self.invariant (call_over g.W.Wire.facts c.self.inside.wire _ _ _ _ c.cancel.ensures.does)
-    (c.cancel.result, refl, cancel_over c.self.inside.wire _ _ c.cancel.ensures.gives) (λ e. absurd (let k : call.Cancel c.args.ticket ≡ call.Turn = e in cc))
+    let gives = c.cancel.ensures.gives in
+    call_kept g.W.Wire.facts c.self.invariant c.cancel.ensures.does
+    (stays_by _ c.cancel.result gives.waits gives.unchanged refl refl)

@@ -1,17 +1,7 @@
-use Rattle.std.proofs.Common.{◌≡◌, refl}
-use Rattle.iol_port.specs.declared.call.Call.TheVariants as call
-use Rattle.iol_port.proofs.CorePorts.{call_over}
-use Rattle.iol_port.proofs.OverWire.{clear_output_over}
-use Rattle.iol_port.proofs.WireLemmas.{port_kept}
+use Rattle.std.proofs.Common.{refl}
+use Rattle.iol_port.proofs.WireLemmas.{call_kept, stays}
 use Rattle.iol_port.proofs.port.Port.clear_output.Goals as goal
 
-pub returns-clause-does : goal.returns-clause-does
-returns-clause-does g c = rw (← c.self.view_is) (call_over g.W.Wire.facts c.self.inside.wire _ _ _ _ c.clear_output.ensures.does)
-
-pub returns-clause-gives : goal.returns-clause-gives
-returns-clause-gives g c = rw (← c.self.view_is) (clear_output_over c.self.inside.wire c.self.inside.core c.clear_output.new.self c.clear_output.ensures.gives)
-
 pub invariant_of-self : goal.invariant_of-self
-invariant_of-self g c =
-    port_kept g.W.Wire.facts _ _ _ _ _ c.self.invariant (call_over g.W.Wire.facts c.self.inside.wire _ _ _ _ c.clear_output.ensures.does)
-    (refl, clear_output_over c.self.inside.wire c.self.inside.core c.clear_output.new.self c.clear_output.ensures.gives) (λ e. absurd (let k : call.ClearOutput ≡ call.Turn = e in cc))
+invariant_of-self g c = call_kept g.W.Wire.facts c.self.invariant c.clear_output.ensures.does
+    (stays c.clear_output.ensures.gives refl refl)

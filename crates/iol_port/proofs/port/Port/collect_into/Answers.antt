@@ -1,18 +1,7 @@
-use Rattle.std.proofs.Common.{◌≡◌, refl}
-use Rattle.std.specs.Result.{result_map_both}
-use Rattle.iol_port.specs.declared.call.Call.TheVariants as call
-use Rattle.iol_port.proofs.CorePorts.{call_over}
-use Rattle.iol_port.proofs.OverWire.{collect_over}
-use Rattle.iol_port.proofs.WireLemmas.{port_kept}
+use Rattle.std.proofs.Common.{refl}
+use Rattle.iol_port.proofs.WireLemmas.{call_kept, stays}
 use Rattle.iol_port.proofs.port.Port.collect_into.Goals as goal
 
-pub returns-clause-does : goal.returns-clause-does
-returns-clause-does g c = rw (← c.self.view_is) (call_over g.W.Wire.facts c.self.inside.wire _ _ _ _ c.collect_into.ensures.does)
-
-pub returns-clause-gives : goal.returns-clause-gives
-returns-clause-gives g c = rw (← c.self.view_is) (collect_over c.self.inside.wire _ _ c.collect_into.ensures.gives)
-
 pub invariant_of-self : goal.invariant_of-self
-invariant_of-self g c =
-    port_kept g.W.Wire.facts _ _ _ _ _ c.self.invariant (call_over g.W.Wire.facts c.self.inside.wire _ _ _ _ c.collect_into.ensures.does)
-    ((result_map_both (λ _. c.collect_into.new.into) (λ why. why) c.collect_into.result), refl, collect_over c.self.inside.wire _ _ c.collect_into.ensures.gives) (λ e. absurd (let k : call.Collect c.args.ticket ≡ call.Turn = e in cc))
+invariant_of-self g c = call_kept g.W.Wire.facts c.self.invariant c.collect_into.ensures.does
+    (stays c.collect_into.ensures.gives.rest refl refl)

@@ -1,4 +1,4 @@
-use Rattle.iol_port.specs.View.{Parts, IsOpened, opening_of}
+use Rattle.iol_port.specs.View.{opening_of}
 use Rattle.iol_port.proofs.CorePorts.{new_over, opens_over}
 use Rattle.iol_port.proofs.WireLemmas.{port_new}
 use Rattle.iol_port.proofs.port.Port.open.Goals as goal

@@ -1,17 +1,7 @@
-use Rattle.std.proofs.Common.{◌≡◌, refl}
-use Rattle.iol_port.specs.declared.call.Call.TheVariants as call
-use Rattle.iol_port.proofs.CorePorts.{call_over}
-use Rattle.iol_port.proofs.OverWire.{restart_over}
-use Rattle.iol_port.proofs.WireLemmas.{port_kept}
+use Rattle.std.proofs.Common.{inr}
+use Rattle.iol_port.proofs.WireLemmas.{call_kept}
 use Rattle.iol_port.proofs.port.Port.restart.Goals as goal
 
-pub returns-clause-does : goal.returns-clause-does
-returns-clause-does g c = rw (← c.self.view_is) (call_over g.W.Wire.facts c.self.inside.wire _ _ _ _ c.restart.ensures.does)
-
-pub returns-clause-gives : goal.returns-clause-gives
-returns-clause-gives g c = rw (← c.self.view_is) (restart_over c.self.inside.wire _ _ c.restart.ensures.gives)
-
 pub invariant_of-self : goal.invariant_of-self
-invariant_of-self g c =
-    port_kept g.W.Wire.facts _ _ _ _ _ c.self.invariant (call_over g.W.Wire.facts c.self.inside.wire _ _ _ _ c.restart.ensures.does)
-    (refl, restart_over c.self.inside.wire _ _ c.restart.ensures.gives) (λ e. absurd (let k : call.Restart ≡ call.Turn = e in cc))
+invariant_of-self g c = call_kept g.W.Wire.facts c.self.invariant c.restart.ensures.does
+    (record { sent = c.restart.ensures.gives.sent; link = inr c.restart.ensures.gives.mode })

@@ -1,17 +1,9 @@
-use Rattle.std.proofs.Common.{◌≡◌, refl}
-use Rattle.iol_port.specs.declared.call.Call.TheVariants as call
-use Rattle.iol_port.proofs.CorePorts.{call_over}
-use Rattle.iol_port.proofs.OverWire.{set_output_over}
-use Rattle.iol_port.proofs.WireLemmas.{port_kept}
+use Rattle.std.proofs.Common.{refl}
+use Rattle.iol_port.proofs.WireLemmas.{call_kept, stays_by}
 use Rattle.iol_port.proofs.port.Port.set_output.Goals as goal
-
-pub returns-clause-does : goal.returns-clause-does
-returns-clause-does g c = rw (← c.self.view_is) (call_over g.W.Wire.facts c.self.inside.wire _ _ _ _ c.set_output.ensures.does)
-
-pub returns-clause-gives : goal.returns-clause-gives
-returns-clause-gives g c = rw (← c.self.view_is) (set_output_over c.self.inside.wire _ _ c.set_output.ensures.gives)
 
 pub invariant_of-self : goal.invariant_of-self
 invariant_of-self g c =
-    port_kept g.W.Wire.facts _ _ _ _ _ c.self.invariant (call_over g.W.Wire.facts c.self.inside.wire _ _ _ _ c.set_output.ensures.does)
-    (c.set_output.result, refl, set_output_over c.self.inside.wire _ _ c.set_output.ensures.gives) (λ e. absurd (let k : call.SetOutput c.args.image.now ≡ call.Turn = e in cc))
+    let gives = c.set_output.ensures.gives in
+    call_kept g.W.Wire.facts c.self.invariant c.set_output.ensures.does
+    (stays_by _ c.set_output.result gives.wanted gives.unchanged refl refl)

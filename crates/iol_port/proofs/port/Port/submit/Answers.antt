@@ -1,17 +1,7 @@
-use Rattle.std.proofs.Common.{◌≡◌, refl}
-use Rattle.iol_port.specs.declared.call.Call.TheVariants as call
-use Rattle.iol_port.proofs.CorePorts.{call_over}
-use Rattle.iol_port.proofs.OverWire.{submit_over}
-use Rattle.iol_port.proofs.WireLemmas.{port_kept}
+use Rattle.std.proofs.Common.{refl}
+use Rattle.iol_port.proofs.WireLemmas.{call_kept, stays}
 use Rattle.iol_port.proofs.port.Port.submit.Goals as goal
 
-pub returns-clause-does : goal.returns-clause-does
-returns-clause-does g c = rw (← c.self.view_is) (call_over g.W.Wire.facts c.self.inside.wire _ _ _ _ c.submit.ensures.does)
-
-pub returns-clause-gives : goal.returns-clause-gives
-returns-clause-gives g c = rw (← c.self.view_is) (submit_over c.self.inside.wire _ _ c.submit.ensures.gives)
-
 pub invariant_of-self : goal.invariant_of-self
-invariant_of-self g c =
-    port_kept g.W.Wire.facts _ _ _ _ _ c.self.invariant (call_over g.W.Wire.facts c.self.inside.wire _ _ _ _ c.submit.ensures.does)
-    (c.submit.result, refl, submit_over c.self.inside.wire _ _ c.submit.ensures.gives) (λ e. absurd (let k : call.Submit c.args.request ≡ call.Turn = e in cc))
+invariant_of-self g c = call_kept g.W.Wire.facts c.self.invariant c.submit.ensures.does
+    (stays c.submit.ensures.gives.rest refl refl)

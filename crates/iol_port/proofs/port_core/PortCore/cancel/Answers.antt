@@ -1,6 +1,5 @@
-use Rattle.std.proofs.Common.{rules, Ok, Err, refl, sym, ap, ◌∙◌}
+use Rattle.std.proofs.Common.{refl, sym, ap, ◌∙◌}
 use Rattle.std.specs.Result.{result_err}
-use Rattle.iol_port.specs.declared.fault.PortFault.TheVariants as fault
 use Rattle.iol_port.proofs.CallLemmas.{cancel_does, cancel_refused}
 use Rattle.iol_port.specs.CorePort.{at_end, bare}
 use Rattle.iol_port.proofs.port_core.PortCore.cancel.Goals as goal

@@ -1,6 +1,6 @@
 use Rattle.std.specs.Result.{result_map_both}
 use Rattle.iol_port.proofs.CallLemmas.{collect_does, by_book_put}
-use Rattle.iol_port.specs.CorePort.{at_end, bare}
+use Rattle.iol_port.specs.CorePort.{at_end}
 use Rattle.iol_port.proofs.port_core.PortCore.collect_into.Goals as goal
 
 pub returns-clause-does : goal.returns-clause-does

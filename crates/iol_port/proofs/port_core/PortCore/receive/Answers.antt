@@ -1,9 +1,8 @@
 -- What comes back goes to the book and to the kept events, and is one piece of a run.
-use Rattle.std.proofs.Common.{◌≡◌, ◌∙◌, true, false, refl, sym, subst, ap, inl}
+use Rattle.std.proofs.Common.{◌≡◌, ◌∙◌, true, false, refl, ap, inl}
 use Rattle.iol_far.specs.Octets.{octets_in}
 use Rattle.iol_mode.specs.Exchanges.{judged}
 use Rattle.iol_app.specs.Core.{Core}
-use Rattle.iol_port.specs.declared.awaited.Awaited.TheVariants.{Reply}
 use Rattle.iol_port.specs.View.{Parts}
 use Rattle.iol_port.specs.CorePort.{awaited, bare}
 use Rattle.iol_port.proofs.CorePorts.{reply_out, receive_does}

@@ -1,10 +1,9 @@
 -- What a wake brought is one piece of a run.
-use Rattle.std.proofs.Common.{◌≡◌, ◌∙◌, Bool, true, false, List, ◌++◌, [], refl, sym, subst, ap, inl, append-nil, cond, ◌∷◌}
+use Rattle.std.proofs.Common.{◌≡◌, ◌∙◌, Bool, true, false, List, [], refl, ap, inl, append-nil, cond, ◌∷◌}
 use Rattle.std.specs.Prelude.{is_some}
 use Rattle.iol_steps.specs.Step.{Step, Reset}
 use Rattle.iol_steps.specs.declared.said.Said.TheVariants.{Idle}
-use Rattle.iol_app.specs.Pieces.{WakeSteps}
-use Rattle.iol_app.specs.Core.{Core, after_wake}
+use Rattle.iol_app.specs.Core.{Core}
 use Rattle.iol_port.specs.Steps.{book_through}
 use Rattle.iol_port.specs.View.{Parts}
 use Rattle.iol_port.specs.CorePort.{awaited, bare}

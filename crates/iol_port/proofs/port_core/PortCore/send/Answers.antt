@@ -1,6 +1,5 @@
 -- What goes out: the next request is begun before it where nothing was out.
-use Rattle.std.proofs.Common.{◌≡◌, ◌∙◌, Bool, true, false, ◌&&◌, Option, refl, sym, subst, ap, arith}
-use Rattle.std.proofs.lemmas.Grind.{common_steps}
+use Rattle.std.proofs.Common.{◌≡◌, ◌∙◌, Bool, true, false, ◌&&◌, Option, refl, sym, subst, ap}
 use Rattle.iol_isdu.specs.declared.values.Request.{Request}
 use Rattle.iol_book.specs.BookModel.{BookValue, next_taken}
 use Rattle.iol_app.specs.StationState.{operates}

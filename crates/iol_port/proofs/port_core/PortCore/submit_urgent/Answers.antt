@@ -1,5 +1,5 @@
 use Rattle.iol_port.proofs.CallLemmas.{submit_urgent_does}
-use Rattle.iol_port.specs.CorePort.{at_end, bare}
+use Rattle.iol_port.specs.CorePort.{at_end}
 use Rattle.iol_port.proofs.port_core.PortCore.submit_urgent.Goals as goal
 
 pub returns-clause-does : goal.returns-clause-does

@@ -1,16 +1,16 @@
 -- A turn of a port: what goes out, one call of the wire, and what is made of what came.
-use Rattle.std.proofs.Common.{◌≡◌, refl, Bool, ◌&&◌, Option, false, ap, sym, ◌∙◌, subst, cond, ◌∷◌, [], ◌++◌, arith}
+use Rattle.std.proofs.Common.{◌≡◌, Bool, ◌&&◌, Option, false, ap, sym, ◌∙◌, cond, ◌∷◌, [], ◌++◌, arith}
 use Rattle.std.proofs.lemmas.Grind.{common_steps}
 use Rattle.iol_steps.specs.Step.{Reset, woke_up, book_said}
 use Rattle.iol_app.specs.Core.{Core}
 use Rattle.iol_app.specs.Due.{is_ready}
-use Rattle.iol_app.specs.StationState.{StationState, wire_of, mode_of, is_operating, operates, mode_in}
-use Rattle.iol_app.specs.Asking.{asked_of, prepared, IsCall}
-use Rattle.iol_app.specs.Seen.{core_of, station_of}
+use Rattle.iol_app.specs.StationState.{StationState, mode_of, is_operating, operates}
+use Rattle.iol_app.specs.Asking.{prepared}
+use Rattle.iol_app.specs.Seen.{station_of}
 use Rattle.iol_isdu.specs.declared.values.Request.{Request}
 use Rattle.iol_book.specs.BookModel.{BookState, next_taken}
 use Rattle.iol_port.specs.Asks.{has_room, lacks_isdu, to_begin}
-use Rattle.iol_port.specs.View.{Parts, BeginsNext, TakesNext}
+use Rattle.iol_port.specs.View.{Parts, BeginsNext}
 use Rattle.iol_port.specs.CorePort.{bare, parts_over}
 use Rattle.iol_port.specs.EveryWire.{taken_where}
 use Rattle.iol_port.specs.Steps.{book_through}
