@@ -1,14 +1,12 @@
 //! The lines of a book alone.
-use crate::fault::LineFault;
 use crate::printing::{print_ok, print_request};
-use crate::reading::{answer, end, is, number, request, word};
+use crate::reading::{Line, is};
 use crate::tickets::{
     limits, print_archived, print_collected, print_done, print_entries, print_submitted, ticket,
 };
 use iol_book::{Book, BookFault, Outcome, Ticket};
 use iol_isdu::{Cause, Request};
 use iol_port::PortFault;
-use iol_script::Words;
 use std::alloc::{AllocError, Global};
 
 /// A line of a book, behind `book`.
@@ -16,127 +14,104 @@ pub(crate) fn answer_book(
     output: &mut String,
     alloc: Global,
     book: &mut Option<Book>,
-    words: &mut Words<'_>,
-) -> Result<(), LineFault> {
-    let name = word(words)?;
+    line: &mut Line<'_>,
+) -> Result<(), AllocError> {
+    let name = line.word();
     if is(name, b"open") {
-        *book = open(output, alloc, words)?;
-        return Ok(());
+        let Ok(opened) = Book::open(alloc, &limits(line)) else {
+            return Err(AllocError);
+        };
+        *book = Some(opened);
+        return print_ok(output);
     }
     match book {
-        Some(book) => answer_call(output, book, name, words),
-        None => Err(LineFault::Bad),
-    }
-}
-
-fn open(
-    output: &mut String,
-    alloc: Global,
-    words: &mut Words<'_>,
-) -> Result<Option<Book>, LineFault> {
-    match Book::open(alloc, &limits(words)?) {
-        Ok(book) => {
-            print_ok(output)?;
-            Ok(Some(book))
+        Some(book) => answer_call(output, book, name, line),
+        None => {
+            line.refuse();
+            Ok(())
         }
-        Err(_) => Err(LineFault::OutOfMemory),
     }
 }
 
-/// The lines with words behind their name.
+/// The lines of a request or a ticket, and others.
 fn answer_call(
     output: &mut String,
     book: &mut Book,
     name: &[u8],
-    words: &mut Words<'_>,
-) -> Result<(), LineFault> {
+    line: &mut Line<'_>,
+) -> Result<(), AllocError> {
     if is(name, b"submit") {
-        print_submitted(
-            output,
-            book.submit(request(words)?).map_err(PortFault::Book),
-        )?;
+        print_submitted(output, book.submit(line.request()).map_err(PortFault::Book))
     } else if is(name, b"urgent") {
         print_submitted(
             output,
-            book.submit_urgent(request(words)?).map_err(PortFault::Book),
-        )?;
-    } else if is(name, b"post") {
-        let ticket = Ticket(number(words, u64::MAX)?);
-        print_done(
-            output,
-            post(book, ticket, outcome(words)?).map_err(PortFault::Book),
-        )?;
+            book.submit_urgent(line.request()).map_err(PortFault::Book),
+        )
     } else if is(name, b"collect") {
-        print_collected(
-            output,
-            book.collect(ticket(words)?).map_err(PortFault::Book),
-        )?;
-    } else if is(name, b"withdraw") {
-        print_done(
-            output,
-            book.withdraw(ticket(words)?).map_err(PortFault::Book),
-        )?;
-    } else if is(name, b"flight") {
-        print_done(
-            output,
-            book.in_flight(ticket(words)?).map_err(PortFault::Book),
-        )?;
-    } else {
-        end(words)?;
-        answer_bare(output, book, name)?;
-    }
-    Ok(())
-}
-
-/// The lines of one word.
-fn answer_bare(output: &mut String, book: &mut Book, name: &[u8]) -> Result<(), LineFault> {
-    if is(name, b"take") {
-        print_taken(output, book.take())?;
+        print_collected(output, book.collect(ticket(line)).map_err(PortFault::Book))
+    } else if is(name, b"take") {
+        print_taken(output, book.take())
     } else if is(name, b"deny") {
-        print_denied(output, book.deny())?;
+        print_denied(output, book.deny())
     } else if is(name, b"next") {
-        print_next(output, book.next())?;
-    } else if is(name, b"reset") {
-        book.reset();
-        print_ok(output)?;
+        print_next(output, book.next())
     } else if is(name, b"archive") {
-        print_archived(output, book.archive().map_err(PortFault::Book))?;
+        print_archived(output, book.archive().map_err(PortFault::Book))
     } else if is(name, b"journal") {
         output.push_str("journal")?;
-        print_entries(output, book.journal())?;
+        print_entries(output, book.journal())
     } else {
-        return Err(LineFault::Bad);
+        print_done(output, settle(book, name, line).map_err(PortFault::Book))
+    }
+}
+
+/// The lines that are told no more than that they are done.
+fn settle(book: &mut Book, name: &[u8], line: &mut Line<'_>) -> Result<(), BookFault> {
+    if is(name, b"post") {
+        let ticket = ticket(line);
+        return post(book, ticket, outcome(line));
+    }
+    if is(name, b"withdraw") {
+        return book.withdraw(ticket(line));
+    }
+    if is(name, b"flight") {
+        return book.in_flight(ticket(line));
+    }
+    if is(name, b"reset") {
+        book.reset();
+    } else {
+        line.refuse();
     }
     Ok(())
 }
 
-/// `done` and an answer, `unknown` and a cause, `withdrawn` or `noisdu`.
-fn outcome(words: &mut Words<'_>) -> Result<Outcome, LineFault> {
-    let name = word(words)?;
+/// `done` and an answer, or `unknown` and a cause.
+fn outcome(line: &mut Line<'_>) -> Outcome {
+    let name = line.word();
     if is(name, b"done") {
-        Ok(Outcome::Done(answer(words)?))
-    } else if is(name, b"unknown") {
-        let cause = cause(word(words)?)?;
-        end(words)?;
-        Ok(Outcome::Unknown(cause))
-    } else {
-        Err(LineFault::Bad)
+        return Outcome::Done(line.answer());
     }
+    if !is(name, b"unknown") {
+        line.refuse();
+    }
+    Outcome::Unknown(cause(line))
 }
 
-fn cause(name: &[u8]) -> Result<Cause, LineFault> {
+fn cause(line: &mut Line<'_>) -> Cause {
+    let name = line.word();
     if is(name, b"LinkLost") {
-        Ok(Cause::LinkLost)
+        Cause::LinkLost
     } else if is(name, b"Restarted") {
-        Ok(Cause::Restarted)
+        Cause::Restarted
     } else if is(name, b"BusyTooLong") {
-        Ok(Cause::BusyTooLong)
+        Cause::BusyTooLong
     } else if is(name, b"Protocol") {
-        Ok(Cause::Protocol)
-    } else if is(name, b"Cancelled") {
-        Ok(Cause::Cancelled)
+        Cause::Protocol
     } else {
-        Err(LineFault::Bad)
+        if !is(name, b"Cancelled") {
+            line.refuse();
+        }
+        Cause::Cancelled
     }
 }
 

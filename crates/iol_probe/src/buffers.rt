@@ -1,28 +1,30 @@
 //! The lines of parts, and of the buffer that a message is written into.
-ghost use Rattle.std.specs.Prelude.{◌≤◌, IfOk};
+ghost use Rattle.std.specs.Prelude.{◌≤◌};
 
-use crate::fault::LineFault;
 use crate::messages::invalid;
 use crate::printing::print_named;
-use crate::reading::{bit, end, is, last_octet, number, octets, small, word};
+use crate::reading::{Line, is};
 use iol_mseq::{
-    Message, append, append_first, append_zeros, close_reply, first, first_of_zeros, part_of, zeros,
+    Message, Part, append, append_first, append_zeros, close_reply, first, first_of_zeros, part_of,
+    zeros,
 };
-use iol_script::Words;
+use std::alloc::AllocError;
 
 /// Answers a line of parts or of the buffer. Whether it is one.
 pub(crate) fn answer_buffers(
     output: &mut String,
     buffer: &mut Message,
     name: &[u8],
-    words: &mut Words<'_>,
-) -> Result<bool, LineFault> {
+    line: &mut Line<'_>,
+) -> Result<bool, AllocError> {
     if is(name, b"buffer") {
-        answer_buffer(output, buffer, words)?;
+        write_buffer(buffer, line);
+        print_named(output, "buffer", buffer.as_slice())?;
     } else if is(name, b"part") {
-        answer_part(output, words)?;
+        let part = part(line);
+        print_named(output, "part", part.as_slice())?;
     } else if is(name, b"first") {
-        let octet = first(octets(words)?.as_slice());
+        let octet = first(line.octets().as_slice());
         writeln!(output, "first {octet:02X}")?;
     } else {
         return Ok(false);
@@ -30,101 +32,101 @@ pub(crate) fn answer_buffers(
     Ok(true)
 }
 
-/// Writes into the buffer, and prints it.
-fn answer_buffer(
-    output: &mut String,
-    buffer: &mut Message,
-    words: &mut Words<'_>,
-) -> Result<(), LineFault> {
-    let name = word(words)?;
+/// Writes into the buffer.
+fn write_buffer(buffer: &mut Message, line: &mut Line<'_>) {
+    let name = line.word();
     if is(name, b"new") {
-        end(words)?;
         buffer.clear();
     } else if is(name, b"append") {
-        append_octets(buffer, words)?;
+        append_octets(buffer, line);
     } else if is(name, b"zeros") {
-        append_nothing(buffer, words)?;
+        append_nothing(buffer, line);
     } else if is(name, b"first") {
-        append_one(buffer, words)?;
+        append_one(buffer, line);
     } else if is(name, b"close") {
-        close(buffer, words)?;
+        close(buffer, line);
     } else {
-        return Err(LineFault::Bad);
+        line.refuse();
     }
-    print_named(output, "buffer", buffer.as_slice())?;
-    Ok(())
 }
 
-fn append_octets(buffer: &mut Message, words: &mut Words<'_>) -> Result<(), LineFault> {
-    let octets = octets(words)?;
+fn append_octets(buffer: &mut Message, line: &mut Line<'_>) {
+    let octets = line.octets();
     if buffer.len() + octets.len() > 66 {
-        return Err(LineFault::Bad);
+        line.refuse();
+    } else {
+        append(buffer, octets.as_slice());
     }
-    append(buffer, octets.as_slice());
-    Ok(())
 }
 
-fn append_nothing(buffer: &mut Message, words: &mut Words<'_>) -> Result<(), LineFault> {
-    let size = small(words)?;
-    end(words)?;
+fn append_nothing(buffer: &mut Message, line: &mut Line<'_>) {
+    let size = line.small();
     if buffer.len() + usize::from(size) > 66 {
-        return Err(LineFault::Bad);
+        line.refuse();
+    } else {
+        append_zeros(buffer, size);
     }
-    append_zeros(buffer, size);
-    Ok(())
 }
 
-fn append_one(buffer: &mut Message, words: &mut Words<'_>) -> Result<(), LineFault> {
-    let size = small(words)?;
-    let octet = last_octet(words)?;
+fn append_one(buffer: &mut Message, line: &mut Line<'_>) {
+    let size = line.small();
+    let octet = line.octet();
     if size == 0 || buffer.len() + usize::from(size) > 66 {
-        return Err(LineFault::Bad);
+        line.refuse();
+    } else {
+        append_first(buffer, size, octet);
     }
-    append_first(buffer, size, octet);
-    Ok(())
 }
 
 /// The two bits above the checksum, and the checksum.
-fn close(buffer: &mut Message, words: &mut Words<'_>) -> Result<(), LineFault> {
-    let event = bit(words)?;
-    let invalid = invalid(words)?;
-    end(words)?;
+fn close(buffer: &mut Message, line: &mut Line<'_>) {
+    let event = line.bit();
+    let invalid = invalid(line);
     if buffer.len() >= 66 {
-        return Err(LineFault::Bad);
+        line.refuse();
+    } else {
+        close_reply(buffer, event, invalid);
     }
-    close_reply(buffer, event, invalid);
-    Ok(())
+}
+
+fn part(line: &mut Line<'_>) -> Part {
+    let name = line.word();
+    if is(name, b"of") {
+        given_part(line)
+    } else if is(name, b"zeros") {
+        zeros(size_of_part(line))
+    } else if is(name, b"first") {
+        first_part(line)
+    } else {
+        line.refuse();
+        Part::new()
+    }
+}
+
+/// Octets, as many as a part may have.
+fn given_part(line: &mut Line<'_>) -> Part {
+    let octets = line.octets();
+    if octets.len() > 32 {
+        line.refuse();
+        return Part::new();
+    }
+    part_of(octets.as_slice())
+}
+
+/// A size, and the octet that is followed by zeros.
+fn first_part(line: &mut Line<'_>) -> Part {
+    let size = size_of_part(line);
+    let octet = line.octet();
+    if size == 0 {
+        line.refuse();
+        return Part::new();
+    }
+    first_of_zeros(size, octet)
 }
 
 /// How many octets a part has.
-fn size_of_part(words: &mut Words<'_>) -> Result<u8, LineFault>
-    ensures { IfOk result (λ size. size ≤ 32) }
+fn size_of_part(line: &mut Line<'_>) -> u8
+    ensures { result ≤ 32 }
 {
-    Ok(number(words, 32)? as u8)
-}
-
-fn answer_part(output: &mut String, words: &mut Words<'_>) -> Result<(), LineFault> {
-    let name = word(words)?;
-    let part = if is(name, b"of") {
-        let octets = octets(words)?;
-        if octets.len() > 32 {
-            return Err(LineFault::Bad);
-        }
-        part_of(octets.as_slice())
-    } else if is(name, b"zeros") {
-        let size = size_of_part(words)?;
-        end(words)?;
-        zeros(size)
-    } else if is(name, b"first") {
-        let size = size_of_part(words)?;
-        let octet = last_octet(words)?;
-        if size == 0 {
-            return Err(LineFault::Bad);
-        }
-        first_of_zeros(size, octet)
-    } else {
-        return Err(LineFault::Bad);
-    };
-    print_named(output, "part", part.as_slice())?;
-    Ok(())
+    line.number(32) as u8
 }

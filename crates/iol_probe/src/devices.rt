@@ -1,21 +1,18 @@
 //! The lines of a device alone.
-ghost use Rattle.std.specs.Prelude.{◌≤◌, IfOk, IsOk};
-ghost use Rattle.iol_page.specs.Page.{layouts_of};
+ghost use Rattle.std.specs.Prelude.{◌≤◌};
 
 use crate::events::event;
-use crate::fault::LineFault;
 use crate::pages::{page_of, print_page_fault};
 use crate::printing::{
     print_named, print_octets, print_ok, print_pair, print_refused, print_request,
 };
-use crate::reading::{Bytes, answer, end, is, number, octets, packed, place, positive, word};
+use crate::reading::{Bytes, Line, is};
 use iol_device::{Apart, App, Carried, Device, DeviceFault, Record, Unkept};
 use iol_event::Event;
 use iol_image::Image;
 use iol_isdu::Request;
 use iol_mseq::Message;
 use iol_page::Page;
-use iol_script::Words;
 use iol_sim::Params;
 use std::alloc::{AllocError, Global};
 use std::mem;
@@ -50,167 +47,160 @@ impl Devices {
     }
 
     /// A line of a device, behind `device`.
-    pub fn answer(&mut self, output: &mut String, words: &mut Words<'_>) -> Result<(), LineFault> {
-        let name = word(words)?;
+    pub fn answer(&mut self, output: &mut String, line: &mut Line<'_>) -> Result<(), AllocError> {
+        let name = line.word();
         if is(name, b"param") {
-            add(output, &mut self.params, words)
+            add(output, &mut self.params, line)
         } else if is(name, b"open") {
-            self.open(output, words)
+            self.open(output, line)
         } else if is(name, b"bare") {
-            self.open_bare(output, words)
+            self.open_bare(output, line)
         } else if is(name, b"apart") {
-            self.open_apart(output, words)
+            self.open_apart(output, line)
         } else if is(name, b"record") {
-            self.print_record(output, words)
+            self.print_record(output, line)
         } else if is(name, b"answer") {
-            self.take_answer(output, words)
+            self.take_answer(output, line)
         } else {
-            self.call(output, name, words)
+            self.call(output, name, line)
         }
     }
 
     /// A room and a page: a device with the parameters so far, which are gone then.
-    fn open(&mut self, output: &mut String, words: &mut Words<'_>) -> Result<(), LineFault> {
-        let room = room(words)?;
-        let page = page_of(words)?;
+    fn open(&mut self, output: &mut String, line: &mut Line<'_>) -> Result<(), AllocError> {
+        let room = room(line);
+        let page = page_of(line);
         if let Err(fault) = page.layouts() {
-            print_page_fault(output, &fault)?;
-            return Ok(());
+            return print_page_fault(output, &fault);
         }
         let params = mem::replace(&mut self.params, Params::new());
         let Ok(device) = Device::open(self.alloc, params, page, room) else {
-            return Err(LineFault::OutOfMemory);
+            return Err(AllocError);
         };
         self.held = Held::Store(device);
-        print_ok(output)?;
-        Ok(())
+        print_ok(output)
     }
 
     /// A page: a device with the parameters so far, which keeps no record in memory.
-    fn open_bare(&mut self, output: &mut String, words: &mut Words<'_>) -> Result<(), LineFault> {
-        let page = page_of(words)?;
+    fn open_bare(&mut self, output: &mut String, line: &mut Line<'_>) -> Result<(), AllocError> {
+        let page = page_of(line);
         if let Err(fault) = page.layouts() {
-            print_page_fault(output, &fault)?;
-            return Ok(());
+            return print_page_fault(output, &fault);
         }
         let params = mem::replace(&mut self.params, Params::new());
         self.held = Held::Bare(Device::new(params, page));
-        print_ok(output)?;
-        Ok(())
+        print_ok(output)
     }
 
     /// A room and a page: a device whose answers come from the lines.
-    fn open_apart(&mut self, output: &mut String, words: &mut Words<'_>) -> Result<(), LineFault> {
-        let room = room(words)?;
-        let page = page_of(words)?;
+    fn open_apart(&mut self, output: &mut String, line: &mut Line<'_>) -> Result<(), AllocError> {
+        let room = room(line);
+        let page = page_of(line);
         if let Err(fault) = page.layouts() {
-            print_page_fault(output, &fault)?;
-            return Ok(());
+            return print_page_fault(output, &fault);
         }
         let Ok(device) = Device::open(self.alloc, Apart, page, room) else {
-            return Err(LineFault::OutOfMemory);
+            return Err(AllocError);
         };
         self.held = Held::Apart(device);
-        print_ok(output)?;
-        Ok(())
+        print_ok(output)
     }
 
     /// A number, and the answer to the request that is handed over under it.
-    fn take_answer(&mut self, output: &mut String, words: &mut Words<'_>) -> Result<(), LineFault> {
+    fn take_answer(&mut self, output: &mut String, line: &mut Line<'_>) -> Result<(), AllocError> {
         let Held::Apart(device) = &mut self.held else {
-            return Err(LineFault::Bad);
+            line.refuse();
+            return Ok(());
         };
-        let number = number(words, u64::MAX)?;
-        print_done(output, device.answer(number, answer(words)?))?;
-        Ok(())
+        let number = line.number(u64::MAX);
+        print_done(output, device.answer(number, line.answer()))
     }
 
-    fn print_record(&self, output: &mut String, words: &mut Words<'_>) -> Result<(), LineFault> {
-        end(words)?;
-        let carried = match &self.held {
-            Held::Nothing | Held::Bare(_) => return Err(LineFault::Bad),
-            Held::Store(device) => device.carried(),
-            Held::Apart(device) => device.carried(),
-        };
-        print_record(output, carried)?;
-        Ok(())
+    fn print_record(&self, output: &mut String, line: &mut Line<'_>) -> Result<(), AllocError> {
+        match &self.held {
+            Held::Nothing | Held::Bare(_) => {
+                line.refuse();
+                Ok(())
+            }
+            Held::Store(device) => print_record(output, device.carried()),
+            Held::Apart(device) => print_record(output, device.carried()),
+        }
     }
 
     fn call(
         &mut self,
         output: &mut String,
         name: &[u8],
-        words: &mut Words<'_>,
-    ) -> Result<(), LineFault> {
+        line: &mut Line<'_>,
+    ) -> Result<(), AllocError> {
         match &mut self.held {
-            Held::Nothing => Err(LineFault::Bad),
-            Held::Store(device) => answer_call(output, device, name, words),
-            Held::Bare(device) => answer_call(output, device, name, words),
-            Held::Apart(device) => answer_call(output, device, name, words),
+            Held::Nothing => {
+                line.refuse();
+                Ok(())
+            }
+            Held::Store(device) => answer_call(output, device, name, line),
+            Held::Bare(device) => answer_call(output, device, name, line),
+            Held::Apart(device) => answer_call(output, device, name, line),
         }
     }
 }
 
 /// How many requests the record has room for.
-fn room(words: &mut Words<'_>) -> Result<u32, LineFault>
-    ensures some { IfOk result (λ room. 1 ≤ room) }
-    ensures most { IfOk result (λ room. room ≤ 100000) }
+fn room(line: &mut Line<'_>) -> u32
+    ensures some { 1 ≤ result }
+    ensures most { result ≤ 100000 }
 {
-    Ok(positive(words, 100_000)? as u32)
+    line.between(1, 100_000) as u32
 }
 
 /// A place, whether it may be written, and its octets, of which there may be too many.
-fn add(output: &mut String, params: &mut Params, words: &mut Words<'_>) -> Result<(), LineFault> {
-    let place = place(words)?;
-    let writable = writable(words)?;
-    let octets: Bytes = packed(words)?;
-    end(words)?;
+fn add(output: &mut String, params: &mut Params, line: &mut Line<'_>) -> Result<(), AllocError> {
+    let place = line.place();
+    let writable = writable(line);
+    let octets: Bytes = line.packed();
     match params.add(place, writable, octets.as_slice()) {
-        Ok(()) => print_ok(output)?,
-        Err(fault) => print_refused(output, fault.code(), &fault)?,
-    }
-    Ok(())
-}
-
-fn writable(words: &mut Words<'_>) -> Result<bool, LineFault> {
-    let name = word(words)?;
-    if is(name, b"ro") {
-        Ok(false)
-    } else if is(name, b"rw") {
-        Ok(true)
-    } else {
-        Err(LineFault::Bad)
+        Ok(()) => print_ok(output),
+        Err(fault) => print_refused(output, fault.code(), &fault),
     }
 }
 
-/// The lines with words behind their name.
+/// `ro` or `rw`.
+fn writable(line: &mut Line<'_>) -> bool {
+    let name = line.word();
+    let is_writable = is(name, b"rw");
+    if !is_writable && !is(name, b"ro") {
+        line.refuse();
+    }
+    is_writable
+}
+
+/// The lines that any device understands.
 fn answer_call<P: App, R: Record>(
     output: &mut String,
     device: &mut Device<P, R>,
     name: &[u8],
-    words: &mut Words<'_>,
-) -> Result<(), LineFault> {
+    line: &mut Line<'_>,
+) -> Result<(), AllocError> {
     if is(name, b"hear") {
-        print_reply(output, device.hear(octets(words)?.as_slice()))?;
+        print_reply(output, device.hear(line.octets().as_slice()))
     } else if is(name, b"raise") {
-        print_done(output, device.raise(event(words)?))?;
+        print_done(output, device.raise(event(line)))
     } else if is(name, b"input") {
-        set_input(output, device, octets(words)?.as_slice())?;
+        set_input(output, device, line.octets().as_slice())
+    } else if is(name, b"handed") {
+        print_handed(output, device.handed_number(), device.handed())
+    } else if is(name, b"output") {
+        print_image(output, "output", device.output())
+    } else if is(name, b"page") {
+        print_named(output, "page", device.page())
     } else {
-        end(words)?;
-        if !act(output, device, name)? && !look(output, device, name)? {
-            return Err(LineFault::Bad);
-        }
+        act(device, name, line);
+        print_ok(output)
     }
-    Ok(())
 }
 
-/// The lines of one word that change something. Whether this is one.
-fn act<P: App, R: Record>(
-    output: &mut String,
-    device: &mut Device<P, R>,
-    name: &[u8],
-) -> Result<bool, AllocError> {
+/// The lines of one word that change something.
+fn act<P: App, R: Record>(device: &mut Device<P, R>, name: &[u8], line: &mut Line<'_>) {
     if is(name, b"wake") {
         device.wake();
     } else if is(name, b"work") {
@@ -220,28 +210,8 @@ fn act<P: App, R: Record>(
     } else if is(name, b"clear") {
         device.clear_input();
     } else {
-        return Ok(false);
+        line.refuse();
     }
-    print_ok(output)?;
-    Ok(true)
-}
-
-/// The lines of one word that look at something. Whether this is one.
-fn look<P: App, R: Record>(
-    output: &mut String,
-    device: &Device<P, R>,
-    name: &[u8],
-) -> Result<bool, AllocError> {
-    if is(name, b"handed") {
-        print_handed(output, device.handed_number(), device.handed())?;
-    } else if is(name, b"output") {
-        print_image(output, "output", device.output())?;
-    } else if is(name, b"page") {
-        print_named(output, "page", device.page())?;
-    } else {
-        return Ok(false);
-    }
-    Ok(true)
 }
 
 fn set_input<P: App, R: Record>(

@@ -1,36 +1,32 @@
 //! The lines of a device's event memory, and of a master's reader of events.
-use crate::fault::LineFault;
 use crate::printing::{print_ok, print_refused, yes_or_no};
-use crate::reading::{end, is, last_octet, octet, word};
+use crate::reading::{Line, is};
 use iol_event::{Event, EventForm, EventList, EventMemory, EventReader};
-use iol_script::{Words, hexadecimal_code};
 use std::alloc::AllocError;
 
 /// A line of an event memory, behind `memory`.
 pub(crate) fn answer_memory(
     output: &mut String,
     memory: &mut EventMemory,
-    words: &mut Words<'_>,
-) -> Result<(), LineFault> {
-    let name = word(words)?;
+    line: &mut Line<'_>,
+) -> Result<(), AllocError> {
+    let name = line.word();
     if is(name, b"raise") {
-        raise(output, memory, event(words)?)?;
+        raise(output, memory, event(line))
     } else if is(name, b"octet") {
-        let octet = memory.octet(last_octet(words)?);
-        writeln!(output, "octet {octet:02X}")?;
+        let octet = memory.octet(line.octet());
+        writeln!(output, "octet {octet:02X}")
+    } else if is(name, b"flag") {
+        let flag = yes_or_no(memory.flag());
+        writeln!(output, "flag {flag}")
     } else {
-        end(words)?;
-        memory_bare(output, memory, name)?;
+        change_memory(memory, name, line);
+        print_ok(output)
     }
-    Ok(())
 }
 
-/// The lines of one word.
-fn memory_bare(
-    output: &mut String,
-    memory: &mut EventMemory,
-    name: &[u8],
-) -> Result<(), LineFault> {
+/// The lines of one word that change something.
+fn change_memory(memory: &mut EventMemory, name: &[u8], line: &mut Line<'_>) {
     if is(name, b"new") {
         *memory = EventMemory::new();
     } else if is(name, b"confirm") {
@@ -39,23 +35,16 @@ fn memory_bare(
         memory.other_heard();
     } else if is(name, b"clear") {
         memory.clear();
-    } else if is(name, b"flag") {
-        let flag = yes_or_no(memory.flag());
-        writeln!(output, "flag {flag}")?;
-        return Ok(());
     } else {
-        return Err(LineFault::Bad);
+        line.refuse();
     }
-    print_ok(output)?;
-    Ok(())
 }
 
 /// A qualifier of two hexadecimal digits, and a code of four.
-pub(crate) fn event(words: &mut Words<'_>) -> Result<Event, LineFault> {
-    let qualifier = octet(words)?;
-    let code = hexadecimal_code(word(words)?).ok_or(LineFault::Bad)?;
-    end(words)?;
-    Ok(Event { qualifier, code })
+pub(crate) fn event(line: &mut Line<'_>) -> Event {
+    let qualifier = line.octet();
+    let code = line.code();
+    Event { qualifier, code }
 }
 
 fn raise(output: &mut String, memory: &mut EventMemory, event: Event) -> Result<(), AllocError> {
@@ -69,23 +58,21 @@ fn raise(output: &mut String, memory: &mut EventMemory, event: Event) -> Result<
 pub(crate) fn answer_reader(
     output: &mut String,
     reader: &mut EventReader,
-    words: &mut Words<'_>,
-) -> Result<(), LineFault> {
-    let name = word(words)?;
+    line: &mut Line<'_>,
+) -> Result<(), AllocError> {
+    let name = line.word();
     if is(name, b"take") {
-        print_taken(output, reader.take(last_octet(words)?))?;
+        print_taken(output, reader.take(line.octet()))
     } else if is(name, b"address") {
-        end(words)?;
         let address = reader.address();
-        writeln!(output, "address {address}")?;
+        writeln!(output, "address {address}")
     } else if is(name, b"new") {
-        end(words)?;
         *reader = EventReader::new();
-        print_ok(output)?;
+        print_ok(output)
     } else {
-        return Err(LineFault::Bad);
+        line.refuse();
+        Ok(())
     }
-    Ok(())
 }
 
 /// That more octets are to be read, the events, or the refusal.

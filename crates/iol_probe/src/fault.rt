@@ -1,5 +1,5 @@
 //! How the program fails.
-use std::alloc::{AllocError, AllocFailed};
+use std::alloc::AllocError;
 use thiserror::Error;
 
 /// Why the program ends with status 1. Its text is what stands on standard error.
@@ -19,33 +19,8 @@ pub(crate) enum ProbeFault {
     OutOfMemory,
 }
 
-/// Why a line is not answered.
-#[derive(Drop)]
-pub(crate) enum LineFault {
-    /// It fits no form, or has no place where it stands.
-    Bad,
-    /// No memory was left.
-    OutOfMemory,
-}
-
-impl LineFault {
-    /// The fault of the line of this number.
-    pub fn at(self, number: u64) -> ProbeFault {
-        match self {
-            LineFault::Bad => ProbeFault::Line(number),
-            LineFault::OutOfMemory => ProbeFault::OutOfMemory,
-        }
-    }
-}
-
-impl From<AllocError> for LineFault {
-    fn from(_error: AllocError) -> LineFault {
-        LineFault::OutOfMemory
-    }
-}
-
-impl<T: Drop> From<AllocFailed<T>> for LineFault {
-    fn from(_error: AllocFailed<T>) -> LineFault {
-        LineFault::OutOfMemory
+impl From<AllocError> for ProbeFault {
+    fn from(_error: AllocError) -> ProbeFault {
+        ProbeFault::OutOfMemory
     }
 }

@@ -1,17 +1,12 @@
 //! The lines of whole texts of requests and answers.
-ghost use Rattle.std.specs.Prelude.{IfOk};
 ghost use Rattle.iol_isdu.specs.Answers.{AnswersKind, is_read};
 
-use crate::fault::LineFault;
 use crate::printing::{print_answer, print_named, print_refused, print_request};
-use crate::reading::{
-    Bytes, Direction, answer, direction_of, end, is, octets, packed, place, word,
-};
+use crate::reading::{Bytes, Direction, Line, is};
 use iol_isdu::{
     Answer, IsduFault, Octets, Place, Request, encode_answer, encode_request, read_answer,
     read_request, total_of,
 };
-use iol_script::Words;
 use iol_segment::Reaction;
 use std::alloc::AllocError;
 
@@ -19,17 +14,17 @@ use std::alloc::AllocError;
 pub(crate) fn answer_isdus(
     output: &mut String,
     name: &[u8],
-    words: &mut Words<'_>,
-) -> Result<bool, LineFault> {
+    line: &mut Line<'_>,
+) -> Result<bool, AllocError> {
     if is(name, b"total") {
-        print_total(output, total_of(octets(words)?.as_slice()))?;
+        print_total(output, total_of(line.octets().as_slice()))?;
     } else if is(name, b"request") {
-        print_read_request(output, read_request(octets(words)?.as_slice()))?;
+        print_read_request(output, read_request(line.octets().as_slice()))?;
     } else if is(name, b"answer") {
-        let asked = asked(direction_of(words)?);
-        print_read_answer(output, read_answer(&asked, octets(words)?.as_slice()))?;
+        let asked = asked(line.direction());
+        print_read_answer(output, read_answer(&asked, line.octets().as_slice()))?;
     } else if is(name, b"encode") {
-        answer_encode(output, words)?;
+        answer_encode(output, line)?;
     } else {
         return Ok(false);
     }
@@ -83,46 +78,49 @@ pub(crate) fn print_read_answer(
 }
 
 /// `read` or `write`, and an answer to it.
-pub(crate) fn reaction(words: &mut Words<'_>) -> Result<Reaction, LineFault>
-    ensures { IfOk result (λ r. AnswersKind (is_read r.request) r.answer) }
+pub(crate) fn reaction(line: &mut Line<'_>) -> Reaction
+    ensures { AnswersKind (is_read result.request) result.answer }
 {
-    let request = asked(direction_of(words)?);
-    let answer = answer(words)?;
+    let request = asked(line.direction());
+    let answer = line.answer();
     match (&request, &answer) {
-        (Request::Read(_), Answer::Read(_) | Answer::Refused(_, _)) => {}
-        (Request::Write(_, _), Answer::Written | Answer::Refused(_, _)) => {}
-        _ => return Err(LineFault::Bad),
+        (Request::Read(_), Answer::Read(_)) | (Request::Write(_, _), Answer::Written) => {}
+        (_, Answer::Refused(_, _)) => {}
+        _ => {
+            line.refuse();
+            return Reaction {
+                request,
+                answer: Answer::Refused(0, 0),
+            };
+        }
     }
-    Ok(Reaction { request, answer })
+    Reaction { request, answer }
 }
 
 /// The text of a request, or of an answer.
-fn answer_encode(output: &mut String, words: &mut Words<'_>) -> Result<(), LineFault> {
-    let name = word(words)?;
+fn answer_encode(output: &mut String, line: &mut Line<'_>) -> Result<(), AllocError> {
+    let name = line.word();
     if is(name, b"read") {
-        let request = Request::read(place(words)?);
-        end(words)?;
-        print_named(output, "text", encode_request(&request).as_slice())?;
+        let request = Request::read(line.place());
+        print_named(output, "text", encode_request(&request).as_slice())
     } else if is(name, b"write") {
-        encode_write(output, words)?;
+        let place = line.place();
+        let octets: Bytes = line.packed();
+        encode_write(output, place, octets.as_slice())
     } else if is(name, b"answer") {
-        let reaction = reaction(words)?;
+        let reaction = reaction(line);
         let text = encode_answer(&reaction.request, &reaction.answer);
-        print_named(output, "text", text.as_slice())?;
+        print_named(output, "text", text.as_slice())
     } else {
-        return Err(LineFault::Bad);
+        line.refuse();
+        Ok(())
     }
-    Ok(())
 }
 
 /// The text of a write, of which there may be too many octets.
-fn encode_write(output: &mut String, words: &mut Words<'_>) -> Result<(), LineFault> {
-    let place = place(words)?;
-    let octets: Bytes = packed(words)?;
-    end(words)?;
-    match Request::write(place, octets.as_slice()) {
-        Ok(request) => print_named(output, "text", encode_request(&request).as_slice())?,
-        Err(fault) => print_refused(output, fault.code(), &fault)?,
+fn encode_write(output: &mut String, place: Place, octets: &[u8]) -> Result<(), AllocError> {
+    match Request::write(place, octets) {
+        Ok(request) => print_named(output, "text", encode_request(&request).as_slice()),
+        Err(fault) => print_refused(output, fault.code(), &fault),
     }
-    Ok(())
 }

@@ -1,15 +1,11 @@
 //! The lines of messages and replies, in the present layout.
-use crate::fault::LineFault;
 use crate::printing::{channel_name, print_named, print_octets, print_refused};
-use crate::reading::{
-    Direction, direction_of, end, is, number, octet, octets, packed, small, word,
-};
+use crate::reading::{Direction, Line, is};
 use iol_mseq::{
     Layout, MasterMsg, MseqFault, Reply, encode_master, encode_reply, read_master, read_reply,
     view_master, view_reply,
 };
 use iol_octets::{Channel, Mc};
-use iol_script::Words;
 use std::alloc::AllocError;
 
 /// Answers a line of layouts, messages and replies. Whether it is one.
@@ -17,19 +13,19 @@ pub(crate) fn answer_messages(
     output: &mut String,
     layout: &mut Layout,
     name: &[u8],
-    words: &mut Words<'_>,
-) -> Result<bool, LineFault> {
+    line: &mut Line<'_>,
+) -> Result<bool, AllocError> {
     if is(name, b"layout") {
-        answer_layout(output, layout, words)?;
+        answer_layout(output, layout, line)?;
     } else if is(name, b"master") {
-        answer_master(output, layout, octets(words)?.as_slice())?;
+        answer_master(output, layout, line.octets().as_slice())?;
     } else if is(name, b"reply") {
-        let direction = direction_of(words)?;
-        answer_reply(output, layout, direction, octets(words)?.as_slice())?;
+        let direction = line.direction();
+        answer_reply(output, layout, direction, line.octets().as_slice())?;
     } else if is(name, b"view") {
-        answer_view(output, layout, words)?;
+        answer_view(output, layout, line)?;
     } else if is(name, b"spell") {
-        answer_spell(output, layout, words)?;
+        answer_spell(output, layout, line)?;
     } else {
         return Ok(false);
     }
@@ -37,37 +33,35 @@ pub(crate) fn answer_messages(
 }
 
 /// The layout that a line asks for, where one is there.
-fn asked_layout(words: &mut Words<'_>) -> Result<Result<Layout, MseqFault>, LineFault> {
-    let mode = word(words)?;
-    let layout = if is(mode, b"startup") {
-        Ok(Layout::startup())
-    } else if is(mode, b"preoperate") {
-        Layout::preoperate(small(words)?)
-    } else if is(mode, b"operate") {
-        Layout::operate(small(words)?, small(words)?, small(words)?)
-    } else {
-        return Err(LineFault::Bad);
-    };
-    end(words)?;
-    Ok(layout)
+fn asked_layout(line: &mut Line<'_>) -> Result<Layout, MseqFault> {
+    let mode = line.word();
+    if is(mode, b"preoperate") {
+        return Layout::preoperate(line.small());
+    }
+    if is(mode, b"operate") {
+        return Layout::operate(line.small(), line.small(), line.small());
+    }
+    if !is(mode, b"startup") {
+        line.refuse();
+    }
+    Ok(Layout::startup())
 }
 
 /// A layout that is taken is the present one from then on.
 fn answer_layout(
     output: &mut String,
     layout: &mut Layout,
-    words: &mut Words<'_>,
-) -> Result<(), LineFault> {
-    match asked_layout(words)? {
+    line: &mut Line<'_>,
+) -> Result<(), AllocError> {
+    match asked_layout(line) {
         Ok(taken) => {
             *layout = taken;
             output.push_str("layout")?;
             print_layout(output, &taken)?;
-            output.push_str("\n")?;
+            output.push_str("\n")
         }
-        Err(fault) => print_refused(output, fault.code(), &fault)?,
+        Err(fault) => print_refused(output, fault.code(), &fault),
     }
-    Ok(())
 }
 
 /// The sizes of a layout.
@@ -142,18 +136,18 @@ fn answer_reply(
 fn answer_view(
     output: &mut String,
     layout: &Layout,
-    words: &mut Words<'_>,
-) -> Result<(), LineFault> {
-    let name = word(words)?;
+    line: &mut Line<'_>,
+) -> Result<(), AllocError> {
+    let name = line.word();
     if is(name, b"master") {
-        view_message(output, layout, octets(words)?.as_slice())?;
+        view_message(output, layout, line.octets().as_slice())
     } else if is(name, b"reply") {
-        let direction = direction_of(words)?;
-        view_answer(output, layout, direction, octets(words)?.as_slice())?;
+        let direction = line.direction();
+        view_answer(output, layout, direction, line.octets().as_slice())
     } else {
-        return Err(LineFault::Bad);
+        line.refuse();
+        Ok(())
     }
-    Ok(())
 }
 
 fn view_message(output: &mut String, layout: &Layout, octets: &[u8]) -> Result<(), AllocError> {
@@ -184,47 +178,50 @@ fn view_answer(
 fn answer_spell(
     output: &mut String,
     layout: &Layout,
-    words: &mut Words<'_>,
-) -> Result<(), LineFault> {
-    let name = word(words)?;
+    line: &mut Line<'_>,
+) -> Result<(), AllocError> {
+    let name = line.word();
     if is(name, b"reply") {
-        spell_reply(output, layout, words)
+        spell_reply(output, layout, line)
     } else if is(name, b"read") {
-        spell_message(output, layout, Direction::Read, words)
+        spell_message(output, layout, Direction::Read, line)
     } else if is(name, b"write") {
-        spell_message(output, layout, Direction::Write, words)
+        spell_message(output, layout, Direction::Write, line)
     } else {
-        Err(LineFault::Bad)
+        line.refuse();
+        Ok(())
     }
 }
 
-fn channel(words: &mut Words<'_>) -> Result<Channel, LineFault> {
-    let name = word(words)?;
+fn channel(line: &mut Line<'_>) -> Channel {
+    let name = line.word();
     if is(name, b"process") {
-        Ok(Channel::Process)
-    } else if is(name, b"page") {
-        Ok(Channel::Page)
-    } else if is(name, b"diagnosis") {
-        Ok(Channel::Diagnosis)
-    } else if is(name, b"isdu") {
-        Ok(Channel::Isdu)
-    } else {
-        Err(LineFault::Bad)
+        return Channel::Process;
     }
+    if is(name, b"page") {
+        return Channel::Page;
+    }
+    if is(name, b"diagnosis") {
+        return Channel::Diagnosis;
+    }
+    if !is(name, b"isdu") {
+        line.refuse();
+    }
+    Channel::Isdu
 }
 
 /// A channel and an address.
-fn control(words: &mut Words<'_>, direction: Direction) -> Result<Mc, LineFault> {
-    let channel = channel(words)?;
-    let address = octet(words)?;
+fn control(line: &mut Line<'_>, direction: Direction) -> Mc {
+    let channel = channel(line);
+    let address = line.octet();
     if address > 31 {
-        return Err(LineFault::Bad);
+        line.refuse();
     }
-    Ok(Mc {
+    Mc {
         read: direction.is_read(),
         channel,
-        address,
-    })
+        address: address % 32,
+    }
 }
 
 /// The octets of a message: its control octet, its process data out and its on-request data.
@@ -232,55 +229,54 @@ fn spell_message(
     output: &mut String,
     layout: &Layout,
     direction: Direction,
-    words: &mut Words<'_>,
-) -> Result<(), LineFault> {
-    let mc = control(words, direction)?;
-    let out = packed(words)?;
-    let od = packed(words)?;
-    end(words)?;
+    line: &mut Line<'_>,
+) -> Result<(), AllocError> {
+    let mc = control(line, direction);
+    let message = MasterMsg {
+        mc,
+        out: line.packed(),
+        od: line.packed(),
+    };
     let size = if mc.read { 0 } else { layout.od() };
-    if out.len() != usize::from(layout.pd_out()) || od.len() != usize::from(size) {
-        return Err(LineFault::Bad);
+    let out = usize::from(layout.pd_out());
+    if message.out.len() != out || message.od.len() != usize::from(size) {
+        line.refuse();
+        return Ok(());
     }
-    let octets = encode_master(layout, &MasterMsg { mc, out, od });
-    print_named(output, "spelled", octets.as_slice())?;
-    Ok(())
+    print_named(
+        output,
+        "spelled",
+        encode_master(layout, &message).as_slice(),
+    )
 }
 
 /// The octets of a reply: its on-request data, its process data in and its two bits.
 fn spell_reply(
     output: &mut String,
     layout: &Layout,
-    words: &mut Words<'_>,
-) -> Result<(), LineFault> {
-    let od = packed(words)?;
-    let input = packed(words)?;
-    let event = number(words, 1)? == 1;
-    let invalid = invalid(words)?;
-    end(words)?;
-    let is_read = od.len() == usize::from(layout.od());
-    if input.len() != usize::from(layout.pd_in()) || !(is_read || od.is_empty()) {
-        return Err(LineFault::Bad);
-    }
+    line: &mut Line<'_>,
+) -> Result<(), AllocError> {
     let reply = Reply {
-        od,
-        input,
-        event,
-        invalid,
+        od: line.packed(),
+        input: line.packed(),
+        event: line.bit(),
+        invalid: invalid(line),
     };
-    let octets = encode_reply(layout, &reply);
-    print_named(output, "spelled", octets.as_slice())?;
-    Ok(())
+    let od = reply.od.len();
+    let is_read = od == usize::from(layout.od());
+    if reply.input.len() != usize::from(layout.pd_in()) || !(is_read || od == 0) {
+        line.refuse();
+        return Ok(());
+    }
+    print_named(output, "spelled", encode_reply(layout, &reply).as_slice())
 }
 
 /// `valid` or `invalid`, as the process data in is.
-pub(crate) fn invalid(words: &mut Words<'_>) -> Result<bool, LineFault> {
-    let name = word(words)?;
-    if is(name, b"valid") {
-        Ok(false)
-    } else if is(name, b"invalid") {
-        Ok(true)
-    } else {
-        Err(LineFault::Bad)
+pub(crate) fn invalid(line: &mut Line<'_>) -> bool {
+    let name = line.word();
+    let is_invalid = is(name, b"invalid");
+    if !is_invalid && !is(name, b"valid") {
+        line.refuse();
     }
+    is_invalid
 }

@@ -1,30 +1,29 @@
 //! The lines of single octets and checksums.
-use crate::fault::LineFault;
 use crate::printing::{channel_name, print_flow, print_refused, yes_or_no};
-use crate::reading::{end, flow, is, last_octet, number, octets};
+use crate::reading::{Line, is};
 use iol_octets::{Cks, Ckt, Flow, Mc, checksum6, has_checksum6};
-use iol_script::Words;
 use std::alloc::AllocError;
 
 /// Answers a line of single octets. Whether it is one.
 pub(crate) fn answer_octets(
     output: &mut String,
     name: &[u8],
-    words: &mut Words<'_>,
-) -> Result<bool, LineFault> {
+    line: &mut Line<'_>,
+) -> Result<bool, AllocError> {
     if is(name, b"checksum") {
-        let sum = checksum6(octets(words)?.as_slice());
+        let sum = checksum6(line.octets().as_slice());
         writeln!(output, "checksum {sum:02X}")?;
     } else if is(name, b"sealed") {
-        answer_sealed(output, words)?;
+        answer_sealed(output, line)?;
     } else if is(name, b"mc") {
-        print_control(output, Mc::from_octet(last_octet(words)?))?;
+        print_control(output, Mc::from_octet(line.octet()))?;
     } else if is(name, b"flow") {
-        answer_flow(output, words)?;
+        let address = line.flow().address();
+        writeln!(output, "flow {address:02X}")?;
     } else if is(name, b"ckt") {
-        print_ckt(output, last_octet(words)?)?;
+        print_ckt(output, line.octet())?;
     } else if is(name, b"cks") {
-        print_cks(output, Cks::from_octet(last_octet(words)?))?;
+        print_cks(output, Cks::from_octet(line.octet()))?;
     } else {
         return Ok(false);
     }
@@ -32,23 +31,15 @@ pub(crate) fn answer_octets(
 }
 
 /// A place and octets: whether the octet there has their checksum.
-fn answer_sealed(output: &mut String, words: &mut Words<'_>) -> Result<(), LineFault> {
-    let place = number(words, 255)? as usize;
-    let octets = octets(words)?;
+fn answer_sealed(output: &mut String, line: &mut Line<'_>) -> Result<(), AllocError> {
+    let place = line.number(255) as usize;
+    let octets = line.octets();
     if place >= octets.len() {
-        return Err(LineFault::Bad);
+        line.refuse();
+        return Ok(());
     }
     let is_sealed = yes_or_no(has_checksum6(octets.as_slice(), place));
-    writeln!(output, "sealed {is_sealed}")?;
-    Ok(())
-}
-
-fn answer_flow(output: &mut String, words: &mut Words<'_>) -> Result<(), LineFault> {
-    let flow = flow(words)?;
-    end(words)?;
-    let address = flow.address();
-    writeln!(output, "flow {address:02X}")?;
-    Ok(())
+    writeln!(output, "sealed {is_sealed}")
 }
 
 /// A control octet, the flow of its address, and the octet that it is written as.

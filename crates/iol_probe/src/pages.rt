@@ -1,10 +1,8 @@
 //! The lines of direct parameter page 1, and of the octets on it.
-use crate::fault::LineFault;
 use crate::messages::print_layout;
 use crate::printing::print_refused;
-use crate::reading::{is, last_octet, octets, word};
+use crate::reading::{Line, is};
 use iol_page::{Capability, Layouts, MasterCommand, Page, PageFault, PdLength};
-use iol_script::Words;
 use std::alloc::AllocError;
 
 /// Answers a line of pages. Whether it is one.
@@ -12,20 +10,20 @@ pub(crate) fn answer_pages(
     output: &mut String,
     page: &mut Page,
     name: &[u8],
-    words: &mut Words<'_>,
-) -> Result<bool, LineFault> {
+    line: &mut Line<'_>,
+) -> Result<bool, AllocError> {
     if is(name, b"page") {
-        *page = page_of(words)?;
+        *page = page_of(line);
         print_page(output, page)?;
     } else if is(name, b"octet") {
-        let octet = page.octet(last_octet(words)?);
+        let octet = page.octet(line.octet());
         writeln!(output, "octet {octet:02X}")?;
     } else if is(name, b"capability") {
-        print_capability(output, Capability::from_octet(last_octet(words)?))?;
+        print_capability(output, Capability::from_octet(line.octet()))?;
     } else if is(name, b"length") {
-        print_length(output, last_octet(words)?)?;
+        print_length(output, line.octet())?;
     } else if is(name, b"command") {
-        print_command(output, last_octet(words)?)?;
+        print_command(output, line.octet())?;
     } else {
         return Ok(false);
     }
@@ -33,11 +31,13 @@ pub(crate) fn answer_pages(
 }
 
 /// Ten octets.
-pub(crate) fn page_of(words: &mut Words<'_>) -> Result<Page, LineFault> {
-    let octets = octets(words)?;
-    match octets.as_slice().as_array() {
-        Some(octets) => Ok(Page::from_octets(octets)),
-        None => Err(LineFault::Bad),
+pub(crate) fn page_of(line: &mut Line<'_>) -> Page {
+    match line.octets().as_slice().as_array() {
+        Some(octets) => Page::from_octets(octets),
+        None => {
+            line.refuse();
+            Page::from_octets(&[0; 10])
+        }
     }
 }
 

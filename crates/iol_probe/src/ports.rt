@@ -1,9 +1,8 @@
 //! The lines of a port without a wire.
 use crate::devices::print_image;
 use crate::events::print_event;
-use crate::fault::LineFault;
 use crate::printing::{print_named, print_octets, print_ok, print_refused};
-use crate::reading::{end, is, octets, request, word};
+use crate::reading::{Line, is};
 use crate::tickets::{
     limits, print_archived, print_collected, print_done, print_submitted, ticket,
 };
@@ -14,7 +13,6 @@ use iol_link::Rate;
 use iol_mode::Why;
 use iol_mseq::Message;
 use iol_port::{Awaited, PortCore, PortFault};
-use iol_script::Words;
 use std::alloc::{AllocError, Global};
 
 /// A line of a port, behind `port`.
@@ -22,170 +20,151 @@ pub(crate) fn answer_port(
     output: &mut String,
     alloc: Global,
     port: &mut Option<PortCore>,
-    words: &mut Words<'_>,
-) -> Result<(), LineFault> {
-    let name = word(words)?;
+    line: &mut Line<'_>,
+) -> Result<(), AllocError> {
+    let name = line.word();
     if is(name, b"open") {
-        let Ok(opened) = PortCore::open(alloc, &limits(words)?) else {
-            return Err(LineFault::OutOfMemory);
+        let Ok(opened) = PortCore::open(alloc, &limits(line)) else {
+            return Err(AllocError);
         };
         *port = Some(opened);
-        print_ok(output)?;
-        return Ok(());
+        return print_ok(output);
     }
     match port {
-        Some(port) => answer_call(output, port, name, words),
-        None => Err(LineFault::Bad),
+        Some(port) => answer_call(output, port, name, line),
+        None => {
+            line.refuse();
+            Ok(())
+        }
     }
 }
 
-/// The lines with words behind their name.
+/// The lines of a request or a ticket, and others.
 fn answer_call(
     output: &mut String,
     port: &mut PortCore,
     name: &[u8],
-    words: &mut Words<'_>,
-) -> Result<(), LineFault> {
-    if is(name, b"receive") {
-        receive(output, port, octets(words)?.as_slice())
-    } else if is(name, b"woken") {
-        woken(output, port, words)
+    line: &mut Line<'_>,
+) -> Result<(), AllocError> {
+    if is(name, b"submit") {
+        print_submitted(output, port.submit(line.request()))
+    } else if is(name, b"urgent") {
+        print_submitted(output, port.submit_urgent(line.request()))
+    } else if is(name, b"collect") {
+        print_collected(output, port.collect(ticket(line)))
+    } else if is(name, b"withdraw") {
+        print_done(output, port.withdraw(ticket(line)))
+    } else if is(name, b"cancel") {
+        print_done(output, port.cancel(ticket(line)))
     } else if is(name, b"output") {
-        set_output(output, port, octets(words)?.as_slice())
-    } else if answer_request(output, port, name, words)? {
-        Ok(())
+        set_output(output, port, line.octets().as_slice())
+    } else if is(name, b"archive") {
+        print_archived(output, port.archive())
     } else {
-        end(words)?;
-        answer_bare(output, port, name)
+        answer_bare(output, port, name, line)
     }
 }
 
-/// The lines of a request or a ticket. Whether this is one.
-fn answer_request(
+/// The lines of one word, and others.
+fn answer_bare(
     output: &mut String,
     port: &mut PortCore,
     name: &[u8],
-    words: &mut Words<'_>,
-) -> Result<bool, LineFault> {
-    if is(name, b"submit") {
-        print_submitted(output, port.submit(request(words)?))?;
-    } else if is(name, b"urgent") {
-        print_submitted(output, port.submit_urgent(request(words)?))?;
-    } else if is(name, b"collect") {
-        print_collected(output, port.collect(ticket(words)?))?;
-    } else if is(name, b"withdraw") {
-        print_done(output, port.withdraw(ticket(words)?))?;
-    } else if is(name, b"cancel") {
-        print_done(output, port.cancel(ticket(words)?))?;
-    } else {
-        return Ok(false);
-    }
-    Ok(true)
-}
-
-/// The lines of one word.
-fn answer_bare(output: &mut String, port: &mut PortCore, name: &[u8]) -> Result<(), LineFault> {
+    line: &mut Line<'_>,
+) -> Result<(), AllocError> {
     if is(name, b"send") {
-        print_asked(output, "send", port.send())?;
+        print_asked(output, "send", port.send())
     } else if is(name, b"asks") {
-        print_asked(output, "asks", port.asks())?;
-    } else if is(name, b"silence") {
-        silence(output, port)?;
-    } else if is(name, b"restart") {
-        restart(output, port)?;
-    } else if is(name, b"clear") {
-        port.clear_output();
-        print_ok(output)?;
-    } else if is(name, b"event") {
-        print_taken(output, port.take_event())?;
-    } else if is(name, b"archive") {
-        print_archived(output, port.archive())?;
-    } else {
-        look(output, port, name)?;
-    }
-    Ok(())
-}
-
-/// The lines that only look.
-fn look(output: &mut String, port: &PortCore, name: &[u8]) -> Result<(), LineFault> {
-    if is(name, b"image") {
-        print_image(output, "image", port.image())?;
-    } else if is(name, b"status") {
-        print_status(output, port.status())?;
+        print_asked(output, "asks", port.asks())
     } else if is(name, b"awaits") {
         let awaits = port.awaits();
-        writeln!(output, "awaits {awaits:?}")?;
+        writeln!(output, "awaits {awaits:?}")
+    } else if is(name, b"event") {
+        print_taken(output, port.take_event())
+    } else if is(name, b"image") {
+        print_image(output, "image", port.image())
+    } else if is(name, b"status") {
+        print_status(output, port.status())
     } else {
-        return Err(LineFault::Bad);
+        act(port, name, line);
+        print_ok(output)
     }
-    Ok(())
+}
+
+/// The lines that change something, and are told no more than that.
+fn act(port: &mut PortCore, name: &[u8], line: &mut Line<'_>) {
+    if is(name, b"receive") {
+        receive(port, line);
+    } else if is(name, b"silence") {
+        silence(port, line);
+    } else if is(name, b"woken") {
+        woken(port, line);
+    } else if is(name, b"restart") {
+        restart(port, line);
+    } else if is(name, b"clear") {
+        port.clear_output();
+    } else {
+        line.refuse();
+    }
 }
 
 /// What came back to the octets that were sent, at most 66.
-fn receive(output: &mut String, port: &mut PortCore, octets: &[u8]) -> Result<(), LineFault> {
-    let Ok(came) = Message::try_from(octets) else {
-        return Err(LineFault::Bad);
-    };
-    if port.awaits() != Awaited::Reply {
-        return Err(LineFault::Bad);
+fn receive(port: &mut PortCore, line: &mut Line<'_>) {
+    match Message::try_from(line.octets().as_slice()) {
+        Ok(came) if port.awaits() == Awaited::Reply => port.receive(&Some(came)),
+        _ => line.refuse(),
     }
-    port.receive(&Some(came));
-    print_ok(output)?;
-    Ok(())
 }
 
 /// Nothing came back.
-fn silence(output: &mut String, port: &mut PortCore) -> Result<(), LineFault> {
-    if port.awaits() != Awaited::Reply {
-        return Err(LineFault::Bad);
+fn silence(port: &mut PortCore, line: &mut Line<'_>) {
+    if port.awaits() == Awaited::Reply {
+        port.receive(&None);
+    } else {
+        line.refuse();
     }
-    port.receive(&None);
-    print_ok(output)?;
-    Ok(())
 }
 
 /// What came of a wake-up request.
-fn woken(output: &mut String, port: &mut PortCore, words: &mut Words<'_>) -> Result<(), LineFault> {
-    let rate = rate(words)?;
-    if port.awaits() != Awaited::Wake {
-        return Err(LineFault::Bad);
-    }
-    port.receive_wake(rate);
-    print_ok(output)?;
-    Ok(())
-}
-
-fn rate(words: &mut Words<'_>) -> Result<Option<Rate>, LineFault> {
-    let name = word(words)?;
-    end(words)?;
-    if is(name, b"com1") {
-        Ok(Some(Rate::Com1))
-    } else if is(name, b"com2") {
-        Ok(Some(Rate::Com2))
-    } else if is(name, b"com3") {
-        Ok(Some(Rate::Com3))
-    } else if is(name, b"none") {
-        Ok(None)
+fn woken(port: &mut PortCore, line: &mut Line<'_>) {
+    let rate = rate(line);
+    if port.awaits() == Awaited::Wake {
+        port.receive_wake(rate);
     } else {
-        Err(LineFault::Bad)
+        line.refuse();
     }
 }
 
-fn restart(output: &mut String, port: &mut PortCore) -> Result<(), LineFault> {
-    if port.awaits() != Awaited::Nothing {
-        return Err(LineFault::Bad);
+fn rate(line: &mut Line<'_>) -> Option<Rate> {
+    let name = line.word();
+    if is(name, b"com1") {
+        return Some(Rate::Com1);
     }
-    port.restart();
-    print_ok(output)?;
-    Ok(())
+    if is(name, b"com2") {
+        return Some(Rate::Com2);
+    }
+    if is(name, b"com3") {
+        return Some(Rate::Com3);
+    }
+    if !is(name, b"none") {
+        line.refuse();
+    }
+    None
 }
 
-fn set_output(output: &mut String, port: &mut PortCore, octets: &[u8]) -> Result<(), LineFault> {
+fn restart(port: &mut PortCore, line: &mut Line<'_>) {
+    if port.awaits() == Awaited::Nothing {
+        port.restart();
+    } else {
+        line.refuse();
+    }
+}
+
+fn set_output(output: &mut String, port: &mut PortCore, octets: &[u8]) -> Result<(), AllocError> {
     match Image::new(octets) {
-        Ok(image) => print_done(output, port.set_output(&image))?,
-        Err(fault) => print_refused(output, fault.code(), &fault)?,
+        Ok(image) => print_done(output, port.set_output(&image)),
+        Err(fault) => print_refused(output, fault.code(), &fault),
     }
-    Ok(())
 }
 
 fn print_taken(output: &mut String, taken: Result<Event, PortFault>) -> Result<(), AllocError> {

@@ -3,14 +3,14 @@ use crate::books::answer_book;
 use crate::buffers::answer_buffers;
 use crate::devices::Devices;
 use crate::events::{answer_memory, answer_reader};
-use crate::fault::{LineFault, ProbeFault};
+use crate::fault::ProbeFault;
 use crate::images::answer_image;
 use crate::isdus::answer_isdus;
 use crate::messages::answer_messages;
 use crate::octets::answer_octets;
 use crate::pages::answer_pages;
 use crate::ports::answer_port;
-use crate::reading::is;
+use crate::reading::{Line, is};
 use crate::segments::Segments;
 use iol_book::Book;
 use iol_event::{EventMemory, EventReader};
@@ -18,7 +18,7 @@ use iol_mseq::{Layout, Message};
 use iol_page::Page;
 use iol_port::PortCore;
 use iol_script::{Lines, Words};
-use std::alloc::Global;
+use std::alloc::{AllocError, Global};
 
 /// One value of each kind that keeps a state from line to line.
 #[derive(Drop)]
@@ -51,27 +51,29 @@ impl Probe {
         }
     }
 
-    /// Answers each line of a text.
+    /// Answers each line of a text, up to the first that is bad.
     pub fn answer_all(&mut self, output: &mut String, input: &[u8]) -> Result<(), ProbeFault> {
-        for (number, line) in Lines::of(input) {
-            if let Err(fault) = self.answer_line(output, line) {
-                return Err(fault.at(number));
+        for (number, text) in Lines::of(input) {
+            if !self.answer_line(output, text)? {
+                return Err(ProbeFault::Line(number));
             }
         }
         Ok(())
     }
 
-    fn answer_line(&mut self, output: &mut String, line: &[u8]) -> Result<(), LineFault> {
-        let Some(mut words) = Words::of(line) else {
-            return Err(LineFault::Bad);
+    /// Answers a line. Whether it is a good one.
+    fn answer_line(&mut self, output: &mut String, text: &[u8]) -> Result<bool, AllocError> {
+        let Some(mut words) = Words::of(text) else {
+            return Ok(false);
         };
         let Some(name) = words.next() else {
-            return Ok(());
+            return Ok(true);
         };
-        if self.answer_value(output, name, &mut words)? {
-            return Ok(());
+        let mut line = Line::of(words);
+        if !self.answer_value(output, name, &mut line)? {
+            self.answer_part(output, name, &mut line)?;
         }
-        self.answer_part(output, name, &mut words)
+        Ok(line.is_good())
     }
 
     /// Answers a line of octets, messages, pages and texts. Whether it is one.
@@ -79,14 +81,14 @@ impl Probe {
         &mut self,
         output: &mut String,
         name: &[u8],
-        words: &mut Words<'_>,
-    ) -> Result<bool, LineFault> {
+        line: &mut Line<'_>,
+    ) -> Result<bool, AllocError> {
         Ok(
-            answer_octets(output, name, words)?
-                || answer_messages(output, &mut self.layout, name, words)?
-                || answer_buffers(output, &mut self.buffer, name, words)?
-                || answer_pages(output, &mut self.page, name, words)?
-                || answer_isdus(output, name, words)?,
+            answer_octets(output, name, line)?
+                || answer_messages(output, &mut self.layout, name, line)?
+                || answer_buffers(output, &mut self.buffer, name, line)?
+                || answer_pages(output, &mut self.page, name, line)?
+                || answer_isdus(output, name, line)?,
         )
     }
 
@@ -95,26 +97,27 @@ impl Probe {
         &mut self,
         output: &mut String,
         name: &[u8],
-        words: &mut Words<'_>,
-    ) -> Result<(), LineFault> {
+        line: &mut Line<'_>,
+    ) -> Result<(), AllocError> {
         if is(name, b"cut") {
-            self.segments.answer_cut(output, words)
+            self.segments.answer_cut(output, line)
         } else if is(name, b"join") {
-            self.segments.answer_join(output, words)
+            self.segments.answer_join(output, line)
         } else if is(name, b"memory") {
-            answer_memory(output, &mut self.memory, words)
+            answer_memory(output, &mut self.memory, line)
         } else if is(name, b"reader") {
-            answer_reader(output, &mut self.reader, words)
+            answer_reader(output, &mut self.reader, line)
         } else if is(name, b"image") {
-            answer_image(output, words)
+            answer_image(output, line.octets().as_slice())
         } else if is(name, b"book") {
-            answer_book(output, self.alloc, &mut self.book, words)
+            answer_book(output, self.alloc, &mut self.book, line)
         } else if is(name, b"device") {
-            self.devices.answer(output, words)
+            self.devices.answer(output, line)
         } else if is(name, b"port") {
-            answer_port(output, self.alloc, &mut self.port, words)
+            answer_port(output, self.alloc, &mut self.port, line)
         } else {
-            Err(LineFault::Bad)
+            line.refuse();
+            Ok(())
         }
     }
 }

@@ -1,15 +1,13 @@
 //! The lines of texts that are cut into segments, and of segments that are joined.
-ghost use Rattle.std.specs.Prelude.{◌≡◌, ◌≤◌, true, false, IfOk};
+ghost use Rattle.std.specs.Prelude.{◌≡◌, ◌≤◌, true, false};
 
-use crate::fault::LineFault;
 use crate::isdus::{asked, print_read_answer, print_read_request, reaction};
 use crate::printing::{
     print_flow, print_octets, print_ok, print_pair, print_refused, print_request, yes_or_no,
 };
-use crate::reading::{direction_of, end, flow, is, octets, positive, request, word};
+use crate::reading::{Line, is};
 use iol_isdu::Request;
 use iol_octets::Flow;
-use iol_script::Words;
 use iol_segment::{Cutter, JoinFault, Joiner, Reaction, Segment, Took};
 use std::alloc::AllocError;
 use std::mem;
@@ -48,47 +46,44 @@ impl Segments {
     pub fn answer_cut(
         &mut self,
         output: &mut String,
-        words: &mut Words<'_>,
-    ) -> Result<(), LineFault> {
-        answer_cut(output, &mut self.cut, words)
+        line: &mut Line<'_>,
+    ) -> Result<(), AllocError> {
+        answer_cut(output, &mut self.cut, line)
     }
 
     /// A line of segments that are joined, behind `join`.
     pub fn answer_join(
         &mut self,
         output: &mut String,
-        words: &mut Words<'_>,
-    ) -> Result<(), LineFault> {
-        let name = word(words)?;
+        line: &mut Line<'_>,
+    ) -> Result<(), AllocError> {
+        let name = line.word();
         if is(name, b"take") {
-            self.take(output, words)
+            self.take(output, line)
         } else if is(name, b"answer") {
-            self.join_answer(output, words)
+            self.join_answer(output, line)
+        } else if is(name, b"request") {
+            self.join_request(output, line)
+        } else if is(name, b"whole") {
+            let is_whole = yes_or_no(self.is_whole());
+            writeln!(output, "whole {is_whole}")
         } else {
-            end(words)?;
-            self.join_bare(output, name)
+            self.begin(name, line);
+            print_ok(output)
         }
     }
 
-    /// The lines of one word.
-    fn join_bare(&mut self, output: &mut String, name: &[u8]) -> Result<(), LineFault> {
+    /// The lines of one word that begin anew.
+    fn begin(&mut self, name: &[u8], line: &mut Line<'_>) {
         if is(name, b"requests") {
             self.requests = Joiner::requests();
             self.joins_requests = true;
-            print_ok(output)?;
         } else if is(name, b"answers") {
             self.answers = Joiner::answers();
             self.joins_requests = false;
-            print_ok(output)?;
-        } else if is(name, b"whole") {
-            let is_whole = yes_or_no(self.is_whole());
-            writeln!(output, "whole {is_whole}")?;
-        } else if is(name, b"request") {
-            self.join_request(output)?;
         } else {
-            return Err(LineFault::Bad);
+            line.refuse();
         }
-        Ok(())
     }
 
     fn is_whole(&self) -> bool {
@@ -99,37 +94,35 @@ impl Segments {
         }
     }
 
-    fn take(&mut self, output: &mut String, words: &mut Words<'_>) -> Result<(), LineFault> {
-        let flow = flow(words)?;
-        let octets = octets(words)?;
+    fn take(&mut self, output: &mut String, line: &mut Line<'_>) -> Result<(), AllocError> {
+        let flow = line.flow();
+        let octets = line.octets();
         let took = if self.joins_requests {
             self.requests.take(flow, octets.as_slice())
         } else {
             self.answers.take(flow, octets.as_slice())
         };
-        print_took(output, took)?;
-        Ok(())
+        print_took(output, took)
     }
 
     /// The request that was joined.
-    fn join_request(&self, output: &mut String) -> Result<(), LineFault> {
+    fn join_request(&self, output: &mut String, line: &mut Line<'_>) -> Result<(), AllocError> {
         if !self.joins_requests || !self.requests.is_whole() {
-            return Err(LineFault::Bad);
+            line.refuse();
+            return Ok(());
         }
-        print_read_request(output, self.requests.request())?;
-        Ok(())
+        print_read_request(output, self.requests.request())
     }
 
     /// The answer that was joined, to a read or a write, for which the joiner is given up.
-    fn join_answer(&mut self, output: &mut String, words: &mut Words<'_>) -> Result<(), LineFault> {
-        let asked = asked(direction_of(words)?);
-        end(words)?;
+    fn join_answer(&mut self, output: &mut String, line: &mut Line<'_>) -> Result<(), AllocError> {
+        let asked = asked(line.direction());
         if self.joins_requests || !self.answers.is_whole() {
-            return Err(LineFault::Bad);
+            line.refuse();
+            return Ok(());
         }
         let joiner = mem::replace(&mut self.answers, Joiner::answers());
-        print_read_answer(output, joiner.into_answer(&asked))?;
-        Ok(())
+        print_read_answer(output, joiner.into_answer(&asked))
     }
 }
 
@@ -140,37 +133,39 @@ fn print_took(output: &mut String, took: Result<Took, JoinFault>) -> Result<(), 
     }
 }
 
-fn answer_cut(output: &mut String, cut: &mut Cut, words: &mut Words<'_>) -> Result<(), LineFault> {
-    let name = word(words)?;
-    if is(name, b"request") {
-        let size = size(words)?;
-        *cut = Cut::Request(Cutter::new(request(words)?, size));
-        print_ok(output)?;
-    } else if is(name, b"answer") {
-        let size = size(words)?;
-        *cut = Cut::Answer(Cutter::new(reaction(words)?, size));
-        print_ok(output)?;
-    } else if is(name, b"next") {
-        end(words)?;
-        print_segment(output, next(cut))?;
+fn answer_cut(output: &mut String, cut: &mut Cut, line: &mut Line<'_>) -> Result<(), AllocError> {
+    let name = line.word();
+    if is(name, b"next") {
+        print_segment(output, next(cut))
     } else if is(name, b"again") {
-        end(words)?;
-        print_segment(output, again(cut))?;
+        print_segment(output, again(cut))
     } else if is(name, b"source") {
-        end(words)?;
-        print_source(output, cut)?;
+        print_source(output, cut)
     } else {
-        return Err(LineFault::Bad);
+        *cut = cutting(name, line);
+        print_ok(output)
     }
-    Ok(())
+}
+
+/// How many octets a segment has, and a text that is cut anew.
+fn cutting(name: &[u8], line: &mut Line<'_>) -> Cut {
+    let size = size(line);
+    if is(name, b"request") {
+        Cut::Request(Cutter::new(line.request(), size))
+    } else if is(name, b"answer") {
+        Cut::Answer(Cutter::new(reaction(line), size))
+    } else {
+        line.refuse();
+        Cut::Nothing
+    }
 }
 
 /// How many octets a segment has.
-fn size(words: &mut Words<'_>) -> Result<usize, LineFault>
-    ensures some { IfOk result (λ size. 1 ≤ size) }
-    ensures most { IfOk result (λ size. size ≤ 32) }
+fn size(line: &mut Line<'_>) -> usize
+    ensures some { 1 ≤ result }
+    ensures most { result ≤ 32 }
 {
-    Ok(positive(words, 32)? as usize)
+    line.between(1, 32) as usize
 }
 
 fn next(cut: &mut Cut) -> Option<(Flow, Segment)> {

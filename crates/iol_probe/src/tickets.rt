@@ -1,37 +1,25 @@
 //! What the lines of a book and of a port have alike: limits, tickets, and what is said of them.
-ghost use Rattle.std.specs.Prelude.{IfOk};
 ghost use Rattle.iol_book.specs.BookModel.{AreLimits};
 
-use crate::fault::LineFault;
 use crate::printing::{print_answer, print_ok, print_refused, print_request};
-use crate::reading::{end, number};
+use crate::reading::Line;
 use iol_book::{Entry, Limits, Outcome, Ticket};
 use iol_port::PortFault;
-use iol_script::Words;
 use std::alloc::AllocError;
 
 /// The limits of a book: entries of the journal, busy replies, tickets given before.
-pub(crate) fn limits(words: &mut Words<'_>) -> Result<Limits, LineFault>
-    ensures { IfOk result AreLimits }
+pub(crate) fn limits(line: &mut Line<'_>) -> Limits
+    ensures { AreLimits result }
 {
-    let journal = number(words, 1_000_000)? as u32;
-    let busy = number(words, 65_535)? as u16;
-    let given = number(words, u64::MAX)?;
-    end(words)?;
-    if journal < 4 || busy < 2 {
-        return Err(LineFault::Bad);
+    Limits {
+        journal: line.between(4, 1_000_000) as u32,
+        busy: line.between(2, 65_535) as u16,
+        given: line.number(u64::MAX),
     }
-    Ok(Limits {
-        journal,
-        busy,
-        given,
-    })
 }
 
-pub(crate) fn ticket(words: &mut Words<'_>) -> Result<Ticket, LineFault> {
-    let number = number(words, u64::MAX)?;
-    end(words)?;
-    Ok(Ticket(number))
+pub(crate) fn ticket(line: &mut Line<'_>) -> Ticket {
+    Ticket(line.number(u64::MAX))
 }
 
 pub(crate) fn print_submitted(
