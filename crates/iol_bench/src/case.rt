@@ -3,14 +3,13 @@ use crate::check_word::CheckWord;
 use crate::fault::BenchFault;
 use crate::{messages, requests, scripts, seats, served, turns};
 use std::alloc::Global;
-use std::fmt;
 use std::rt::Runtime;
 use std::str::FromStr;
 use std::sync::Wait;
 use std::thread::Threads;
 
 /// A kind of work. Each is done a number of times.
-#[derive(Clone, Copy, Debug, PartialEq, Eq)]
+#[derive(Clone, Copy)]
 pub(crate) enum Case {
     /// A turn of a port that has nothing to do, without process data.
     Idle,
@@ -64,20 +63,12 @@ impl FromStr for Case {
     type Err = BenchFault;
 
     fn from_str(name: &str) -> Result<Case, BenchFault> {
-        CASES
-            .iter()
-            .find(|row| row.0 == name)
-            .map(|row| row.1)
-            .ok_or(BenchFault::UnknownCase)
-    }
-}
-
-impl fmt::Display for Case {
-    fn fmt<W: fmt::Write>(&self, f: &mut fmt::Formatter<W>) -> fmt::Result {
-        match CASES.iter().find(|row| row.1 == *self) {
-            Some((name, _)) => write!(f, "{name}"),
-            None => Ok(()),
+        for (text, case) in CASES {
+            if text == name {
+                return Ok(case);
+            }
         }
+        Err(BenchFault::UnknownCase)
     }
 }
 

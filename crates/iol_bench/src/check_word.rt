@@ -10,7 +10,7 @@ const FACTOR: u64 = 0x0000_0100_0000_01B3;
 ///
 /// Two programs that print one word did the same; and no compiler leaves work out
 /// whose result is folded.
-#[derive(Clone, Copy, Debug, PartialEq, Eq)]
+#[derive(Clone, Copy)]
 pub(crate) struct CheckWord(u64);
 
 impl CheckWord {

@@ -7,6 +7,7 @@ use crate::check_word::CheckWord;
 use crate::fault::BenchFault;
 use iol_book::Limits;
 use iol_device::Device;
+use iol_image::Image;
 use iol_isdu::Place;
 use iol_link::Wire;
 use iol_page::Page;
@@ -49,7 +50,10 @@ pub(crate) fn opened(
     ensures { IfOk result (λ p. HasGiven p 0) }
 {
     let wire = wire_to(alloc, page, value, steps)?;
-    Port::open(alloc, wire, &LIMITS).map_err(|_| BenchFault::OutOfMemory)
+    match Port::open(alloc, wire, &LIMITS) {
+        Ok(port) => Ok(port),
+        Err(_) => Err(BenchFault::OutOfMemory),
+    }
 }
 
 /// A simulated wire to such a device. A function of its own, whose stack is free
@@ -63,17 +67,23 @@ fn wire_to(
 ) -> Result<Sim<Params>, BenchFault>
     requires { IsOk (layouts_of page) }
 {
+    let params = params_of(value)?;
+    let Ok(device) = Device::open(alloc, params, page, ROOM) else {
+        return Err(BenchFault::OutOfMemory);
+    };
+    match Sim::new(alloc, device, steps) {
+        Ok(wire) => Ok(wire),
+        Err(_) => Err(BenchFault::OutOfMemory),
+    }
+}
+
+/// The parameter of a device, where a value is given for it.
+fn params_of(value: Option<&[u8]>) -> Result<Params, BenchFault> {
     let mut params = Params::new();
     if let Some(value) = value {
         params.add(PLACE, true, value)?;
     }
-    let Ok(device) = Device::open(alloc, params, page, ROOM) else {
-        return Err(BenchFault::OutOfMemory);
-    };
-    let Ok(wire) = Sim::new(alloc, device, steps) else {
-        return Err(BenchFault::OutOfMemory);
-    };
-    Ok(wire)
+    Ok(params)
 }
 
 /// Makes so many turns.
@@ -94,6 +104,13 @@ pub(crate) fn start<W: Wire>(port: &mut Port<W>) -> Result<(), BenchFault> {
 }
 
 /// What a port and its device show at the end.
+pub(crate) fn shown(port: &Port<Sim<Params>>) -> CheckWord {
+    let mut word = CheckWord::new();
+    add_port(&mut word, port);
+    word
+}
+
+/// The same, behind what came out before.
 pub(crate) fn add_port(word: &mut CheckWord, port: &Port<Sim<Params>>) {
     word.add(match port.status().mode {
         Mode::Down => 0,
@@ -101,12 +118,15 @@ pub(crate) fn add_port(word: &mut CheckWord, port: &Port<Sim<Params>>) {
         Mode::Preoperate => 2,
         Mode::Operate => 3,
     });
-    if let Some(image) = port.image() {
-        word.add_octets(image.octets());
-    }
+    add_image(word, port.image());
     let device = port.wire().device();
-    if let Some(image) = device.output() {
+    add_image(word, device.output());
+    word.add(device.carried().len() as u64);
+}
+
+/// The octets of an image, where there is one.
+fn add_image(word: &mut CheckWord, image: Option<&Image>) {
+    if let Some(image) = image {
         word.add_octets(image.octets());
     }
-    word.add(device.carried().len() as u64);
 }

@@ -33,13 +33,30 @@ fn work<R: Runtime<A = Global> + Threads + Wait + Sync>(rt: &R) -> Result<(), Be
         return Ok(());
     };
     let case = name.as_str().parse::<Case>()?;
-    let count = words.next().ok_or(BenchFault::BadCount)?;
-    let count = count
-        .as_str()
-        .parse::<u64>()
-        .map_err(|_| BenchFault::BadCount)?;
+    let count = count_of(words.next())?;
+    report(rt, name.as_str(), case, count)
+}
+
+/// How often the second word says.
+fn count_of(word: Option<String>) -> Result<u64, BenchFault> {
+    let Some(word) = word else {
+        return Err(BenchFault::BadCount);
+    };
+    match word.as_str().parse::<u64>() {
+        Ok(count) => Ok(count),
+        Err(_) => Err(BenchFault::BadCount),
+    }
+}
+
+/// Does the work of a case so many times, and prints what came out of it.
+fn report<R: Runtime<A = Global> + Threads + Wait + Sync>(
+    rt: &R,
+    name: &str,
+    case: Case,
+    count: u64,
+) -> Result<(), BenchFault> {
     let word = case.run(rt, count)?;
-    println!(rt; "{case} {count} {word}")?;
+    println!(rt; "{name} {count} {word}")?;
     Ok(())
 }
 

@@ -24,14 +24,25 @@ pub(crate) fn hear(alloc: Global, count: u64) -> Result<CheckWord, BenchFault> {
     let Ok(device) = &mut opened else {
         return Err(BenchFault::OutOfMemory);
     };
-    device.wake();
-    device
-        .hear(device_operate().as_slice())
-        .ok_or(BenchFault::Unexpected)?;
     let idle = idle_read()?;
+    hear_all(device, idle.as_slice(), count)
+}
+
+/// A device is woken and led to OPERATE, and hears a message there so many times.
+fn hear_all(
+    device: &mut Device<Params>,
+    octets: &[u8],
+    count: u64,
+) -> Result<CheckWord, BenchFault> {
+    device.wake();
+    if device.hear(device_operate().as_slice()).is_none() {
+        return Err(BenchFault::Unexpected);
+    }
     let mut word = CheckWord::new();
     for _ in 0..count {
-        let reply = device.hear(idle.as_slice()).ok_or(BenchFault::Unexpected)?;
+        let Some(reply) = device.hear(octets) else {
+            return Err(BenchFault::Unexpected);
+        };
         add_end(&mut word, &reply);
     }
     Ok(word)

@@ -57,18 +57,29 @@ fn repeat_once_opened(
     let page = Page::from_octets(&PLAIN);
     let mut port = opened(alloc, page, Some(value), Vec::new(alloc))?;
     start(&mut port)?;
+    carry_all(word, &mut port, request, count)?;
+    add_port(word, &port);
+    Ok(())
+}
+
+/// A request so many times, one after the other.
+fn carry_all<W: Wire>(
+    word: &mut CheckWord,
+    port: &mut Port<W>,
+    request: &Request,
+    count: u64,
+) -> Result<(), BenchFault> {
     let mut outcome = Outcome::Withdrawn;
     for _ in 0..count {
-        carry(word, &mut port, request, &mut outcome)?;
+        carry(port, request, &mut outcome)?;
+        add_outcome(word, &outcome)?;
     }
-    add_port(word, &port);
     Ok(())
 }
 
 /// A client submits a request, and asks for its outcome after each turn until it is there.
 #[inline(never)]
 fn carry<W: Wire>(
-    word: &mut CheckWord,
     port: &mut Port<W>,
     request: &Request,
     outcome: &mut Outcome,
@@ -77,9 +88,9 @@ fn carry<W: Wire>(
     for _ in 0..TURNS {
         port.turn();
         match port.collect_into(ticket, outcome) {
-            Ok(()) => return add_outcome(word, outcome),
+            Ok(()) => return Ok(()),
             Err(PortFault::Book(BookFault::NotYet)) => {}
-            Err(fault) => return Err(fault.into()),
+            Err(fault) => return Err(BenchFault::Port(fault)),
         }
     }
     Err(BenchFault::Unexpected)

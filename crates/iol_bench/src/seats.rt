@@ -1,7 +1,7 @@
 //! Images that are read without a port's lock.
 use crate::check_word::CheckWord;
 use crate::fault::BenchFault;
-use iol_cell::image_cell;
+use iol_cell::{ImageSeat, image_cell};
 use iol_image::Image;
 use std::alloc::Global;
 use std::sync::Wait;
@@ -13,10 +13,18 @@ pub(crate) fn seat<R: Wait>(rt: &R, alloc: Global, count: u64) -> Result<CheckWo
     let Some(mut seat) = seats.pop() else {
         return Err(BenchFault::Unexpected);
     };
-    writer.publish(rt, Some(&Image::new(&[0x5A; 32])?));
+    let image = Image::new(&[0x5A; 32])?;
+    writer.publish(rt, Some(&image));
+    read_all(rt, &mut seat, count)
+}
+
+/// What is read at a seat so many times.
+fn read_all<R: Wait>(rt: &R, seat: &mut ImageSeat, count: u64) -> Result<CheckWord, BenchFault> {
     let mut word = CheckWord::new();
     for _ in 0..count {
-        let image = seat.read(rt).ok_or(BenchFault::Unexpected)?;
+        let Some(image) = seat.read(rt) else {
+            return Err(BenchFault::Unexpected);
+        };
         word.add(image.octets().len() as u64);
     }
     Ok(word)

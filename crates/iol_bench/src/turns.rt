@@ -1,9 +1,11 @@
 //! Turns of one port.
 use crate::check_word::CheckWord;
-use crate::devices::{PLAIN, STARTUP, WIDE, add_port, opened, start, turn};
+use crate::devices::{PLAIN, STARTUP, WIDE, opened, shown, start, turn};
 use crate::fault::BenchFault;
 use iol_image::Image;
+use iol_link::Wire;
 use iol_page::Page;
+use iol_port::Port;
 use iol_sim::{Fate, Step};
 use std::alloc::Global;
 
@@ -17,40 +19,43 @@ pub(crate) fn idle(alloc: Global, count: u64) -> Result<CheckWord, BenchFault> {
     let mut port = opened(alloc, page, None, Vec::new(alloc))?;
     start(&mut port)?;
     turn(&mut port, count);
-    let mut word = CheckWord::new();
-    add_port(&mut word, &port);
-    Ok(word)
+    Ok(shown(&port))
 }
 
 /// The same with 32 octets of process data each way.
 #[inline(never)]
 pub(crate) fn idle_data(alloc: Global, count: u64) -> Result<CheckWord, BenchFault> {
-    let image = Image::new(&DATA)?;
-    let mut steps = Vec::with_capacity(alloc, 1)?;
-    steps.push_reserved(Step::Input(image));
+    let steps = only(alloc, Step::Input(Image::new(&DATA)?))?;
     let page = Page::from_octets(&WIDE);
     let mut port = opened(alloc, page, None, steps)?;
-    start(&mut port)?;
-    port.set_output(&Image::new(&DATA)?)?;
-    // The device is told that there is an output.
-    port.turn();
+    put_out(&mut port)?;
     turn(&mut port, count);
-    let mut word = CheckWord::new();
-    add_port(&mut word, &port);
-    Ok(word)
+    Ok(shown(&port))
+}
+
+/// A start-up, and an output that the device is told of.
+fn put_out<W: Wire>(port: &mut Port<W>) -> Result<(), BenchFault> {
+    start(port)?;
+    port.set_output(&Image::new(&DATA)?)?;
+    port.turn();
+    Ok(())
+}
+
+/// A script of one step.
+fn only(alloc: Global, step: Step) -> Result<Vec<Step>, BenchFault> {
+    let mut steps = Vec::with_capacity(alloc, 1)?;
+    steps.push_reserved(step);
+    Ok(steps)
 }
 
 /// Turns in which a wake-up request goes out, and nothing comes back.
 #[inline(never)]
 pub(crate) fn down(alloc: Global, count: u64) -> Result<CheckWord, BenchFault> {
-    let mut steps = Vec::with_capacity(alloc, 1)?;
-    steps.push_reserved(Step::Fate(Fate::Silent));
+    let steps = only(alloc, Step::Fate(Fate::Silent))?;
     let page = Page::from_octets(&PLAIN);
     let mut port = opened(alloc, page, None, steps)?;
     turn(&mut port, count);
-    let mut word = CheckWord::new();
-    add_port(&mut word, &port);
-    Ok(word)
+    Ok(shown(&port))
 }
 
 /// Restarts, each with all turns of the start-up that follows it.
@@ -62,7 +67,5 @@ pub(crate) fn startup(alloc: Global, count: u64) -> Result<CheckWord, BenchFault
         port.restart();
         turn(&mut port, u64::from(STARTUP));
     }
-    let mut word = CheckWord::new();
-    add_port(&mut word, &port);
-    Ok(word)
+    Ok(shown(&port))
 }
