@@ -1,7 +1,7 @@
 //! Tests of a device: memory that is refused, and laws.
 ghost use Rattle.std.specs.Prelude.{◌≡◌};
 
-use iol_device::{Apart, App, Device, DeviceFault, Record};
+use iol_device::{Apart, App, Device, DeviceFault, Kept, Record};
 use iol_far::{
     ends_stay_level, events_stay_until_confirmed, hearing_again_changes_nothing, links_stay_level,
     messages_are_heard, modes_have_layouts, page_and_room_stay, replies_are_read,
@@ -14,7 +14,7 @@ use refusing_alloc::{Refusal, RefusingAlloc};
 use std::test::Fail;
 
 /// Has no parameter. Its number tells whether it is handed back as it was.
-#[derive(Clone, Copy, Debug, PartialEq, Eq)]
+#[derive(Clone, Copy)]
 struct Numbered(u8);
 
 impl App for Numbered {
@@ -33,27 +33,44 @@ const PAGE_READ: [u8; 2] = [0xA2, 0x00];
 
 const PAGE_OCTET: [u8; 2] = [0x17, 0x1B];
 
+/// A device with a record over memory that an order refuses.
+type Recording<'a> = Device<Numbered, Kept<&'a RefusingAlloc>>;
+
+fn opened(refusing: &RefusingAlloc) -> Result<Recording<'_>, (DeviceFault, Numbered)> {
+    Device::open(refusing, APP, Page::from_octets(&PLAIN), 2)
+}
+
+/// Whether an order leaves no memory for a device, and its application comes back.
+fn is_refused(refusing: &RefusingAlloc, refusal: Refusal) -> bool {
+    refusing.order(refusal);
+    match opened(refusing) {
+        Ok(_) => false,
+        Err((fault, app)) => {
+            refusing.has_refused() && fault == DeviceFault::OutOfMemory && app.0 == APP.0
+        }
+    }
+}
+
+/// Whether a device, once it is woken, answers these octets by those.
+fn answers<P: App, R: Record>(device: &mut Device<P, R>, octets: &[u8], wanted: &[u8]) -> bool {
+    device.wake();
+    match device.hear(octets) {
+        Some(reply) => reply.as_slice() == wanted,
+        None => false,
+    }
+}
+
 /// A device asks for memory once, for its record.
 #[test]
 fn memory_is_asked_for_once(rt: HostRuntime) -> Result<(), Fail> {
     let refusing = RefusingAlloc::new(rt.alloc());
-    let page = Page::from_octets(&PLAIN);
-    for refusal in [Refusal::Only(0), Refusal::From(0)] {
-        refusing.order(refusal);
-        let Err((fault, app)) = Device::open(&refusing, APP, page, 2) else {
-            return Err("a device without memory")?;
-        };
-        assert!(rt; refusing.has_refused());
-        assert_eq!(rt; fault, DeviceFault::OutOfMemory);
-        assert_eq!(rt; app, APP);
-    }
+    assert!(rt; is_refused(&refusing, Refusal::Only(0)));
+    assert!(rt; is_refused(&refusing, Refusal::From(0)));
     refusing.order(Refusal::From(1));
-    let Ok(mut device) = Device::open(&refusing, APP, page, 2) else {
+    let Ok(mut device) = opened(&refusing) else {
         return Err("no device")?;
     };
-    device.wake();
-    let reply = device.hear(&PAGE_READ).ok_or("no reply")?;
-    assert_eq!(rt; reply.as_slice(), PAGE_OCTET.as_slice());
+    assert!(rt; answers(&mut device, &PAGE_READ, &PAGE_OCTET));
     assert!(rt; !refusing.has_refused());
     Ok(())
 }
@@ -66,13 +83,13 @@ fn laws_of<P: App, R: Record>(device: &Device<P, R>) {
 
 #[test]
 fn laws_speak_of_each_device(rt: HostRuntime) -> Result<(), Fail> {
-    let page = Page::from_octets(&PLAIN);
-    let Ok(kept) = Device::open(rt.alloc(), APP, page, 2) else {
+    let refusing = RefusingAlloc::new(rt.alloc());
+    let Ok(recording) = opened(&refusing) else {
         return Err("no device")?;
     };
-    laws_of(&kept);
-    laws_of(&Device::new(APP, page));
-    laws_of(&Device::new(Apart, page));
+    laws_of(&recording);
+    laws_of(&Device::new(APP, Page::from_octets(&PLAIN)));
+    laws_of(&Device::new(Apart, Page::from_octets(&PLAIN)));
     ends_stay_level();
     events_stay_until_confirmed();
     hearing_again_changes_nothing();

@@ -1,5 +1,5 @@
 //! A test of lists and memories of events, which a Rust caller clones and goes over.
-use iol_event::{Event, EventList, EventMemory, EventReader};
+use iol_event::{Event, EventForm, EventList, EventMemory, EventReader};
 use std::test::Fail;
 
 const ALARM: Event = Event {
@@ -8,20 +8,18 @@ const ALARM: Event = Event {
 };
 
 /// The list of one event, read octet by octet.
-fn one_event() -> Option<EventList> {
+fn one_event() -> Result<Option<EventList>, EventForm> {
     let mut reader = EventReader::new();
-    for octet in [0x81, 0xF4, 0x42] {
-        if reader.take(octet) != Ok(None) {
-            return None;
-        }
-    }
-    reader.take(0x10).ok()?
+    reader.take(0x81)?;
+    reader.take(ALARM.qualifier)?;
+    reader.take(0x42)?;
+    reader.take(0x10)
 }
 
 /// No line of a program clones them, or goes over a list.
 #[test]
 fn a_list_and_a_memory_are_cloned(rt: HostRuntime) -> Result<(), Fail> {
-    let events = one_event().ok_or("no list")?;
+    let events = one_event()?.ok_or("no list")?;
     assert_eq!(rt; events.len(), 1);
     assert_eq!(rt; events.clone()?, events);
     assert_eq!(rt; events.iter().copied().last(), Some(ALARM));

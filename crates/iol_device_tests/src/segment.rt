@@ -15,6 +15,9 @@ use std::test::Fail;
 
 const SIZES: [usize; 4] = [1, 2, 8, 32];
 
+/// As many as a segment is filled up with at most.
+static ZEROS: [u8; 32] = [0; 32];
+
 fn at(index: u16, sub: u8) -> Place {
     Place { index, sub }
 }
@@ -52,12 +55,19 @@ fn cuts<S: Source + Drop>(source: S, text: &[u8], size: usize) -> bool {
         let Some((_, segment)) = cutter.next() else {
             return false;
         };
-        let rest = segment.strip_prefix(chunk);
-        if segment.len() != size || !rest.is_some_and(|rest| rest.iter().all(|octet| *octet == 0)) {
+        if segment.len() != size || !is_filled_up(&segment, chunk) {
             return false;
         }
     }
     cutter.next().is_none()
+}
+
+/// Whether a segment is these octets, and 0 behind them.
+fn is_filled_up(segment: &[u8], octets: &[u8]) -> bool {
+    match segment.strip_prefix(octets) {
+        Some(rest) => ZEROS.starts_with(rest),
+        None => false,
+    }
 }
 
 /// The request that a text joins to, or the number of its refusal.

@@ -22,8 +22,6 @@ use std::alloc::{AllocError, Allocator, Global};
 use std::sync::atomic::{AtomicU64, Ordering};
 
 mod refusal;
-#[cfg(test)]
-mod tests;
 
 use crate::refusal::Numbers;
 pub use refusal::Refusal;

@@ -13,7 +13,7 @@ pub enum Refusal {
 }
 
 /// The numbers of the requests that are refused: from `first` up to `end`, which is granted again.
-#[derive(Clone, Copy, Debug, PartialEq, Eq)]
+#[derive(Clone, Copy)]
 pub(crate) struct Numbers {
     pub(crate) first: u64,
     pub(crate) end: u64,

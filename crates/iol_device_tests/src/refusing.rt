@@ -1,5 +1,6 @@
-//! Tests of an allocator that refuses chosen requests.
-use crate::{Refusal, RefusingAlloc};
+//! Tests of the allocator that refuses chosen requests, which stand here since a crate with tests
+//! of its own is proved twice.
+use refusing_alloc::{Refusal, RefusingAlloc};
 use std::alloc::{Allocator, Global};
 use std::test::Fail;
 
@@ -13,38 +14,27 @@ fn is_granted<A: Allocator>(alloc: A) -> bool {
 fn granted(alloc: Global, refusal: Refusal) -> [bool; 5] {
     let refusing = RefusingAlloc::new(alloc);
     refusing.order(refusal);
-    let mut granted = [false; 5];
-    for answer in &mut granted {
-        *answer = is_granted(&refusing);
-    }
-    granted
+    [
+        is_granted(&refusing),
+        is_granted(&refusing),
+        is_granted(&refusing),
+        is_granted(&refusing),
+        is_granted(&refusing),
+    ]
 }
 
 #[test]
-fn never_refuses(rt: HostRuntime) {
+fn an_order_says_which_are_refused(rt: HostRuntime) {
     assert_eq!(rt; granted(rt.alloc(), Refusal::Never), [true; 5]);
-}
-
-#[test]
-fn only_refuses_one(rt: HostRuntime) {
-    for (number, answers) in [
-        (0, [false, true, true, true, true]),
-        (2, [true, true, false, true, true]),
-        (5, [true; 5]),
-    ] {
-        assert_eq!(rt; granted(rt.alloc(), Refusal::Only(number)), answers);
-    }
-}
-
-#[test]
-fn from_refuses_the_rest(rt: HostRuntime) {
-    for (number, answers) in [
-        (0, [false; 5]),
-        (3, [true, true, true, false, false]),
-        (5, [true; 5]),
-    ] {
-        assert_eq!(rt; granted(rt.alloc(), Refusal::From(number)), answers);
-    }
+    let first = [false, true, true, true, true];
+    assert_eq!(rt; granted(rt.alloc(), Refusal::Only(0)), first);
+    let third = [true, true, false, true, true];
+    assert_eq!(rt; granted(rt.alloc(), Refusal::Only(2)), third);
+    assert_eq!(rt; granted(rt.alloc(), Refusal::Only(5)), [true; 5]);
+    assert_eq!(rt; granted(rt.alloc(), Refusal::From(0)), [false; 5]);
+    let last_two = [true, true, true, false, false];
+    assert_eq!(rt; granted(rt.alloc(), Refusal::From(3)), last_two);
+    assert_eq!(rt; granted(rt.alloc(), Refusal::From(5)), [true; 5]);
 }
 
 #[test]
