@@ -101,36 +101,40 @@ fn add_text<F: Display>(table: &mut String, fault: &F) -> Result<(), AllocError>
 
 /// Faults of octets, messages, pages, events and images.
 fn add_parts(table: &mut String) -> Result<(), AllocError> {
-    for fault in [OctetFault::ReservedType] {
-        add(table, fault.code(), &fault)?;
-    }
-    for fault in [
+    add(
+        table,
+        OctetFault::ReservedType.code(),
+        &OctetFault::ReservedType,
+    )?;
+    for fault in &[
         MseqFault::UnsupportedCode,
         MseqFault::BadLength,
         MseqFault::WrongLength,
         MseqFault::WrongType,
         MseqFault::BadChecksum,
     ] {
-        add(table, fault.code(), &fault)?;
+        add(table, fault.code(), fault)?;
     }
-    for fault in [
+    for fault in &[
         PageFault::Revision(0x12),
         PageFault::BadPdLength,
         PageFault::UnsupportedCode,
     ] {
-        add(table, fault.code(), &fault)?;
+        add(table, fault.code(), fault)?;
     }
     add(table, MemoryFull.code(), &MemoryFull)?;
     add(table, EventForm.code(), &EventForm)?;
-    for fault in [ImageFault::WrongImageLength] {
-        add(table, fault.code(), &fault)?;
-    }
+    add(
+        table,
+        ImageFault::WrongImageLength.code(),
+        &ImageFault::WrongImageLength,
+    )?;
     Ok(())
 }
 
 /// Faults of requests and their segments, and of a book.
 fn add_requests(table: &mut String) -> Result<(), AllocError> {
-    for fault in [
+    for fault in &[
         IsduFault::DataTooLong,
         IsduFault::Truncated,
         IsduFault::BadIsduLength,
@@ -138,12 +142,12 @@ fn add_requests(table: &mut String) -> Result<(), AllocError> {
         IsduFault::BadChkpdu,
         IsduFault::WrongAnswerKind,
     ] {
-        add(table, fault.code(), &fault)?;
+        add(table, fault.code(), fault)?;
     }
-    for fault in [JoinFault::BadIsduLength, JoinFault::WrongCount] {
-        add(table, fault.code(), &fault)?;
+    for fault in &[JoinFault::BadIsduLength, JoinFault::WrongCount] {
+        add(table, fault.code(), fault)?;
     }
-    for fault in [
+    for fault in &[
         BookFault::Full,
         BookFault::JournalFull,
         BookFault::TicketsSpent,
@@ -154,68 +158,70 @@ fn add_requests(table: &mut String) -> Result<(), AllocError> {
         BookFault::Outstanding,
         BookFault::NotInFlight,
     ] {
-        add(table, fault.code(), &fault)?;
+        add(table, fault.code(), fault)?;
     }
     Ok(())
 }
 
 /// Faults of a device, its line, a cell, a link and an output.
 fn add_ends(table: &mut String) -> Result<(), AllocError> {
-    for fault in [
+    for fault in &[
         DeviceFault::WrongAnswerKind,
         DeviceFault::MemoryFull,
         DeviceFault::OutOfMemory,
         DeviceFault::WrongImageLength,
         DeviceFault::OtherRequest,
     ] {
-        add(table, fault.code(), &fault)?;
+        add(table, fault.code(), fault)?;
     }
-    for fault in [SimFault::OutOfMemory, SimFault::BadParam] {
-        add(table, fault.code(), &fault)?;
+    for fault in &[SimFault::OutOfMemory, SimFault::BadParam] {
+        add(table, fault.code(), fault)?;
     }
-    for fault in [CellFault::OutOfMemory] {
-        add(table, fault.code(), &fault)?;
-    }
-    for fault in [
+    add(
+        table,
+        CellFault::OutOfMemory.code(),
+        &CellFault::OutOfMemory,
+    )?;
+    for fault in &[
         Why::NoWake,
         Why::Lost,
         Why::Revision(0x12),
         Why::PdLength,
         Why::Code,
     ] {
-        add(table, fault.code(), &fault)?;
+        add(table, fault.code(), fault)?;
     }
-    for fault in [OutputFault::WrongImageLength, OutputFault::NoLayout] {
-        add(table, fault.code(), &fault)?;
+    for fault in &[OutputFault::WrongImageLength, OutputFault::NoLayout] {
+        add(table, fault.code(), fault)?;
     }
     Ok(())
 }
 
 /// Faults of ports, masters, clients and the program, and those that they hand on.
 fn add_ports(table: &mut String) -> Result<(), AllocError> {
-    for fault in [
+    for fault in &[
         PortFault::Book(BookFault::Full),
         PortFault::Output(OutputFault::WrongImageLength),
         PortFault::NoEvent,
     ] {
-        add(table, fault.code(), &fault)?;
+        add(table, fault.code(), fault)?;
     }
-    for fault in [
+    for fault in &[
         MasterFault::Port(PortFault::Book(BookFault::Outstanding)),
         MasterFault::OutOfMemory,
         MasterFault::NoSuchPort,
         MasterFault::NoThread,
         MasterFault::DesksFull,
     ] {
-        add(table, fault.code(), &fault)?;
+        add(table, fault.code(), fault)?;
     }
-    for fault in [ClientsFault::OutOfMemory, ClientsFault::NoThread] {
-        add(table, fault.code(), &fault)?;
+    for fault in &[ClientsFault::OutOfMemory, ClientsFault::NoThread] {
+        add(table, fault.code(), fault)?;
     }
-    for fault in [ScriptFault::Line(7), ScriptFault::OutOfMemory] {
-        add_text(table, &fault)?;
+    for fault in &[ScriptFault::Line(7), ScriptFault::OutOfMemory] {
+        add_text(table, fault)?;
     }
-    for fault in [
+    for fault in &[
         ProgramFault::Line(7),
         ProgramFault::TooLong,
         ProgramFault::ReadFailed,
@@ -223,7 +229,7 @@ fn add_ports(table: &mut String) -> Result<(), AllocError> {
         ProgramFault::OutOfMemory,
         ProgramFault::NoThread,
     ] {
-        add_text(table, &fault)?;
+        add_text(table, fault)?;
     }
     Ok(())
 }

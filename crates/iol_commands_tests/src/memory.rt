@@ -29,11 +29,11 @@ fn is_refused(
     let result = case.command.perform(refusing, &mut source, &mut sink);
     let refused = refusing.has_refused();
     if refused {
-        assert_eq!(rt; result, Err(ProgramFault::OutOfMemory));
+        assert!(rt; result == Err(ProgramFault::OutOfMemory));
         let is_trace = matches!(case.command, Command::Trace);
         assert!(rt; is_trace || sink.held.is_empty());
     } else {
-        assert_eq!(rt; result, Ok(()));
+        assert!(rt; result == Ok(()));
         assert!(rt; is_whole(case, sink.held.as_slice()));
     }
     refused
@@ -108,13 +108,7 @@ fn finds_bad_lines_without_memory(rt: HostRuntime) {
     let refusing = RefusingAlloc::new(rt.alloc());
     refusing.order(Refusal::From(0));
     let page = b"page 17 01 11 10 08 12 34 00 01 07\nturn 1\nturn 0".as_slice();
-    assert_eq!(rt;
-        Script::read(&refusing, page).err(),
-        Some(ScriptFault::Line(3))
-    );
+    assert!(rt; Script::read(&refusing, page).err() == Some(ScriptFault::Line(3)));
     let turns = b"turn 100000\nturn 100000\nparam 16 0 ro 41".as_slice();
-    assert_eq!(rt;
-        Script::read(&refusing, turns).err(),
-        Some(ScriptFault::Line(3))
-    );
+    assert!(rt; Script::read(&refusing, turns).err() == Some(ScriptFault::Line(3)));
 }

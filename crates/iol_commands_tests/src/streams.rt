@@ -151,14 +151,14 @@ fn fail_reads(rt: &impl Abort, alloc: Global, case: &Case, reads: u32) {
     for read in 0..reads {
         let (mut source, mut sink) = failing(alloc, case.input, read, u32::MAX);
         let result = case.command.perform(alloc, &mut source, &mut sink);
-        assert_eq!(rt; result, Err(ProgramFault::ReadFailed), "at {read}");
-        assert_eq!(rt; source.fails_at, u32::MAX, "at {read}");
+        assert!(rt; result == Err(ProgramFault::ReadFailed), "at {read}");
+        assert!(rt; source.fails_at == u32::MAX, "at {read}");
         assert!(rt; sink.held.is_empty(), "at {read}");
     }
     let (mut source, mut sink) = failing(alloc, case.input, reads, u32::MAX);
     let result = case.command.perform(alloc, &mut source, &mut sink);
-    assert_eq!(rt; result, Ok(()));
-    assert_eq!(rt; source.fails_at, 0);
+    assert!(rt; result == Ok(()));
+    assert!(rt; source.fails_at == 0);
     assert!(rt; sink.held.as_slice() == case.output.as_bytes());
 }
 
@@ -168,13 +168,13 @@ fn fail_writes(rt: &impl Abort, alloc: Global, case: &Case, writes: u32) {
     for write in 0..writes {
         let (mut source, mut sink) = failing(alloc, case.input, u32::MAX, write);
         let result = case.command.perform(alloc, &mut source, &mut sink);
-        assert_eq!(rt; result, Err(ProgramFault::WriteFailed), "at {write}");
+        assert!(rt; result == Err(ProgramFault::WriteFailed), "at {write}");
         let begun = case.output.as_bytes().starts_with(sink.held.as_slice());
         assert!(rt; begun, "at {write}");
     }
     let (mut source, mut sink) = failing(alloc, case.input, u32::MAX, writes);
     let result = case.command.perform(alloc, &mut source, &mut sink);
-    assert_eq!(rt; result, Ok(()));
+    assert!(rt; result == Ok(()));
     assert!(rt; sink.shows(case.output));
 }
 
@@ -197,7 +197,7 @@ fn many_fails_at_each_read(rt: HostRuntime) {
     for read in 0..8 {
         let (mut source, mut sink) = failing(rt.alloc(), PLAN, read, u32::MAX);
         let result = many(&rt, rt.alloc(), &mut source, &mut sink);
-        assert_eq!(rt; result, Err(ProgramFault::ReadFailed), "at {read}");
+        assert!(rt; result == Err(ProgramFault::ReadFailed), "at {read}");
         assert!(rt; sink.held.is_empty());
     }
 }
@@ -207,11 +207,11 @@ fn many_fails_at_each_write(rt: HostRuntime) {
     for write in 0..9 {
         let (mut source, mut sink) = failing(rt.alloc(), PLAN, 8, write);
         let result = many(&rt, rt.alloc(), &mut source, &mut sink);
-        assert_eq!(rt; result, Err(ProgramFault::WriteFailed), "at {write}");
+        assert!(rt; result == Err(ProgramFault::WriteFailed), "at {write}");
     }
     let (mut source, mut sink) = failing(rt.alloc(), PLAN, 8, 9);
     let result = many(&rt, rt.alloc(), &mut source, &mut sink);
-    assert_eq!(rt; result, Ok(()));
+    assert!(rt; result == Ok(()));
     assert!(rt; sink.shows(COUNTS));
 }
 
@@ -233,14 +233,14 @@ fn printing(alloc: Global, unknown: u32, waiting: u32) -> Result<String, AllocEr
 #[test]
 fn writes_as_it_goes(rt: HostRuntime) -> Result<(), Fail> {
     // 9 + 25 + 3,639 * 18 are 65,536; 9 + 6 * 25 + 3,632 * 18 are 65,535, and 25 more are written.
-    for (unknown, waiting, first, whole) in [
+    for &(unknown, waiting, first, whole) in &[
         (1, 3_639, 65_536, 65_570),
         (6, 3_632, 65_560, 65_569),
     ] {
         let script = printing(rt.alloc(), unknown, waiting)?;
         let (mut source, mut sink) = failing(rt.alloc(), script.as_str(), u32::MAX, u32::MAX);
-        assert_eq!(rt; trace(rt.alloc(), &mut source, &mut sink), Ok(()));
-        assert_eq!(rt; sink.shown.as_slice(), [first, whole].as_slice());
+        assert!(rt; trace(rt.alloc(), &mut source, &mut sink) == Ok(()));
+        assert!(rt; sink.shown.as_slice() == [first, whole].as_slice());
     }
     Ok(())
 }
