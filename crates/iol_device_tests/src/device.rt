@@ -78,6 +78,7 @@ fn memory_is_asked_for_once(rt: HostRuntime) -> Result<(), Fail> {
 /// The laws of this device, which do nothing when they run.
 fn laws_of<P: App, R: Record>(device: &Device<P, R>) {
     device.app_follows_record();
+    device.numbers_are_own();
     device.parts_are_regular();
 }
 
