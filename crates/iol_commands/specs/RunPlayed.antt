@@ -38,6 +38,7 @@ first_wire script = record {
         far = device.opened script.page (Some 1000);
         app = script.params;
         first = script.params;
+        number = 0;
       };
   steps = script.steps;
   auto = true;
