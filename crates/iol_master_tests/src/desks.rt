@@ -1,19 +1,19 @@
 //! Desks and memory of a master run out, why a submit is refused, and what one counts,
 //! urgent or not.
-ghost use Rattle.std.specs.Prelude.{◌≡◌, All, IfOk, vec_len};
+ghost use Rattle.std.specs.Prelude.{◌≡◌, IfOk};
 ghost use Rattle.iol_book.specs.BookModel.{AreLimits};
 ghost use Rattle.iol_master.specs.Tickets.{HasGiven};
 ghost use Rattle.iol_master.specs.Ledgers.{IsBlankFor};
 
-use crate::opening::open_master;
+use crate::calls::{cancelled, collected, of_book, read, turns};
+use crate::opening::{alone, open_one};
 use iol_book::{BookFault, Limits, Ticket};
 use iol_cell::Handle;
-use iol_isdu::{Place, Request};
 use iol_link::{Rate, Wire};
 use iol_master::{Desk, Gate, Master, MasterFault, Settled, Tally};
 use iol_mseq::Message;
 use iol_peers::{AnyWire, Peer};
-use iol_port::{Port, PortFault};
+use iol_port::Port;
 use refusing_alloc::{Refusal, RefusingAlloc};
 use std::alloc::Global;
 use std::marker::Brand;
@@ -24,7 +24,7 @@ use std::test::Fail;
 use std::thread::Threads;
 
 /// A peer that answers nothing.
-#[derive(Debug, PartialEq, Eq, Drop)]
+#[derive(Debug, Drop)]
 struct Nobody;
 
 impl Peer for Nobody {
@@ -36,6 +36,9 @@ impl Peer for Nobody {
         None
     }
 }
+
+/// A master of one port that nobody answers.
+type Unanswered<L, K, A> = Master<AnyWire<Nobody>, L, K, A>;
 
 /// A gate that is open.
 pub struct Open;
@@ -57,20 +60,39 @@ fn opened_port<A: Handle>(alloc: A, limits: &Limits) -> Result<Port<AnyWire<Nobo
     requires { AreLimits limits.now }
     ensures { IfOk result (λ p. HasGiven p 0) }
 {
-    match Port::open(alloc, AnyWire(Nobody), limits) {
-        Ok(port) => Ok(port),
-        Err((fault, _)) => Err(Fail::from(fault)),
-    }
+    Port::open(alloc, AnyWire(Nobody), limits).map_err(|(fault, _)| Fail::from(fault))
 }
 
-fn one_port<A: Handle>(alloc: A, limits: &Limits) -> Result<Vec<Port<AnyWire<Nobody>, A>, A>, Fail>
-    requires { AreLimits limits.now }
-    ensures { IfOk result (λ v. (vec_len v ≡ 1) × All (λ p. HasGiven p 0) v.items) }
+fn opened<L: Ledger, K: Ledger, A: Handle, R: Abort>(
+    rt: &R,
+    alloc: A,
+    limits: &Limits,
+    clients: Blank,
+    tickets: Blank,
+) -> Result<Unanswered<L, K, A>, Fail>
+    requires bounds { AreLimits limits.now }
+    requires clients { IsBlankFor clients L.name L.parts 1025 }
+    requires tickets { IsBlankFor tickets K.name K.parts 1 }
 {
-    let mut ports = Vec::with_capacity(alloc, 1)?;
     let port = opened_port(alloc, limits)?;
-    ports.push_reserved(port);
-    Ok(ports)
+    Ok(open_one(rt, alloc, port, clients, tickets)?)
+}
+
+/// Opens all desks of a master; one that is dropped keeps its place. A further one is refused, and
+/// opened once another is settled.
+fn take_all<W: Wire, L: Ledger, K: Ledger, R: Wait + Abort>(
+    rt: &R,
+    master: &Master<W, L, K>,
+) -> Result<(), MasterFault> {
+    let first = master.desk(rt, 1)?;
+    for _ in 1..1024 {
+        drop(master.desk(rt, 1)?);
+    }
+    assert!(rt; master.desk(rt, 1).err() == Some(MasterFault::DesksFull));
+    assert!(rt; master.settle(rt, first) == Settled::Part(0));
+    let next = master.desk(rt, 1)?;
+    assert!(rt; next.port() == 1 && next.accepted() == 0);
+    Ok(())
 }
 
 fn run_out<L: Ledger, K: Ledger + Sync, R: Threads + Wait + Abort + Sync>(
@@ -82,18 +104,8 @@ fn run_out<L: Ledger, K: Ledger + Sync, R: Threads + Wait + Abort + Sync>(
     requires clients { IsBlankFor clients L.name L.parts 1025 }
     requires tickets { IsBlankFor tickets K.name K.parts 1 }
 {
-    let ports = one_port(alloc, &LIMITS)?;
-    let master: Master<AnyWire<Nobody>, L, K> = open_master(rt, alloc, ports, clients, tickets);
-    let mut desks = Vec::with_capacity(alloc, 1024)?;
-    for _ in 0..1024u32 {
-        let desk = master.desk(rt, 1)?;
-        assert!(rt; desks.push(desk).is_ok());
-    }
-    assert!(rt; master.desk(rt, 1).err() == Some(MasterFault::DesksFull));
-    let first = desks.pop().expect(rt, "1,024 desks");
-    assert!(rt; master.settle(rt, first) == Settled::Part(0));
-    let next = master.desk(rt, 1)?;
-    assert!(rt; next.port() == 1 && next.accepted() == 0);
+    let master = opened::<L, K, Global, R>(rt, alloc, &LIMITS, clients, tickets)?;
+    take_all(rt, &master)?;
     assert!(rt; master.serve(rt, &Open, 1) == Ok(()));
     Ok(())
 }
@@ -116,9 +128,9 @@ fn open_is_refused<A: Handle, L: Ledger, K: Ledger, R: Abort>(
     requires tickets { IsBlankFor tickets K.name K.parts 1 }
 {
     refusing.order(Refusal::Never);
-    let ports = one_port(alloc, &LIMITS)?;
+    let ports = alone(alloc, opened_port(alloc, &LIMITS)?)?;
     refusing.order(refusal);
-    match Master::<AnyWire<Nobody>, L, K, A>::open(alloc, ports, clients, tickets) {
+    match Unanswered::<L, K, A>::open(alloc, ports, clients, tickets) {
         Ok(_master) => {
             assert!(rt; !refusing.has_refused());
             Ok(false)
@@ -130,16 +142,6 @@ fn open_is_refused<A: Handle, L: Ledger, K: Ledger, R: Abort>(
             Ok(true)
         }
     }
-}
-
-/// A turn and a look for an outcome, under the port's lock.
-fn turn_and_collect<W: Wire, L: Ledger, K: Ledger, A: Handle, R: Wait>(
-    rt: &R,
-    master: &Master<W, L, K, A>,
-) -> Result<Option<PortFault>, MasterFault> {
-    let mut held = master.lock(rt, 1)?;
-    held.turn(rt);
-    Ok(held.collect(Ticket(8)).err())
 }
 
 /// Which of the two submits.
@@ -156,10 +158,9 @@ fn submit<W: Wire, L: Ledger, K: Ledger, A: Handle, R: Wait>(
     desk: &mut Desk<L>,
     kind: Kind,
 ) -> Result<Ticket, MasterFault> {
-    let read = Request::read(Place { index: 16, sub: 0 });
     match kind {
-        Kind::Ordinary => master.submit(rt, desk, read),
-        Kind::Urgent => master.submit_urgent(rt, desk, read),
+        Kind::Ordinary => master.submit(rt, desk, read()),
+        Kind::Urgent => master.submit_urgent(rt, desk, read()),
     }
 }
 
@@ -169,7 +170,7 @@ fn submit_refusing<L: Ledger, K: Ledger, R: Wait + Abort>(
     rt: &R,
     refusing: &RefusingAlloc,
     refusal: Refusal,
-    master: &Master<AnyWire<Nobody>, L, K, &RefusingAlloc>,
+    master: &Unanswered<L, K, &RefusingAlloc>,
     desk: &mut Desk<L>,
     kind: Kind,
 ) -> bool {
@@ -177,13 +178,32 @@ fn submit_refusing<L: Ledger, K: Ledger, R: Wait + Abort>(
     let answer = submit(rt, master, desk, kind);
     let refused = refusing.has_refused();
     let wanted = if refused {
-        Err(MasterFault::Port(PortFault::Book(BookFault::OutOfMemory)))
+        Err(of_book(BookFault::OutOfMemory))
     } else {
         Ok(Ticket(8))
     };
     assert!(rt; answer == wanted);
     assert!(rt; desk.accepted() == u64::from(!refused));
     refused
+}
+
+/// Refuses each request of a submit in turn, with all that follow and alone, until it makes no
+/// further one.
+fn refuse_each<L: Ledger, K: Ledger, R: Wait + Abort>(
+    rt: &R,
+    refusing: &RefusingAlloc,
+    master: &Unanswered<L, K, &RefusingAlloc>,
+    desk: &mut Desk<L>,
+    kind: Kind,
+) {
+    for number in 0..64 {
+        for &refusal in &[Refusal::From(number), Refusal::Only(number)] {
+            if !submit_refusing(rt, refusing, refusal, master, desk, kind) {
+                assert!(rt; number > 0);
+                return;
+            }
+        }
+    }
 }
 
 /// Submits while each request for memory is refused in turn; no other call makes one.
@@ -198,37 +218,14 @@ fn submit_is_refused<L: Ledger, K: Ledger, R: Wait + Abort>(
     requires tickets { IsBlankFor tickets K.name K.parts 1 }
 {
     refusing.order(Refusal::Never);
-    let ports = one_port(refusing, &LIMITS)?;
-    let master: Master<AnyWire<Nobody>, L, K, &RefusingAlloc> = open_master(
-        rt, refusing, ports, clients, tickets,
-    );
+    let master = opened::<L, K, &RefusingAlloc, R>(rt, refusing, &LIMITS, clients, tickets)?;
     refusing.order(Refusal::Only(0));
     let mut desk = master.desk(rt, 1)?;
-    assert!(rt; submit_refusing(rt, refusing, Refusal::Only(0), &master, &mut desk, kind));
-    assert!(rt; submit_refusing(rt, refusing, Refusal::From(0), &master, &mut desk, kind));
-    for number in 1..64u64 {
-        let refused = submit_refusing(
-            rt,
-            refusing,
-            Refusal::From(number),
-            &master,
-            &mut desk,
-            kind,
-        ) && submit_refusing(
-            rt,
-            refusing,
-            Refusal::Only(number),
-            &master,
-            &mut desk,
-            kind,
-        );
-        if !refused {
-            break;
-        }
-    }
+    refuse_each(rt, refusing, &master, &mut desk, kind);
     assert!(rt; desk.accepted() == 1);
     refusing.order(Refusal::Never);
-    assert!(rt; turn_and_collect(rt, &master)? == Some(PortFault::Book(BookFault::NotYet)));
+    turns(rt, &master, 1, 1)?;
+    assert!(rt; collected(rt, &master, 1, Ticket(8)) == Err(of_book(BookFault::NotYet)));
     assert!(rt; master.settle(rt, desk) == Settled::Last(1, 1));
     assert!(rt; refusing.requests() == 0);
     let tally = Tally {
@@ -243,7 +240,7 @@ fn submit_is_refused<L: Ledger, K: Ledger, R: Wait + Abort>(
 #[test]
 fn refused_memory_changes_nothing(rt: HostRuntime) -> Result<(), Fail> {
     let refusing = RefusingAlloc::new(rt.alloc());
-    for (refusal, wanted) in [
+    for &(refusal, wanted) in &[
         (Refusal::Only(0), true),
         (Refusal::From(0), true),
         (Refusal::From(1), false),
@@ -257,9 +254,9 @@ fn refused_memory_changes_nothing(rt: HostRuntime) -> Result<(), Fail> {
             Blank::new(1025),
             Blank::new(1),
         )?;
-        assert_eq!(rt; refused, wanted);
+        assert!(rt; refused == wanted);
     }
-    for kind in [Kind::Ordinary, Kind::Urgent] {
+    for &kind in &[Kind::Ordinary, Kind::Urgent] {
         submit_is_refused::<Brand, Brand, HostRuntime>(
             &rt,
             &refusing,
@@ -291,6 +288,21 @@ fn limits_for(fault: BookFault) -> (Limits, u32)
     (limits, taken)
 }
 
+/// Submits so often at a desk; the tickets follow this one.
+fn submit_many<W: Wire, L: Ledger, K: Ledger, A: Handle, R: Wait + Abort>(
+    rt: &R,
+    master: &Master<W, L, K, A>,
+    desk: &mut Desk<L>,
+    kind: Kind,
+    given: u64,
+    count: u32,
+) {
+    for number in 1..=u64::from(count) {
+        let next = Ticket(given.saturating_add(number));
+        assert!(rt; submit(rt, master, desk, kind) == Ok(next));
+    }
+}
+
 /// Submits at a master of one port until this is why a submit is refused: where memory is
 /// refused too, it is still refused for this.
 fn refused_first<L: Ledger, K: Ledger, R: Wait + Abort>(
@@ -306,18 +318,11 @@ fn refused_first<L: Ledger, K: Ledger, R: Wait + Abort>(
 {
     let (limits, taken) = limits_for(fault);
     refusing.order(Refusal::Never);
-    let ports = one_port(refusing, &limits)?;
-    let master: Master<AnyWire<Nobody>, L, K, &RefusingAlloc> = open_master(
-        rt, refusing, ports, clients, tickets,
-    );
+    let master = opened::<L, K, &RefusingAlloc, R>(rt, refusing, &limits, clients, tickets)?;
     let mut desk = master.desk(rt, 1)?;
-    for number in 1..=u64::from(taken) {
-        let next = Ticket(limits.given.saturating_add(number));
-        assert!(rt; submit(rt, &master, &mut desk, kind) == Ok(next));
-    }
+    submit_many(rt, &master, &mut desk, kind, limits.given, taken);
     refusing.order(Refusal::From(0));
-    let wanted = Some(MasterFault::Port(PortFault::Book(fault)));
-    assert!(rt; submit(rt, &master, &mut desk, kind).err() == wanted);
+    assert!(rt; submit(rt, &master, &mut desk, kind) == Err(of_book(fault)));
     assert!(rt; desk.accepted() == u64::from(taken));
     Ok(())
 }
@@ -325,13 +330,13 @@ fn refused_first<L: Ledger, K: Ledger, R: Wait + Abort>(
 #[test]
 fn submits_are_refused_in_order(rt: HostRuntime) -> Result<(), Fail> {
     let refusing = RefusingAlloc::new(rt.alloc());
-    for fault in [
+    for &fault in &[
         BookFault::Full,
         BookFault::JournalFull,
         BookFault::TicketsSpent,
         BookFault::OutOfMemory,
     ] {
-        for kind in [Kind::Ordinary, Kind::Urgent] {
+        for &kind in &[Kind::Ordinary, Kind::Urgent] {
             refused_first::<Brand, Brand, HostRuntime>(
                 &rt,
                 &refusing,
@@ -355,31 +360,18 @@ fn both_count<L: Ledger, K: Ledger, R: Wait + Abort>(
     requires clients { IsBlankFor clients L.name L.parts 1025 }
     requires tickets { IsBlankFor tickets K.name K.parts 1 }
 {
-    let ports = one_port(alloc, &LIMITS)?;
-    let master: Master<AnyWire<Nobody>, L, K> = open_master(rt, alloc, ports, clients, tickets);
+    let master = opened::<L, K, Global, R>(rt, alloc, &LIMITS, clients, tickets)?;
     let mut one = master.desk(rt, 1)?;
     let mut two = master.desk(rt, 1)?;
     assert!(rt; submit(rt, &master, &mut one, Kind::Ordinary) == Ok(Ticket(8)));
     assert!(rt; submit(rt, &master, &mut two, Kind::Urgent) == Ok(Ticket(9)));
-    assert!(rt;
-        cancelled(rt, &master, Ticket(9))? == Some(PortFault::Book(BookFault::NotInFlight))
-    );
-    assert!(rt;
-        cancelled(rt, &master, Ticket(7))? == Some(PortFault::Book(BookFault::UnknownTicket))
-    );
+    let waits = of_book(BookFault::NotInFlight);
+    assert!(rt; cancelled(rt, &master, 1, Ticket(9)) == Err(waits));
+    let unknown = of_book(BookFault::UnknownTicket);
+    assert!(rt; cancelled(rt, &master, 1, Ticket(7)) == Err(unknown));
     assert!(rt; master.settle(rt, one) == Settled::Part(1));
     assert!(rt; master.settle(rt, two) == Settled::Last(1, 2));
     Ok(())
-}
-
-/// Why a request can't be cut off, under the port's lock.
-fn cancelled<W: Wire, L: Ledger, K: Ledger, R: Wait>(
-    rt: &R,
-    master: &Master<W, L, K>,
-    ticket: Ticket,
-) -> Result<Option<PortFault>, MasterFault> {
-    let mut held = master.lock(rt, 1)?;
-    Ok(held.cancel(ticket).err())
 }
 
 #[test]

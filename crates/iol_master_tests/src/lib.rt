@@ -3,6 +3,8 @@
 #![tactic(auto)]
 
 #[cfg(test)]
+mod calls;
+#[cfg(test)]
 mod desks;
 #[cfg(test)]
 mod lines;
@@ -16,5 +18,7 @@ mod seats;
 mod served;
 #[cfg(test)]
 mod sizes;
+#[cfg(test)]
+mod slow;
 #[cfg(test)]
 mod wide;

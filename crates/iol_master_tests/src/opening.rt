@@ -1,14 +1,77 @@
-//! A master that is opened where no memory is lacking.
-ghost use Rattle.std.specs.Prelude.{◌≡◌, ◌≤◌, All, vec_len};
+//! Devices, ports and masters, opened where no memory is lacking.
+ghost use Rattle.std.specs.Prelude.{◌≡◌, ◌≤◌, ◌∷◌, [], All, IfOk, vec_len};
 ghost use Rattle.iol_master.specs.Tickets.{HasGiven};
 ghost use Rattle.iol_master.specs.Ledgers.{IsBlankFor};
 
+use iol_book::Limits;
 use iol_cell::Handle;
+use iol_device::Device;
+use iol_isdu::Place;
 use iol_link::Wire;
 use iol_master::Master;
+use iol_page::Page;
+use iol_peers::PLAIN;
 use iol_port::Port;
+use iol_sim::{Params, Sim, Step};
+use std::alloc::{AllocError, Allocator, Global};
 use std::process::Abort;
 use std::sync::ledger::{Blank, Ledger};
+use std::test::Fail;
+
+/// What each port is opened with.
+pub const LIMITS: Limits = Limits {
+    journal: 1_000,
+    busy: 100,
+    given: 0,
+};
+
+/// A wire with these steps, to a device with this page, which keeps this value at 16/0.
+pub fn wired(
+    alloc: Global,
+    page: &[u8; 10],
+    value: &[u8],
+    steps: Vec<Step>,
+) -> Result<Sim<Params>, Fail> {
+    let mut params = Params::new();
+    params.add(Place { index: 16, sub: 0 }, false, value)?;
+    let page = Page::from_octets(page);
+    if page.layouts().is_err() {
+        return Err("a page without layouts")?;
+    }
+    let device = match Device::open(alloc, params, page, 1_000) {
+        Ok(device) => device,
+        Err((fault, _)) => return Err(Fail::from(fault)),
+    };
+    Sim::new(alloc, device, steps).map_err(|(fault, _, _)| Fail::from(fault))
+}
+
+/// A port over this wire.
+pub fn open_port<W: Wire + Drop>(alloc: Global, wire: W) -> Result<Port<W>, Fail>
+    ensures { IfOk result (λ p. HasGiven p 0) }
+{
+    Port::open(alloc, wire, &LIMITS).map_err(|(fault, _)| Fail::from(fault))
+}
+
+/// A list of this alone.
+pub fn alone<T: Drop, A: Allocator>(alloc: A, item: T) -> Result<Vec<T, A>, AllocError>
+    ensures { IfOk result (λ v. (vec_len v ≡ 1) × (v.items ≡ item ∷ [])) }
+{
+    let mut items = Vec::with_capacity(alloc, 1)?;
+    items.push_reserved(item);
+    Ok(items)
+}
+
+/// So many ports, the device of each with a value of its own: 0x42, and its number less 1.
+fn numbered(alloc: Global, count: u8) -> Result<Vec<Port<Sim<Params>>>, Fail>
+    ensures { IfOk result (λ v. (vec_len v ≡ count) × All (λ p. HasGiven p 0) v.items) }
+{
+    let mut ports = Vec::new(alloc);
+    for index in 0..count {
+        let wire = wired(alloc, &PLAIN, &[0x42, index], Vec::new(alloc))?;
+        ports.push(open_port(alloc, wire)?)?;
+    }
+    Ok(ports)
+}
 
 /// A master over these ports; the test fails where there is no memory for its locks.
 pub fn open_master<W: Wire + Drop, L: Ledger, K: Ledger, A: Handle, R: Abort>(
@@ -22,9 +85,40 @@ pub fn open_master<W: Wire + Drop, L: Ledger, K: Ledger, A: Handle, R: Abort>(
     requires tickets { IsBlankFor tickets K.name K.parts (vec_len ports) }
     requires count { (1 ≤ vec_len ports) × (vec_len ports ≤ 32) }
     requires fresh { All (λ p. HasGiven p 0) ports.items }
-    ensures { result ≡ vec_len ports }
 {
     Master::open(alloc, ports, clients, tickets)
         .ok()
         .expect(rt, "memory")
+}
+
+/// A master over this port alone.
+pub fn open_one<W: Wire + Drop, L: Ledger, K: Ledger, A: Handle, R: Abort>(
+    rt: &R,
+    alloc: A,
+    port: Port<W, A>,
+    clients: Blank,
+    tickets: Blank,
+) -> Result<Master<W, L, K, A>, AllocError>
+    requires clients { IsBlankFor clients L.name L.parts 1025 }
+    requires tickets { IsBlankFor tickets K.name K.parts 1 }
+    requires fresh { HasGiven port 0 }
+{
+    let ports = alone(alloc, port)?;
+    Ok(open_master(rt, alloc, ports, clients, tickets))
+}
+
+/// A master over so many simulated ports.
+pub fn numbered_master<L: Ledger, K: Ledger, R: Abort>(
+    rt: &R,
+    alloc: Global,
+    count: u8,
+    clients: Blank,
+    tickets: Blank,
+) -> Result<Master<Sim<Params>, L, K>, Fail>
+    requires clients { IsBlankFor clients L.name L.parts 1025 }
+    requires tickets { IsBlankFor tickets K.name K.parts count }
+    requires count { (1 ≤ count) × (count ≤ 32) }
+{
+    let ports = numbered(alloc, count)?;
+    Ok(open_master(rt, alloc, ports, clients, tickets))
 }

@@ -3,21 +3,20 @@
 //! and the journal is looked at afterwards.
 ghost use Rattle.iol_master.specs.Ledgers.{IsBlankFor};
 
+use crate::calls::{answer, read};
 use crate::desks::Open;
-use crate::lines::{ALARM, INPUT, START_UP, VALUE, port, read, serve, value};
-use crate::opening::open_master;
-use crate::seats::{open_port, shown};
+use crate::lines::{port, serve};
+use crate::opening::{open_port, wired};
+use crate::seats::{shown, shows};
+use crate::slow::{ALARM, INPUT, START_UP, VALUE};
 use iol_app::Mode;
 use iol_book::{Entry, Outcome, Ticket};
 use iol_cell::ImageSeat;
-use iol_device::Device;
-use iol_event::Event;
 use iol_image::Image;
 use iol_isdu::{Answer, Cause, Place, Request};
 use iol_link::{Rate, Wire};
-use iol_master::{Desk, Line, Master};
+use iol_master::{Desk, Held, Line, LinePort, Master, MasterFault};
 use iol_mseq::Message;
-use iol_page::Page;
 use iol_peers::{AnyWire, PROCESS_DATA, Peer};
 use iol_port::{Port, PortFault};
 use iol_sim::{Fate, Params, Sim, Step};
@@ -55,7 +54,7 @@ const LOST: u64 = 3;
 const TURNS: u64 = 90;
 
 /// The form of the StatusCode that the master gets.
-#[derive(Clone, Copy, PartialEq, Eq, Debug)]
+#[derive(Clone, Copy)]
 enum Form {
     Known,
     Odd,
@@ -76,14 +75,20 @@ impl Peer for Watched {
 
     fn exchange(&mut self, sent: &[u8]) -> Option<Message> {
         let came = self.wire.exchange(sent);
-        let output = self.wire.device().output();
-        let octet = output.and_then(|image| image.octets().first().copied());
         self.output
-            .store(u64::from(octet.unwrap_or(0)), Ordering::SeqCst);
+            .store(u64::from(output_of(&self.wire)), Ordering::SeqCst);
         match (self.form, sent.first()) {
             (Form::Odd, Some(&READ_STATUS)) => Message::try_from(ODD_STATUS.as_slice()).ok(),
             _ => came,
         }
+    }
+}
+
+/// The output of a device of one octet, 0 where it has none.
+fn output_of(wire: &Sim<Params>) -> u8 {
+    match wire.device().output() {
+        Some(image) => image.octets().first().copied().unwrap_or(0),
+        None => 0,
     }
 }
 
@@ -99,6 +104,7 @@ fn add(steps: &mut Vec<Step>, fate: Fate, count: u64) -> Result<(), AllocError> 
 /// link, and two wakes. Then the device reports an event, and later has another input.
 fn script(alloc: Global) -> Result<Vec<Step>, Fail> {
     let mut steps = Vec::new(alloc);
+    steps.push(Step::Input(Image::new(&INPUT)?))?;
     add(&mut steps, Fate::Clean, START_UP + BEFORE)?;
     add(&mut steps, Fate::BackLost, LOST)?;
     add(&mut steps, Fate::NoWake, 2)?;
@@ -109,18 +115,22 @@ fn script(alloc: Global) -> Result<Vec<Step>, Fail> {
 }
 
 fn scripted(alloc: Global) -> Result<Sim<Params>, Fail> {
-    let mut params = Params::new();
-    params.add(Place { index: 16, sub: 0 }, false, &VALUE)?;
-    let page = Page::from_octets(&PROCESS_DATA);
-    if page.layouts().is_err() {
-        return Err("a page without layouts")?;
-    }
-    let mut device = match Device::open(alloc, params, page, 1_000) {
-        Ok(device) => device,
-        Err((fault, _)) => return Err(Fail::from(fault)),
+    wired(alloc, &PROCESS_DATA, &VALUE, script(alloc)?)
+}
+
+type Output = Arc<AtomicU64, Global>;
+
+/// The line to such a device, and the output that it has.
+fn watched_line(alloc: Global, form: Form) -> Result<(AnyWire<Watched>, Output), Fail> {
+    let wire = scripted(alloc)?;
+    let output = Arc::new(alloc, AtomicU64::new(0))?;
+    let theirs = Arc::try_clone(&output)?;
+    let peer = Watched {
+        wire,
+        form,
+        output: theirs,
     };
-    device.set_input(&Image::new(&INPUT)?)?;
-    Sim::new(alloc, device, script(alloc)?).map_err(|(fault, _, _)| Fail::from(fault))
+    Ok((AnyWire(peer), output))
 }
 
 /// A parameter that the device hasn't got.
@@ -128,84 +138,88 @@ fn absent() -> Request {
     Request::read(Place { index: 17, sub: 0 })
 }
 
-/// An output, and three requests, of which the urgent one comes first.
-fn submit_three<W: Wire, L: Ledger, K: Ledger, R: Wait + Abort>(
-    rt: &R,
-    master: &Master<W, L, K>,
-    desk: &mut Desk<L>,
-) -> Result<(), Fail> {
-    let mut held = master.lock(rt, 1)?;
-    assert!(rt; held.status().mode == Mode::Operate);
-    assert!(rt; held.set_output(&Image::new(&OUTPUT)?) == Ok(()));
-    drop(held);
-    assert!(rt; master.submit(rt, desk, read()) == Ok(Ticket(1)));
-    assert!(rt; master.submit(rt, desk, absent()) == Ok(Ticket(2)));
-    assert!(rt; master.submit_urgent(rt, desk, read()) == Ok(Ticket(3)));
-    Ok(())
-}
-
-/// How the three ended: the link was lost while the urgent one was under way.
-fn outcomes() -> Result<[Outcome; 3], Fail> {
+/// How the three requests ended: the link was lost while the urgent one was under way.
+fn outcomes() -> Result<[Result<Outcome, PortFault>; 3], Fail> {
     Ok([
-        value()?,
-        Outcome::Done(Answer::Refused(0x80, 0x11)),
-        Outcome::Unknown(Cause::LinkLost),
+        Ok(answer(&VALUE)?),
+        Ok(Outcome::Done(Answer::Refused(0x80, 0x11))),
+        Ok(Outcome::Unknown(Cause::LinkLost)),
     ])
 }
 
 /// The journal of the three.
 fn entries() -> Result<[Entry; 12], Fail> {
-    let [first, second, urgent] = outcomes()?;
     Ok([
         Entry::Submitted(Ticket(1), read()),
         Entry::Submitted(Ticket(2), absent()),
         Entry::Urgent(Ticket(3), read()),
         Entry::Taken(Ticket(3)),
-        Entry::Answered(Ticket(3), urgent),
+        Entry::Answered(Ticket(3), Outcome::Unknown(Cause::LinkLost)),
         Entry::Taken(Ticket(1)),
-        Entry::Answered(Ticket(1), first),
+        Entry::Answered(Ticket(1), answer(&VALUE)?),
         Entry::Taken(Ticket(2)),
-        Entry::Answered(Ticket(2), second),
+        Entry::Answered(Ticket(2), Outcome::Done(Answer::Refused(0x80, 0x11))),
         Entry::Collected(Ticket(1)),
         Entry::Collected(Ticket(2)),
         Entry::Collected(Ticket(3)),
     ])
 }
 
-/// The link is up again, and all that was submitted has its outcome.
-fn is_done<W: Wire, L: Ledger, K: Ledger, R: Wait + Abort>(
+/// The port is up, and wants an output.
+fn wants_output<W: Wire, K: Ledger, R: Abort>(rt: &R, held: &mut Held<W, K>) -> Result<(), Fail> {
+    assert!(rt; held.status().mode == Mode::Operate);
+    assert!(rt; held.set_output(&Image::new(&OUTPUT)?) == Ok(()));
+    Ok(())
+}
+
+/// Submits three requests, of which the urgent one comes first.
+fn submit_three<W: Wire, L: Ledger, K: Ledger, R: Wait + Abort>(
     rt: &R,
     master: &Master<W, L, K>,
-    form: Form,
-) -> Result<(), Fail> {
-    let mut held = master.lock(rt, 1)?;
+) -> Result<(), MasterFault> {
+    let mut desk = master.desk(rt, 1)?;
+    assert!(rt; master.submit(rt, &mut desk, read()) == Ok(Ticket(1)));
+    assert!(rt; master.submit(rt, &mut desk, absent()) == Ok(Ticket(2)));
+    assert!(rt; master.submit_urgent(rt, &mut desk, read()) == Ok(Ticket(3)));
+    Ok(())
+}
+
+/// The link is up again, and the event came where the StatusCode is known.
+fn is_up_again<W: Wire, K: Ledger, R: Abort>(rt: &R, held: &mut Held<W, K>, form: Form) {
+    let is_odd = matches!(form, Form::Odd);
     assert!(rt; held.status().mode == Mode::Operate);
-    assert_eq!(rt; held.status().event_form, form == Form::Odd);
-    let wanted: Result<Event, PortFault> = match form {
-        Form::Known => Ok(ALARM),
-        Form::Odd => Err(PortFault::NoEvent),
-    };
-    assert!(rt; held.take_event() == wanted);
-    assert!(rt; held.take_event() == Err(PortFault::NoEvent));
-    for (number, outcome) in (1..).zip(outcomes()?) {
-        assert!(rt; held.collect(Ticket(number)) == Ok(outcome));
+    assert!(rt; held.status().event_form == is_odd);
+    if !is_odd {
+        assert!(rt; held.take_event() == Ok(ALARM));
     }
+    assert!(rt; held.take_event() == Err(PortFault::NoEvent));
+}
+
+/// All that was submitted has its outcome.
+fn is_done<W: Wire, K: Ledger, R: Abort>(rt: &R, held: &mut Held<W, K>) -> Result<(), Fail> {
+    let came = [
+        held.collect(Ticket(1)),
+        held.collect(Ticket(2)),
+        held.collect(Ticket(3)),
+    ];
+    assert!(rt; came.as_slice() == outcomes()?.as_slice());
     Ok(())
 }
 
 /// The journal has it all, and nothing else.
-fn is_kept<W: Wire, L: Ledger, K: Ledger, R: Wait + Abort>(
-    rt: &R,
-    master: &Master<W, L, K>,
-) -> Result<(), Fail> {
-    let archived = master.lock(rt, 1)?.archive()?;
+fn is_kept<W: Wire, K: Ledger, R: Abort>(rt: &R, held: &mut Held<W, K>) -> Result<(), Fail> {
+    let archived = held.archive()?;
     assert!(rt; archived.as_slice() == entries()?.as_slice());
     Ok(())
 }
 
-/// Whether a seat has these octets.
-fn shows<R: Wait>(rt: &R, seat: &mut ImageSeat, octets: &[u8]) -> bool {
-    seat.read(rt).is_some_and(|image| image.octets() == octets)
+/// The workers make so many turns.
+fn served<W: Wire + Send, L: Ledger, K: Ledger + Sync, R: Threads + Wait + Abort + Sync>(
+    rt: &R,
+    master: &Master<W, L, K>,
+    turns: u64,
+) {
+    assert!(rt; master.serve(rt, &Open, turns) == Ok(()));
 }
 
 /// The port is served up to OPERATE, through the silence, and on.
@@ -215,16 +229,17 @@ fn through<W: Wire + Send, L: Ledger, K: Ledger + Sync, R: Threads + Wait + Abor
     seat: &mut ImageSeat,
     form: Form,
 ) -> Result<(), Fail> {
-    assert!(rt; master.serve(rt, &Open, START_UP) == Ok(()));
+    served(rt, master, START_UP);
     assert!(rt; shows(rt, seat, &INPUT));
-    let mut desk = master.desk(rt, 1)?;
-    submit_three(rt, master, &mut desk)?;
-    assert!(rt; master.serve(rt, &Open, SILENCE) == Ok(()));
+    wants_output(rt, &mut *master.lock(rt, 1)?)?;
+    submit_three(rt, master)?;
+    served(rt, master, SILENCE);
     assert!(rt; seat.read(rt).is_none());
-    assert!(rt; master.serve(rt, &Open, TURNS) == Ok(()));
-    is_done(rt, master, form)?;
-    assert!(rt; master.serve(rt, &Open, 1) == Ok(()));
-    is_kept(rt, master)?;
+    served(rt, master, TURNS);
+    is_up_again(rt, &mut *master.lock(rt, 1)?, form);
+    is_done(rt, &mut *master.lock(rt, 1)?)?;
+    served(rt, master, 1);
+    is_kept(rt, &mut *master.lock(rt, 1)?)?;
     assert!(rt; shows(rt, seat, &LATER));
     Ok(())
 }
@@ -239,16 +254,10 @@ fn silent_row<L: Ledger, K: Ledger + Sync, R: Threads + Wait + Abort + Sync>(
     requires clients { IsBlankFor clients L.name L.parts 1025 }
     requires tickets { IsBlankFor tickets K.name K.parts 1 }
 {
-    let output = Arc::new(alloc, AtomicU64::new(0))?;
-    let wire = AnyWire(Watched {
-        wire: scripted(alloc)?,
-        form,
-        output: Arc::try_clone(&output)?,
-    });
-    let (ports, mut seat) = shown(rt, alloc, wire)?;
-    let master: Master<AnyWire<Watched>, L, K> = open_master(rt, alloc, ports, clients, tickets);
+    let (wire, output) = watched_line(alloc, form)?;
+    let (master, mut seat) = shown::<_, L, K, R>(rt, alloc, wire, clients, tickets)?;
     through(rt, &master, &mut seat, form)?;
-    assert_eq!(rt; output.load(Ordering::SeqCst), u64::from(OUTPUT[0]));
+    assert!(rt; output.load(Ordering::SeqCst) == u64::from(OUTPUT[0]));
     Ok(())
 }
 
@@ -256,7 +265,7 @@ fn silent_row<L: Ledger, K: Ledger + Sync, R: Threads + Wait + Abort + Sync>(
 /// archives the journal, clears the output, or publishes no more.
 #[test]
 fn a_port_is_served_through_silence(rt: HostRuntime) -> Result<(), Fail> {
-    for form in [Form::Known, Form::Odd] {
+    for &form in &[Form::Known, Form::Odd] {
         silent_row::<Brand, Brand, HostRuntime>(
             &rt,
             rt.alloc(),
@@ -268,22 +277,43 @@ fn a_port_is_served_through_silence(rt: HostRuntime) -> Result<(), Fail> {
     Ok(())
 }
 
+/// An output, and three requests, of which the urgent one comes first.
+fn wants_three<K: Ledger, R: Abort>(rt: &R, port: &mut LinePort<K>) -> Result<(), Fail> {
+    assert!(rt; port.set_output(&Image::new(&OUTPUT)?) == Ok(()));
+    assert!(rt; port.submit(read()) == Ok(Ticket(1)));
+    assert!(rt; port.submit(absent()) == Ok(Ticket(2)));
+    assert!(rt; port.submit_urgent(read()) == Ok(Ticket(3)));
+    Ok(())
+}
+
+/// The event came, and the three outcomes.
+fn has_three<K: Ledger, R: Abort>(rt: &R, port: &mut LinePort<K>) -> Result<(), Fail> {
+    assert!(rt; port.take_event() == Ok(ALARM));
+    let came = [
+        port.collect(Ticket(1)),
+        port.collect(Ticket(2)),
+        port.collect(Ticket(3)),
+    ];
+    assert!(rt; came.as_slice() == outcomes()?.as_slice());
+    Ok(())
+}
+
+/// The journal has them, and nothing else.
+fn keeps_three<K: Ledger, R: Abort>(rt: &R, port: &mut LinePort<K>) -> Result<(), Fail> {
+    let archived = port.archive()?;
+    assert!(rt; archived.as_slice() == entries()?.as_slice());
+    Ok(())
+}
+
 fn line_row<K: Ledger, R: Wait + Abort>(rt: &R, alloc: Global, hands: Blank) -> Result<(), Fail>
     requires { IsBlankFor hands K.name K.parts 1 }
 {
     let (line, mut worker) = Line::<K>::open(port(alloc)?, scripted(alloc)?, hands);
     serve(rt, &line, &mut worker, START_UP);
-    assert!(rt; line.lock(rt).set_output(&Image::new(&OUTPUT)?) == Ok(()));
-    assert!(rt; line.lock(rt).submit(read()) == Ok(Ticket(1)));
-    assert!(rt; line.lock(rt).submit(absent()) == Ok(Ticket(2)));
-    assert!(rt; line.lock(rt).submit_urgent(read()) == Ok(Ticket(3)));
+    wants_three(rt, &mut *line.lock(rt))?;
     serve(rt, &line, &mut worker, TURNS);
-    assert!(rt; line.lock(rt).take_event() == Ok(ALARM));
-    for (number, outcome) in (1..).zip(outcomes()?) {
-        assert!(rt; line.lock(rt).collect(Ticket(number)) == Ok(outcome));
-    }
-    let archived = line.lock(rt).archive()?;
-    assert!(rt; archived.as_slice() == entries()?.as_slice());
+    has_three(rt, &mut *line.lock(rt))?;
+    keeps_three(rt, &mut *line.lock(rt))?;
     let wire = worker.into_wire();
     assert!(rt; wire.device().output() == Some(&Image::new(&OUTPUT)?));
     Ok(())
@@ -295,24 +325,22 @@ fn a_line_is_served_through_silence(rt: HostRuntime) -> Result<(), Fail> {
     line_row::<Brand, HostRuntime>(&rt, rt.alloc(), Blank::new(1))
 }
 
+/// Makes so many turns of a port that no master has.
+fn turns_shown<W: Wire, R: Wait>(rt: &R, port: &mut Port<W>, count: u64) {
+    for _ in 0..count {
+        port.turn_shown(rt);
+    }
+}
+
 /// Refuses a `turn_shown` that makes no turn where no writer was given, or where a StatusCode was
 /// refused.
 #[test]
 fn a_turn_is_made_where_nothing_is_published(rt: HostRuntime) -> Result<(), Fail> {
-    let output = Arc::new(rt.alloc(), AtomicU64::new(0))?;
-    let wire = AnyWire(Watched {
-        wire: scripted(rt.alloc())?,
-        form: Form::Odd,
-        output,
-    });
+    let (wire, _output) = watched_line(rt.alloc(), Form::Odd)?;
     let mut port = open_port(rt.alloc(), wire)?;
-    for _ in 0..START_UP {
-        port.turn_shown(&rt);
-    }
+    turns_shown(&rt, &mut port, START_UP);
     assert!(rt; port.image() == Some(&Image::new(&INPUT)?));
-    for _ in 0..SILENCE + TURNS {
-        port.turn_shown(&rt);
-    }
+    turns_shown(&rt, &mut port, SILENCE + TURNS);
     assert!(rt; port.status().event_form);
     assert!(rt; port.image() == Some(&Image::new(&LATER)?));
     port.restart_shown(&rt);

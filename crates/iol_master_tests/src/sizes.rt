@@ -1,10 +1,11 @@
 //! Sizes from which on something could say that there is no memory. No clause says that memory is
 //! lacking only where a growth was refused. What lines can say is in `tests/rows`.
-use crate::masters::opened;
+use crate::opening::{open_port, wired};
 use iol_cell::image_cell;
 use iol_image::Image;
 use iol_link::Wire;
 use iol_mseq::Message;
+use iol_peers::PLAIN;
 use iol_port::Call;
 use iol_sim::Raw;
 use std::alloc::Global;
@@ -14,9 +15,9 @@ use std::test::Fail;
 #[test]
 fn a_cell_has_a_seat_for_each_reader(rt: HostRuntime) -> Result<(), Fail> {
     let image = Image::new(&[0x5A; 32])?;
-    for readers in [1, 2, 8, 9, 16] {
+    for &readers in &[1, 2, 8, 9, 16] {
         let (mut writer, mut seats) = image_cell(&rt, rt.alloc(), readers)?;
-        assert_eq!(rt; seats.len(), readers);
+        assert!(rt; seats.len() == readers);
         writer.publish(&rt, Some(&image));
         for seat in seats.iter_mut() {
             assert!(rt; seat.read(&rt).as_ref() == Some(&image));
@@ -38,7 +39,7 @@ fn messages(alloc: Global, count: u16) -> Result<Vec<Message>, Fail> {
 /// Refuses a wire that has no memory for many messages.
 #[test]
 fn a_raw_wire_has_each_message(rt: HostRuntime) -> Result<(), Fail> {
-    for count in [0, 1, 2, 255, 256, 257, 1_000] {
+    for &count in &[0, 1, 2, 255, 256, 257, 1_000] {
         let messages = messages(rt.alloc(), count)?;
         let mut wire = Raw::new(rt.alloc(), messages.as_slice())?;
         for message in messages {
@@ -52,14 +53,15 @@ fn a_raw_wire_has_each_message(rt: HostRuntime) -> Result<(), Fail> {
 /// Refuses a run that has no memory for an empty list of calls, or for a long one.
 #[test]
 fn a_port_runs_lists_of_each_length(rt: HostRuntime) -> Result<(), Fail> {
-    let mut port = opened(rt.alloc(), &[0x41, 0x42])?;
-    for count in [0, 1, 255, 256, 257, 1_000] {
+    let wire = wired(rt.alloc(), &PLAIN, &[0x41, 0x42], Vec::new(rt.alloc()))?;
+    let mut port = open_port(rt.alloc(), wire)?;
+    for &count in &[0, 1, 255, 256, 257, 1_000] {
         let mut calls = Vec::new(rt.alloc());
         for _ in 0..count {
             calls.push(Call::Look)?;
         }
         let answers = port.run(rt.alloc(), calls.as_slice())?;
-        assert_eq!(rt; answers.len(), count);
+        assert!(rt; answers.len() == count);
     }
     Ok(())
 }

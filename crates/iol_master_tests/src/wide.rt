@@ -1,17 +1,14 @@
 //! A master of 32 ports with unequal answers, whose gate says no to each at a turn of its own, and
 //! a desk with more than a thousand submits.
-ghost use Rattle.std.specs.Prelude.{◌≡◌, All, IfOk, vec_len};
-ghost use Rattle.iol_master.specs.Tickets.{HasGiven};
+ghost use Rattle.std.specs.Prelude.{◌≡◌};
 ghost use Rattle.iol_master.specs.Ledgers.{IsBlankFor};
 
-use crate::masters::{answer, collected, opened, read};
-use crate::opening::open_master;
+use crate::calls::{answer, collected, read};
+use crate::opening::numbered_master;
 use iol_book::{Entry, Outcome, Ticket};
 use iol_isdu::{Place, Request};
 use iol_link::Wire;
 use iol_master::{Desk, Gate, Master, MasterFault, Settled, Tally};
-use iol_port::Port;
-use iol_sim::{Params, Sim};
 use std::alloc::Global;
 use std::marker::Brand;
 use std::process::Abort;
@@ -43,8 +40,8 @@ impl Closing {
     }
 
     /// The turn of which a port was asked last.
-    fn last_asked(&self, port: u32) -> Option<u64> {
-        let asked = self.asked.as_slice().get(port.checked_sub(1)? as usize)?;
+    fn last_asked(&self, index: u8) -> Option<u64> {
+        let asked = self.asked.as_slice().get(usize::from(index))?;
         Some(asked.load(Ordering::SeqCst))
     }
 }
@@ -58,46 +55,47 @@ impl Gate for Closing {
     }
 }
 
-/// The ports, the device of each with a value of its own.
-fn many_ports(alloc: Global) -> Result<Vec<Port<Sim<Params>>>, Fail>
-    ensures { IfOk result (λ v. (vec_len v ≡ 32) × All (λ p. HasGiven p 0) v.items) }
-{
-    let mut ports = Vec::new(alloc);
-    for index in 0..PORTS {
-        ports.push(opened(alloc, &[0x42, index])?)?;
-    }
-    Ok(ports)
-}
-
-/// A client of each port submits a read and settles.
-fn submit_all<W: Wire, L: Ledger, K: Ledger, R: Wait + Abort>(
+/// A client of the port of this number submits a read and settles.
+fn submit<W: Wire, L: Ledger, K: Ledger, R: Wait + Abort>(
     rt: &R,
     master: &Master<W, L, K>,
+    number: u8,
 ) -> Result<(), MasterFault> {
-    for number in 1..=PORTS {
-        let mut desk = master.desk(rt, u32::from(number))?;
-        assert!(rt; master.submit(rt, &mut desk, read()) == Ok(Ticket(1)));
-        assert_eq!(rt; desk.port(), u32::from(number));
-        assert_eq!(rt;
-            master.settle(rt, desk),
-            Settled::Last(1, u64::from(number))
-        );
-    }
+    let mut desk = master.desk(rt, u32::from(number))?;
+    assert!(rt; master.submit(rt, &mut desk, read()) == Ok(Ticket(1)));
+    assert!(rt; desk.port() == u32::from(number));
+    assert!(rt; master.settle(rt, desk) == Settled::Last(1, u64::from(number)));
     Ok(())
 }
 
-/// Each port was served up to its own turn, and has its own answer.
-fn each_was_served<W: Wire, L: Ledger, K: Ledger, R: Wait + Abort>(
+/// The port of this index was served up to its own turn, and has its own answer.
+fn was_served<W: Wire, L: Ledger, K: Ledger, R: Wait + Abort>(
     rt: &R,
     master: &Master<W, L, K>,
     gate: &Closing,
+    index: u8,
+) -> Result<(), Fail> {
+    let port = u32::from(index) + 1;
+    let last = CLOSING.saturating_add(u64::from(port));
+    assert!(rt; gate.last_asked(index) == Some(last));
+    let wanted = answer(&[0x42, index])?;
+    assert!(rt; collected(rt, master, port, Ticket(1)) == Ok(wanted));
+    Ok(())
+}
+
+/// Submits at each port, serves all of them, and looks at each.
+fn serve_all<W: Wire + Send, L: Ledger, K: Ledger + Sync, R: Threads + Wait + Abort + Sync>(
+    rt: &R,
+    alloc: Global,
+    master: &Master<W, L, K>,
 ) -> Result<(), Fail> {
     for index in 0..PORTS {
-        let port = u32::from(index) + 1;
-        let last = CLOSING.saturating_add(u64::from(port));
-        assert_eq!(rt; gate.last_asked(port), Some(last));
-        let wanted = answer(&[0x42, index])?;
-        assert!(rt; collected(rt, master, port, Ticket(1)) == Ok(wanted));
+        submit(rt, master, index + 1)?;
+    }
+    let gate = Closing::new(alloc)?;
+    assert!(rt; master.serve(rt, &gate, 2_000) == Ok(()));
+    for index in 0..PORTS {
+        was_served(rt, master, &gate, index)?;
     }
     Ok(())
 }
@@ -111,19 +109,15 @@ fn wide_row<L: Ledger + Sync, K: Ledger + Sync, R: Threads + Wait + Abort + Sync
     requires clients { IsBlankFor clients L.name L.parts 1025 }
     requires tickets { IsBlankFor tickets K.name K.parts 32 }
 {
-    let ports = many_ports(alloc)?;
-    let master: Master<Sim<Params>, L, K> = open_master(rt, alloc, ports, clients, tickets);
-    submit_all(rt, &master)?;
-    let gate = Closing::new(alloc)?;
-    assert_eq!(rt; master.serve(rt, &gate, 2_000), Ok(()));
-    each_was_served(rt, &master, &gate)?;
+    let master = numbered_master::<L, K, R>(rt, alloc, PORTS, clients, tickets)?;
+    serve_all(rt, alloc, &master)?;
     let open = master.desk(rt, u32::from(PORTS))?;
     let tally = Tally {
         desks: 1,
         settled: 32,
         tickets: 32,
     };
-    assert_eq!(rt; master.close(), tally);
+    assert!(rt; master.close() == tally);
     drop(open);
     Ok(())
 }
@@ -141,6 +135,15 @@ fn write() -> Result<Request, Fail> {
     Ok(Request::write(place, [7u8; 232].as_slice())?)
 }
 
+/// The journal of a write that was taken back.
+fn entries(ticket: Ticket) -> Result<[Entry; 3], Fail> {
+    Ok([
+        Entry::Submitted(ticket, write()?),
+        Entry::Withdrawn(ticket),
+        Entry::Collected(ticket),
+    ])
+}
+
 /// Withdraws the request of a ticket and collects it; the journal has that and nothing else.
 fn take_back<W: Wire, L: Ledger, K: Ledger, R: Wait + Abort>(
     rt: &R,
@@ -150,13 +153,8 @@ fn take_back<W: Wire, L: Ledger, K: Ledger, R: Wait + Abort>(
     let mut held = master.lock(rt, 1)?;
     assert!(rt; held.withdraw(ticket) == Ok(()));
     assert!(rt; held.collect(ticket) == Ok(Outcome::Withdrawn));
-    let entries = held.archive()?;
-    let wanted = [
-        Entry::Submitted(ticket, write()?),
-        Entry::Withdrawn(ticket),
-        Entry::Collected(ticket),
-    ];
-    assert!(rt; entries.as_slice() == wanted.as_slice());
+    let archived = held.archive()?;
+    assert!(rt; archived.as_slice() == entries(ticket)?.as_slice());
     Ok(())
 }
 
@@ -183,18 +181,16 @@ fn far_row<L: Ledger, K: Ledger, R: Wait + Abort>(
     requires clients { IsBlankFor clients L.name L.parts 1025 }
     requires tickets { IsBlankFor tickets K.name K.parts 1 }
 {
-    let mut ports = Vec::with_capacity(alloc, 1)?;
-    ports.push_reserved(opened(alloc, &[0x41, 0x42])?);
-    let master: Master<Sim<Params>, L, K> = open_master(rt, alloc, ports, clients, tickets);
+    let master = numbered_master::<L, K, R>(rt, alloc, 1, clients, tickets)?;
     let mut desk = master.desk(rt, 1)?;
     submit_many(rt, &master, &mut desk, 1_100)?;
-    assert_eq!(rt; master.settle(rt, desk), Settled::Last(1_100, 1_100));
+    assert!(rt; master.settle(rt, desk) == Settled::Last(1_100, 1_100));
     let tally = Tally {
         desks: 0,
         settled: 1_100,
         tickets: 1_100,
     };
-    assert_eq!(rt; master.close(), tally);
+    assert!(rt; master.close() == tally);
     Ok(())
 }
 

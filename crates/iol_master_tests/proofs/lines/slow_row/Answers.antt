@@ -2,7 +2,7 @@ use denote.Param.Send.{sendable}
 use Rattle.std.proofs.Crossing.{crosses}
 use Rattle.iol_sim.proofs.Crosses.{sim_send}
 use Rattle.iol_peers.proofs.wires.AnyWire.TheSendSync as any
-use Rattle.iol_master_tests.proofs.lines.Slow.TheSendSync as slow
+use Rattle.iol_master_tests.proofs.slow.Slow.TheSendSync as slow
 use Rattle.iol_master_tests.proofs.lines.slow_row.Goals as goal
 
 -- the worker's thread owns a slow device, which shares the flags
