@@ -6,4 +6,5 @@ use Rattle.iol_master_tests.proofs.masters.both.Goals as goal
 
 -- a client owns its desk, and borrows the master and the runtime
 pub join-requires-send-F : goal.join-requires-send-F
-join-requires-send-F g c κs within = search (master_sync, the_send, crosses, sendable) depth 60 fits 20000
+join-requires-send-F g c κs within =
+    search (master_sync, the_send, crosses, sendable) depth 60 fits 20000

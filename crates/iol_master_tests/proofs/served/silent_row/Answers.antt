@@ -1,12 +1,12 @@
 use denote.Param.Send.{IsSend, sendable}
-use Rattle.std.proofs.Crossing.{crosses, send, sync, frees}
+use Rattle.std.proofs.Crossing.{crosses}
 use Rattle.iol_sim.proofs.Crosses.{sim_send}
 use Rattle.iol_peers.proofs.wires.AnyWire.TheSendSync as any
 use Rattle.iol_master_tests.specs.contracts.served.Watched as Watched
 use Rattle.iol_master_tests.proofs.served.silent_row.Goals as goal
 
 watched_send : IsSend Watched.the_row
-watched_send = search (sim_send, crosses, sendable, send, sync, frees) depth 60 fits 20000
+watched_send = search (sim_send, crosses, sendable) depth 60 fits 20000
 
 -- the workers own the device, which shares what output it has
 pub through-requires-send-W : goal.through-requires-send-W
