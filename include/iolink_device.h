@@ -3,7 +3,7 @@
  * A handle is a struct of yours, all zero before it is opened: `iol_device device = {0};`. It says itself whether it is
  * open, so a call of a closed handle, and a second close, are refused and do nothing.
  *
- * Every call answers the number of a refusal, 0 where there is none: 1 to 37 are the library's, and
+ * Every call answers the number of a refusal, 0 where there is none: 1 to 39 are the library's, and
  *   252  the handle is closed
  *   253  the handle is open already
  * Beside each call stand its refusals, in the order in which they are tested: the first that holds is answered. Every
@@ -70,6 +70,17 @@ uint8_t iol_device_wake(iol_device *device);
 /* The power failed and came back: asleep, with no request, no event and no process data. 252. */
 uint8_t iol_device_power_cycle(iol_device *device);
 
+/* No message came for longer than you allow: the master counts as silent, and iol_device_output hands out no octet. The
+ * MasterCommand ProcessDataOutputOperate ends this, once it is accepted in operate. All else stays, and a request goes
+ * on. 252. */
+uint8_t iol_device_silence(iol_device *device);
+
+/* The mode: 1 asleep, 2 startup, 3 preoperate, 4 operate. It changes nothing. 252. */
+uint8_t iol_device_mode(iol_device *device, uint8_t *out);
+
+/* MasterCycleTime, the octet of page address 0x01 as the master wrote it last, 0 before. It changes nothing. 252. */
+uint8_t iol_device_cycle_time(iol_device *device, uint8_t *out);
+
 /* ---- requests: look whether one is handed over, carry it out, answer it once, by its number
  *
  * The master may cancel a request that is being carried out, and hand the next one over. So an answer names its request:
@@ -102,7 +113,7 @@ uint8_t iol_device_set_input(iol_device *device, const uint8_t *octets, size_t c
 /* No valid process data in from now on. 252. */
 uint8_t iol_device_clear_input(iol_device *device);
 
-/* The process data out, no octet while none is valid. It changes nothing. 252. */
+/* The process data out, no octet while none is valid or the master is silent. It changes nothing. 252. */
 uint8_t iol_device_output(iol_device *device, iol_image *out);
 
 #ifdef __cplusplus

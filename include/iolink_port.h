@@ -3,7 +3,7 @@
  * A handle is a struct of yours, all zero before it is opened: `iol_port port = {0};`. It says itself whether it is
  * open, so a call of a closed handle, and a second close, are refused and do nothing.
  *
- * Every call answers the number of a refusal, 0 where there is none: 1 to 37 are the library's, and
+ * Every call answers the number of a refusal, 0 where there is none: 1 to 39 are the library's, and
  *   252  the handle is closed
  *   253  the handle is open already
  *   254  a number is out of its range
@@ -77,11 +77,20 @@ uint8_t iol_port_close(iol_port *port);
  * doesn't know, it first answers that nothing came, and asks then: that is a lost reply, after which the port repeats
  * the message. Never send twice for one answer. */
 
-/* A message: `length` octets. */
-typedef struct { uint8_t length; uint8_t octets[66]; } iol_message;
+/* A message: `length` octets. `reply` is how many octets a good reply has, 1 to 65: then it is whole. The rest is the
+ * layout of the mode: the M-sequence type, and the octets of on-request data and of process data in and out. */
+typedef struct {
+    uint8_t length;
+    uint8_t octets[66];
+    uint8_t reply;
+    uint8_t kind;
+    uint8_t od;
+    uint8_t pd_in;
+    uint8_t pd_out;
+} iol_message;
 
-/* What goes out: a message, or a wake-up request where `length` is 0. It waits for its answer from then on, and is given
- * again until it is answered. 252. */
+/* What goes out: a message, or a wake-up request where `length` is 0, the rest as it was. It waits for its answer from
+ * then on, and is given again until it is answered. 252. */
 uint8_t iol_port_asks(iol_port *port, iol_message *out);
 
 /* What came of the wake that is out: `rate` is 1, 2, 3 for a device that answered at COM1, COM2, COM3, and 0 where none
@@ -128,6 +137,34 @@ uint8_t iol_port_withdraw(iol_port *port, uint64_t ticket);
  * 36 it waits, or has an outcome. */
 uint8_t iol_port_cancel(iol_port *port, uint64_t ticket);
 
+/* ---- the device: which one is expected, its cycle time, its page
+ *
+ * Each start-up reads the device's page, and checks it before it writes anything. What is expected, and the cycle time,
+ * are those that hold then. So `counts` says from when on a call counts:
+ *    1  now: no page of the present session was checked yet
+ *    2  later: one was. The call counts from the next start-up on, and iol_port_restart leads to one
+ * Where a call is refused, `counts` stays as it was. */
+
+/* Expects the device with this VendorID and DeviceID. A start-up that reads another page takes the link down, with
+ * `why` 38, and writes nothing to that device. The port wakes it again and again; no request goes to it, and those that
+ * wait stay. A port is opened expecting any device. 252, 254 a DeviceID above 24 bits. */
+uint8_t iol_port_expect(iol_port *port, uint16_t vendor, uint32_t device, uint8_t *counts);
+
+/* Expects any device. 252. */
+uint8_t iol_port_expect_any(iol_port *port, uint8_t *counts);
+
+/* Chooses what a start-up writes to MasterCycleTime: the shortest cycle time that takes at least so many microseconds.
+ * Where that is less than the device's MinCycleTime, and for 0, it writes MinCycleTime. A port is opened with 0.
+ * 252, 39 above 132,800. */
+uint8_t iol_port_set_cycle(iol_port *port, uint32_t micros, uint8_t *counts);
+
+/* Direct parameter page 1, its addresses 0x02 to 0x0B: `length` is 10, or 0 where there is none. */
+typedef struct { uint8_t length; uint8_t octets[10]; } iol_page;
+
+/* The page that the start-up of the present session has read and checked. There is none before that, and none in down.
+ * 252. */
+uint8_t iol_port_page(iol_port *port, iol_page *out);
+
 /* ---- the link, process data, events */
 
 /* Cuts off the request under way, if any, and leaves the link in down. 252, 255 a wake or a message is out: answer it
@@ -150,7 +187,13 @@ typedef struct { uint8_t qualifier; uint16_t code; } iol_event;
 uint8_t iol_port_take_event(iol_port *port, iol_event *out);
 
 /* `mode` is 1 down, 2 startup, 3 preoperate, 4 operate; `why` the number of the fault that led down, 0 where none did;
- * `event_form` says that a reading of events met a form that the master doesn't know. */
+ * `event_form` says that a reading of events met a form that the master doesn't know. Of a link that is down `why` is
+ *   18  no device answered the wake
+ *   19  three attempts in a row brought no good reply
+ *   38  another device is expected than the one that is there
+ *    8  the RevisionID of its page is neither 0x11 nor 0x10
+ *    7  ProcessDataIn or ProcessDataOut of its page is no length
+ *    2  the M-sequence codes of its page have no layout */
 typedef struct { uint8_t mode; uint8_t why; bool event_form; } iol_status;
 
 /* How the link is. 252. */

@@ -19,7 +19,7 @@ static const char *const state_names[STATES] = {
 
 enum call {
     NOTHING, READ, READ_URGENT, WRITE, WRITE_URGENT, CANCEL, WITHDRAW, COLLECT, TAKE_EVENT, SET_OUTPUT, CLEAR_OUTPUT,
-    RESTART, STATUS, IMAGE, ARCHIVE, ENTRY, CALLS
+    RESTART, STATUS, IMAGE, ARCHIVE, ENTRY, EXPECT, EXPECT_ANY, SET_CYCLE, PAGE, CALLS
 };
 
 static const char *const call_names[CALLS] = {
@@ -31,6 +31,8 @@ static const char *const call_names[CALLS] = {
     [CLEAR_OUTPUT] = "clear_output", [RESTART] = "restart",
     [STATUS] = "status",             [IMAGE] = "image",
     [ARCHIVE] = "archive",           [ENTRY] = "entry",
+    [EXPECT] = "expect",             [EXPECT_ANY] = "expect_any",
+    [SET_CYCLE] = "set_cycle",       [PAGE] = "page",
 };
 
 /* The first octet of a message on the ISDU channel (IEC 61131-9, A.1.2, 7.3.6); a count stands in its low four bits. */
@@ -41,6 +43,9 @@ enum { WRITE_START = 0x70, WRITE_COUNT = 0x60, READ_START = 0xF0, READ_COUNT = 0
 struct job { uint64_t ticket; bool reads; bool collected; iol_outcome outcome; int carried_out; uint8_t answer; };
 
 enum { INDEX = 24, INDEX_BETWEEN = 40, OCTETS = 3, RECORD = 32, TAIL = 160 };
+
+/* The device that is there, and a cycle time that it allows. */
+enum { VENDOR = 0x1234, DEVICE = 0x000107, MICROS = 10000 };
 
 static const uint8_t page[10] = {0x17, 1, 0x11, 0x10, 8, 0x12, 0x34, 0, 1, 7};
 static const uint8_t written[OCTETS] = {0xB1, 0xB2, 0xB3}, output = 0x5A, output_between = 0xA5;
@@ -216,13 +221,37 @@ static uint8_t collect(struct job *job)
     return number;
 }
 
+/* Whether a page of the present session was checked. */
+static bool has_page(void)
+{
+    iol_page found;
+    IS(iol_port_page(&port, &found), 0);
+    return found.length > 0;
+}
+
+/* The calls on the device: from when on they count is known by the page. */
+static uint8_t configure(enum call call)
+{
+    uint8_t counts = 0, number;
+    bool checked = has_page();
+    switch (call) {
+    case EXPECT: number = iol_port_expect(&port, VENDOR, DEVICE, &counts); break;
+    case EXPECT_ANY: number = iol_port_expect_any(&port, &counts); break;
+    default: number = iol_port_set_cycle(&port, MICROS, &counts);
+    }
+    IS(counts, checked ? 2 : 1);
+    return number;
+}
+
 /* The calls that look. */
 static uint8_t look(enum call call)
 {
     iol_status status;
     iol_image image;
     iol_entry entry;
+    iol_page found;
     switch (call) {
+    case PAGE: return iol_port_page(&port, &found);
     case STATUS: return iol_port_status(&port, &status);
     case IMAGE: return iol_port_image(&port, &image);
     case ENTRY: return iol_port_entry(&port, &entry);
@@ -249,6 +278,9 @@ static uint8_t call_between(enum call call)
     case CLEAR_OUTPUT: return iol_port_clear_output(&port);
     case RESTART: return iol_port_restart(&port);
     case ARCHIVE: return iol_port_archive(&port, &count);
+    case EXPECT:
+    case EXPECT_ANY:
+    case SET_CYCLE: return configure(call);
     default: return look(call);
     }
 }
@@ -332,10 +364,11 @@ static void run_plainly(enum state state, char tail[TAIL])
     finish(tail);
 }
 
-/* What was refused changed nothing, and neither did a look: all went as it goes without. */
+/* What was refused changed nothing, and neither did a look: all went as it goes without. What is expected is there, so
+ * that this changes nothing either; and no cycle time changes what is printed. */
 static bool changes_nothing(enum call call, uint8_t number)
 {
-    return number != 0 || call == NOTHING || call == STATUS || call == IMAGE || call == ENTRY;
+    return number != 0 || call == NOTHING || call == STATUS || call == IMAGE || call >= ENTRY;
 }
 
 /* A lost answer changes nothing of how it ends. */

@@ -53,6 +53,8 @@ static void turn(void)
     IS(iol_port_turn_woken(&port, 2), IOL_NOT_ASKED);
     work();
     IS(iol_device_hear(&device, asked.octets, asked.length, &reply), 0);
+    if (reply.length > 0)
+        IS(reply.length, asked.reply);
     if (lost > 0) {
         lost--;
         reply.length = 0;
@@ -81,6 +83,20 @@ static int why(void)
     iol_status status;
     IS(iol_port_status(&port, &status), 0);
     return status.why;
+}
+
+static int device_mode(void)
+{
+    uint8_t octet = 0;
+    IS(iol_device_mode(&device, &octet), 0);
+    return octet;
+}
+
+static int cycle_time(void)
+{
+    uint8_t octet = 0;
+    IS(iol_device_cycle_time(&device, &octet), 0);
+    return octet;
 }
 
 static const char *names[17] = {"none", "submitted", "urgent", "", "", "", "", "", "taken", "answered", "", "",
@@ -141,6 +157,9 @@ static void closed_handles(void)
     IS(iol_device_hear(&nothing, &octet, 1, &reply), IOL_CLOSED);
     IS(iol_device_wake(&nothing), IOL_CLOSED);
     IS(iol_device_power_cycle(&nothing), IOL_CLOSED);
+    IS(iol_device_silence(&nothing), IOL_CLOSED);
+    IS(iol_device_mode(&nothing, &octet), IOL_CLOSED);
+    IS(iol_device_cycle_time(&nothing, &octet), IOL_CLOSED);
     IS(iol_device_handed(&nothing, &ticket, &request), IOL_CLOSED);
     IS(iol_device_answer_read(&nothing, 1, &octet, 1), IOL_CLOSED);
     IS(iol_device_answer_written(&nothing, 1), IOL_CLOSED);
@@ -151,6 +170,24 @@ static void closed_handles(void)
     IS(iol_device_output(&nothing, &image), IOL_CLOSED);
     IS(ticket, 5);
     IS(count, 5);
+    IS(octet, 0);
+}
+
+/* Where it is closed, that is tested before the numbers are. */
+static void closed_to_devices(void)
+{
+    iol_port none = {0};
+    iol_page page = {5, {5}};
+    uint8_t counts = 5;
+    IS(iol_port_expect(&none, 0x1234, 0x000107, &counts), IOL_CLOSED);
+    IS(iol_port_expect(&none, 0x1234, 0x1000000, &counts), IOL_CLOSED);
+    IS(iol_port_expect_any(&none, &counts), IOL_CLOSED);
+    IS(iol_port_set_cycle(&none, 0, &counts), IOL_CLOSED);
+    IS(iol_port_set_cycle(&none, 132801, &counts), IOL_CLOSED);
+    IS(iol_port_page(&none, &page), IOL_CLOSED);
+    IS(counts, 5);
+    IS(page.length, 5);
+    IS(page.octets[0], 5);
 }
 
 static const uint8_t plain[10] = {0x17, 0x2D, 0x11, 0, 0, 0x12, 0x34, 0, 1, 7};
@@ -161,6 +198,8 @@ static void open_both(const uint8_t page[10])
 {
     IS(iol_device_open(&device, page), 0);
     IS(iol_device_open(&device, page), IOL_IS_OPEN);
+    IS(device_mode(), 1);
+    IS(cycle_time(), 0);
     IS(iol_port_open(&port, 1000, 100, 0), 0);
     IS(iol_port_open(&port, 1000, 100, 0), IOL_IS_OPEN);
 }
@@ -336,13 +375,48 @@ static void late_answer(void)
     IS(outcome.octets[0], 'A');
 }
 
+/* The output of a silent master isn't shown, until the master says anew that it is valid. */
+static void silent_master(void)
+{
+    iol_image image;
+    IS(iol_device_silence(&device), 0);
+    IS(iol_device_output(&device, &image), 0);
+    IS(image.length, 0);
+    turns(2);
+    IS(iol_device_output(&device, &image), 0);
+    IS(image.length, 0);
+    IS(iol_port_clear_output(&port), 0);
+    turn();
+    IS(iol_port_set_output(&port, (const uint8_t *)"\x5A", 1), 0);
+    turn();
+    IS(iol_device_output(&device, &image), 0);
+    IS(image.length, 1);
+    IS(image.octets[0], 0x5A);
+}
+
+/* Whether the next message has this layout. */
+static void laid_out(int kind, int od, int pd_in, int pd_out)
+{
+    iol_message asked;
+    IS(iol_port_asks(&port, &asked), 0);
+    IS(asked.kind, kind);
+    IS(asked.od, od);
+    IS(asked.pd_in, pd_in);
+    IS(asked.pd_out, pd_out);
+}
+
 static void process_data(void)
 {
     iol_image image;
     IS(iol_port_set_output(&port, (const uint8_t *)"\x5A", 1), 34);
     IS(iol_device_set_input(&device, (const uint8_t *)"\x12\x34", 2), 0);
     IS(iol_device_set_input(&device, (const uint8_t *)"\x12", 1), 29);
-    turns(16);
+    turns(14);
+    IS(device_mode(), 3);
+    IS(cycle_time(), 0x17);
+    laid_out(0, 1, 0, 0);
+    turns(2);
+    IS(device_mode(), 4);
     IS(iol_port_image(&port, &image), 0);
     IS(image.length, 2);
     IS(image.octets[0], 0x12);
@@ -351,10 +425,12 @@ static void process_data(void)
     IS(iol_port_set_output(&port, (const uint8_t *)"\x5A", 1), 0);
     IS(iol_device_output(&device, &image), 0);
     IS(image.length, 0);
+    laid_out(2, 1, 2, 1);
     turn();
     IS(iol_device_output(&device, &image), 0);
     IS(image.length, 1);
     IS(image.octets[0], 0x5A);
+    silent_master();
     IS(iol_port_clear_output(&port), 0);
     IS(iol_device_clear_input(&device), 0);
     turn();
@@ -362,6 +438,116 @@ static void process_data(void)
     IS(image.length, 0);
     IS(iol_port_image(&port, &image), 0);
     IS(image.length, 0);
+}
+
+/* From when on a call counts, as it says: 1 now, 2 later. */
+static int expect(uint16_t vendor, uint32_t number)
+{
+    uint8_t counts = 0;
+    IS(iol_port_expect(&port, vendor, number, &counts), 0);
+    return counts;
+}
+
+static int expect_any(void)
+{
+    uint8_t counts = 0;
+    IS(iol_port_expect_any(&port, &counts), 0);
+    return counts;
+}
+
+static int set_cycle(uint32_t micros)
+{
+    uint8_t counts = 0;
+    IS(iol_port_set_cycle(&port, micros, &counts), 0);
+    return counts;
+}
+
+/* How many octets the page has; if any, they are those of the device. */
+static int page_length(void)
+{
+    iol_page page;
+    IS(iol_port_page(&port, &page), 0);
+    IS(page.length == 0 || memcmp(page.octets, plain, 10) == 0, true);
+    return page.length;
+}
+
+/* A turn, where this device is expected from between what is asked for and its answer on. */
+static void turn_expecting(uint32_t number)
+{
+    iol_message asked;
+    iol_reply reply;
+    IS(iol_port_asks(&port, &asked), 0);
+    IS(expect(0x1234, number), 1);
+    IS(iol_device_hear(&device, asked.octets, asked.length, &reply), 0);
+    IS(iol_port_turn_answered(&port, reply.octets, reply.length), 0);
+}
+
+/* The page is read whole in turn 11 of a start-up. Where another device is expected by then, the link goes down. */
+static void expected(void)
+{
+    uint8_t counts = 5;
+    IS(iol_port_expect(&port, 0x1234, 0x1000000, &counts), IOL_OUT_OF_RANGE);
+    IS(counts, 5);
+    IS(expect(0x1234, 0x000108), 1);
+    turns(10);
+    IS(page_length(), 0);
+    turn();
+    IS(mode(), 1);
+    IS(why(), 38);
+    IS(page_length(), 0);
+    IS(expect(0x3412, 0x000107), 1);
+    turns(11);
+    IS(why(), 38);
+    turns(10);
+    turn_expecting(0x000108);
+    IS(why(), 38);
+    IS(expect(0x1234, 0xFFFFFF), 1);
+    turns(10);
+    turn_expecting(0x000107);
+    IS(mode(), 2);
+    IS(page_length(), 10);
+    IS(expect(0x1234, 0x000108), 2);
+    turns(4);
+    IS(mode(), 4);
+    IS(page_length(), 10);
+    IS(iol_port_restart(&port), 0);
+    IS(page_length(), 0);
+    turns(11);
+    IS(why(), 38);
+    IS(expect_any(), 1);
+    turns(15);
+    IS(mode(), 4);
+    IS(expect_any(), 2);
+}
+
+/* The octet that the next start-up writes to MasterCycleTime. */
+static int next_cycle(void)
+{
+    IS(iol_port_restart(&port), 0);
+    IS(iol_device_power_cycle(&device), 0);
+    turns(15);
+    IS(mode(), 4);
+    return cycle_time();
+}
+
+/* The device's MinCycleTime is 0x17, 2.3 ms. */
+static void cycles(void)
+{
+    uint8_t counts = 5;
+    IS(iol_port_set_cycle(&port, 132801, &counts), 39);
+    IS(counts, 5);
+    IS(next_cycle(), 0x17);
+    IS(set_cycle(2301), 2);
+    IS(next_cycle(), 0x18);
+    IS(set_cycle(2200), 2);
+    IS(next_cycle(), 0x17);
+    IS(set_cycle(6301), 2);
+    IS(next_cycle(), 0x40);
+    IS(set_cycle(132800), 2);
+    IS(next_cycle(), 0xBF);
+    IS(iol_port_restart(&port), 0);
+    IS(set_cycle(0), 1);
+    IS(next_cycle(), 0x17);
 }
 
 static void without_isdu(void)
@@ -377,6 +563,7 @@ static void without_isdu(void)
 int main(void)
 {
     closed_handles();
+    closed_to_devices();
     refusals_at_opening();
     open_both(plain);
     requests();
@@ -385,8 +572,13 @@ int main(void)
     events();
     late_answer();
     IS(iol_device_power_cycle(&device), 0);
+    IS(device_mode(), 1);
     turns(20);
     IS(mode(), 4);
+    close_both();
+    open_both(plain);
+    expected();
+    cycles();
     close_both();
     open_both(process);
     process_data();
@@ -394,8 +586,9 @@ int main(void)
     open_both(deaf);
     without_isdu();
     close_both();
-    printf("sizes %zu %zu %zu %zu %zu %zu %zu %zu\n", sizeof(iol_port), sizeof(iol_device), sizeof(iol_message),
-           sizeof(iol_outcome), sizeof(iol_request), sizeof(iol_entry), sizeof(iol_image), sizeof(iol_status));
+    printf("sizes %zu %zu %zu %zu %zu %zu %zu %zu %zu\n", sizeof(iol_port), sizeof(iol_device), sizeof(iol_message),
+           sizeof(iol_outcome), sizeof(iol_request), sizeof(iol_entry), sizeof(iol_image), sizeof(iol_status),
+           sizeof(iol_page));
     printf("wrong %d\n", wrong);
     return wrong != 0;
 }

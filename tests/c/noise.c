@@ -74,15 +74,23 @@ static bool called(iol_port *port)
     static uint64_t ticket;
     iol_outcome outcome;
     iol_event event;
+    iol_page page;
     uint32_t entries;
+    uint8_t counts;
     bool given = iol_port_read(port, 16, 0, &ticket) == 0;
     iol_port_cancel(port, ticket);
     iol_port_withdraw(port, ticket);
     iol_port_collect(port, ticket, &outcome);
     iol_port_take_event(port, &event);
     iol_port_archive(port, &entries);
+    iol_port_page(port, &page);
+    iol_port_set_cycle(port, next() % 200000, &counts);
     if (next() % 256 == 0)
         iol_port_restart(port);
+    if (next() % 64 == 0)
+        iol_port_expect(port, next() & 0xFFFF, next(), &counts);
+    else
+        iol_port_expect_any(port, &counts);
     return given;
 }
 

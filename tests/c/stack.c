@@ -16,9 +16,11 @@ enum { KB = 1024, BOUND = 32 * KB, ROOM = 64 * KB, SKIPPED = 256, LONGEST = 232 
     X(iol_port_read) X(iol_port_read_urgent) X(iol_port_write) X(iol_port_write_urgent) X(iol_port_collect)            \
     X(iol_port_withdraw) X(iol_port_cancel) X(iol_port_restart) X(iol_port_set_output) X(iol_port_clear_output)        \
     X(iol_port_image) X(iol_port_take_event) X(iol_port_status) X(iol_port_archive) X(iol_port_entry)                  \
+    X(iol_port_expect) X(iol_port_expect_any) X(iol_port_set_cycle) X(iol_port_page)                                   \
     X(iol_device_open) X(iol_device_close) X(iol_device_hear) X(iol_device_wake) X(iol_device_power_cycle)             \
     X(iol_device_handed) X(iol_device_answer_read) X(iol_device_answer_written) X(iol_device_answer_refused)           \
-    X(iol_device_raise) X(iol_device_set_input) X(iol_device_clear_input) X(iol_device_output)
+    X(iol_device_raise) X(iol_device_set_input) X(iol_device_clear_input) X(iol_device_output)                         \
+    X(iol_device_silence) X(iol_device_mode) X(iol_device_cycle_time)
 
 #define AT(name) at_##name,
 enum { EACH_CALL(AT) CALLS };
@@ -144,12 +146,17 @@ static void requests(int lost)
 static void process_data(void)
 {
     iol_image image;
+    uint8_t octet;
     size_t i;
+    CALL(iol_device_mode, &device, &octet);
+    CALL(iol_device_cycle_time, &device, &octet);
     for (i = 0; i <= 32; i++) {
         CALL(iol_port_set_output, &port, longest, i);
         CALL(iol_device_set_input, &device, longest, i);
         turns(1, 0);
         CALL(iol_port_image, &port, &image);
+        CALL(iol_device_output, &device, &image);
+        CALL(iol_device_silence, &device);
         CALL(iol_device_output, &device, &image);
     }
     CALL(iol_port_clear_output, &port);
@@ -166,6 +173,23 @@ static void events(void)
     turns(300, 0);
     while (CALL(iol_port_take_event, &port, &event) == 0)
         continue;
+}
+
+/* What start-ups ask of the device; the first that is expected isn't there. */
+static void configured(void)
+{
+    iol_page page;
+    uint8_t counts;
+    uint32_t micros;
+    CALL(iol_port_expect, &port, 0x1234, 0x108, &counts);
+    CALL(iol_port_restart, &port);
+    turns(20, 0);
+    CALL(iol_port_expect, &port, 0x1234, 0x107, &counts);
+    CALL(iol_port_expect_any, &port, &counts);
+    for (micros = 0; micros <= 140000; micros += 20000)
+        CALL(iol_port_set_cycle, &port, micros, &counts);
+    turns(20, 0);
+    CALL(iol_port_page, &port, &page);
 }
 
 /* Replies and messages of octets that no one means. */
@@ -202,6 +226,7 @@ static void run(const uint8_t page[10])
     CALL(iol_port_restart, &port);
     CALL(iol_device_power_cycle, &device);
     turns(20, 0);
+    configured();
     noise();
     turns(20, 0);
     outcomes();

@@ -41,7 +41,7 @@ fn turn(rt: &(impl Input + Print + AllocGlobal), port: &mut PortCore) -> Result<
             port.receive_wake(rate);
         }
         Asked::Exchange(sent) => {
-            let came = exchange(rt, sent.as_slice())?;
+            let came = exchange(rt, sent.octets.as_slice())?;
             port.receive(&came);
         }
     }

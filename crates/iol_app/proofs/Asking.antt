@@ -101,7 +101,7 @@ begin_gives s t g far n request h suits known =
         };
         events = h.events;
         output = h.output;
-        shown = record { image = h.shown.image; wanted = h.shown.wanted; lengths = h.shown.lengths; isdu = h.shown.isdu; no_form = h.shown.no_form };
+        shown = record { image = h.shown.image; wanted = h.shown.wanted; lengths = h.shown.lengths; isdu = h.shown.isdu; present = h.shown.present; no_form = h.shown.no_form };
       };
       may = λ moment ticket page. (ap knows_isdu page ∙ has, refl, h.request.late, refl);
       is = λ ticket. ap (λ (l : Option Request). record (session_in (operate_core s t next) (begun_ghost g) far) { late = l }) h.request.late;
@@ -143,5 +143,5 @@ aborts_by cause asks s t current g far n h may = record {
   };
   events = h.events;
   output = h.output;
-  shown = record { image = h.shown.image; wanted = h.shown.wanted; lengths = h.shown.lengths; isdu = h.shown.isdu; no_form = h.shown.no_form };
+  shown = record { image = h.shown.image; wanted = h.shown.wanted; lengths = h.shown.lengths; isdu = h.shown.isdu; present = h.shown.present; no_form = h.shown.no_form };
 }

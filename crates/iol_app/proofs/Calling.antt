@@ -9,6 +9,7 @@ use Rattle.iol_isdu.specs.declared.values.Request.{Request}
 use Rattle.iol_isdu.specs.declared.values.Answer.{Answer}
 use Rattle.iol_far.specs.declared.carried.Carried.{Carried}
 use Rattle.iol_far.specs.Far.{Far}
+use Rattle.iol_mode.specs.declared.configuration.Configuration.{Configuration}
 use Rattle.iol_mode.specs.declared.states.State.{State}
 use Rattle.iol_mode.specs.declared.why.Why.{Why}
 use Rattle.iol_steps.specs.declared.mode.Mode.{Mode}
@@ -34,6 +35,16 @@ joined_want state t image h = grind (arith, common_steps)
 pub wants : (c : Core) (g : Ghost) (far : Far) (silence : ℕ) (image : Option Image)
     → IfSome image IsImage → Stands c g far silence → Stands (wanting_core image c) g far silence
 wants c g far silence image some h = grind (arith, common_steps, joined_want)
+
+-- start-ups are to ask something else of the device
+joined_asks : (state : State) (t : SessionState) (k : Configuration) → Joined state t
+    → Joined state (record t { configuration = k })
+joined_asks state t k h = grind (arith, common_steps)
+
+pub asks_else : (c : Core) (g : Ghost) (far : Far) (silence : ℕ) (k : Configuration)
+    → Stands c g far silence
+    → Stands (record c { session = record c.session { configuration = k } }) g far silence
+asks_else c g far silence k h = grind (arith, common_steps, joined_asks)
 
 -- a restart, in every mode
 request_opens : (state : State) (t : SessionState) (g : Ghost) (far : Far) → Joined state t → RequestStands state t.limit t.current t.exchange t.events g far → IsOpen far.isdu (request_in t.current) g.request.hidden

@@ -6,6 +6,7 @@ use Rattle.iol_isdu.specs.declared.values.Cause.{Cause}
 use Rattle.iol_isdu.specs.declared.values.Cause.TheVariants.{BusyTooLong, Cancelled}
 use Rattle.iol_image.specs.Image.{IsImage}
 use Rattle.iol_mode.specs.declared.states.Operate.{Operate}
+use Rattle.iol_mode.specs.declared.configuration.Configuration.{Configuration}
 use Rattle.iol_mode.specs.declared.states.State.{State}
 use Rattle.iol_mode.specs.declared.states.State.TheVariants.{Down as AtDown, Operate as AtOperate}
 use Rattle.iol_steps.specs.declared.mode.Mode.TheVariants.{Operate as ModeOperate}
@@ -17,7 +18,7 @@ use Rattle.iol_app.specs.Requests.{request_in}
 use Rattle.iol_app.specs.State.{SessionState, OutSuits, begun_in, aborted_in}
 use Rattle.iol_app.specs.StationState.{mode_in, StateFits as Joined}
 use Rattle.iol_app.proofs.Asking.{begin_gives, denies, aborts_by, waiting_at, marked_at}
-use Rattle.iol_app.proofs.Calling.{opens, wants, restarts, restarted_session}
+use Rattle.iol_app.proofs.Calling.{asks_else, opens, wants, restarts, restarted_session}
 use Rattle.iol_app.specs.Core.{Core, Stands, BeginGives, session_in, operate_core, asking_ghost, opened_core, opened_ghost, wanting_core, restarted_core, restarted_ghost}
 use Rattle.iol_app.specs.Seen.{NewSteps, BeginSteps, DenySteps, AbortSteps, CancelSteps, WantSteps, RestartSteps}
 
@@ -88,6 +89,12 @@ module _ (old new : Core) (cause : Cause) (some : IsSome old.session.current) (e
 pub want_steps : (wanted : Option Image) (old new : Core) → IfSome wanted IsImage → new ≡ wanting_core wanted old → WantSteps old new
 unfolding WantSteps
 want_steps wanted old new image e = λ g far n stands. subst (λ (c : Core). Stands c g far n) (sym e) (wants old g far n wanted image stands)
+
+pub ask_steps : (k : Configuration) (old new : Core)
+    → new ≡ record old { session = record old.session { configuration = k } } → WantSteps old new
+unfolding WantSteps
+ask_steps k old new e = λ g far n stands.
+    subst (λ (c : Core). Stands c g far n) (sym e) (asks_else old g far n k stands)
 
 pub restart_steps_of : (old new : Core) → new ≡ restarted_core old → RestartSteps old new
 unfolding RestartSteps

@@ -127,6 +127,7 @@ module _ (laws : Laws) (layouts : Layouts) (w : Sending) (t : SessionState) (g :
       pub record Ends (call : WireCall) (next : Core) (after : Ghost) (ys : List Step) : Type 0 where
         pub limit : next.session.limit ≡ t.limit
         pub page : after.page ≡ g.page
+        pub configuration : next.session.configuration ≡ t.configuration
         pub session : SessionRuns (moment_of c g n call) (seen_in c g) h passed.carried ys (seen_in next after) after.request.hidden passed.carried
         pub frozen : FrozenRuns passed.events.frozen told ys passed.events.frozen after.events.told
         pub images : ImagesRuns (moment_of c g n call) (images_of (shown_in t g.sent) passed) ys (images_in next after passed)
@@ -156,7 +157,7 @@ module _ (laws : Laws) (layouts : Layouts) (w : Sending) (t : SessionState) (g :
               after = after;
               fits = fits;
               silent = silent;
-              terms = (b.limit, b.page);
+              terms = (b.limit, b.page, b.configuration);
               clash_free = b.apart.free;
               fresh = λ k. fresh_turn request far steps passage o ys (stands.fresh k).1 (b.calm k);
               said_book = b.apart.book ∙ b.book;
@@ -192,6 +193,7 @@ module _ (laws : Laws) (layouts : Layouts) (w : Sending) (t : SessionState) (g :
       misses says = record {
         limit = refl;
         page = refl;
+        configuration = refl;
         session = (tt, refl);
         frozen = (tt, refl);
         images = (tt, refl);
@@ -217,7 +219,7 @@ module _ (laws : Laws) (layouts : Layouts) (w : Sending) (t : SessionState) (g :
         events = subst (λ (b : Bool). EventsTold R b passed told) confirms told';
         output = p.outputs;
         sent = stands.sent;
-        shown = record { image = λ k. absurd (k refl); wanted = stands.shown.wanted; lengths = stands.shown.lengths; isdu = stands.shown.isdu; no_form = stands.shown.no_form };
+        shown = record { image = λ k. absurd (k refl); wanted = stands.shown.wanted; lengths = stands.shown.lengths; isdu = stands.shown.isdu; present = stands.shown.present; no_form = stands.shown.no_form };
       }
 
       pub loses : said ≡ lost_said request → 3 ≤ min 3 (n + 1) → Ends (Exchanged false) (after_exchange (InDown (record { why = Some Lost })) c.session) (record away { request = record g.request { hidden = hidden_lost request h } }) (lost_steps request)
@@ -226,6 +228,7 @@ module _ (laws : Laws) (layouts : Layouts) (w : Sending) (t : SessionState) (g :
           record {
             limit = refl;
             page = refl;
+            configuration = refl;
             session = lost_session (moment_of c g n (Exchanged false)) (seen_in c g) h passed.carried (λ k. absurd (let z : ModeOperate ≡ ModeDown = k in cc)) third;
             frozen = f.1;
             images = f.2;
@@ -241,7 +244,7 @@ module _ (laws : Laws) (layouts : Layouts) (w : Sending) (t : SessionState) (g :
             events = tt;
             output = tt;
             sent = stands.sent;
-            shown = record { image = λ k. refl; wanted = stands.shown.wanted; lengths = stands.shown.lengths; isdu = stands.shown.isdu; no_form = stands.shown.no_form };
+            shown = record { image = λ k. refl; wanted = stands.shown.wanted; lengths = stands.shown.lengths; isdu = stands.shown.isdu; present = stands.shown.present; no_form = stands.shown.no_form };
           }
         where
           fit : (r : Option Request) → Before (exchange_steps request far steps passage o) (lost_steps r) × FrozenRuns passed.events.frozen told (lost_steps r) passed.events.frozen told

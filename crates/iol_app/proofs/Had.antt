@@ -280,6 +280,7 @@ module _ (laws : Laws) (readers : ReaderLaws) (turn : Good) where
         (record {
           limit = refl;
           page = refl;
+          configuration = refl;
           session = b.session;
           frozen = b.frozen;
           images = subst (λ (q : Output). ImagesRuns m (images_of (shown_in t g.sent) there) (brought_steps kind request) (images_of (record (shown_in t g.sent) { image = image_in r; wanted = q.wanted }) there)) (sym (same_output e t.output))
@@ -306,7 +307,7 @@ module _ (laws : Laws) (readers : ReaderLaws) (turn : Good) where
           events = ((λ k. reads.fit), ap (λ (q : Bool). q && is_due (reading_at (read_on e od t.events.reading) r.event reads.due)) (sym a.says.before.awake));
           output = (a.passes.outputs.0, (λ k l. a.told_as ∙ ap (λ (q : Output). q.told) (sym (same_output e t.output))), a.passes.outputs.2);
           sent = subst (λ (q : Output). SentSeen t.layout q.carried.items g.sent) (sym (same_output e t.output)) a.stands.sent;
-          shown = record { image = λ k. absurd (k refl); wanted = subst (λ (q : Output). IfSome q.wanted IsImage) (sym (same_output e t.output)) a.stands.shown.wanted; lengths = a.stands.shown.lengths; isdu = a.stands.shown.isdu; no_form = reads.form };
+          shown = record { image = λ k. absurd (k refl); wanted = subst (λ (q : Output). IfSome q.wanted IsImage) (sym (same_output e t.output)) a.stands.shown.wanted; lengths = a.stands.shown.lengths; isdu = a.stands.shown.isdu; present = a.stands.shown.present; no_form = reads.form };
         })
         tt a.silent link fits joined a.silent
       where

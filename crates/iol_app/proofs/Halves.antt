@@ -1,7 +1,9 @@
 -- A message goes out, and what comes back is taken up, with no call between: one call of the wire and one list of steps.
 use Rattle.std.proofs.Common.{◌≡◌, ◌∷◌, ◌++◌, List, ℕ, true, Option, sym, ap, ◌∙◌, subst, filter}
 use Rattle.std.specs.Prelude.{IsTrue}
+use Rattle.iol_page.specs.declared.identity.Identity.{Identity}
 use Rattle.iol_far.specs.Far.{Far}
+use Rattle.iol_mode.specs.declared.configuration.Configuration.{Configuration}
 use Rattle.iol_steps.specs.declared.mode.Mode.{Mode}
 use Rattle.iol_steps.specs.declared.said.Said.{Said}
 use Rattle.iol_steps.specs.Step.{Make, WireCall, Moment, CallFits, is_for_book, no_make, woke_up, book_said}
@@ -13,14 +15,22 @@ use Rattle.iol_app.specs.StationState.{mode_in}
 use Rattle.iol_app.specs.Core.{Core, Ghost, SendGives, CallGives, ordered, moment_of, session_in, images_in}
 use Rattle.iol_app.proofs.Clash.{make_apart}
 
-abbrev moment_by : ℕ → List ℕ → Mode → ℕ → WireCall → Moment
-moment_by limit page began n call = record { terms = record { busy_limit = limit; page = page }; began = began; silence = n; call = call }
+abbrev moment_by : ℕ → List ℕ → Option Identity → Mode → ℕ → WireCall → Moment
+moment_by limit page expected began n call = record {
+  terms = record { busy_limit = limit; page = page; expected = expected };
+  began = began;
+  silence = n;
+  call = call;
+}
 
 pub turn_of : (c mid next : Core) (g after : Ghost) (far far' : Far) (n n' : ℕ) (said : Said) → SendGives c mid g after far n → (r : CallGives mid after far n said next far' n') → no_make r.steps ≡ true → CallGives c g far n said next far' n'
 turn_of c mid next g after far far' n n' said s r unmade =
     let m : Moment = moment_of c g n r.call in
     let at : moment_of mid after n r.call ≡ m =
-    ap (λ (l : ℕ). moment_by l after.page (mode_in mid.state) n r.call) s.terms.0 ∙ ap (λ (p : List ℕ). moment_by c.session.limit p (mode_in mid.state) n r.call) s.terms.1 ∙ ap (λ (b : Mode). moment_by c.session.limit g.page b n r.call) s.mode in
+    ap (λ (l : ℕ). moment_by l after.page mid.session.configuration.expected (mode_in mid.state) n r.call) s.terms.0
+    ∙ ap (λ (p : List ℕ). moment_by c.session.limit p mid.session.configuration.expected (mode_in mid.state) n r.call) s.terms.1
+    ∙ ap (λ (k : Configuration). moment_by c.session.limit g.page k.expected (mode_in mid.state) n r.call) s.terms.2
+    ∙ ap (λ (b : Mode). moment_by c.session.limit g.page c.session.configuration.expected b n r.call) s.mode in
     let images : images_after m Make (images_in c g far) ≡ images_in mid after far = s.images r.call in
     let last : ImageIsLast m (mode_in next.state) (images_in mid after far) (images_in next r.after far') = subst (λ (k : Moment). ImageIsLast k (mode_in next.state) (images_in mid after far) (images_in next r.after far')) at r.image_is_last in
     let wanted : OutputIsWanted m (record (images_in mid after far) { wanted = ordered mid.state mid.session }) (images_in next r.after far') =
@@ -31,7 +41,7 @@ turn_of c mid next g after far far' n n' said s r unmade =
       after = r.after;
       fits = subst (λ (b : Mode). CallFits b r.call) s.mode r.fits;
       silent = r.silent;
-      terms = (r.terms.0 ∙ s.terms.0, r.terms.1 ∙ s.terms.1);
+      terms = (r.terms.0 ∙ s.terms.0, r.terms.1 ∙ s.terms.1, r.terms.2 ∙ s.terms.2);
       clash_free = rw (make_apart r.steps unmade) r.clash_free;
       fresh = λ k. r.fresh (subst IsTrue s.fresh k);
       said_book = subst (λ (b : Mode). filter is_for_book r.steps ≡ woke_up b (mode_in next.state) ++ book_said said) s.mode r.said_book;

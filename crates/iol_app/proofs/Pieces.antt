@@ -30,7 +30,7 @@ use Rattle.iol_app.specs.Outputs.{carried_by}
 use Rattle.iol_app.specs.State.{SessionState, IsSession, IsOutBy, IsMessageFor, sending}
 use Rattle.iol_app.specs.StationState.{StateFits as Joined, IsStill, NextFits, IsSettledSaid, settled_session, waked_session, mode_in}
 use Rattle.iol_app.specs.StationLaws.{StationLaws}
-use Rattle.iol_app.specs.Core.{Core, Ghost, Stands, CallGives, ReceiveGives, SendGives, made_ghost, IsAttempted, ordered, moment_of, images_in, after_exchange, after_wake, core_out}
+use Rattle.iol_app.specs.Core.{came_of, Core, Ghost, Stands, CallGives, ReceiveGives, SendGives, made_ghost, IsAttempted, ordered, moment_of, images_in, after_exchange, after_wake, core_out}
 use Rattle.iol_app.specs.Pieces.{SendSteps, Received, WakeSteps, ReceiveSteps}
 use Rattle.iol_app.proofs.Turns.{startup_next, preoperate_next, operate_next}
 use Rattle.iol_app.proofs.Settling.{settled_fits}
@@ -40,7 +40,7 @@ unfolding control_of
 first_parts = record { out = refl; od = refl }
 
 waked_fits : (answered : Bool) → OutcomeFits (waked answered)
-waked_fits true = record { message_is = refl; parts = first_parts; step = lit< tt }
+waked_fits true = record { message_is = refl; parts = first_parts; step = lit< tt; admitted = tt }
 waked_fits false = tt
 
 -- a wake says nothing
@@ -78,10 +78,10 @@ unfolding SendSteps
 same_sends old = λ g far n stands. inl (record { same = refl; asks = λ tried calm. wanted_at old.state old.session n far tried stands.link calm })
 
 -- what is made of what comes back may be taken up
-out_next : (out : Option Sending) (layouts : Layouts) (came : Option (List ℕ)) (s : SessionState) → let state : Operate = record { out = out; layouts = layouts } in IsSending (AtOperate state) → Joined (AtOperate state) s → NextFits (judged (AtOperate state) came) s
+out_next : (out : Option Sending) (layouts : Layouts) (came : Option (List ℕ)) (s : SessionState) → let state : Operate = record { out = out; layouts = layouts } in IsSending (AtOperate state) → Joined (AtOperate state) s → NextFits (judged s.configuration (AtOperate state) came) s
 out_next out layouts came s sends fits = grind (arith, common_steps, operate_next)
 
-pub judged_next : (state : State) (came : Option (List ℕ)) (s : SessionState) → IsSending state → Joined state s → NextFits (judged state came) s
+pub judged_next : (state : State) (came : Option (List ℕ)) (s : SessionState) → IsSending state → Joined state s → NextFits (judged s.configuration state came) s
 judged_next state came s sends fits =
     grind (arith, common_steps, startup_next, preoperate_next, out_next)
 
@@ -96,15 +96,15 @@ module _ (laws : StationLaws) (t : SessionState) (came : Option (List ℕ)) (sai
   at state = record { state = state; session = t }
 
   abbrev Gives : State → Type 0
-  Gives state = Stands (at state) g far n → HonestExchange far n (text_out state) came far' n' → AreFew state → OutcomeFits (judged state came) → ExchangeGives state came (judged state came) → IsSettledSaid (judged state came) t said
-      → Received (at state) g far n said (after_exchange (judged state came) t) far' n'
+  Gives state = Stands (at state) g far n → HonestExchange far n (text_out state) came far' n' → AreFew state → OutcomeFits (judged t.configuration state came) → ExchangeGives state came (judged t.configuration state came) → IsSettledSaid (judged t.configuration state came) t said
+      → Received (at state) g far n said (after_exchange (judged t.configuration state came) t) far' n'
 
   -- in both modes of a start-up
-  rise_gives : (state : State) → is_starting state ≡ true → (mode_in state ≡ ModeOperate → ⊥) → IsStill t → NextFits (judged state came) t → Stands (at state) g far n → HonestExchange far n (text_out state) came far' n'
-      → OutcomeFits (judged state came) → IsRisen (judged state came) n' far far' → IsSettledSaid (judged state came) t said → Received (at state) g far n said (after_exchange (judged state came) t) far' n'
+  rise_gives : (state : State) → is_starting state ≡ true → (mode_in state ≡ ModeOperate → ⊥) → IsStill t → NextFits (judged t.configuration state came) t → Stands (at state) g far n → HonestExchange far n (text_out state) came far' n'
+      → OutcomeFits (judged t.configuration state came) → IsRisen (judged t.configuration state came) n' far far' → IsSettledSaid (judged t.configuration state came) t said → Received (at state) g far n said (after_exchange (judged t.configuration state came) t) far' n'
   rise_gives state starting down still next stands x fits risen says =
-      let outcome : Outcome = judged state came in
-      let given : CallGives (at state) g far n Idle (after_exchange outcome t) far' n' = laws.rises.gives (at state) g far far' n n' came starting stands valid x risen fits (settled_fits outcome t next) in
+      let outcome : Outcome = judged t.configuration state came in
+      let given : CallGives (at state) g far n Idle (after_exchange outcome t) far' n' = laws.rises.gives (at state) g far far' n n' came starting stands valid x risen fits (settled_fits outcome t fits next) in
       subst (λ (k : Said). Received (at state) g far n k (after_exchange outcome t) far' n') (sym (still_said outcome t said still says))
       (record { given = given; unmade = unmade (moment_of (at state) g n given.call) given.steps (images_in (at state) g far) down given.images.0; attempted = entered_tried outcome n' far' risen.entered })
 
@@ -112,11 +112,11 @@ module _ (laws : StationLaws) (t : SessionState) (came : Option (List ℕ)) (sai
   out_gives : (layouts : Layouts) (w : Sending) (e : Exchange) → t.exchange ≡ Some e → Gives (AtOperate (record { out = Some w; layouts = layouts }))
   out_gives layouts w e is stands x few fits gives says =
       let state : State = AtOperate (record { out = Some w; layouts = layouts }) in
-      let outcome : Outcome = judged state came in
+      let outcome : Outcome = judged t.configuration state came in
       let named : SessionState = record t { exchange = Some e } in
       let same : t ≡ named = ap (λ (k : Option Exchange). record t { exchange = k }) is in
       let given = gives far far' n n' stands.link x in
-      let joined : Joined (state_of outcome) (settled_session outcome t) = settled_fits outcome t (out_next (Some w) layouts came t refl stands.joined) in
+      let joined : Joined (state_of outcome) (settled_session outcome t) = settled_fits outcome t fits (out_next (Some w) layouts came t refl stands.joined) in
       let got : ReceiveGives (core_out layouts w t e t.current) g far n said (after_exchange outcome named) far' n' =
       laws.receives.gives layouts w t e g far far' n n' came said
       (subst (λ (s : SessionState). let c : Core = record { state = state; session = s } in Stands c g far n) same stands) (subst IsSession same valid) x few given.0 fits given.1
@@ -138,8 +138,8 @@ module _ (laws : StationLaws) (t : SessionState) (came : Option (List ℕ)) (sai
       stands.joined.0 (judged_next state came t sends stands.joined) stands x fits
       (gives far far' n n' stands.link x) says
 
-pub receive_steps : StationLaws → (old : Core) (came : Option (List ℕ)) (said : Said) (new : Core) → IsSession old.session → IsSending old.state → AreFew old.state → OutcomeFits (judged old.state came) → ExchangeGives old.state came (judged old.state came)
-    → IsSettledSaid (judged old.state came) old.session said → new ≡ after_exchange (judged old.state came) old.session → ReceiveSteps old came said new
+pub receive_steps : StationLaws → (old : Core) (came : Option (List ℕ)) (said : Said) (new : Core) → IsSession old.session → IsSending old.state → AreFew old.state → OutcomeFits (came_of old came) → ExchangeGives old.state came (came_of old came)
+    → IsSettledSaid (came_of old came) old.session said → new ≡ after_exchange (came_of old came) old.session → ReceiveSteps old came said new
 unfolding ReceiveSteps
 receive_steps laws old came said new valid sends few fits gives says e = λ g far far' n n' stands x.
     subst (λ (k : Core). Received old g far n said k far' n') (sym e) (state_gives laws old.session came said valid g far far' n n' old.state sends stands x few fits gives says)

@@ -174,14 +174,14 @@ module _ (levels : (size : ℕ) → 1 ≤ size → LevelLaws size) (modes : Mode
       };
       events = ((λ k. events_due (reading_in t.events g.events) (confirms_events e) far.events (λ c. confirm_due t.events.reading t.events.flag g.events.due (due.confirm (confirms_is e c))) (stands.events.0 k)), stands.events.1);
       output = ((λ k v. let here = stands.output.0 k v in (here.0, keeps_some t.output.wanted g.sent here.1)), (λ k none. stands.output.1 k refl), stands.output.2);
-      shown = record { image = λ k. absurd (k refl); wanted = stands.shown.wanted; lengths = stands.shown.lengths; isdu = stands.shown.isdu; no_form = stands.shown.no_form };
+      shown = record { image = λ k. absurd (k refl); wanted = stands.shown.wanted; lengths = stands.shown.lengths; isdu = stands.shown.isdu; present = stands.shown.present; no_form = stands.shown.no_form };
     };
     session = refl;
     frozen = refl;
     may = λ call. (refl, stands.calm);
     fresh = refl;
     mode = refl;
-    terms = (refl, refl);
+    terms = (refl, refl, refl);
     images = λ call. refl;
     wants = refl;
     asks = ap (λ (c : Option Bool). ordered_by (told_by c t.output.told) m.out.items) due.output ∙ ap (ordered_by (told_by (output_due t.output.wanted t.output.told) t.output.told)) carried ∙ asks_wanted t.output.wanted t.output.told t.output.carried.items stands.shown.wanted;

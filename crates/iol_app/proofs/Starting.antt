@@ -11,7 +11,10 @@ use Rattle.iol_mseq.specs.Texts.{master_text}
 use Rattle.iol_mseq.specs.declared.reply.Reply.{Reply}
 use Rattle.iol_mseq.specs.declared.master.MasterMsg.{MasterMsg}
 use Rattle.iol_page.specs.Page.{layouts_of, is_old, is_present, knows_isdu, IsAskedBy, PagesAskForLayouts}
+use Rattle.iol_page.specs.Identity.{identity_of, is_expected, same_identity}
+use Rattle.iol_page.specs.declared.identity.Identity.{Identity}
 use Rattle.iol_page.specs.declared.page.Layouts.{Layouts}
+use Rattle.iol_mode.specs.declared.configuration.Configuration.{Configuration}
 use Rattle.iol_page.specs.declared.fault.PageFault.{PageFault}
 use Rattle.iol_page.specs.declared.fault.PageFault.TheVariants.{Revision, BadPdLength, UnsupportedCode}
 use Rattle.iol_page.specs.declared.master_command.MasterCommand.{MasterCommand}
@@ -36,11 +39,11 @@ use Rattle.iol_mode.specs.declared.states.State.{State}
 use Rattle.iol_mode.specs.declared.states.State.TheVariants.{Down as AtDown, Startup as AtStartup, Preoperate as AtPreoperate, Operate as AtOperate}
 use Rattle.iol_image.specs.Image.{IsImage}
 use Rattle.iol_mode.specs.declared.why.Why.{Why}
-use Rattle.iol_mode.specs.declared.why.Why.TheVariants.{Lost}
+use Rattle.iol_mode.specs.declared.why.Why.TheVariants.{Lost, WrongDevice}
 use Rattle.iol_mode.specs.Why.{why_of}
-use Rattle.iol_mode.specs.Next.{IsEntered, told_by}
+use Rattle.iol_mode.specs.Next.{IsEntered, read_by}
 use Rattle.iol_mode.specs.Stands.{startup_link, preoperate_link, entering_link, StateStands, StepStands}
-use Rattle.iol_mode.specs.States.{Outcome, InDown, InOperate, OutcomeFits, StateFits, StepFits, state_of, is_starting, begun, step_behind, step_after, checked, startup_by, startup_turned, preoperate_by, preoperate_after, preoperate_turned}
+use Rattle.iol_mode.specs.States.{Outcome, InDown, InOperate, OutcomeFits, StateFits, StepFits, state_of, is_starting, begun, step_behind, step_after, told_of, page_taken, taken_where, checked, startup_by, startup_turned, preoperate_by, preoperate_after, preoperate_turned}
 use Rattle.iol_mode.specs.Turns.{IsRisen}
 use Rattle.iol_steps.specs.declared.mode.Mode.{Mode}
 use Rattle.iol_steps.specs.declared.mode.Mode.TheVariants.{Down as ModeDown, Startup as ModeStartup, Preoperate as ModePreoperate, Operate as ModeOperate}
@@ -85,12 +88,18 @@ state_at (InPre s) = AtPreoperate s
 abbrev mode_at : Start → Mode
 mode_at start = mode_in (state_at start)
 
+-- whether a device is expected is a question of its identity
+same_expected : (expected : Option Identity) (a b : List ℕ) → identity_of a ≡ identity_of b
+    → is_expected expected a ≡ is_expected expected b
+same_expected None a b e = refl
+same_expected (Some identity) a b e = ap (same_identity identity) e
+
 -- nothing is under way in it
 abbrev still : SessionState → SessionState
 still t = record t { current = None; exchange = None; output = record t.output { told = false }; events = record t.events { reading = Resting }; image = None }
 
 is_still : (t : SessionState) → t.current ≡ None → t.exchange ≡ None → t.image ≡ None → t.events.reading ≡ Resting → t.output.told ≡ false → t ≡ still t
-is_still t a b c d e = λ i. record { limit = t.limit; layout = t.layout; isdu = t.isdu; current = a i; exchange = b i; output = record t.output { told = e i }; events = record t.events { reading = d i }; image = c i }
+is_still t a b c d e = λ i. record { limit = t.limit; layout = t.layout; isdu = t.isdu; configuration = t.configuration; present = t.present; current = a i; exchange = b i; output = record t.output { told = e i }; events = record t.events { reading = d i }; image = c i }
 
 none_due : (b awake : Bool) → false ≡ (awake && is_due (reading_flagged b))
 none_due b awake = grind (arith, common_steps)
@@ -247,6 +256,7 @@ module _ (laws : Laws) (heard : TextsAreHeard) (start : Start) (session : Sessio
   -- what an outcome has to bring
   record Ends (answered : Bool) (next : Core) (ys : List Step) : Type 0 where
     limit : next.session.limit ≡ session.limit
+    configuration : next.session.configuration ≡ session.configuration
     session_runs : SessionRuns (moment_of c g n (Exchanged answered)) (seen_in c g) h passed.carried ys (seen_in next after) h passed.carried
     frozen : FrozenRuns passed.events.frozen false ys passed.events.frozen false
     images : ImagesRuns (moment_of c g n (Exchanged answered)) (images_of (shown_in (still session) g.sent) passed) ys (images_of (shown_in next.session g.sent) passed)
@@ -275,7 +285,7 @@ module _ (laws : Laws) (heard : TextsAreHeard) (start : Start) (session : Sessio
         after = after;
         fits = fits_call start answered;
         silent = silence;
-        terms = (b.limit, refl);
+        terms = (b.limit, refl, b.configuration);
         clash_free = before.free;
         fresh = λ e. absurd (rests.fresh e);
         said_book = before.book ∙ b.plain.3 ∙ rw (not_woken start (mode_in next.state)) refl;
@@ -312,12 +322,13 @@ module _ (laws : Laws) (heard : TextsAreHeard) (start : Start) (session : Sessio
 
   abbrev shown' : (state : State) (event : Bool)
       → ShownStands (record { state = state; session = entered event (still session) }) g.page
-  shown' state event = record { image = λ e. refl; wanted = stands.shown.wanted; lengths = stands.shown.lengths; isdu = stands.shown.isdu; no_form = refl }
+  shown' state event = record { image = λ e. refl; wanted = stands.shown.wanted; lengths = stands.shown.lengths; isdu = stands.shown.isdu; present = stands.shown.present; no_form = refl }
 
   -- a start-up goes on in its mode
   stays : (answered : Bool) (next : Start) → seen_in (record { state = state_at next; session = still session }) after ≡ seen_in c g → Ends answered (record { state = state_at next; session = still session }) []
   stays answered next same = record {
     limit = refl;
+    configuration = refl;
     session_runs = (tt, ap (λ (e : Seen). session_of e h passed.carried) (sym same));
     frozen = (tt, refl);
     images = (tt, refl);
@@ -337,6 +348,7 @@ module _ (laws : Laws) (heard : TextsAreHeard) (start : Start) (session : Sessio
       (MoveTo (mode_in state) (why_in state) ∷ [])
   moves answered event state may left = record {
     limit = refl;
+    configuration = refl;
     session_runs = ((may, tt), refl);
     frozen = ((tt, tt), refl);
     images = ((tt, tt), refl);
@@ -358,20 +370,41 @@ module _ (laws : Laws) (heard : TextsAreHeard) (start : Start) (session : Sessio
   climbs : (s : Preoperate) → MayMove (moment_of c g n (Exchanged true)) (mode_at start) ModePreoperate None → Ends true (record { state = AtPreoperate s; session = still session }) (MoveTo ModePreoperate None ∷ [])
   climbs s may = moves true session.events.flag (AtPreoperate s) may (kept (InPre s))
 
-  -- the page is whole, and its lengths are told
-  tells : (s : Startup) (layouts : Layouts) → mode_at start ≡ ModeStartup → seen_in (record { state = AtStartup s; session = still session }) after ≡ seen_in c g → layouts_of g.page ≡ Ok layouts → layouts.isdu ≡ knows_isdu g.page → IsSession (still session)
-      → Ends true (record { state = AtStartup s; session = told layouts.run layouts.isdu (still session) }) (TellLength ∷ [])
-  tells s layouts first same asked isdu valid =
+  -- the page is whole, that of the device that is expected, and is told
+  tells : (s : Startup) (read : Told) → mode_at start ≡ ModeStartup
+      → seen_in (record { state = AtStartup s; session = still session }) after ≡ seen_in c g
+      → layouts_of g.page ≡ Ok read.layouts → read.layouts.isdu ≡ knows_isdu g.page
+      → read.page ≡ g.page → is_expected session.configuration.expected g.page ≡ true
+      → IsSession (still session)
+      → Ends true (record { state = AtStartup s; session = told read (still session) }) (TellLength ∷ [])
+  tells s read first same asked isdu page right valid =
       let q = kept (InStart s) in
+      let layouts : Layouts = read.layouts in
       let size : output_length g.page ≡ layouts.run.pd_out = ap (λ (l : Shape). l.pd_out) (told_layout g.page FarOperate layouts asked) in
-      let w : ShownSeen (told layouts.run layouts.isdu (still session)) (record (shown_in (still session) g.sent) { told = Some (output_length g.page); isdu = Some (knows_isdu g.page) }) =
-      told_shown (still session) (shown_in (still session) g.sent) layouts.run layouts.isdu (knows_isdu g.page) (output_length g.page) valid (record { image = refl; wanted = refl; sent = stands.sent; told = refl; isdu = refl })
-      stands.shown.wanted stands.shown.lengths size (sym isdu) in
+      let w : ShownSeen (told read (still session))
+      (record (shown_in (still session) g.sent) {
+        told = Some (output_length g.page);
+        isdu = Some (knows_isdu g.page);
+        page = Some g.page;
+      }) =
+      told_shown (still session) (shown_in (still session) g.sent) read g.page (knows_isdu g.page) (output_length g.page) valid
+      (record { image = refl; wanted = refl; sent = stands.sent; told = refl; isdu = refl; page = refl })
+      stands.shown.wanted stands.shown.lengths size (sym isdu) (sym page) in
       record {
         limit = refl;
+        configuration = refl;
         session_runs = ((tt, tt), ap (λ (e : Seen). session_of e h passed.carried) (sym same));
         frozen = ((tt, tt), refl);
-        images = ((first, tt), λ i. let y : Images = images_of (record (shown_in (still session) g.sent) { wanted = w.wanted i; told = w.told i; isdu = w.isdu i }) passed in y);
+        images = (
+          ((first, right), tt),
+          λ i.
+              let y : Images = images_of (record (shown_in (still session) g.sent) {
+                wanted = w.wanted i;
+                told = w.told i;
+                isdu = w.isdu i;
+                page = w.page i;
+              }) passed in y,
+        );
         plain = (refl, refl, refl, refl, refl);
         left = record {
           request = q.request;
@@ -381,7 +414,7 @@ module _ (laws : Laws) (heard : TextsAreHeard) (start : Start) (session : Sessio
         };
         sent = w.sent;
         image = refl;
-        shown = record { image = λ e. refl; wanted = subst (λ (o : Option (List ℕ)). IfSome o IsImage) w.wanted stands.shown.wanted; lengths = sym size; isdu = isdu; no_form = refl };
+        shown = record { image = λ e. refl; wanted = subst (λ (o : Option (List ℕ)). IfSome o IsImage) w.wanted stands.shown.wanted; lengths = sym size; isdu = isdu; present = page; no_form = refl };
       }
 
   -- it comes to OPERATE, with the Event flag of the reply
@@ -486,14 +519,14 @@ module _ (known : Known) (session : SessionState) (valid : IsSession (still sess
     asked_of : (layouts : Layouts) → layouts_of far.page ≡ Ok layouts → IsAskedBy g.page layouts
     asked_of layouts e = asked_by layouts (ap layouts_of (sym stands.page) ∙ e)
 
-    start_tries : (b : Bool) → (s.sent.tries == 2) ≡ b → n' ≡ min 3 (n + 1) → let o : Outcome = startup_by (record { message = s.sent.message; tries = if b then 0 else s.sent.tries + 1 }) s.step (if b then WasLost else Again) in
+    start_tries : (b : Bool) → (s.sent.tries == 2) ≡ b → n' ≡ min 3 (n + 1) → let o : Outcome = startup_by session.configuration (record { message = s.sent.message; tries = if b then 0 else s.sent.tries + 1 }) s.step (if b then WasLost else Again) in
         IsRisen o n' far far' → OutcomeFits o → Joined (state_of o) (settled_session o (still session)) → CallGivesBy (AtStartup s) o
     start_tries true two silence risen fits joined = by (InStart s) stands x false silence _ _ refl _ (falls laws heard (InStart s) session g far far' n n' came stands _ _ _ false Lost (third_time s.sent.tries n (grind (arith, nat_tests)) stands.link.tries)) risen fits joined
     start_tries false two silence risen fits joined =
-        by (InStart s) stands x false silence _ _ (told_stays (told_by s.step) (still session) valid stands.joined.1) _ (stays laws heard (InStart s) session g far far' n n' came stands _ _ _ false (InStart _) refl) risen fits joined
+        by (InStart s) stands x false silence _ _ (told_stays (read_by s.step) (still session) valid stands.joined.1) _ (stays laws heard (InStart s) session g far far' n n' came stands _ _ _ false (InStart _) refl) risen fits joined
 
     module _ (r : Reply) (good : Good (InStart s) stands x r) where
-      goes : (step : PageStep) → told_in (told_by step) (still session) ≡ still session → IsRisen (begun step) n' far far' → OutcomeFits (begun step) → Joined (state_of (begun step)) (settled_session (begun step) (still session)) → CallGivesBy (AtStartup s) (begun step)
+      goes : (step : PageStep) → told_in (read_by step) (still session) ≡ still session → IsRisen (begun step) n' far far' → OutcomeFits (begun step) → Joined (state_of (begun step)) (settled_session (begun step) (still session)) → CallGivesBy (AtStartup s) (begun step)
       goes step same risen fits joined = by (InStart s) stands x true good.silence_is _ _ same _ (stays laws heard (InStart s) session g far far' n n' came stands _ _ _ true (InStart _) refl) risen fits joined
 
       may_fault : (fault : PageFault) → page_fault g.page ≡ Some (why_of fault) → MayMove m ModeStartup ModeDown (Some (why_of fault))
@@ -501,32 +534,65 @@ module _ (known : Known) (session : SessionState) (valid : IsSession (still sess
       may_fault BadPdLength e = e
       may_fault UnsupportedCode e = e
 
-      behind_session : (page : Told) (p : Option Shape) → told_in (told_by (step_behind page p)) (still session) ≡ told page.layouts.run page.layouts.isdu (still session)
+      behind_session : (page : Told) (p : Option Shape) → told_in (read_by (step_behind page p)) (still session) ≡ told page (still session)
       behind_session page p = grind (arith, common_steps)
 
-      behind_told : (page : Told) (p : Option Shape) → StepStands (step_behind page p) far' → layouts_of far'.page ≡ Ok page.layouts
-      behind_told page p q = grind (arith, common_steps)
+      behind_told : (page : Told) (p : Option Shape) → StepStands (step_behind page p) far'
+          → (layouts_of far'.page ≡ Ok page.layouts) × (page.page ≡ far'.page)
+      behind_told page None q = q
+      behind_told page (Some pre) q = q
 
-      by_page : (asked : Result Layouts PageFault) (octets : List ℕ) → IsRisen (checked asked octets) n' far far' → OutcomeFits (checked asked octets) → Joined (state_of (checked asked octets)) (settled_session (checked asked octets) (still session))
-          → CallGivesBy (AtStartup s) (checked asked octets)
-      by_page (Err fault) octets risen fits joined =
+      abbrev asks_now : Configuration
+      asks_now = session.configuration
+
+      abbrev Rising : Outcome → Type 0
+      Rising outcome = IsRisen outcome n' far far' → OutcomeFits outcome
+          → Joined (state_of outcome) (settled_session outcome (still session))
+          → CallGivesBy (AtStartup s) outcome
+
+      by_taken : (asked : Result Layouts PageFault) (octets : List ℕ)
+          → is_expected asks_now.expected octets ≡ true → Rising (page_taken asks_now asked octets)
+      by_taken (Err fault) octets known risen fits joined =
           let asked : layouts_of g.page ≡ Err fault = ap layouts_of (sym (page_new (InStart s) stands x)) ∙ risen.fault fault refl in
           by (InStart s) stands x true good.silence_is _ _ refl _ (falls laws heard (InStart s) session g far far' n n' came stands _ _ _ true (why_of fault) (may_fault fault (ap fault_in asked))) risen fits joined
-      by_page (Ok layouts) octets risen fits joined =
-          let page : Told = record { layouts = layouts; cycle = slice_index octets 0 } in
-          let asked : layouts_of g.page ≡ Ok layouts = ap layouts_of (sym (page_new (InStart s) stands x)) ∙ behind_told page layouts.pre risen.both.stands.step in
-          by (InStart s) stands x true good.silence_is _ _ (behind_session page layouts.pre) _ (tells laws heard (InStart s) session g far far' n n' came stands _ _ _ _ layouts refl refl asked (asked_by layouts asked).isdu valid) risen fits joined
+      by_taken (Ok layouts) octets known risen fits joined =
+          let read : Told = told_of asks_now layouts octets in
+          let new : far'.page ≡ g.page = page_new (InStart s) stands x in
+          let behind = behind_told read layouts.pre risen.both.stands.step in
+          let asked : layouts_of g.page ≡ Ok layouts = ap layouts_of (sym new) ∙ behind.0 in
+          let page : octets ≡ g.page = behind.1 ∙ new in
+          let right : is_expected asks_now.expected g.page ≡ true =
+          ap (is_expected asks_now.expected) (sym page) ∙ known in
+          by (InStart s) stands x true good.silence_is _ _ (behind_session read layouts.pre) _
+          (tells laws heard (InStart s) session g far far' n n' came stands _ _ _ _ read refl refl asked (asked_by layouts asked).isdu page right valid) risen fits joined
 
-      by_octets : (b : Bool) (octets : List ℕ) → let o : Outcome = if b then checked (layouts_of octets) octets else begun (Read (record { items = octets })) in
-          IsRisen o n' far far' → OutcomeFits o → Joined (state_of o) (settled_session o (still session)) → CallGivesBy (AtStartup s) o
-      by_octets true octets risen fits joined = by_page (layouts_of octets) octets risen fits joined
+      -- another device is there than the one that is expected
+      by_wrong : (octets : List ℕ) → is_expected asks_now.expected octets ≡ false
+          → Rising (InDown (record { why = Some (WrongDevice (identity_of octets)) }))
+      by_wrong octets unknown risen fits joined =
+          let found : identity_of g.page ≡ identity_of octets =
+          ap identity_of (sym (page_new (InStart s) stands x)) ∙ risen.device (identity_of octets) refl in
+          let wrong : is_expected asks_now.expected g.page ≡ false =
+          same_expected asks_now.expected g.page octets found ∙ unknown in
+          by (InStart s) stands x true good.silence_is _ _ refl _
+          (falls laws heard (InStart s) session g far far' n n' came stands _ _ _ true (WrongDevice (identity_of octets)) (found, wrong)) risen fits joined
+
+      by_known : (b : Bool) (octets : List ℕ) → is_expected asks_now.expected octets ≡ b
+          → Rising (taken_where b asks_now (layouts_of octets) octets)
+      by_known true octets known = by_taken (layouts_of octets) octets known
+      by_known false octets known = by_wrong octets known
+
+      by_octets : (b : Bool) (octets : List ℕ)
+          → Rising (if b then checked asks_now (layouts_of octets) octets else begun (Read (record { items = octets })))
+      by_octets true octets risen fits joined =
+          by_known (is_expected asks_now.expected octets) octets refl risen fits joined
       by_octets false octets risen fits joined = goes (Read (record { items = octets })) refl risen fits joined
 
-      by_step : (step : PageStep) → StepFits step → StepStands step far → IsToldBy (told_by step) (still session) → IsRisen (step_after step r) n' far far' → OutcomeFits (step_after step r) → Joined (state_of (step_after step r)) (settled_session (step_after step r) (still session))
-          → CallGivesBy (AtStartup s) (step_after step r)
+      by_step : (step : PageStep) → StepFits step → StepStands step far
+          → IsToldBy (read_by step) (still session) → Rising (step_after asks_now step r)
       by_step (Read read) proper at before risen fits joined = by_octets (length (read.items ++ slice_index r.od.items 0 ∷ []) == 10) (read.items ++ slice_index r.od.items 0 ∷ []) risen fits joined
-      by_step (Ident page pre) proper at before risen fits joined = goes (Leave page pre) (told_stays (Some page.layouts) (still session) valid before) risen fits joined
-      by_step (Cycle page) proper at before risen fits joined = goes (Enter page) (told_stays (Some page.layouts) (still session) valid before) risen fits joined
+      by_step (Ident page pre) proper at before risen fits joined = goes (Leave page pre) (told_stays (Some page) (still session) valid before) risen fits joined
+      by_step (Cycle page) proper at before risen fits joined = goes (Enter page) (told_stays (Some page) (still session) valid before) risen fits joined
       by_step (Leave page pre) proper at before risen fits joined =
           let q = asked_of page.layouts at.0 in
           let present : is_present g.page ≡ true = q.present ∙ sym q.old ∙ ap (λ (p : Option Shape). is_some p) proper.pre_is in
@@ -537,17 +603,21 @@ module _ (known : Known) (session : SessionState) (valid : IsSession (still sess
           let old : is_old g.page ≡ true = grind (arith, common_steps, none) in
           by (InStart s) stands x true good.silence_is _ _ refl _ (enters_by (InStart s) stands x page.layouts r good old risen.entered) risen fits joined
 
-    start_rises : (q : Option Reply) → good_reply startup_shape s.sent.message came ≡ q → IsRisen (startup_turned s q) n' far far' → OutcomeFits (startup_turned s q) → Joined (state_of (startup_turned s q)) (settled_session (startup_turned s q) (still session))
-        → CallGivesBy (AtStartup s) (startup_turned s q)
+    start_rises : (q : Option Reply) → good_reply startup_shape s.sent.message came ≡ q
+        → let o : Outcome = startup_turned session.configuration s q in
+        IsRisen o n' far far' → OutcomeFits o
+        → Joined (state_of o) (settled_session o (still session)) → CallGivesBy (AtStartup s) o
     start_rises None e risen fits joined = start_tries (s.sent.tries == 2) refl (missed_by (InStart s) stands x e) risen fits joined
     start_rises (Some r) e risen fits joined = by_step r (had_by (InStart s) stands x r e) s.step stands.fits.step stands.link.step stands.joined.1 risen fits joined
 
 -- in both
 rises_at : Known → (state : State) (t : SessionState) (g : Ghost) (far far' : Far) (n n' : ℕ) (came : Option (List ℕ)) → is_starting state ≡ true → Stands (record { state = state; session = t }) g far n → IsSession t → HonestExchange far n (text_out state) came far' n'
-    → IsRisen (judged state came) n' far far' → OutcomeFits (judged state came) → Joined (state_of (judged state came)) (settled_session (judged state came) t) → CallGives (record { state = state; session = t }) g far n Idle (after_exchange (judged state came) t) far' n'
+    → let o : Outcome = judged t.configuration state came in
+    IsRisen o n' far far' → OutcomeFits o → Joined (state_of o) (settled_session o t)
+    → CallGives (record { state = state; session = t }) g far n Idle (after_exchange o t) far' n'
 rises_at known (AtStartup s) t g far far' n n' came up stands valid x risen fits joined =
     let e : t ≡ still t = is_still t stands.joined.0.0 stands.joined.0.1 (stands.shown.image (λ k. absurd (let z : ModeStartup ≡ ModeOperate = k in cc))) stands.events.0 stands.output.untold in
-    let o : Outcome = startup_turned s (good_reply startup_shape s.sent.message came) in
+    let o : Outcome = startup_turned t.configuration s (good_reply startup_shape s.sent.message came) in
     subst (λ (u : SessionState). CallGives (record { state = AtStartup s; session = u }) g far n Idle (after_exchange o u) far' n') (sym e)
     (start_rises known t (subst IsSession e valid) g far far' n n' came s (subst (λ (u : SessionState). Stands (record { state = AtStartup s; session = u }) g far n) e stands) x (good_reply startup_shape s.sent.message came) refl risen fits
     (subst (λ (u : SessionState). Joined (state_of o) (settled_session o u)) e joined))

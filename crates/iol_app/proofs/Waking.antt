@@ -62,7 +62,7 @@ module _ (laws : Laws) (s : Down) (t : SessionState) (g : Ghost) (far : Far) (si
         after = after;
         fits = tt;
         silent = refl;
-        terms = (refl, refl);
+        terms = (refl, refl, refl);
         clash_free = before.free;
         fresh = λ k. absurd (stands.fresh k);
         said_book = before.book;
@@ -71,7 +71,7 @@ module _ (laws : Laws) (s : Down) (t : SessionState) (g : Ghost) (far : Far) (si
             (wake_session m (seen_in c g) g.request.hidden far steps true free opens) (((refl, refl), tt), rw free refl);
         frozen = frozen_runs-append far.events.frozen far'.events.frozen far'.events.frozen g.events.told (told_wake far steps true g.events.told) false xs (Reset ∷ [])
             (wake_frozen far steps true g.events.told) ((tt, tt), untold_of far'.events.frozen (told_wake far steps true g.events.told));
-        images = images_runs-append m (images_in c g far) i' i' xs (Reset ∷ []) (wake_images m (shown_in t g.sent) far steps true) ((tt, tt), refl);
+        images = images_runs-append m (images_in c g far) i' (images_in (after_wake true t) after far') xs (Reset ∷ []) (wake_images m (shown_in t g.sent) far steps true) ((tt, tt), refl);
         image_is_last = ((λ k. absurd (below k.0)), (λ k. stands.shown.image below), (λ k e. absurd (let z : ModeStartup ≡ ModeOperate = e in cc)));
         output_is_wanted = λ k. absurd (below k.0);
         stands = record {
@@ -85,7 +85,7 @@ module _ (laws : Laws) (s : Down) (t : SessionState) (g : Ghost) (far : Far) (si
           request = (refl, tt);
           events = (refl, refl);
           output = record { untold = refl; off = λ a. refl; waits = tt };
-          shown = record { image = λ e. stands.shown.image below; wanted = stands.shown.wanted; lengths = stands.shown.lengths; isdu = stands.shown.isdu; no_form = refl };
+          shown = record { image = λ e. stands.shown.image below; wanted = stands.shown.wanted; lengths = stands.shown.lengths; isdu = stands.shown.isdu; present = tt; no_form = refl };
         };
       }
 
@@ -114,7 +114,7 @@ module _ (laws : Laws) (s : Down) (t : SessionState) (g : Ghost) (far : Far) (si
         after = after;
         fits = tt;
         silent = refl;
-        terms = (refl, refl);
+        terms = (refl, refl, refl);
         clash_free = before.free;
         fresh = λ k. absurd (stands.fresh k);
         said_book = before.book;
@@ -136,7 +136,7 @@ module _ (laws : Laws) (s : Down) (t : SessionState) (g : Ghost) (far : Far) (si
           request = opens_woken wakes;
           events = tt;
           output = tt;
-          shown = record { image = λ e. refl; wanted = stands.shown.wanted; lengths = stands.shown.lengths; isdu = stands.shown.isdu; no_form = stands.shown.no_form };
+          shown = record { image = λ e. refl; wanted = stands.shown.wanted; lengths = stands.shown.lengths; isdu = stands.shown.isdu; present = stands.shown.present; no_form = stands.shown.no_form };
         };
       }
 

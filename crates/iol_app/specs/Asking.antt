@@ -1,5 +1,5 @@
 -- Which call of the wire a turn makes, as a function of the station before it.
-use Rattle.std.specs.Prelude.{◌≡◌, ℕ, ◌+◌, ◌*◌, Bool, true, ◌&&◌, if◌then◌else◌, List, ◌∷◌, ◌++◌, Option, Some, None, unwrap_or}
+use Rattle.std.specs.Prelude.{◌≡◌, ℕ, ◌+◌, ◌*◌, Bool, true, ◌&&◌, if◌then◌else◌, List, ◌∷◌, ◌++◌, slice_index, nat_le, Option, Some, None, unwrap_or}
 use Rattle.arrayvec.specs.ArrayVec.{ArrayVec}
 use Rattle.iol_octets.specs.Checksum.{with_checksum}
 use Rattle.iol_octets.specs.Control.{channel_code}
@@ -11,6 +11,7 @@ use Rattle.iol_link.specs.declared.wire.Rate.{Rate}
 use Rattle.iol_link.specs.WireFacts.{WireFacts}
 use Rattle.iol_mode.specs.Next.{message_out}
 use Rattle.iol_app.specs.declared.asked.Asked.{Asked}
+use Rattle.iol_app.specs.declared.asked.Outgoing.{Outgoing}
 use Rattle.iol_app.specs.declared.asked.Asked.TheVariants.{Wake, Exchange}
 use Rattle.iol_app.specs.declared.session.Exchange as purpose
 use Rattle.iol_mode.specs.declared.states.State.{State}
@@ -67,14 +68,34 @@ abbrev pub beginning_in : Option Request → State → SessionState → Bool →
 beginning_in next state s room =
     begin_where (operates state && is_ready s room && takes_requests s) next s
 
+-- how many octets a good reply has: a read, bit 7 of MC, brings on-request data
+-- MSG-2
+abbrev pub reply_size : Shape → List ℕ → ℕ
+reply_size layout octets =
+    (if nat_le 128 (slice_index octets 0) then layout.od else 0) + layout.pd_in + 1
+
+-- these octets go out in this layout
+abbrev pub outgoing : Shape → List ℕ → Outgoing
+outgoing layout octets = record {
+  octets = record { items = octets };
+  layout = layout;
+  reply = reply_size layout octets;
+}
+
 abbrev pub asked_in : State → SessionState → Bool → Asked
 asked_in (AtDown state) s room = Wake
 asked_in (AtStartup state) s room =
-    Exchange (record { items = master_text startup_shape state.sent.message })
+    Exchange (outgoing startup_shape (master_text startup_shape state.sent.message))
 asked_in (AtPreoperate state) s room =
-    Exchange (record { items = master_text state.pre state.sent.message })
+    Exchange (outgoing state.pre (master_text state.pre state.sent.message))
 asked_in (AtOperate state) s room =
-    Exchange (record { items = text_of state.layouts.run (message_out state.out) s room })
+    Exchange
+    (outgoing state.layouts.run (text_of state.layouts.run (message_out state.out) s room))
+
+-- the octets that are asked for
+abbrev pub octets_asked : Asked → Option (List ℕ)
+octets_asked Wake = None
+octets_asked (Exchange out) = Some out.octets.items
 
 module _ {W : Type 0} where
   abbrev pub prepared : Option Request → StationState W → Bool → StationState W
@@ -91,5 +112,5 @@ module _ {W : Type 0} where
     -- PORT-2
     abbrev pub IsCall : Asked → W → W → Type 0
     IsCall Wake old new = (answer : Option Rate) × wake_gives old answer new
-    IsCall (Exchange octets) old new = (answer : Option (ArrayVec ℕ))
-        × exchange_gives old octets.items answer new
+    IsCall (Exchange out) old new = (answer : Option (ArrayVec ℕ))
+        × exchange_gives old out.octets.items answer new

@@ -45,7 +45,7 @@ use Rattle.iol_app.specs.Ends.{OutputTold, EventsTold, OperateLink, BusySeen, Se
 use Rattle.iol_app.specs.State.{IsSession, IsMessageFor, sending, SessionState, opened, wanting, left}
 use Rattle.iol_app.specs.Due.{due_of}
 use Rattle.iol_app.specs.Outputs.{carried_by}
-use Rattle.iol_app.specs.StationState.{IsSettledSaid, StateFits as Joined, waked_session, settled_session, mode_in, why_in}
+use Rattle.iol_app.specs.StationState.{IsSettledSaid, IsPresent, StateFits as Joined, waked_session, settled_session, mode_in, why_in}
 use Rattle.iol_app.specs.declared.session.Exchange.{Exchange}
 use Rattle.iol_app.specs.declared.session.Exchange.TheVariants.{ReadEvent, ConfirmEvents}
 use Rattle.iol_page.specs.declared.page.Layouts.{Layouts}
@@ -99,6 +99,7 @@ shown_in s sent = record {
   sent = sent;
   told = option_map (λ layout. layout.pd_out) s.layout;
   isdu = s.isdu;
+  page = option_map (λ t. t.page) s.present;
 }
 
 abbrev pub session_in : Core → Ghost → Far → Session
@@ -235,6 +236,7 @@ pub record ShownStands (c : Core) (page : List ℕ) : Type 0 where
       IfSome (option_map (λ (layout : Shape). layout.pd_out) c.session.layout)
       (λ length. length ≡ output_length page)
   pub isdu : IfSome c.session.isdu (λ known. known ≡ knows_isdu page)
+  pub present : IfSome c.session.present (λ t. t.page ≡ page)
   pub no_form : is_refused c.session.events.reading ≡ false
 
 -- both ends stand together
@@ -282,11 +284,20 @@ ordered s t = t.output.wanted
 -- what the steps of the call are judged by
 abbrev pub moment_of : Core → Ghost → ℕ → WireCall → Moment
 moment_of c g silence call = record {
-  terms = record { busy_limit = c.session.limit; page = g.page };
+  terms = record {
+    busy_limit = c.session.limit;
+    page = g.page;
+    expected = c.session.configuration.expected;
+  };
   began = mode_in c.state;
   silence = silence;
   call = call;
 }
+
+-- they stay
+abbrev pub TermsStay : Core → Core → Ghost → Ghost → Type 0
+TermsStay c next g after = (next.session.limit ≡ c.session.limit) × (after.page ≡ g.page)
+    × (next.session.configuration ≡ c.session.configuration)
 
 -- one call of the wire, and one list of steps, each allowed where it is taken, whose effects on the
 -- three parts of the abstract port are what happened; and both ends stand together afterwards
@@ -298,7 +309,7 @@ pub record CallGives (c : Core) (g : Ghost) (far : Far) (silence : ℕ) (said : 
   pub after : Ghost
   pub fits : CallFits (mode_in c.state) call
   pub silent : silence_new ≡ silence_by call silence
-  pub terms : (next.session.limit ≡ c.session.limit) × (after.page ≡ g.page)
+  pub terms : TermsStay c next g after
   pub clash_free : IsTrue (is_clash_free steps)
   -- in the call of a request begun since the last one, no step clashes with its taking
   pub fresh : IsTrue g.fresh → IsTrue (list_all is_calm steps)
@@ -340,17 +351,31 @@ pub record Wakes : Type 0 where
 abbrev pub after_exchange : Outcome → SessionState → Core
 after_exchange outcome t = record { state = state_of outcome; session = settled_session outcome t }
 
+-- what comes back to the message that is out is judged by it, and by what start-ups ask
+abbrev pub came_of : Core → Option (List ℕ) → Outcome
+came_of c came = judged c.session.configuration c.state came
+
 -- in both modes of a start-up
 pub record Rises : Type 0 where
   pub gives :
       (c : Core) (g : Ghost) (far far_new : Far) (silence silence_new : ℕ) (came : Option (List ℕ))
       → is_starting c.state ≡ true → Stands c g far silence → IsSession c.session
       → HonestExchange far silence (text_out c.state) came far_new silence_new
+      → let outcome : Outcome = came_of c came in
       -- the link's own laws, and the session's
-      → IsRisen (judged c.state came) silence_new far far_new → OutcomeFits (judged c.state came)
-      → Joined (state_of (judged c.state came)) (settled_session (judged c.state came) c.session)
-      → CallGives c g far silence Idle (after_exchange (judged c.state came) c.session)
-      far_new silence_new
+      IsRisen outcome silence_new far far_new → OutcomeFits outcome
+      → Joined (state_of outcome) (settled_session outcome c.session)
+      → CallGives c g far silence Idle (after_exchange outcome c.session) far_new silence_new
+
+-- in a session whose page was checked, the device is the one that was expected then
+-- LINK-11
+abbrev pub IsRightIn : State → SessionState → Type 0
+IsRightIn (AtPreoperate s) t = IsPresent s.layouts t.present
+IsRightIn (AtOperate s) t = IsPresent s.layouts t.present
+IsRightIn s t = ⊤
+
+abbrev pub IsRight : Core → Type 0
+IsRight c = IsRightIn c.state c.session
 
 -- The calls that are no turns
 
@@ -439,7 +464,7 @@ pub record SendGives (c next : Core) (g after : Ghost) (far : Far) (silence : �
   pub frozen : frozen_in g far ≡ frozen_in after far
   pub may : (call : WireCall) → MayImages (moment_of c g silence call) Make (images_in c g far)
   pub fresh : g.fresh ≡ after.fresh
-  pub terms : (next.session.limit ≡ c.session.limit) × (after.page ≡ g.page)
+  pub terms : TermsStay c next g after
   pub images : (call : WireCall)
       → images_after (moment_of c g silence call) Make (images_in c g far)
       ≡ images_in next after far
@@ -474,11 +499,11 @@ pub record Receives : Type 0 where
       → let c : Core = core_out layouts out t exchange t.current in
       Stands c g far silence → IsSession c.session
       → HonestExchange far silence (text_out c.state) came far_new silence_new → out.tries < 3
+      → let outcome : Outcome = came_of c came in
       -- the link's own laws
-      → IsMet (judged c.state came) silence_new far_new → OutcomeFits (judged c.state came)
+      IsMet outcome silence_new far_new → OutcomeFits outcome
       → ((link : Link) → IsOperating layouts link → IsAccepted layouts far.page link out.message)
       -- the session's own
-      → Joined (state_of (judged c.state came)) (settled_session (judged c.state came) c.session)
-      → IsSettledSaid (judged c.state came) c.session said
-      → ReceiveGives c g far silence said
-      (after_exchange (judged c.state came) c.session) far_new silence_new
+      → Joined (state_of outcome) (settled_session outcome c.session)
+      → IsSettledSaid outcome c.session said
+      → ReceiveGives c g far silence said (after_exchange outcome c.session) far_new silence_new

@@ -55,6 +55,7 @@ pub record ShownSeen (s : SessionState) (shown : Shown) : Type 0 where
   -- the output length
   pub told : shown.told ≡ option_map (λ layout. layout.pd_out) s.layout
   pub isdu : shown.isdu ≡ s.isdu
+  pub page : shown.page ≡ option_map (λ t. t.page) s.present
 
 -- the output command that a message for this is
 abbrev pub output_for : Exchange → Option Bool

@@ -9,7 +9,7 @@ use Rattle.iol_link.specs.Attempts.{Sending}
 use Rattle.iol_link.specs.Honest.{HonestWake, HonestExchange}
 use Rattle.iol_mode.specs.declared.states.State.{State}
 use Rattle.iol_mode.specs.declared.states.State.TheVariants.{Operate as AtOperate}
-use Rattle.iol_mode.specs.Exchanges.{IsSending, text_out}
+use Rattle.iol_mode.specs.Exchanges.{IsSending, text_out, layout_out}
 use Rattle.iol_mode.specs.Messages.{unsent}
 use Rattle.iol_mode.specs.States.{IsDown}
 use Rattle.iol_steps.specs.Step.{no_make}
@@ -17,6 +17,7 @@ use Rattle.iol_steps.specs.declared.said.Said.{Said}
 use Rattle.iol_steps.specs.declared.said.Said.TheVariants.{Idle}
 use Rattle.iol_app.specs.declared.asked.Asked.{Asked}
 use Rattle.iol_app.specs.declared.asked.Asked.TheVariants.{Wake, Exchange}
+use Rattle.iol_app.specs.Asking.{outgoing}
 use Rattle.iol_app.specs.Due.{due_of}
 use Rattle.iol_app.specs.Outputs.{carried_by}
 use Rattle.iol_app.specs.Reports.{is_reading}
@@ -25,11 +26,12 @@ use Rattle.iol_app.specs.Core.{Core, Ghost, Stands, IsAttempted, CallGives, Send
 
 -- What is out
 
--- the octets of the message that is out, with the right checksum; in down a wake
+-- the message that is out, in the layout of its mode, with the right checksum; in down a wake
 abbrev pub IsAskedOut : Asked → State → Type 0
 IsAskedOut Wake state = IsDown state
-IsAskedOut (Exchange octets) state =
-    IsSending state × (octets.items ≡ text_out state) × IsTrue (has_checksum 1 octets.items)
+IsAskedOut (Exchange out) state =
+    IsSending state × (out ≡ outgoing (layout_out state) (text_out state))
+    × IsTrue (has_checksum 1 out.octets.items)
 
 -- a new message for what is due is out from now on
 pub record NewOut (layouts : Layouts) (t : SessionState) (room : Bool) (new : Core) : Type 0 where

@@ -1,25 +1,25 @@
 //! A core: the link in its mode, and the session over it, without the wire.
 ghost use Rattle.std.specs.Prelude.{◌≡◌, None, Some, Bool, true, false, is_some, IsSome, IsTrue, OnOk, OnErr, ◌&&◌, ◌≢◌};
 ghost use Rattle.std.specs.Result.{result_err};
-ghost use Rattle.std.specs.Option.{option_copied};
+ghost use Rattle.std.specs.Option.{option_copied, option_map};
 ghost use Rattle.iol_far.specs.Octets.{octets_in};
 ghost use Rattle.iol_link.specs.WireFacts.{Wakes, Passes};
 ghost use Rattle.iol_mode.specs.States.{IsDown, OutcomeFits, outcome_with};
 ghost use Rattle.iol_mode.specs.Stands.{StateStands};
-ghost use Rattle.iol_mode.specs.Exchanges.{IsSending, AreFew, ExchangeGives, StandsOn, WakeStands, judged};
+ghost use Rattle.iol_mode.specs.Exchanges.{IsSending, AreFew, ExchangeGives, StandsOn, WakeStands};
 ghost use Rattle.iol_app.specs.EventReading.{is_refused};
-ghost use Rattle.iol_app.specs.State.{aborted_in, begun_in, wanting, output_refusal, IsSession};
+ghost use Rattle.iol_app.specs.State.{aborted_in, begun_in, wanting, expecting, pacing, output_refusal, IsSession};
 ghost use Rattle.iol_app.specs.Requests.{request_in, request_after, EndsRequest};
 ghost use Rattle.iol_app.specs.Due.{is_ready};
 ghost use Rattle.iol_app.specs.Reports.{is_reading, ReadingAfter};
-ghost use Rattle.iol_app.specs.StationState.{mode_in, why_in, operates, settled_session, NextFits, IsSettledSaid, IsTurn, StateFits as Joined};
-ghost use Rattle.iol_app.specs.Asking.{asked_in, beginning_in, asked_of, IsCall};
+ghost use Rattle.iol_app.specs.StationState.{mode_in, why_in, page_in, operates, settled_session, NextFits, IsSettledSaid, IsTurn, StateFits as Joined};
+ghost use Rattle.iol_app.specs.Asking.{asked_in, beginning_in, asked_of, outgoing, IsCall};
 ghost use Rattle.iol_app.specs.AskedCalls.{asked_facts};
-ghost use Rattle.iol_app.specs.Core.{after_exchange, after_wake, opened_core, restarted_core, wanting_core};
+ghost use Rattle.iol_app.specs.Core.{after_exchange, after_wake, came_of, opened_core, restarted_core, wanting_core, IsRight};
 ghost use Rattle.iol_app.specs.Pieces.{IsAskedOut, IsSent, ReadsOn, SendSteps, WakeSteps, ReceiveSteps};
 ghost use Rattle.iol_app.specs.Seen.{station_of, NewSteps, BeginSteps, DenySteps, AbortSteps, CancelSteps, WantSteps, RestartSteps, TurnSteps};
 
-use crate::asked::Asked;
+use crate::asked::{Asked, Outgoing};
 use crate::laws::station_laws;
 use crate::output::OutputFault;
 use crate::session::Session;
@@ -27,7 +27,8 @@ use iol_image::Image;
 use iol_isdu::{Cause, Request};
 use iol_link::{Attempt, Rate, Wire};
 use iol_mode::{Down, State, Why};
-use iol_mseq::{Message, encode_master};
+use iol_mseq::{Layout, Message, encode_master};
+use iol_page::{CycleTime, Identity, Page};
 use iol_steps::{Mode, Said};
 use std::marker::Model;
 
@@ -124,14 +125,15 @@ impl Core {
     {
         match &self.state {
             State::Down(_) => Asked::Wake,
-            State::Startup(startup) => Asked::Exchange(startup.octets()),
-            State::Preoperate(preoperate) => Asked::Exchange(preoperate.octets()),
+            State::Startup(startup) => goes_out(Layout::startup(), startup.octets()),
+            State::Preoperate(preoperate) => goes_out(preoperate.pre, preoperate.octets()),
             State::Operate(operate) => {
                 let layout = &operate.layouts.run;
-                Asked::Exchange(match operate.out() {
+                let octets = match operate.out() {
                     Some(message) => encode_master(layout, message),
                     None => encode_master(layout, &self.session.message_due(room, next)),
-                })
+                };
+                goes_out(*layout, octets)
             }
         }
     }
@@ -202,6 +204,51 @@ impl Core {
         self.session.clear_output();
     }
 
+    /// Expects this device, or any, from the next page on that a start-up has read whole.
+    ///
+    /// Rule LINK-11.
+    pub fn expect(&mut self, identity: Option<Identity>)
+        ensures core { self.new
+            ≡ record self.old { session = expecting identity self.old.session } }
+        ensures steps { WantSteps self.old self.new }
+    {
+        self.session.expect(identity);
+    }
+
+    /// Has the next start-ups write this cycle time to the device, where it is at least the
+    /// device's MinCycleTime; else, and for none, MinCycleTime.
+    ///
+    /// Rule LINK-12.
+    pub fn set_cycle(&mut self, cycle: Option<CycleTime>)
+        ensures core { self.new ≡ record self.old { session = pacing cycle self.old.session } }
+        ensures steps { WantSteps self.old self.new }
+    {
+        self.session.pace(cycle);
+    }
+
+    /// The device's page, once the start-up of the present session has read it whole and
+    /// checked it; none before, and in down.
+    ///
+    /// Rule PORT-11.
+    pub fn page(&self) -> Option<&Page>
+        ensures { option_map (λ p. p.now) result ≡ page_in self.now.state self.now.session }
+    {
+        match &self.state {
+            State::Down(_) => None,
+            State::Startup(_) | State::Preoperate(_) | State::Operate(_) => self.session.page(),
+        }
+    }
+
+    /// A law, without code: in OPERATE, where alone a request is begun and an output goes out,
+    /// the page is that of the device that was expected when it was checked.
+    ///
+    /// Rule LINK-11.
+    pub fn device_is_right(&self)
+        ensures { IsRight self.now }
+    {
+        let _ = &self.session;
+    }
+
     /// Takes the link down. Answers whether a request was under way, which is cut off.
     ///
     /// What was sent before and isn't answered yet has to be answered first: else the device
@@ -239,7 +286,7 @@ impl Core {
         if self.state.sends_wake() {
             Asked::Wake
         } else {
-            Asked::Exchange(self.state.sends())
+            goes_out(self.state.layout(), self.state.sends())
         }
     }
 
@@ -301,8 +348,8 @@ impl Core {
         requires idle { said.old ≡ Said.Idle }
         requires out { IsSending self.old.state }
         ensures core { self.new
-            ≡ after_exchange (judged self.old.state (octets_in came.now)) self.old.session }
-        ensures said { IsSettledSaid (judged self.old.state (octets_in came.now))
+            ≡ after_exchange (came_of self.old (octets_in came.now)) self.old.session }
+        ensures said { IsSettledSaid (came_of self.old (octets_in came.now))
             self.old.session said.new }
         ensures request { request_in self.new.session.current
             ≡ request_after (request_in self.old.session.current) said.new }
@@ -319,20 +366,20 @@ impl Core {
         requires idle { said.old ≡ Said.Idle }
         requires out { IsSending self.old.state }
         ensures core { self.new
-            ≡ after_exchange (judged self.old.state (octets_in came.now)) self.old.session }
-        ensures said { IsSettledSaid (judged self.old.state (octets_in came.now))
+            ≡ after_exchange (came_of self.old (octets_in came.now)) self.old.session }
+        ensures said { IsSettledSaid (came_of self.old (octets_in came.now))
             self.old.session said.new }
         ensures request { request_in self.new.session.current
             ≡ request_after (request_in self.old.session.current) said.new }
         ensures few { AreFew self.old.state }
-        ensures fits { OutcomeFits (judged self.old.state (octets_in came.now)) }
+        ensures fits { OutcomeFits (came_of self.old (octets_in came.now)) }
         ensures valid { IsSession self.old.session }
         ensures joined { Joined self.old.state self.old.session }
         ensures gives { ExchangeGives self.old.state (octets_in came.now)
-            (judged self.old.state (octets_in came.now)) }
+            (came_of self.old (octets_in came.now)) }
     {
         self.session.is_valid();
-        let attempt = self.state.receives(came);
+        let attempt = self.state.receives(came, self.session.configuration());
         settled(&self.state, &attempt, &mut self.session, said)
     }
 
@@ -373,11 +420,18 @@ impl Core {
                 self.take_wake(rate);
             }
             Asked::Exchange(sent) => {
-                let came = wire.exchange(sent.as_slice());
+                let came = wire.exchange(sent.octets.as_slice());
                 self.take(&came, said);
             }
         }
     }
+}
+
+/// These octets go out, in this layout.
+fn goes_out(layout: Layout, octets: Message) -> Asked
+    ensures { result ≡ Asked.Exchange (outgoing layout octets.items) }
+{
+    Asked::Exchange(Outgoing::new(layout, octets))
 }
 
 /// Takes up the mode after an exchange, in OPERATE with the good reply that it brought.
@@ -393,8 +447,8 @@ fn settled(state: &State, attempt: &Attempt, session: &mut Session, said: &mut S
     match state {
         State::Down(_) => session.lose(said),
         State::Startup(startup) => {
-            if let Some(layouts) = startup.told() {
-                session.take_layout(&layouts.run, layouts.isdu);
+            if let Some(read) = startup.read() {
+                session.take_page(read);
             }
         }
         State::Preoperate(_) => {}

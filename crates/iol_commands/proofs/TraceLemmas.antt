@@ -31,8 +31,8 @@ use Rattle.iol_link.specs.WireFacts.{WireFacts}
 use Rattle.iol_script.specs.Script.{ScriptValue, script_in, calls_in}
 use Rattle.iol_script.specs.Text.{numbered_lines}
 use Rattle.iol_commands.proofs.RunLemmas.{carried_is}
-use Rattle.iol_commands.specs.RunPlayed.{first_port, lacks_memory}
-use Rattle.iol_commands.specs.RunPrinted.{answer_text, record_text}
+use Rattle.iol_commands.specs.RunPlayed.{records_text, first_port, lacks_memory}
+use Rattle.iol_commands.specs.RunPrinted.{answer_text}
 use Rattle.iol_commands.specs.TracePrinted.{layout_in, first_stage, first_tap, TracesOut, TracesOverWire, PrintsTrace, Stage, wire_at, Passes, TracesCall, Traces, stage_of, PortTraces, Flows, PrintsNote, PrintsNoteOf}
 
 -- Text that is written in pieces
@@ -58,7 +58,7 @@ module _ {W : Type 0} (facts : WireFacts W) where
   -- a call of the wire, and the note of it
   noted : (asked : Asked) (old new : Tapped W) → IsCall (tap_facts facts) asked old new → (note : Passed) × (new.last ≡ Some note) × IsNoteOf facts note old.wire new.wire
   noted Wake old new (answer, called) = (wake_noted answer, called.1, called.0)
-  noted (Exchange octets) old new (answer, called) = (exchange_noted octets.items answer, called.1, (octets.items, refl, called.0))
+  noted (Exchange sent) old new (answer, called) = (exchange_noted sent.octets.items answer, called.1, (sent.octets.items, refl, called.0))
 
   module _ (layouts : Layouts) where
     -- what passes in a call is what is noted of it
@@ -80,6 +80,9 @@ module _ {W : Type 0} (facts : WireFacts W) where
     passes_of (call.SetOutput image) asked old new s t layout text before after shape called printed = (printed.0, after ∙ ap (λ (w : Tapped W). w.wire) called ∙ sym before, printed.1)
     passes_of call.ClearOutput asked old new s t layout text before after shape called printed = (printed.0, after ∙ ap (λ (w : Tapped W). w.wire) called ∙ sym before, printed.1)
     passes_of call.Look asked old new s t layout text before after shape called printed = (printed.0, after ∙ ap (λ (w : Tapped W). w.wire) called ∙ sym before, printed.1)
+    passes_of (call.Expect identity) asked old new s t layout text before after shape called printed = (printed.0, after ∙ ap (λ (w : Tapped W). w.wire) called ∙ sym before, printed.1)
+    passes_of (call.Cycle time) asked old new s t layout text before after shape called printed = (printed.0, after ∙ ap (λ (w : Tapped W). w.wire) called ∙ sym before, printed.1)
+    passes_of call.Page asked old new s t layout text before after shape called printed = (printed.0, after ∙ ap (λ (w : Tapped W). w.wire) called ∙ sym before, printed.1)
     passes_of call.TakeEvent asked old new s t layout text before after shape called printed = (printed.0, after ∙ ap (λ (w : Tapped W). w.wire) called ∙ sym before, printed.1)
     passes_of call.Status asked old new s t layout text before after shape called printed = (printed.0, after ∙ ap (λ (w : Tapped W). w.wire) called ∙ sym before, printed.1)
     passes_of call.Archive asked old new s t layout text before after shape called printed = (printed.0, after ∙ ap (λ (w : Tapped W). w.wire) called ∙ sym before, printed.1)
@@ -195,13 +198,13 @@ abbrev tapped : WireFacts (Tapped (Simulated (List Entry)))
 tapped = tap_facts (sim_facts Stores)
 
 -- a port over a tap on the first wire of a script, and its calls traced to the end
-pub traced_out : (script : ScriptValue) (layouts : Layouts) (p q : Parts (Tapped (Simulated (List Entry)))) (a : PortState) (opening : Opening (Tapped (Simulated (List Entry)))) (tap : Tapped (Simulated (List Entry))) (of : Layouts) (n m : ℕ) (calls : List Call) (text : List ℕ) (entries : List Carried)
+pub traced_out : (script : ScriptValue) (layouts : Layouts) (p q : Parts (Tapped (Simulated (List Entry)))) (a : PortState) (opening : Opening (Tapped (Simulated (List Entry)))) (tap : Tapped (Simulated (List Entry))) (of : Layouts) (n m : ℕ) (calls : List Call) (text : List ℕ) (last_wire : Simulated (List Entry))
     → of ≡ layouts → n ≡ 1 → StandsFor tapped p a → a ≡ first_port script.limits script.page
     → opening ≡ opening_of tapped script.limits tap → tap ≡ first_tap script → IsOpened opening p
     → PortTraces (sim_facts Stores) of n p calls m q text
-    → entries ≡ (wire_of q.station.link).wire.device.far.carried → TracesOut script layouts calls (text ++ record_text entries)
+    → last_wire ≡ (wire_of q.station.link).wire → TracesOut script layouts calls (text ++ records_text last_wire)
 unfolding PortTraces
-traced_out script layouts p q a opening tap of n m calls text entries told from_one stands first over tap_is opens goes those =
+traced_out script layouts p q a opening tap of n m calls text last_wire told from_one stands first over tap_is opens goes those =
     let (b, traces, there) = goes a stands in
     let begun : Stage (Simulated (List Entry)) = stage_of n a p in
     let stage : begun ≡ first_stage script p =
@@ -215,7 +218,7 @@ traced_out script layouts p q a opening tap of n m calls text entries told from_
       traces = subst (λ (s : Stage (Simulated (List Entry))). TracesOverWire layouts s calls (stage_of m b q) text) stage
           (subst (λ (l : Layouts). TracesOverWire l begun calls (stage_of m b q) text) told traces);
       carried = carried;
-      text_is = ap (λ (l : List Carried). text ++ record_text l) (those ∙ carried);
+      text_is = ap (λ (w : Simulated (List Entry)). text ++ records_text w) those;
     }
 
 -- the layouts of a page that has some
@@ -230,13 +233,13 @@ if_some_of (Some xs) items P is holds = subst P is holds
 -- a script that was read is traced
 pub script_traced : {T E : Type 0} (r : Result T E) (a b had : Option (List ℕ)) (items one two : List ℕ) (script : ScriptValue)
     → IfSome had (λ xs. items ≡ xs) → one ≡ items → two ≡ items → script_in (numbered_lines one) ≡ Some script
-    → OnOk r ((text : List ℕ) × Appends a b text × IsOkAnd (layouts_of script.page) (λ layouts. TracesOut script layouts (calls_in (numbered_lines two)) text))
+    → OnOk r ((text : List ℕ) × Appends a b text × IsOkAnd (layouts_of script.page) (λ layouts. script.other ≡ None → TracesOut script layouts (calls_in (numbered_lines two)) text))
     → OnOk r ((text : List ℕ) × Appends a b text × IfSome had (λ input. PrintsTrace (numbered_lines input) text))
 script_traced (Ok x) a b had items one two script all first second is (text, wrote, says) =
     let read : script_in (numbered_lines items) ≡ Some script = ap (λ (l : List ℕ). script_in (numbered_lines l)) (sym first) ∙ is in
-    let said : IsOkAnd (layouts_of script.page) (λ layouts. TracesOut script layouts (calls_in (numbered_lines items)) text) =
-    subst (λ (l : List ℕ). IsOkAnd (layouts_of script.page) (λ layouts. TracesOut script layouts (calls_in (numbered_lines l)) text)) second says in
+    let said : IsOkAnd (layouts_of script.page) (λ layouts. script.other ≡ None → TracesOut script layouts (calls_in (numbered_lines items)) text) =
+    subst (λ (l : List ℕ). IsOkAnd (layouts_of script.page) (λ layouts. script.other ≡ None → TracesOut script layouts (calls_in (numbered_lines l)) text)) second says in
     let prints : PrintsTrace (numbered_lines items) text =
-    subst (λ (o : Option ScriptValue). IsSomeAnd o (λ s. IsOkAnd (layouts_of s.page) (λ layouts. TracesOut s layouts (calls_in (numbered_lines items)) text))) (sym read) said in
+    subst (λ (o : Option ScriptValue). IsSomeAnd o (λ s. IsOkAnd (layouts_of s.page) (λ layouts. s.other ≡ None → TracesOut s layouts (calls_in (numbered_lines items)) text))) (sym read) said in
     (text, wrote, if_some_of had items (λ (input : List ℕ). PrintsTrace (numbered_lines input) text) all prints)
 script_traced (Err x) a b had items one two script all first second is says = tt

@@ -1,8 +1,9 @@
 -- What `run` carries out, and what it prints of it.
-use Rattle.std.specs.Prelude.{◌≡◌, ℕ, Bool, true, false, Some, List, ◌++◌, IsSomeAnd}
+use Rattle.std.specs.Prelude.{◌≡◌, ℕ, Bool, true, false, Some, None, option_map, List, ◌++◌, IsSomeAnd}
 use Rattle.std.specs.List.{list_any}
 use Rattle.iol_book.specs.declared.entries.Limits.{Limits}
 use Rattle.iol_book.specs.declared.fault.BookFault.TheVariants.{OutOfMemory}
+use Rattle.iol_device.specs.Device.{Running}
 use Rattle.iol_far.specs.Far as device
 use Rattle.iol_link.specs.WireFacts.{WireFacts}
 use Rattle.iol_sim.specs.Params.{Stores}
@@ -17,7 +18,7 @@ use Rattle.iol_port.specs.Run.{PortState, Run, opened}
 use Rattle.iol_port.specs.View.{Parts, Opening, Runs, IsOpened, opening_of}
 use Rattle.iol_port.specs.EveryWire.{RunGives}
 use Rattle.iol_script.specs.Script.{ScriptValue, script_in, calls_in}
-use Rattle.iol_commands.specs.RunPrinted.{answers_text, record_text}
+use Rattle.iol_commands.specs.RunPrinted.{answers_text, record_text, away_text}
 
 -- a port of these limits that is opened over a new device of this page, whose
 -- record has room for 1,000 requests
@@ -29,22 +30,33 @@ abbrev pub lacks_memory : Answered → Bool
 lacks_memory (answered.Refused (fault.Book OutOfMemory)) = true
 lacks_memory other = false
 
--- the wire of a script at first: a new device of its page and its parameters, and
--- its steps, none of which was used
+-- a new device of this page and these parameters
+abbrev pub new_device : List ℕ → List Entry → Running (List Entry)
+new_device page params = record {
+  far = device.opened page (Some 1000);
+  app = params;
+  first = params;
+  number = 0;
+  silent = false;
+}
+
+-- the wire of a script at first: a new device of its page and its parameters, a second one
+-- where the script has its page, and its steps, none of which was used
 abbrev pub first_wire : ScriptValue → Simulated (List Entry)
 first_wire script = record {
-  device =
-      record {
-        far = device.opened script.page (Some 1000);
-        app = script.params;
-        first = script.params;
-        number = 0;
-      };
+  device = new_device script.page script.params;
+  away = option_map (λ page. new_device page script.params) script.other;
   steps = script.steps;
   auto = true;
   silent = false;
   silence = 0;
 }
+
+-- what is printed of the records at the end: that of the device that is plugged in, and
+-- that of the other one
+abbrev pub records_text : Simulated (List Entry) → List ℕ
+records_text sim = record_text sim.device.far.carried
+    ++ away_text (option_map (λ d. d.far.carried) sim.away)
 
 -- Calls are made on a port, one after the other: none of the answers lacks memory,
 -- and the text is what they are.
@@ -70,20 +82,24 @@ abbrev pub first_opening : ScriptValue → Opening (Simulated (List Entry))
 first_opening script =
     opening_of (sim_facts Stores) script.limits (first_wire script)
 
--- What is printed for calls: what they answer, and then the device's record. They
--- are made on a new port over the script's wire; and the abstract port over the new
--- device makes them with the same answers.
+-- the abstract port over the new device makes these calls with the same answers
+pub record RunsAlike (script : ScriptValue) (calls : List Call) (answers : List Answered)
+    (last : Parts (Simulated (List Entry))) : Type 0 where
+  pub after : PortState
+  pub run : Run (first_port script.limits script.page) calls answers after
+  pub carried : (wire_of last.station.link).device.far.carried ≡ after.session.carried
+
+-- What is printed for calls: what they answer, and then the records. They are made on a
+-- new port over the script's wire; with one device the abstract port makes them alike.
 pub record PlaysOut (script : ScriptValue) (calls : List Call) (text : List ℕ) : Type 0 where
   pub answers : List Answered
   pub first : Parts (Simulated (List Entry))
   pub opens : IsOpened (first_opening script) first
   pub last : Parts (Simulated (List Entry))
   pub made : MadeOverWire first calls answers last
-  pub after : PortState
-  pub run : Run (first_port script.limits script.page) calls answers after
-  pub carried : (wire_of last.station.link).device.far.carried ≡ after.session.carried
+  pub alike : script.other ≡ None → RunsAlike script calls answers last
   pub granted : list_any lacks_memory answers ≡ false
-  pub text_is : text ≡ answers_text calls answers ++ record_text after.session.carried
+  pub text_is : text ≡ answers_text calls answers ++ records_text (wire_of last.station.link)
 
 -- what `run` prints for lines, which are a script
 abbrev pub PrintsRun : List (ℕ × List ℕ) → List ℕ → Type 0

@@ -11,7 +11,7 @@ use Rattle.iol_isdu.specs.declared.values.Cause.TheVariants.{LinkLost, Restarted
 use Rattle.iol_event.specs.declared.event.Event.{Event}
 use Rattle.iol_far.specs.declared.carried.Carried.{Carried}
 use Rattle.iol_mode.specs.declared.why.Why.{Why}
-use Rattle.iol_mode.specs.declared.why.Why.TheVariants.{NoWake, Lost, Revision, PdLength, Code}
+use Rattle.iol_mode.specs.declared.why.Why.TheVariants.{NoWake, Lost, Revision, PdLength, Code, WrongDevice}
 use Rattle.iol_steps.specs.declared.mode.Mode.{Mode}
 use Rattle.iol_steps.specs.declared.mode.Mode.TheVariants.{Down, Startup, Preoperate, Operate}
 use Rattle.iol_app.specs.declared.core_data.Status.{Status}
@@ -25,6 +25,8 @@ use Rattle.iol_book.specs.declared.fault.BookFault.TheVariants.{Full, JournalFul
 use Rattle.iol_port.specs.Faults.{fault_number}
 use Rattle.iol_port.specs.declared.call.Call.{Call}
 use Rattle.iol_port.specs.declared.call.Call.TheVariants as call
+use Rattle.iol_port.specs.declared.call.Counting.{Counting}
+use Rattle.iol_port.specs.declared.call.Counting.TheVariants.{Now, Later}
 use Rattle.iol_port.specs.declared.call.Answered.{Answered}
 use Rattle.iol_port.specs.declared.call.Answered.TheVariants as answered
 use Rattle.iol_port.specs.declared.fault.PortFault.{PortFault}
@@ -112,6 +114,7 @@ why_name Lost = codes "Lost"
 why_name (Revision octet) = codes "Revision"
 why_name PdLength = codes "BadPdLength"
 why_name Code = codes "UnsupportedCode"
+why_name (WrongDevice found) = codes "WrongDevice"
 
 abbrev pub why_text : Option Why → List ℕ
 why_text None = []
@@ -154,6 +157,18 @@ abbrev pub refused_text : PortFault → List ℕ
 refused_text fault = codes "refused " ++ decimal (fault_number fault) ++ codes " "
     ++ port_fault_name fault ++ codes "\n"
 
+-- The device
+
+-- the line of what is expected, or of a cycle time: whether it counts now or later
+abbrev pub counting_text : Counting → List ℕ
+counting_text Now = codes "ok\n"
+counting_text Later = codes "ok later\n"
+
+-- the line of a page
+abbrev pub page_text : Option (List ℕ) → List ℕ
+page_text None = codes "page none\n"
+page_text (Some octets) = codes "page" ++ octets_text octets ++ codes "\n"
+
 -- Answers
 
 -- a call without an answer: a turn prints nothing
@@ -170,6 +185,8 @@ answer_text call (answered.Image image) = image_text image
 answer_text call (answered.Event event) = event_text event ++ codes "\n"
 answer_text call (answered.Status status) = state_text status
 answer_text call (answered.Archived count) = number_text (codes "archived ") count ++ codes "\n"
+answer_text call (answered.Counts counting) = counting_text counting
+answer_text call (answered.Page page) = page_text page
 answer_text call answered.Nothing = nothing_text call
 
 -- what is printed for calls, each with its answer
@@ -188,6 +205,12 @@ carried_text entry = codes "carried " ++ request_text entry.request ++ codes ": 
 -- the lines of a record
 abbrev pub entries_text : List Carried → List ℕ
 entries_text entries = flat_map carried_text entries
+
+-- those of the device that isn't plugged in, where there is a second one
+abbrev pub away_text : Option (List Carried) → List ℕ
+away_text None = []
+away_text (Some entries) = number_text (codes "away ") (length entries) ++ codes "\n"
+    ++ entries_text entries
 
 -- how many there are, and each
 abbrev pub record_text : List Carried → List ℕ

@@ -21,8 +21,8 @@ use Rattle.iol_port.specs.View.{Parts, Opening, StandsFor, IsOpened, opening_of}
 use Rattle.iol_port.specs.EveryWire.{CallGives}
 use Rattle.iol_script.specs.Script.{ScriptValue, script_in, calls_in}
 use Rattle.iol_commands.specs.Passing.{PrintsPassed}
-use Rattle.iol_commands.specs.RunPlayed.{first_port, first_wire, lacks_memory}
-use Rattle.iol_commands.specs.RunPrinted.{answer_text, record_text}
+use Rattle.iol_commands.specs.RunPlayed.{first_port, first_wire, records_text, lacks_memory}
+use Rattle.iol_commands.specs.RunPrinted.{answer_text}
 
 -- the layout of a mode, where these are the device's; in down no message is sent
 abbrev pub layout_in : Mode → Layouts → Shape
@@ -93,7 +93,7 @@ TracesOverWire layouts s calls t text =
     Traces (sim_facts Stores) layouts s calls t text
 
 -- What is printed for calls: what passes and what they answer, and then the
--- device's record. They are made on a new port over a tap on the script's wire.
+-- device's record. They are made on a new port over a tap on the script's wire of one device.
 pub record TracesOut (script : ScriptValue) (layouts : Layouts) (calls : List Call)
     (text : List ℕ) : Type 0 where
   pub first : Parts (Tapped (Simulated (List Entry)))
@@ -102,14 +102,14 @@ pub record TracesOut (script : ScriptValue) (layouts : Layouts) (calls : List Ca
   pub calls_text : List ℕ
   pub traces : TracesOverWire layouts (first_stage script first) calls last calls_text
   pub carried : (wire_at last).device.far.carried ≡ last.port.session.carried
-  pub text_is : text ≡ calls_text ++ record_text last.port.session.carried
+  pub text_is : text ≡ calls_text ++ records_text (wire_at last)
 
 -- what `trace` prints for lines, which are a script
 abbrev pub PrintsTrace : List (ℕ × List ℕ) → List ℕ → Type 0
 PrintsTrace lines text =
     IsSomeAnd (script_in lines)
     (λ script. IsOkAnd (layouts_of script.page)
-    (λ layouts. TracesOut script layouts (calls_in lines) text))
+    (λ layouts. script.other ≡ None → TracesOut script layouts (calls_in lines) text))
 
 -- the stage of a port over a tap, where it stands for this abstract port
 abbrev pub stage_of : {W : Type 0} → ℕ → PortState → Parts (Tapped W) → Stage W

@@ -1,21 +1,23 @@
 //! `run`: a port over a simulated wire, as a script says.
 ghost use Rattle.std.specs.Prelude.{◌≡◌, ◌≢◌, ◌<◌, ◌⊎◌, ℕ, Err, OnErr, OnOk, IfOk, IfErr, IsOk, None, Some};
 ghost use Rattle.std.specs.Io.KnownBytes.{Keeps};
+ghost use Rattle.std.specs.Option.{ForSome};
 ghost use Rattle.std.specs.String.{string_bytes};
 ghost use Rattle.iol_far.specs.Far.{opened};
 ghost use Rattle.iol_page.specs.Page.{layouts_of};
 ghost use Rattle.iol_script.specs.Script.{first_bad_run};
 ghost use Rattle.iol_script.specs.Text.{numbered_lines};
 ghost use Rattle.iol_commands.specs.declared.fault.ProgramFault.TheVariants.{Line, NoThread, OutOfMemory, TooLong, WriteFailed};
-ghost use Rattle.iol_commands.specs.RunPlayed.{first_wire, PrintsRun};
+ghost use Rattle.iol_commands.specs.RunPlayed.{first_wire, new_device, PrintsRun};
 ghost use Rattle.iol_commands.specs.Input.{IsTooLong, OfLines, TakesInput, Writes};
 
 use crate::fault::ProgramFault;
 use crate::playing::play_lines;
-use crate::run_printing::print_record;
+use crate::run_printing::print_records;
 use crate::streams::{read_input, write_output};
 use iol_cell::Handle;
-use iol_device::Device;
+use iol_device::{Device, Kept};
+use iol_page::Page;
 use iol_port::Port;
 use iol_script::Script;
 use iol_sim::{Params, Sim};
@@ -74,24 +76,45 @@ fn played<A: Handle>(alloc: A, input: &[u8]) -> Result<String<A>, ProgramFault>
     };
     let mut output = String::new(alloc);
     play_lines(alloc, &mut output, &mut port, input)?;
-    print_record(&mut output, port.wire().device().carried())?;
+    print_records(&mut output, port.wire())?;
     Ok(output)
 }
 
-/// The wire of a script, with its device.
+/// The wire of a script, with its device, or both.
 pub(crate) fn wire_of<A: Handle>(alloc: A, script: Script<A>) -> Result<Sim<Params, A>, AllocError>
-    requires { IsOk (layouts_of script.page) }
+    requires page { IsOk (layouts_of script.page) }
+    requires other { ForSome script.other (λ page. IsOk (layouts_of page)) }
     ensures far { IfOk result (λ sim. sim.device.far ≡ opened script.page (Some ROOM)) }
     ensures app { IfOk result (λ sim. sim.device.app ≡ script.params) }
     ensures steps { IfOk result (λ sim. sim.steps ≡ script.steps.items) }
     ensures silence { IfOk result (λ sim. sim.silence ≡ 0) }
     ensures whole { IfOk result (λ sim. sim ≡ first_wire (record {
       page = script.page;
+      other = script.other;
       params = script.params;
       limits = script.limits;
       steps = script.steps.items;
     })) }
 {
-    let device = Device::open(alloc, script.params, script.page, ROOM).map_err(|_| AllocError)?;
-    Sim::new(alloc, device, script.steps).map_err(|_| AllocError)
+    let others = script.params.copy();
+    let device = device_of(alloc, script.params, script.page)?;
+    match script.other {
+        Some(page) => {
+            let other = device_of(alloc, others, page)?;
+            Sim::with_other(alloc, device, other, script.steps).map_err(|_| AllocError)
+        }
+        None => Sim::new(alloc, device, script.steps).map_err(|_| AllocError),
+    }
+}
+
+/// A new device.
+fn device_of<A: Handle>(
+    alloc: A,
+    params: Params,
+    page: Page,
+) -> Result<Device<Params, Kept<A>>, AllocError>
+    requires { IsOk (layouts_of page) }
+    ensures { IfOk result (λ device. device ≡ new_device page params) }
+{
+    Device::open(alloc, params, page, ROOM).map_err(|_| AllocError)
 }

@@ -1,8 +1,9 @@
 //! What `run` prints for the answers to its calls, and for the device's record.
-ghost use Rattle.std.specs.Prelude.{◌≡◌, ◌++◌, OnOk};
+ghost use Rattle.std.specs.Prelude.{◌≡◌, ◌++◌, OnOk, Some};
 ghost use Rattle.std.specs.String.{string_bytes};
 ghost use Rattle.std.specs.Option.{option_copied};
-ghost use Rattle.iol_commands.specs.RunPrinted.{listed_text, place_text, request_text, device_text, cause_name, outcome_text, ticket_text, collected_text, image_text, code_text, event_text, mode_name, why_name, why_text, link_text, state_text, book_fault_name, output_fault_name, port_fault_name, refused_text, nothing_text, answer_text, carried_text, entries_text, record_text};
+ghost use Rattle.iol_commands.specs.RunPrinted.{listed_text, place_text, request_text, device_text, cause_name, outcome_text, ticket_text, collected_text, image_text, code_text, event_text, mode_name, why_name, why_text, link_text, state_text, book_fault_name, output_fault_name, port_fault_name, refused_text, nothing_text, answer_text, carried_text, entries_text, record_text, counting_text, page_text, away_text};
+ghost use Rattle.iol_commands.specs.RunPlayed.{records_text};
 
 use crate::printing::{print_hexadecimal, print_octets};
 use iol_app::{OutputFault, Status};
@@ -12,7 +13,9 @@ use iol_event::Event;
 use iol_image::Image;
 use iol_isdu::{Answer, Cause, Place, Request};
 use iol_mode::Why;
-use iol_port::{Answered, Call, PortFault};
+use iol_page::Page;
+use iol_port::{Answered, Call, Counting, PortFault};
+use iol_sim::{Params, Sim};
 use iol_steps::Mode;
 use std::alloc::{AllocError, Allocator};
 
@@ -188,6 +191,7 @@ fn why_name(why: Why) -> &'static str
         Why::Revision(_) => "Revision",
         Why::PdLength => "BadPdLength",
         Why::Code => "UnsupportedCode",
+        Why::WrongDevice(_) => "WrongDevice",
     }
 }
 
@@ -281,6 +285,29 @@ fn print_nothing<A: Allocator>(output: &mut String<A>, call: &Call) -> Result<()
     }
 }
 
+/// Whether what a device is asked for counts now or later.
+fn counting_line(counting: Counting) -> &'static str
+    ensures { result.now ≡ counting_text counting }
+{
+    match counting {
+        Counting::Now => "ok\n",
+        Counting::Later => "ok later\n",
+    }
+}
+
+/// The octets of a page, or that there is none.
+fn print_page<A: Allocator>(output: &mut String<A>, page: Option<&Page>) -> Result<(), AllocError>
+    ensures { OnOk result (string_bytes output.new
+        ≡ string_bytes output.old ++ page_text (option_copied page.entry)) }
+{
+    let Some(page) = page else {
+        return output.push_str("page none\n");
+    };
+    output.push_str("page")?;
+    print_octets(output, page.octets())?;
+    output.push_str("\n")
+}
+
 /// What a call answered.
 pub(crate) fn print_answer<A: Allocator>(
     output: &mut String<A>,
@@ -304,6 +331,8 @@ pub(crate) fn print_answer<A: Allocator>(
         }
         Answered::Status(status) => print_state(output, *status),
         Answered::Archived(count) => writeln!(output, "archived {count}"),
+        Answered::Counts(counting) => output.push_str(counting_line(*counting)),
+        Answered::Page(page) => print_page(output, page.as_ref()),
         Answered::Nothing => print_nothing(output, call),
     }
 }
@@ -333,11 +362,32 @@ fn print_entries<A: Allocator>(
     Ok(())
 }
 
-/// The device's record: how many requests it carried out, and each of them.
-pub(crate) fn print_record<A: Allocator>(
+/// The records at the end: that of the device that is plugged in, and that of the other one.
+pub(crate) fn print_records<C: Allocator + Copy, A: Allocator>(
     output: &mut String<A>,
-    entries: &[Carried],
+    sim: &Sim<Params, C>,
 ) -> Result<(), AllocError>
+    ensures { OnOk result (string_bytes output.new ≡ string_bytes output.old ++ records_text sim.now) }
+{
+    print_record(output, sim.device().carried())?;
+    let Some(away) = sim.away() else {
+        return Ok(());
+    };
+    print_away(output, away.carried())
+}
+
+/// The record of the device that isn't plugged in.
+fn print_away<A: Allocator>(output: &mut String<A>, entries: &[Carried]) -> Result<(), AllocError>
+    ensures { OnOk result (string_bytes output.new
+        ≡ string_bytes output.old ++ away_text (Some entries.now)) }
+{
+    let count = entries.len();
+    writeln!(output, "away {count}")?;
+    print_entries(output, entries)
+}
+
+/// The device's record: how many requests it carried out, and each of them.
+fn print_record<A: Allocator>(output: &mut String<A>, entries: &[Carried]) -> Result<(), AllocError>
     ensures { OnOk result (string_bytes output.new
         ≡ string_bytes output.old ++ record_text entries.now) }
 {

@@ -1,6 +1,7 @@
 //! `trace`: what `run` prints, and what goes over the wire.
 ghost use Rattle.std.specs.Prelude.{◌≡◌, ◌≢◌, ◌<◌, ◌≤◌, ◌⊎◌, length, List, ℕ, Err, OnErr, OnOk, IfErr, IsOk, IsOkAnd, None};
 ghost use Rattle.std.specs.Io.KnownBytes.{Appends, Keeps};
+ghost use Rattle.std.specs.Option.{ForSome};
 ghost use Rattle.iol_book.specs.BookModel.{AreLimits};
 ghost use Rattle.iol_page.specs.Page.{layouts_of};
 ghost use Rattle.iol_script.specs.Script.{calls_in, first_bad_run};
@@ -11,7 +12,7 @@ ghost use Rattle.iol_commands.specs.Input.{IsTooLong, OfLines, TakesInput, Write
 
 use crate::fault::ProgramFault;
 use crate::run_command::wire_of;
-use crate::run_printing::print_record;
+use crate::run_printing::print_records;
 use crate::streams::{read_input, write_output};
 use crate::tracing::Tracer;
 use iol_cell::Handle;
@@ -61,13 +62,15 @@ fn traced<A: Handle, W: Write>(
     writer: &mut W,
 ) -> Result<(), ProgramFault>
     requires page { IsOk (layouts_of script.page) }
+    requires other { ForSome script.other (λ page. IsOk (layouts_of page)) }
     requires limits { AreLimits script.limits }
     requires given { script.limits.given ≡ 0 }
     requires calls { length (calls_in (numbered_lines input.now)) ≤ 1000000 }
     ensures printed { OnOk result
         ((text : List ℕ) × Appends (W.contents writer.old) (W.contents writer.new) text
-        × IsOkAnd (layouts_of script.page) (λ layouts. TracesOut (record {
+        × IsOkAnd (layouts_of script.page) (λ layouts. script.other ≡ None → TracesOut (record {
           page = script.page;
+          other = script.other;
           params = script.params;
           limits = script.limits;
           steps = script.steps.items;
@@ -85,6 +88,6 @@ fn traced<A: Handle, W: Write>(
     };
     let mut tracer = Tracer::new(alloc, layouts);
     tracer.follow(&mut port, writer, input)?;
-    print_record(&mut tracer.output, port.wire().wire().device().carried())?;
+    print_records(&mut tracer.output, port.wire().wire())?;
     write_output(writer, tracer.output.as_str())
 }

@@ -151,9 +151,9 @@ fn fail_reads(rt: &impl Abort, alloc: Global, case: &Case, reads: u32) {
     for read in 0..reads {
         let (mut source, mut sink) = failing(alloc, case.input, read, u32::MAX);
         let result = case.command.perform(alloc, &mut source, &mut sink);
-        assert!(rt; result == Err(ProgramFault::ReadFailed), "at {read}");
-        assert!(rt; source.fails_at == u32::MAX, "at {read}");
-        assert!(rt; sink.held.is_empty(), "at {read}");
+        let is_failed = result == Err(ProgramFault::ReadFailed);
+        let is_last = source.fails_at == u32::MAX;
+        assert!(rt; is_failed && is_last && sink.held.is_empty(), "at {read}");
     }
     let (mut source, mut sink) = failing(alloc, case.input, reads, u32::MAX);
     let result = case.command.perform(alloc, &mut source, &mut sink);
@@ -168,9 +168,9 @@ fn fail_writes(rt: &impl Abort, alloc: Global, case: &Case, writes: u32) {
     for write in 0..writes {
         let (mut source, mut sink) = failing(alloc, case.input, u32::MAX, write);
         let result = case.command.perform(alloc, &mut source, &mut sink);
-        assert!(rt; result == Err(ProgramFault::WriteFailed), "at {write}");
+        let is_failed = result == Err(ProgramFault::WriteFailed);
         let begun = case.output.as_bytes().starts_with(sink.held.as_slice());
-        assert!(rt; begun, "at {write}");
+        assert!(rt; is_failed && begun, "at {write}");
     }
     let (mut source, mut sink) = failing(alloc, case.input, u32::MAX, writes);
     let result = case.command.perform(alloc, &mut source, &mut sink);

@@ -22,7 +22,7 @@ use Rattle.iol_far.specs.Local.{Carry, Raise, Input, NoInput, Power, local, carr
 use Rattle.iol_far.specs.declared.mode.Mode.{Mode}
 use Rattle.iol_device.specs.Device.{Running}
 use Rattle.iol_device.specs.Number.{next_number, answer_refusal, misfit}
-use Rattle.iol_device.specs.NumberLaws.{Deed, Hears, Wakes, Steps, after_deed, after_deeds, HasNumbersFor, NumbersAreOwn}
+use Rattle.iol_device.specs.NumberLaws.{Deed, Hears, Wakes, Silences, Steps, after_deed, after_deeds, HasNumbersFor, NumbersAreOwn}
 use Rattle.iol_device.specs.declared.fault.DeviceFault.TheVariants.{OtherRequest}
 
 -- What a message does to a handed request
@@ -316,6 +316,10 @@ moves : {P : Type 0} (device : Running P) (deed : Deed)
 moves device (Hears octets) =
     record { number = refl; same = (heeds_octets device.far octets).same }
 moves device Wakes = drops device (woken device.far) refl
+moves device Silences = record {
+  number = unmoved device.number (handed device.far.isdu);
+  same = λ y x h k. cc;
+}
 moves device (Steps (Carry answer)) = carries device device.far.isdu answer refl
 moves device (Steps (Raise event)) = stays device (local device.far (Raise event)) refl
 moves device (Steps (Input image)) = inputs device image (is_input device.far image)

@@ -2,6 +2,8 @@ pub mod App
 pub mod Record
 pub mod Faults
 pub mod Device
+pub mod Silence
 pub mod Number
+pub mod Hearing
 pub mod NumberLaws
 pub mod Inside

@@ -9,18 +9,21 @@ use Rattle.iol_far.specs.Isdu.{handed}
 use Rattle.iol_far.specs.Laws.{is_start_read}
 use Rattle.iol_far.specs.Local.{LocalStep, local, woken}
 use Rattle.iol_device.specs.Device.{Running}
-use Rattle.iol_device.specs.Number.{is_new, with_far, handed_number, answer_refusal}
+use Rattle.iol_device.specs.Number.{is_new, handed_number, answer_refusal}
+use Rattle.iol_device.specs.Hearing.{heard}
 use Rattle.iol_device.specs.declared.fault.DeviceFault.TheVariants.{OtherRequest}
 
 -- what a call does at a device; an answer that is taken is a step, one that is refused does nothing
 pub data Deed : Type 0 where
   Hears : List ℕ → Deed
   Wakes : Deed
+  Silences : Deed
   Steps : LocalStep → Deed
 
 abbrev pub after_deed : {P : Type 0} → Running P → Deed → Running P
-after_deed device (Hears octets) = with_far device (hear device.far octets).far
+after_deed device (Hears octets) = heard device octets
 after_deed device Wakes = record device { far = woken device.far }
+after_deed device Silences = record device { silent = true }
 after_deed device (Steps step) = record device { far = local device.far step }
 
 abbrev pub after_deeds : {P : Type 0} → Running P → List Deed → Running P

@@ -1,5 +1,5 @@
 //! What a device is without its application.
-ghost use Rattle.std.specs.Prelude.{◌≡◌, ◌+◌, ◌-◌, ◌<◌, ◌≤◌, ◌↔◌, ◌==◌, ◌++◌, length, slice_index, Option, Some, None, IsTrue, IsErr, IfErr, OnErr, option_copied, option_map, IfNone, OnSome, false, is_some, IsOk, unwrap_or, []};
+ghost use Rattle.std.specs.Prelude.{◌≡◌, ◌+◌, ◌-◌, ◌<◌, ◌≤◌, ◌↔◌, ◌==◌, ◌++◌, length, slice_index, Option, Some, None, IsTrue, IsErr, IfErr, OnErr, option_copied, option_map, IfNone, OnSome, false, is_some, IsOk, unwrap_or, if◌then◌else◌, []};
 
 use crate::app::App;
 use crate::commands::{Waiting, command_in, is_confirm, mode_asked};
@@ -72,6 +72,7 @@ impl<R: Record> FarEnd<R> {
     ghost use Rattle.iol_far.specs.Local.{local, woken, is_input, has_room, LocalStep};
     ghost use Rattle.iol_device.specs.App.{IsCarriedOut};
     ghost use Rattle.iol_device.specs.Number.{misfit};
+    ghost use Rattle.iol_device.specs.Silence.{says_valid, silent_after};
     ghost use Rattle.std.specs.Result.{result_err};
     ghost use Rattle.iol_device.specs.Inside.{new_mode};
     ghost use Rattle.iol_far.specs.Octets.{buffered};
@@ -164,23 +165,51 @@ impl<R: Record> FarEnd<R> {
     }
 
     /// What the far end does on hearing these octets. Answers whether it replies;
-    /// the reply is put into the buffer.
+    /// the reply is put into the buffer. A message that says that the output is
+    /// valid ends a silence.
     ///
-    /// Rule DEV-2.
-    pub fn hear(&mut self, octets: &[u8], reply: &mut Message) -> bool
+    /// Rules DEV-2, DEV-19.
+    pub fn hear(&mut self, octets: &[u8], silent: &mut bool, reply: &mut Message) -> bool
         requires { reply.old.items ≡ [] }
         ensures far { self.new ≡ (far.hear self.old octets.now).far }
         ensures reply { buffered result reply.new ≡ (far.hear self.old octets.now).reply }
         ensures unanswered { result ≡ false → reply.new.items ≡ [] }
         ensures answers { result ≡ is_some (far.accepted self.old octets.now) }
-        ensures silent { result ≡ false → self.new ≡ self.old }
+        ensures unheard { result ≡ false → self.new ≡ self.old }
+        ensures silent { silent.new ≡ silent_after silent.old self.old octets.now }
     {
         let Some(message) = self.accept(octets) else {
             return false;
         };
+        self.end_silence(&message, silent);
         self.work_message(octets, &message);
         self.reply(&message, reply);
         true
+    }
+
+    /// A message in the present layout ends a silence if it says that the output is valid.
+    ///
+    /// Rule DEV-19.
+    fn end_silence(&self, message: &MasterView<'_>, silent: &mut bool)
+        ensures { silent.new ≡ (if says_valid self.now.mode (far.command_in message.now)
+            then false else silent.old) }
+    {
+        // Most messages find none.
+        if *silent {
+            *silent = !self.says_valid(message);
+        }
+    }
+
+    /// Whether a message in the present layout says that the output is valid.
+    ///
+    /// Rule DEV-19.
+    fn says_valid(&self, message: &MasterView<'_>) -> bool
+        ensures { result ≡ says_valid self.now.mode (far.command_in message.now) }
+    {
+        match command_in(message) {
+            Some(MasterCommand::ProcessDataOutputOperate) => self.mode == Mode::Operate,
+            _ => false,
+        }
     }
 
     /// Rule DEV-9.
@@ -512,6 +541,29 @@ impl<R: Record> FarEnd<R> {
         if let Some(image) = &self.input {
             image.octets();
         }
+    }
+
+    /// Whether it was woken since its power came.
+    pub fn is_awake(&self) -> bool
+        ensures { result ≡ self.now.awake }
+    {
+        self.awake
+    }
+
+    /// The mode.
+    pub fn mode(&self) -> Mode
+        ensures { result ≡ self.now.mode }
+    {
+        self.mode
+    }
+
+    /// The octet of page address 0x01.
+    ///
+    /// Rule DEV-9.
+    pub fn cycle_time(&self) -> u8
+        ensures { result ≡ self.now.cycle_time }
+    {
+        self.cycle_time
     }
 
     /// The page.

@@ -5,9 +5,9 @@
 //! What it does with octets is the definition `hear`, for all octets whatever (IEC 61131-9, 7.3
 //! and Annexes A and B; the behaviour that the standard leaves open is a profile of this project).
 //!
-//! Definitions: `hear` of iol_far; here `specs/Device`, `Number` and `App`. Of all octets a device
-//! answers and becomes exactly what `hear` says; each pair of its record is one call of its
-//! application.
+//! Definitions: `hear` of iol_far; here `specs/Device`, `Hearing`, `Number`, `Silence` and `App`.
+//! Of all octets a device answers and becomes exactly what `hear` says; each pair of its record is
+//! one call of its application.
 #![tactic(auto)]
 
 mod app;

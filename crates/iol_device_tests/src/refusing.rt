@@ -25,30 +25,30 @@ fn granted(alloc: Global, refusal: Refusal) -> [bool; 5] {
 
 #[test]
 fn an_order_says_which_are_refused(rt: HostRuntime) {
-    assert_eq!(rt; granted(rt.alloc(), Refusal::Never), [true; 5]);
+    assert!(rt; granted(rt.alloc(), Refusal::Never) == [true; 5]);
     let first = [false, true, true, true, true];
-    assert_eq!(rt; granted(rt.alloc(), Refusal::Only(0)), first);
+    assert!(rt; granted(rt.alloc(), Refusal::Only(0)) == first);
     let third = [true, true, false, true, true];
-    assert_eq!(rt; granted(rt.alloc(), Refusal::Only(2)), third);
-    assert_eq!(rt; granted(rt.alloc(), Refusal::Only(5)), [true; 5]);
-    assert_eq!(rt; granted(rt.alloc(), Refusal::From(0)), [false; 5]);
+    assert!(rt; granted(rt.alloc(), Refusal::Only(2)) == third);
+    assert!(rt; granted(rt.alloc(), Refusal::Only(5)) == [true; 5]);
+    assert!(rt; granted(rt.alloc(), Refusal::From(0)) == [false; 5]);
     let last_two = [true, true, true, false, false];
-    assert_eq!(rt; granted(rt.alloc(), Refusal::From(3)), last_two);
-    assert_eq!(rt; granted(rt.alloc(), Refusal::From(5)), [true; 5]);
+    assert!(rt; granted(rt.alloc(), Refusal::From(3)) == last_two);
+    assert!(rt; granted(rt.alloc(), Refusal::From(5)) == [true; 5]);
 }
 
 #[test]
 fn counts_since_the_order(rt: HostRuntime) {
     let refusing = RefusingAlloc::new(rt.alloc());
     assert!(rt; is_granted(&refusing));
-    assert_eq!(rt; refusing.requests(), 1);
+    assert!(rt; refusing.requests() == 1);
     assert!(rt; !refusing.has_refused());
     refusing.order(Refusal::Only(1));
-    assert_eq!(rt; refusing.requests(), 0);
+    assert!(rt; refusing.requests() == 0);
     assert!(rt; is_granted(&refusing));
     assert!(rt; !refusing.has_refused());
     assert!(rt; !is_granted(&refusing));
-    assert_eq!(rt; refusing.requests(), 2);
+    assert!(rt; refusing.requests() == 2);
     assert!(rt; refusing.has_refused());
     refusing.order(Refusal::Never);
     assert!(rt; is_granted(&refusing));
@@ -61,9 +61,9 @@ fn a_refused_growth_keeps_what_was_there(rt: HostRuntime) -> Result<(), Fail> {
     let mut numbers = vec![in &refusing; 1u64, 2]?;
     refusing.order(Refusal::From(0));
     assert!(rt; numbers.push(3).is_err());
-    assert_eq!(rt; numbers.as_slice(), [1, 2].as_slice());
+    assert!(rt; numbers.as_slice() == [1, 2].as_slice());
     refusing.order(Refusal::Never);
     numbers.push(3)?;
-    assert_eq!(rt; numbers.as_slice(), [1, 2, 3].as_slice());
+    assert!(rt; numbers.as_slice() == [1, 2, 3].as_slice());
     Ok(())
 }

@@ -1,5 +1,5 @@
 //! A port without a wire, whose line is claimed to be honest.
-ghost use Rattle.std.specs.Prelude.{◌≡◌, ◌≤◌, IfOk, IfErr, IsTrue, length, is_some};
+ghost use Rattle.std.specs.Prelude.{◌≡◌, ◌≤◌, None, Some, IfOk, IfErr, IsTrue, length, is_some};
 ghost use Rattle.std.specs.Result.{result_map_both};
 ghost use Rattle.iol_far.specs.Octets.{octets_in};
 ghost use Rattle.iol_far.specs.Far.{Far};
@@ -15,6 +15,8 @@ ghost use Rattle.iol_port.specs.Asks.{asks_of};
 ghost use Rattle.iol_port.specs.EveryWire.{SubmitGives, CollectGives, WithdrawGives, CancelGives};
 ghost use Rattle.iol_port.specs.EveryWire.{ArchiveGives, TakeEventGives, SetOutputGives};
 ghost use Rattle.iol_port.specs.EveryWire.{ClearOutputGives, RestartGives};
+ghost use Rattle.iol_port.specs.EveryWire.{ExpectGives, SetCycleGives};
+ghost use Rattle.iol_port.specs.RightDevice.{IsForRightDevice};
 ghost use Rattle.iol_port.specs.CorePort.{IsNew, CoreOpens, awaited, SendGives, SendDoes};
 ghost use Rattle.iol_port.specs.CorePort.{ReceiveGives, ReceiveDoes, WakeGives, WakeDoes};
 ghost use Rattle.iol_port.specs.Replies.{ticket_reply, outcome_reply, nothing_reply, event_reply};
@@ -29,7 +31,8 @@ use iol_image::Image;
 use iol_isdu::Request;
 use iol_link::Rate;
 use iol_mseq::Message;
-use iol_port::{PortCore, PortFault, record_fits_journal};
+use iol_page::{CycleTime, Identity};
+use iol_port::{Counting, PortCore, PortFault, record_fits_journal};
 use std::alloc::{Allocator, Global};
 use std::marker::Model;
 use std::snapshot::Snapshot;
@@ -110,8 +113,8 @@ impl<A: Allocator + Copy> HonestPort<A> {
         }
     }
 
-    /// The port within, for the calls that only look: what it waits for and asks, its image and
-    /// its status.
+    /// The port within, for the calls that only look: what it waits for and asks, its image, its
+    /// page and its status.
     pub fn core(&self) -> &PortCore<A>
         ensures { result.now ≡ self.now.parts }
     {
@@ -200,6 +203,31 @@ impl<A: Allocator + Copy> HonestPort<A> {
         self.core.clear_output();
     }
 
+    /// As [`PortCore::expect`].
+    pub fn expect(&mut self, identity: Identity) -> Counting
+        ensures does { Calls
+            self.old (call.Expect (Some identity)) (answered.Counts result) self.new }
+        ensures gives { ExpectGives self.old.parts (Some identity) result self.new.parts }
+    {
+        self.core.expect(identity)
+    }
+
+    /// As [`PortCore::expect_any`].
+    pub fn expect_any(&mut self) -> Counting
+        ensures does { Calls self.old (call.Expect None) (answered.Counts result) self.new }
+        ensures gives { ExpectGives self.old.parts None result self.new.parts }
+    {
+        self.core.expect_any()
+    }
+
+    /// As [`PortCore::set_cycle`].
+    pub fn set_cycle(&mut self, cycle: Option<CycleTime>) -> Counting
+        ensures does { Calls self.old (call.Cycle cycle) (answered.Counts result) self.new }
+        ensures gives { SetCycleGives self.old.parts cycle result self.new.parts }
+    {
+        self.core.set_cycle(cycle)
+    }
+
     /// As [`PortCore::take_event`].
     pub fn take_event(&mut self) -> Result<Event, PortFault>
         ensures does { Calls self.old call.TakeEvent (event_reply result) self.new }
@@ -272,5 +300,12 @@ impl<A: Allocator + Copy> HonestPort<A> {
     {
         record_fits_journal();
         self.core.keeps_record();
+    }
+
+    /// A law of each such port, without code, as [`PortCore::serves_right_device`].
+    pub fn serves_right_device(&self)
+        ensures { IsForRightDevice self.now.parts }
+    {
+        self.core.serves_right_device();
     }
 }

@@ -71,7 +71,7 @@ awaited_number Reply = 2
 
 abbrev pub awaited_of : Asked → Awaited
 awaited_of asked.Wake = Wake
-awaited_of (asked.Exchange octets) = Reply
+awaited_of (asked.Exchange out) = Reply
 
 -- all of the ledger
 abbrev pub IsWhole : ℕ → ℕ → Type 0
@@ -84,8 +84,8 @@ module _ {W : Type 0} (facts : WireFacts W) where
   abbrev pub Brings : Asked → W → W → LineState → LineState → Type 0
   Brings asked.Wake old new p next =
       (rate : Option Rate) × wake_gives old rate new × TakesRate p (is_some rate) next
-  Brings (asked.Exchange octets) old new p next =
-      (came : Option (ArrayVec ℕ)) × exchange_gives old octets.items came new
+  Brings (asked.Exchange out) old new p next =
+      (came : Option (ArrayVec ℕ)) × exchange_gives old out.octets.items came new
       × TakesReply p (octets_in came) next
 
   -- A turn: some port, whose lock was held, sent; the wire was called once, as it asked; and some

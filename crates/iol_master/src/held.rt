@@ -1,5 +1,5 @@
 //! What lies under a port's lock: the port, and its share of the tickets.
-ghost use Rattle.std.specs.Prelude.{◌≡◌, ◌≤◌, IfOk, length};
+ghost use Rattle.std.specs.Prelude.{◌≡◌, ◌≤◌, None, Some, IfOk, length};
 ghost use Rattle.std.specs.Option.{option_copied};
 ghost use Rattle.std.specs.Result.{result_map_both};
 ghost use Rattle.iol_app.specs.Asking.{IsCall};
@@ -13,6 +13,8 @@ ghost use Rattle.iol_port.specs.WireCalls.{ComesFrom};
 ghost use Rattle.iol_port.specs.EveryWire.{CollectGives, WithdrawGives, CancelGives, ArchiveGives};
 ghost use Rattle.iol_port.specs.EveryWire.{TakeEventGives, SetOutputGives};
 ghost use Rattle.iol_port.specs.EveryWire.{ClearOutputGives, RestartGives, TurnGives};
+ghost use Rattle.iol_port.specs.EveryWire.{ExpectGives, SetCycleGives, page_shown};
+ghost use Rattle.iol_port.specs.RightDevice.{IsForRightDevice};
 ghost use Rattle.iol_port.specs.Clean.{CleanTurn, IsLevelBetween};
 ghost use Rattle.iol_port.specs.Replies.{outcome_reply, nothing_reply, event_reply, reply_of};
 ghost use Rattle.iol_master.specs.Tickets.{HasGiven, Submits, Enters};
@@ -26,7 +28,8 @@ use iol_event::Event;
 use iol_image::Image;
 use iol_isdu::Request;
 use iol_link::Wire;
-use iol_port::{Port, PortFault};
+use iol_page::{CycleTime, Identity, Page};
+use iol_port::{Counting, Port, PortFault};
 use std::alloc::Global;
 use std::marker::Model;
 use std::sync::Wait;
@@ -210,6 +213,51 @@ impl<W: Wire, K: Ledger, A: Handle> Held<W, K, A> {
         self.port.clear_output();
     }
 
+    /// Expects this device from the next page on that a start-up reads whole.
+    ///
+    /// Where that page is another device's, the link goes down in the very turn, with
+    /// `Why::WrongDevice` and the identity that was found, and nothing was written to the device.
+    /// Requests wait on. A page that was checked already is not checked again.
+    pub fn expect(&mut self, identity: Identity) -> Counting
+        ensures does { Does W.facts self.old.parts
+            (call.Expect (Some identity)) (answered.Counts result) self.new.parts }
+        ensures gives { ExpectGives self.old.parts (Some identity) result self.new.parts }
+        ensures rest { self.new ≡ record self.old { parts = self.new.parts } }
+    {
+        self.port.expect(identity)
+    }
+
+    /// Expects any device, as a port does that is new.
+    pub fn expect_any(&mut self) -> Counting
+        ensures does { Does W.facts self.old.parts
+            (call.Expect None) (answered.Counts result) self.new.parts }
+        ensures gives { ExpectGives self.old.parts None result self.new.parts }
+        ensures rest { self.new ≡ record self.old { parts = self.new.parts } }
+    {
+        self.port.expect_any()
+    }
+
+    /// Has start-ups write this cycle time to MasterCycleTime, where it is at least the device's
+    /// MinCycleTime; else, and with none, they write MinCycleTime as it stands in the page.
+    pub fn set_cycle(&mut self, cycle: Option<CycleTime>) -> Counting
+        ensures does { Does W.facts self.old.parts
+            (call.Cycle cycle) (answered.Counts result) self.new.parts }
+        ensures gives { SetCycleGives self.old.parts cycle result self.new.parts }
+        ensures rest { self.new ≡ record self.old { parts = self.new.parts } }
+    {
+        self.port.set_cycle(cycle)
+    }
+
+    /// The device's page, once the start-up of the present session has read it whole and checked
+    /// it; none before, and in down.
+    pub fn page(&self) -> Option<Page>
+        ensures does { Does W.facts self.now.parts
+            call.Page (answered.Page result) self.now.parts }
+        ensures value { result ≡ page_shown self.now.parts }
+    {
+        self.port.page()
+    }
+
     /// The device's input by the last good reply in OPERATE: one whole image, or none where it was
     /// not valid. None in every other mode.
     ///
@@ -295,6 +343,15 @@ impl<W: Wire, K: Ledger, A: Handle> Held<W, K, A> {
         ensures level { OpensWell self.now.opening → IsLevelBetween W.facts self.now.parts }
     {
         self.port.keeps_record();
+    }
+
+    /// A law of each port under its lock, without code: in OPERATE, where alone a request is taken
+    /// and an output goes out, the page of the present session was read whole. It is that of the
+    /// device that was expected when it was checked, if one was.
+    pub fn serves_right_device(&self)
+        ensures { IsForRightDevice self.now.parts }
+    {
+        self.port.serves_right_device();
     }
 
     /// The share, and how many tickets the port gave since it was opened. The port is dropped.

@@ -1,6 +1,6 @@
 //! A line whose clients wait for no exchange: its port lies under a lock, and a worker owns its
 //! wire.
-ghost use Rattle.std.specs.Prelude.{◌≡◌, ◌≤◌, false, IfOk, IfErr, IsTrue, is_some, length};
+ghost use Rattle.std.specs.Prelude.{◌≡◌, ◌≤◌, None, Some, false, IfOk, IfErr, IsTrue, is_some, length};
 ghost use Rattle.std.specs.Option.{option_copied};
 ghost use Rattle.std.specs.Result.{result_map_both};
 ghost use Rattle.iol_far.specs.Octets.{octets_in};
@@ -14,6 +14,7 @@ ghost use Rattle.iol_port.specs.declared.call.Answered.TheVariants as answered;
 ghost use Rattle.iol_port.specs.View.{status_of};
 ghost use Rattle.iol_port.specs.EveryWire.{SubmitGives, CollectGives, WithdrawGives, CancelGives};
 ghost use Rattle.iol_port.specs.EveryWire.{ArchiveGives, TakeEventGives, SetOutputGives, ClearOutputGives};
+ghost use Rattle.iol_port.specs.EveryWire.{ExpectGives, SetCycleGives, page_shown};
 ghost use Rattle.iol_port.specs.CorePort.{CoreDoes};
 ghost use Rattle.iol_port.specs.Replies.{ticket_reply, outcome_reply, nothing_reply, event_reply, reply_of};
 ghost use Rattle.iol_port.specs.declared.awaited.Awaited.TheVariants as Awaited;
@@ -31,7 +32,8 @@ use iol_image::Image;
 use iol_isdu::Request;
 use iol_link::{Rate, Wire};
 use iol_mseq::Message;
-use iol_port::{Awaited, PortCore, PortFault};
+use iol_page::{CycleTime, Identity, Page};
+use iol_port::{Awaited, Counting, PortCore, PortFault};
 use std::alloc::{Allocator, Global};
 use std::marker::Model;
 use std::sync::ledger::{Blank, Book, Ledger, Share};
@@ -241,6 +243,51 @@ impl<K: Ledger, A: Allocator + Copy> LinePort<K, A> {
         self.port.clear_output();
     }
 
+    /// Expects this device from the next page on that a start-up reads whole.
+    ///
+    /// Where that page is another device's, the link goes down in the very turn, with
+    /// `Why::WrongDevice` and the identity that was found, and nothing was written to the device.
+    /// Requests wait on. A page that was checked already is not checked again.
+    pub fn expect(&mut self, identity: Identity) -> Counting
+        ensures does { CoreDoes self.old.parts
+            (call.Expect (Some identity)) (answered.Counts result) self.new.parts }
+        ensures gives { ExpectGives self.old.parts (Some identity) result self.new.parts }
+        ensures rest { self.new ≡ record self.old { parts = self.new.parts } }
+    {
+        self.port.expect(identity)
+    }
+
+    /// Expects any device, as a port does that is new.
+    pub fn expect_any(&mut self) -> Counting
+        ensures does { CoreDoes self.old.parts
+            (call.Expect None) (answered.Counts result) self.new.parts }
+        ensures gives { ExpectGives self.old.parts None result self.new.parts }
+        ensures rest { self.new ≡ record self.old { parts = self.new.parts } }
+    {
+        self.port.expect_any()
+    }
+
+    /// Has start-ups write this cycle time to MasterCycleTime, where it is at least the device's
+    /// MinCycleTime; else, and with none, they write MinCycleTime as it stands in the page.
+    pub fn set_cycle(&mut self, cycle: Option<CycleTime>) -> Counting
+        ensures does { CoreDoes self.old.parts
+            (call.Cycle cycle) (answered.Counts result) self.new.parts }
+        ensures gives { SetCycleGives self.old.parts cycle result self.new.parts }
+        ensures rest { self.new ≡ record self.old { parts = self.new.parts } }
+    {
+        self.port.set_cycle(cycle)
+    }
+
+    /// The device's page, once the start-up of the present session has read it whole and checked
+    /// it; none before, and in down.
+    pub fn page(&self) -> Option<Page>
+        ensures does { CoreDoes self.now.parts
+            call.Page (answered.Page result) self.now.parts }
+        ensures value { result ≡ page_shown self.now.parts }
+    {
+        self.port.page()
+    }
+
     /// The device's input by the last good reply in OPERATE: one whole image, or none where it was
     /// not valid. None in every other mode.
     pub fn image(&self) -> Option<&Image>
@@ -420,8 +467,8 @@ impl<W: Wire, K: Ledger> LineWorker<W, K> {
                 let rate = wire.wake();
                 line.port.lock(rt).receive_wake(hand, rate);
             }
-            Asked::Exchange(octets) => {
-                let came = wire.exchange(octets.as_slice());
+            Asked::Exchange(out) => {
+                let came = wire.exchange(out.octets.as_slice());
                 line.port.lock(rt).receive(hand, &came);
             }
         }

@@ -15,7 +15,7 @@ use iol_mseq::Message;
 use iol_peers::{AnyWire, Peer};
 use iol_port::Port;
 use refusing_alloc::{Refusal, RefusingAlloc};
-use std::alloc::Global;
+use std::alloc::{AllocError, Global};
 use std::marker::Brand;
 use std::process::Abort;
 use std::sync::Wait;
@@ -115,22 +115,24 @@ fn desks_run_out(rt: HostRuntime) -> Result<(), Fail> {
     run_out::<Brand, Brand, HostRuntime>(&rt, rt.alloc(), Blank::new(1025), Blank::new(1))
 }
 
-/// Opens a master under an order to refuse memory, and says whether a request was refused.
-fn open_is_refused<A: Handle, L: Ledger, K: Ledger, R: Abort>(
+/// Opens a master of one port under an order to refuse memory, and says whether a request was
+/// refused.
+fn open_is_refused<W: Wire + Drop, A: Handle, L: Ledger, K: Ledger, R: Abort>(
     rt: &R,
     alloc: A,
     refusing: &RefusingAlloc,
     refusal: Refusal,
+    port: Port<W, A>,
     clients: Blank,
     tickets: Blank,
-) -> Result<bool, Fail>
+) -> Result<bool, AllocError>
     requires clients { IsBlankFor clients L.name L.parts 1025 }
     requires tickets { IsBlankFor tickets K.name K.parts 1 }
+    requires fresh { HasGiven port 0 }
 {
-    refusing.order(Refusal::Never);
-    let ports = alone(alloc, opened_port(alloc, &LIMITS)?)?;
+    let ports = alone(alloc, port)?;
     refusing.order(refusal);
-    match Unanswered::<L, K, A>::open(alloc, ports, clients, tickets) {
+    match Master::<W, L, K, A>::open(alloc, ports, clients, tickets) {
         Ok(_master) => {
             assert!(rt; !refusing.has_refused());
             Ok(false)
@@ -166,11 +168,11 @@ fn submit<W: Wire, L: Ledger, K: Ledger, A: Handle, R: Wait>(
 
 /// Submits at a desk without submits under an order to refuse memory, and says
 /// whether a request was refused.
-fn submit_refusing<L: Ledger, K: Ledger, R: Wait + Abort>(
+fn submit_refusing<W: Wire, L: Ledger, K: Ledger, A: Handle, R: Wait + Abort>(
     rt: &R,
     refusing: &RefusingAlloc,
     refusal: Refusal,
-    master: &Unanswered<L, K, &RefusingAlloc>,
+    master: &Master<W, L, K, A>,
     desk: &mut Desk<L>,
     kind: Kind,
 ) -> bool {
@@ -189,10 +191,10 @@ fn submit_refusing<L: Ledger, K: Ledger, R: Wait + Abort>(
 
 /// Refuses each request of a submit in turn, with all that follow and alone, until it makes no
 /// further one.
-fn refuse_each<L: Ledger, K: Ledger, R: Wait + Abort>(
+fn refuse_each<W: Wire, L: Ledger, K: Ledger, A: Handle, R: Wait + Abort>(
     rt: &R,
     refusing: &RefusingAlloc,
-    master: &Unanswered<L, K, &RefusingAlloc>,
+    master: &Master<W, L, K, A>,
     desk: &mut Desk<L>,
     kind: Kind,
 ) {
@@ -207,18 +209,12 @@ fn refuse_each<L: Ledger, K: Ledger, R: Wait + Abort>(
 }
 
 /// Submits while each request for memory is refused in turn; no other call makes one.
-fn submit_is_refused<L: Ledger, K: Ledger, R: Wait + Abort>(
+fn submits_once<W: Wire + Drop, L: Ledger, K: Ledger, A: Handle, R: Wait + Abort>(
     rt: &R,
     refusing: &RefusingAlloc,
+    master: Master<W, L, K, A>,
     kind: Kind,
-    clients: Blank,
-    tickets: Blank,
-) -> Result<(), Fail>
-    requires clients { IsBlankFor clients L.name L.parts 1025 }
-    requires tickets { IsBlankFor tickets K.name K.parts 1 }
-{
-    refusing.order(Refusal::Never);
-    let master = opened::<L, K, &RefusingAlloc, R>(rt, refusing, &LIMITS, clients, tickets)?;
+) -> Result<(), MasterFault> {
     refusing.order(Refusal::Only(0));
     let mut desk = master.desk(rt, 1)?;
     refuse_each(rt, refusing, &master, &mut desk, kind);
@@ -237,6 +233,22 @@ fn submit_is_refused<L: Ledger, K: Ledger, R: Wait + Abort>(
     Ok(())
 }
 
+/// The same at a new master.
+fn submit_is_refused<L: Ledger, K: Ledger, R: Wait + Abort>(
+    rt: &R,
+    refusing: &RefusingAlloc,
+    kind: Kind,
+    clients: Blank,
+    tickets: Blank,
+) -> Result<(), Fail>
+    requires clients { IsBlankFor clients L.name L.parts 1025 }
+    requires tickets { IsBlankFor tickets K.name K.parts 1 }
+{
+    refusing.order(Refusal::Never);
+    let master = opened::<L, K, &RefusingAlloc, R>(rt, refusing, &LIMITS, clients, tickets)?;
+    Ok(submits_once(rt, refusing, master, kind)?)
+}
+
 #[test]
 fn refused_memory_changes_nothing(rt: HostRuntime) -> Result<(), Fail> {
     let refusing = RefusingAlloc::new(rt.alloc());
@@ -246,11 +258,14 @@ fn refused_memory_changes_nothing(rt: HostRuntime) -> Result<(), Fail> {
         (Refusal::From(1), false),
         (Refusal::Only(1), false),
     ] {
-        let refused = open_is_refused::<&RefusingAlloc, Brand, Brand, HostRuntime>(
+        refusing.order(Refusal::Never);
+        let port = opened_port(&refusing, &LIMITS)?;
+        let refused = open_is_refused::<_, &RefusingAlloc, Brand, Brand, HostRuntime>(
             &rt,
             &refusing,
             &refusing,
             refusal,
+            port,
             Blank::new(1025),
             Blank::new(1),
         )?;
@@ -303,6 +318,25 @@ fn submit_many<W: Wire, L: Ledger, K: Ledger, A: Handle, R: Wait + Abort>(
     }
 }
 
+/// So many submits are taken at a desk of a master, whose tickets follow this one. The next is
+/// refused for this, also where memory is refused too.
+fn refuses_for<W: Wire, L: Ledger, K: Ledger, A: Handle, R: Wait + Abort>(
+    rt: &R,
+    refusing: &RefusingAlloc,
+    master: &Master<W, L, K, A>,
+    kind: Kind,
+    fault: BookFault,
+    given: u64,
+    taken: u32,
+) -> Result<(), MasterFault> {
+    let mut desk = master.desk(rt, 1)?;
+    submit_many(rt, master, &mut desk, kind, given, taken);
+    refusing.order(Refusal::From(0));
+    assert!(rt; submit(rt, master, &mut desk, kind) == Err(of_book(fault)));
+    assert!(rt; desk.accepted() == u64::from(taken));
+    Ok(())
+}
+
 /// Submits at a master of one port until this is why a submit is refused: where memory is
 /// refused too, it is still refused for this.
 fn refused_first<L: Ledger, K: Ledger, R: Wait + Abort>(
@@ -319,12 +353,7 @@ fn refused_first<L: Ledger, K: Ledger, R: Wait + Abort>(
     let (limits, taken) = limits_for(fault);
     refusing.order(Refusal::Never);
     let master = opened::<L, K, &RefusingAlloc, R>(rt, refusing, &limits, clients, tickets)?;
-    let mut desk = master.desk(rt, 1)?;
-    submit_many(rt, &master, &mut desk, kind, limits.given, taken);
-    refusing.order(Refusal::From(0));
-    assert!(rt; submit(rt, &master, &mut desk, kind) == Err(of_book(fault)));
-    assert!(rt; desk.accepted() == u64::from(taken));
-    Ok(())
+    Ok(refuses_for(rt, refusing, &master, kind, fault, limits.given, taken)?)
 }
 
 #[test]
@@ -351,6 +380,23 @@ fn submits_are_refused_in_order(rt: HostRuntime) -> Result<(), Fail> {
 }
 
 /// Two desks at one port, of which one submits an urgent request.
+fn counts_both<W: Wire, L: Ledger, K: Ledger, R: Wait + Abort>(
+    rt: &R,
+    master: &Master<W, L, K>,
+) -> Result<(), MasterFault> {
+    let mut one = master.desk(rt, 1)?;
+    let mut two = master.desk(rt, 1)?;
+    assert!(rt; submit(rt, master, &mut one, Kind::Ordinary) == Ok(Ticket(8)));
+    assert!(rt; submit(rt, master, &mut two, Kind::Urgent) == Ok(Ticket(9)));
+    let waits = of_book(BookFault::NotInFlight);
+    assert!(rt; cancelled(rt, master, 1, Ticket(9)) == Err(waits));
+    let unknown = of_book(BookFault::UnknownTicket);
+    assert!(rt; cancelled(rt, master, 1, Ticket(7)) == Err(unknown));
+    assert!(rt; master.settle(rt, one) == Settled::Part(1));
+    assert!(rt; master.settle(rt, two) == Settled::Last(1, 2));
+    Ok(())
+}
+
 fn both_count<L: Ledger, K: Ledger, R: Wait + Abort>(
     rt: &R,
     alloc: Global,
@@ -361,17 +407,7 @@ fn both_count<L: Ledger, K: Ledger, R: Wait + Abort>(
     requires tickets { IsBlankFor tickets K.name K.parts 1 }
 {
     let master = opened::<L, K, Global, R>(rt, alloc, &LIMITS, clients, tickets)?;
-    let mut one = master.desk(rt, 1)?;
-    let mut two = master.desk(rt, 1)?;
-    assert!(rt; submit(rt, &master, &mut one, Kind::Ordinary) == Ok(Ticket(8)));
-    assert!(rt; submit(rt, &master, &mut two, Kind::Urgent) == Ok(Ticket(9)));
-    let waits = of_book(BookFault::NotInFlight);
-    assert!(rt; cancelled(rt, &master, 1, Ticket(9)) == Err(waits));
-    let unknown = of_book(BookFault::UnknownTicket);
-    assert!(rt; cancelled(rt, &master, 1, Ticket(7)) == Err(unknown));
-    assert!(rt; master.settle(rt, one) == Settled::Part(1));
-    assert!(rt; master.settle(rt, two) == Settled::Last(1, 2));
-    Ok(())
+    Ok(counts_both(rt, &master)?)
 }
 
 #[test]

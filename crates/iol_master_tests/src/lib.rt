@@ -1,5 +1,8 @@
 //! Masters with their ports, desks and seats, over the simulated wire and over wires
 //! of which nothing is promised: threads of clients and workers, as tests.
+//!
+//! A row opens a master over its wires, and hands it to functions that are generic over them: what
+//! is asked of a master over a known wire takes the prover longer.
 #![tactic(auto)]
 
 #[cfg(test)]

@@ -181,16 +181,14 @@ fn has_two_ports<W: Wire, L: Ledger, K: Ledger, R: Wait + Abort>(rt: &R, master:
     assert!(rt; master.desk(rt, 3).err() == Some(MasterFault::NoSuchPort));
 }
 
-fn row<L: Ledger + Sync, K: Ledger + Sync, R: Threads + Wait + Abort + Sync>(
+/// Two ports are served, with two clients at each.
+fn serves_two<W: Wire + Send + Drop, L: Ledger + Sync, K: Ledger + Sync, R>(
     rt: &R,
-    alloc: Global,
-    clients: Blank,
-    tickets: Blank,
+    master: Master<W, L, K>,
 ) -> Result<(), Fail>
-    requires clients { IsBlankFor clients L.name L.parts 1025 }
-    requires tickets { IsBlankFor tickets K.name K.parts 2 }
+where
+    R: Threads + Wait + Abort + Sync,
 {
-    let master = numbered_master::<L, K, R>(rt, alloc, 2, clients, tickets)?;
     has_two_ports(rt, &master);
     let (first, second) = meeting(rt, &master)?;
     is_answered(rt, &master, 1, &[0x42, 0])?;
@@ -206,6 +204,21 @@ fn row<L: Ledger + Sync, K: Ledger + Sync, R: Threads + Wait + Abort + Sync>(
     };
     assert!(rt; master.close() == tally);
     Ok(())
+}
+
+fn row<L: Ledger + Sync, K: Ledger + Sync, R: Threads + Wait + Abort + Sync>(
+    rt: &R,
+    alloc: Global,
+    clients: Blank,
+    tickets: Blank,
+) -> Result<(), Fail>
+    requires clients { IsBlankFor clients L.name L.parts 1025 }
+    requires tickets { IsBlankFor tickets K.name K.parts 2 }
+{
+    serves_two(
+        rt,
+        numbered_master::<L, K, R>(rt, alloc, 2, clients, tickets)?,
+    )
 }
 
 #[test]
@@ -234,6 +247,19 @@ fn cancels<W: Wire, L: Ledger, K: Ledger, R: Wait + Abort>(
     Ok(())
 }
 
+/// Two desks submit at a port, and the second one's request is cancelled.
+fn cancels_one<W: Wire, L: Ledger, K: Ledger, R: Wait + Abort>(
+    rt: &R,
+    master: &Master<W, L, K>,
+) -> Result<(), Fail> {
+    let (mut one, mut two) = desks(rt, master, SECOND)?;
+    assert!(rt; master.submit(rt, &mut one, read()) == Ok(Ticket(1)));
+    assert!(rt; master.submit_urgent(rt, &mut two, read()) == Ok(Ticket(2)));
+    cancels(rt, master)?;
+    assert!(rt; settled(rt, master, (one, two)) == (Settled::Part(1), Settled::Last(1, 2)));
+    Ok(())
+}
+
 fn cancel_row<L: Ledger, K: Ledger, R: Wait + Abort>(
     rt: &R,
     alloc: Global,
@@ -244,12 +270,7 @@ fn cancel_row<L: Ledger, K: Ledger, R: Wait + Abort>(
     requires tickets { IsBlankFor tickets K.name K.parts 2 }
 {
     let master = numbered_master::<L, K, R>(rt, alloc, 2, clients, tickets)?;
-    let (mut one, mut two) = desks(rt, &master, SECOND)?;
-    assert!(rt; master.submit(rt, &mut one, read()) == Ok(Ticket(1)));
-    assert!(rt; master.submit_urgent(rt, &mut two, read()) == Ok(Ticket(2)));
-    cancels(rt, &master)?;
-    assert!(rt; settled(rt, &master, (one, two)) == (Settled::Part(1), Settled::Last(1, 2)));
-    Ok(())
+    cancels_one(rt, &master)
 }
 
 #[test]

@@ -15,7 +15,7 @@ use iol_cell::ImageSeat;
 use iol_image::Image;
 use iol_isdu::{Answer, Cause, Place, Request};
 use iol_link::{Rate, Wire};
-use iol_master::{Desk, Held, Line, LinePort, Master, MasterFault};
+use iol_master::{Desk, Held, Line, LinePort, LineWorker, Master, MasterFault};
 use iol_mseq::Message;
 use iol_peers::{AnyWire, PROCESS_DATA, Peer};
 use iol_port::{Port, PortFault};
@@ -305,15 +305,24 @@ fn keeps_three<K: Ledger, R: Abort>(rt: &R, port: &mut LinePort<K>) -> Result<()
     Ok(())
 }
 
+/// A line is served through the silence, and has all that was asked of it.
+fn line_through<W: Wire, K: Ledger, R: Wait + Abort>(
+    rt: &R,
+    line: &Line<K>,
+    worker: &mut LineWorker<W, K>,
+) -> Result<(), Fail> {
+    serve(rt, line, worker, START_UP);
+    wants_three(rt, &mut *line.lock(rt))?;
+    serve(rt, line, worker, TURNS);
+    has_three(rt, &mut *line.lock(rt))?;
+    keeps_three(rt, &mut *line.lock(rt))
+}
+
 fn line_row<K: Ledger, R: Wait + Abort>(rt: &R, alloc: Global, hands: Blank) -> Result<(), Fail>
     requires { IsBlankFor hands K.name K.parts 1 }
 {
     let (line, mut worker) = Line::<K>::open(port(alloc)?, scripted(alloc)?, hands);
-    serve(rt, &line, &mut worker, START_UP);
-    wants_three(rt, &mut *line.lock(rt))?;
-    serve(rt, &line, &mut worker, TURNS);
-    has_three(rt, &mut *line.lock(rt))?;
-    keeps_three(rt, &mut *line.lock(rt))?;
+    line_through(rt, &line, &mut worker)?;
     let wire = worker.into_wire();
     assert!(rt; wire.device().output() == Some(&Image::new(&OUTPUT)?));
     Ok(())
@@ -332,18 +341,23 @@ fn turns_shown<W: Wire, R: Wait>(rt: &R, port: &mut Port<W>, count: u64) {
     }
 }
 
+/// A port that publishes nothing makes its turns, also over replies that are refused.
+fn is_turned<W: Wire, R: Wait + Abort>(rt: &R, port: &mut Port<W>) -> Result<(), Fail> {
+    turns_shown(rt, port, START_UP);
+    assert!(rt; port.image() == Some(&Image::new(&INPUT)?));
+    turns_shown(rt, port, SILENCE + TURNS);
+    assert!(rt; port.status().event_form);
+    assert!(rt; port.image() == Some(&Image::new(&LATER)?));
+    port.restart_shown(rt);
+    assert!(rt; port.status().mode == Mode::Down);
+    Ok(())
+}
+
 /// Refuses a `turn_shown` that makes no turn where no writer was given, or where a StatusCode was
 /// refused.
 #[test]
 fn a_turn_is_made_where_nothing_is_published(rt: HostRuntime) -> Result<(), Fail> {
     let (wire, _output) = watched_line(rt.alloc(), Form::Odd)?;
     let mut port = open_port(rt.alloc(), wire)?;
-    turns_shown(&rt, &mut port, START_UP);
-    assert!(rt; port.image() == Some(&Image::new(&INPUT)?));
-    turns_shown(&rt, &mut port, SILENCE + TURNS);
-    assert!(rt; port.status().event_form);
-    assert!(rt; port.image() == Some(&Image::new(&LATER)?));
-    port.restart_shown(&rt);
-    assert!(rt; port.status().mode == Mode::Down);
-    Ok(())
+    is_turned(&rt, &mut port)
 }

@@ -1,12 +1,11 @@
 //! Sizes from which on something could say that there is no memory. No clause says that memory is
 //! lacking only where a growth was refused. What lines can say is in `tests/rows`.
-use crate::opening::{open_port, wired};
+use crate::opening::open_port;
 use iol_cell::image_cell;
 use iol_image::Image;
 use iol_link::Wire;
 use iol_mseq::Message;
-use iol_peers::PLAIN;
-use iol_port::Call;
+use iol_port::{Call, Port};
 use iol_sim::Raw;
 use std::alloc::Global;
 use std::test::Fail;
@@ -50,18 +49,23 @@ fn a_raw_wire_has_each_message(rt: HostRuntime) -> Result<(), Fail> {
     Ok(())
 }
 
+/// Whether a port runs a list of so many calls.
+fn runs<W: Wire>(alloc: Global, port: &mut Port<W>, count: usize) -> Result<bool, Fail> {
+    let mut calls = Vec::new(alloc);
+    for _ in 0..count {
+        calls.push(Call::Look)?;
+    }
+    let answers = port.run(alloc, calls.as_slice())?;
+    Ok(answers.len() == count)
+}
+
 /// Refuses a run that has no memory for an empty list of calls, or for a long one.
 #[test]
 fn a_port_runs_lists_of_each_length(rt: HostRuntime) -> Result<(), Fail> {
-    let wire = wired(rt.alloc(), &PLAIN, &[0x41, 0x42], Vec::new(rt.alloc()))?;
+    let wire = Raw::new(rt.alloc(), &[])?;
     let mut port = open_port(rt.alloc(), wire)?;
     for &count in &[0, 1, 255, 256, 257, 1_000] {
-        let mut calls = Vec::new(rt.alloc());
-        for _ in 0..count {
-            calls.push(Call::Look)?;
-        }
-        let answers = port.run(rt.alloc(), calls.as_slice())?;
-        assert!(rt; answers.len() == count);
+        assert!(rt; runs(rt.alloc(), &mut port, count)?);
     }
     Ok(())
 }

@@ -100,16 +100,15 @@ fn serve_all<W: Wire + Send, L: Ledger, K: Ledger + Sync, R: Threads + Wait + Ab
     Ok(())
 }
 
-fn wide_row<L: Ledger + Sync, K: Ledger + Sync, R: Threads + Wait + Abort + Sync>(
+/// All ports are served, and a tally counts what was settled and a desk that is open.
+fn is_wide<W: Wire + Send + Drop, L: Ledger + Sync, K: Ledger + Sync, R>(
     rt: &R,
     alloc: Global,
-    clients: Blank,
-    tickets: Blank,
+    master: Master<W, L, K>,
 ) -> Result<(), Fail>
-    requires clients { IsBlankFor clients L.name L.parts 1025 }
-    requires tickets { IsBlankFor tickets K.name K.parts 32 }
+where
+    R: Threads + Wait + Abort + Sync,
 {
-    let master = numbered_master::<L, K, R>(rt, alloc, PORTS, clients, tickets)?;
     serve_all(rt, alloc, &master)?;
     let open = master.desk(rt, u32::from(PORTS))?;
     let tally = Tally {
@@ -120,6 +119,19 @@ fn wide_row<L: Ledger + Sync, K: Ledger + Sync, R: Threads + Wait + Abort + Sync
     assert!(rt; master.close() == tally);
     drop(open);
     Ok(())
+}
+
+fn wide_row<L: Ledger + Sync, K: Ledger + Sync, R: Threads + Wait + Abort + Sync>(
+    rt: &R,
+    alloc: Global,
+    clients: Blank,
+    tickets: Blank,
+) -> Result<(), Fail>
+    requires clients { IsBlankFor clients L.name L.parts 1025 }
+    requires tickets { IsBlankFor tickets K.name K.parts 32 }
+{
+    let master = numbered_master::<L, K, R>(rt, alloc, PORTS, clients, tickets)?;
+    is_wide(rt, alloc, master)
 }
 
 /// Refuses workers that end after a thousand turns, that ask the gate for another port or that
@@ -172,16 +184,11 @@ fn submit_many<W: Wire, L: Ledger, K: Ledger, R: Wait + Abort>(
     Ok(())
 }
 
-fn far_row<L: Ledger, K: Ledger, R: Wait + Abort>(
+/// A desk counts each of its submits, and so does the tally.
+fn counts_far<W: Wire + Drop, L: Ledger, K: Ledger, R: Wait + Abort>(
     rt: &R,
-    alloc: Global,
-    clients: Blank,
-    tickets: Blank,
-) -> Result<(), Fail>
-    requires clients { IsBlankFor clients L.name L.parts 1025 }
-    requires tickets { IsBlankFor tickets K.name K.parts 1 }
-{
-    let master = numbered_master::<L, K, R>(rt, alloc, 1, clients, tickets)?;
+    master: Master<W, L, K>,
+) -> Result<(), Fail> {
     let mut desk = master.desk(rt, 1)?;
     submit_many(rt, &master, &mut desk, 1_100)?;
     assert!(rt; master.settle(rt, desk) == Settled::Last(1_100, 1_100));
@@ -192,6 +199,21 @@ fn far_row<L: Ledger, K: Ledger, R: Wait + Abort>(
     };
     assert!(rt; master.close() == tally);
     Ok(())
+}
+
+fn far_row<L: Ledger, K: Ledger, R: Wait + Abort>(
+    rt: &R,
+    alloc: Global,
+    clients: Blank,
+    tickets: Blank,
+) -> Result<(), Fail>
+    requires clients { IsBlankFor clients L.name L.parts 1025 }
+    requires tickets { IsBlankFor tickets K.name K.parts 1 }
+{
+    counts_far(
+        rt,
+        numbered_master::<L, K, R>(rt, alloc, 1, clients, tickets)?,
+    )
 }
 
 /// Refuses a desk that counts in ten bits, and a submit that enters another or a shorter request.

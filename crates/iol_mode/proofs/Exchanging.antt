@@ -10,9 +10,10 @@ use Rattle.iol_far.specs.Octets.{octets_in}
 use Rattle.iol_link.specs.declared.handler.Attempt.{Attempt}
 use Rattle.iol_link.specs.Attempts.{Sending, good_reply}
 use Rattle.iol_link.specs.WireFacts.{WireFacts, Passes}
+use Rattle.iol_mode.specs.declared.configuration.Configuration.{Configuration}
 use Rattle.iol_mode.specs.declared.states.State.{State}
 use Rattle.iol_mode.specs.declared.states.State.TheVariants.{Down as AtDown, Startup as AtStartup, Preoperate as AtPreoperate, Operate as AtOperate}
-use Rattle.iol_mode.specs.States.{Outcome, OperateFits, OutcomeFits, StateFits, Takes, is_starting, counted, operate_by, sending_of}
+use Rattle.iol_mode.specs.States.{Outcome, any_device, OperateFits, OutcomeFits, StateFits, Takes, is_starting, counted, operate_by, sending_of}
 use Rattle.iol_mode.specs.Stands.{StateStands, IsTold}
 use Rattle.iol_mode.specs.Turns.{IsEnd, IsOperateTurn, IsStartTurn, IsStartTried}
 use Rattle.iol_mode.specs.Exchanges.{AreFew, text_out, putting, judged, attempted, OutGives, ExchangeGives, StandsOn, OutAccepted, AcceptedBy}
@@ -23,19 +24,19 @@ use Rattle.iol_mode.proofs.Startups.{startup_risen}
 use Rattle.iol_mode.proofs.Preoperates.{preoperate_risen}
 use Rattle.iol_mode.proofs.Operates.{accepted, operate_both, operate_accepted}
 
-out_gives : (laws : Laws) (out : Option Sending) (layouts : Layouts) → OperateFits (record { out = out; layouts = layouts }) → IfSome out (λ sent. sent.tries < 3) → (came : Option (List ℕ))
-    → ExchangeGives (AtOperate (record { out = out; layouts = layouts })) came (judged (AtOperate (record { out = out; layouts = layouts })) came)
-out_gives laws None layouts fits few came = λ far far' n n' h x. tt
-out_gives laws (Some sent) layouts fits few came = λ far far' n n' h x. (
+out_gives : (laws : Laws) (c : Configuration) (out : Option Sending) (layouts : Layouts) → OperateFits (record { out = out; layouts = layouts }) → IfSome out (λ sent. sent.tries < 3) → (came : Option (List ℕ))
+    → ExchangeGives (AtOperate (record { out = out; layouts = layouts })) came (judged c (AtOperate (record { out = out; layouts = layouts })) came)
+out_gives laws c None layouts fits few came = λ far far' n n' h x. tt
+out_gives laws c (Some sent) layouts fits few came = λ far far' n n' h x. (
   operate_both laws (record { out = Some sent; layouts = layouts }) sent.message n n' far far' came fits fits.out.0 fits.out.1 few h x (good_reply layouts.run sent.message came) refl,
   λ link operating. operate_accepted laws (record { out = Some sent; layouts = layouts }) sent.message n n' far far' came fits fits.out.0 fits.out.1 few h x link operating,
 )
 
-pub exchange_gives : (laws : Laws) (s : State) → StateFits s → AreFew s → (came : Option (List ℕ)) → ExchangeGives s came (judged s came)
-exchange_gives laws (AtDown s) fits few came = λ far far' n n' h x. tt
-exchange_gives laws (AtStartup s) fits few came = λ far far' n n' h x. startup_risen laws s n n' far far' came fits few h x (good_reply startup_shape s.sent.message came) refl
-exchange_gives laws (AtPreoperate s) fits few came = λ far far' n n' h x. preoperate_risen laws s n n' far far' came fits few h x (good_reply s.pre s.sent.message came) refl
-exchange_gives laws (AtOperate s) fits few came = out_gives laws s.out s.layouts fits few came
+pub exchange_gives : (laws : Laws) (c : Configuration) (s : State) → StateFits s → AreFew s → (came : Option (List ℕ)) → ExchangeGives s came (judged c s came)
+exchange_gives laws c (AtDown s) fits few came = λ far far' n n' h x. tt
+exchange_gives laws c (AtStartup s) fits few came = λ far far' n n' h x. startup_risen laws c s n n' far far' came fits few h x (good_reply startup_shape s.sent.message came) refl
+exchange_gives laws c (AtPreoperate s) fits few came = λ far far' n n' h x. preoperate_risen laws s n n' far far' came fits few h x (good_reply s.pre s.sent.message came) refl
+exchange_gives laws c (AtOperate s) fits few came = out_gives laws c s.out s.layouts fits few came
 
 -- the message that is out is accepted
 accepts_out : (laws : Laws) (out : Option Sending) (layouts : Layouts) → OperateFits (record { out = out; layouts = layouts }) → (far : Far) → IsTold layouts far → OutAccepted out layouts far
@@ -59,7 +60,7 @@ put_fits (AtPreoperate s) m fits takes stay = absurd takes
 put_fits (AtOperate s) m fits takes stay = put_fits_out s.out s.layouts m fits takes stay
 
 -- in OPERATE the attempt alone says what becomes of the mode
-pub is_end : (s : State) (m : MasterMsg) → Takes s m → (came : Option (List ℕ)) (attempt : Attempt) (outcome : Outcome) → outcome ≡ judged (putting m s) came → attempt ≡ attempted (putting m s) came → IsEnd attempt outcome
+pub is_end : (s : State) (m : MasterMsg) → Takes s m → (came : Option (List ℕ)) (attempt : Attempt) (outcome : Outcome) → outcome ≡ judged any_device (putting m s) came → attempt ≡ attempted (putting m s) came → IsEnd attempt outcome
 is_end (AtOperate s) m takes came attempt outcome is ends =
     let sent = sending_of s.out m in
     (counted sent (good_reply s.layouts.run sent.message came), s.layouts, is ∙ ap (λ (a : Attempt). operate_by (counted sent (good_reply s.layouts.run sent.message came)) s.layouts a) (sym ends))
@@ -72,7 +73,7 @@ module _ {W : Type 0} (facts : WireFacts W) where
 
   pub operate_turn : (wire new : W) (s : State) (m : MasterMsg) (outcome : Outcome) → StateFits s → Takes s m → (IsTrue (honest wire) → StateStands s (silence wire) (far wire)) → StandsOn s (putting m s) → AreFew (putting m s)
       → (answer : Option (ArrayVec ℕ)) → facts.exchange_gives wire (text_out (putting m s)) answer new → Passes facts wire (text_out (putting m s)) answer new → honest new ≡ honest wire
-      → outcome ≡ judged (putting m s) (octets_in answer) → OutcomeFits outcome → ExchangeGives (putting m s) (octets_in answer) outcome → IsOperateTurn facts wire s m outcome new
+      → outcome ≡ judged any_device (putting m s) (octets_in answer) → OutcomeFits outcome → ExchangeGives (putting m s) (octets_in answer) outcome → IsOperateTurn facts wire s m outcome new
   operate_turn wire new (AtOperate s) m outcome fits takes stood on few answer called passes honesty is after gives =
       let given : IsTrue (honest wire) → OutGives (Some (sending_of s.out m)) s.layouts (far wire) outcome (silence new) (far new) =
       λ h. gives (far wire) (far new) (silence wire) (silence new) (on (far wire) (silence wire) (stood h)) (passes h) in
@@ -90,7 +91,7 @@ module _ {W : Type 0} (facts : WireFacts W) where
 
   pub start_turn : (wire new : W) (s : State) (outcome : Outcome) → is_starting s ≡ true → (IsTrue (honest wire) → StateStands s (silence wire) (far wire))
       → (answer : Option (ArrayVec ℕ)) → facts.exchange_gives wire (text_out s) answer new → Passes facts wire (text_out s) answer new → honest new ≡ honest wire
-      → outcome ≡ judged s (octets_in answer) → OutcomeFits outcome → ExchangeGives s (octets_in answer) outcome → IsStartTurn facts wire s outcome new
+      → outcome ≡ judged any_device s (octets_in answer) → OutcomeFits outcome → ExchangeGives s (octets_in answer) outcome → IsStartTurn facts wire s outcome new
   start_turn wire new (AtStartup s) outcome starts stood answer called passes honesty is after gives = record {
     exchange = record { answer = answer; called = called; passes = passes; honesty = honesty; outcome_is = is; fits = after };
     risen = λ h. gives (far wire) (far new) (silence wire) (silence new) (stood h) (passes h);

@@ -11,6 +11,7 @@ use Rattle.iol_link.specs.declared.handler.Attempt.{Attempt}
 use Rattle.iol_link.specs.declared.handler.Attempt.TheVariants.{Again}
 use Rattle.iol_link.specs.Attempts.{Sending, good_reply, attempt_of}
 use Rattle.iol_link.specs.Honest.{HonestWake, HonestExchange}
+use Rattle.iol_mode.specs.declared.configuration.Configuration.{Configuration}
 use Rattle.iol_mode.specs.declared.states.State.{State}
 use Rattle.iol_mode.specs.declared.states.State.TheVariants.{Down as AtDown, Startup as AtStartup, Preoperate as AtPreoperate, Operate as AtOperate}
 use Rattle.iol_mode.specs.States.{Outcome, InDown, InOperate, counted, operate_by, startup_turned, preoperate_turned, sending_of, state_of, waked}
@@ -36,6 +37,13 @@ text_out (AtStartup s) = master_text startup_shape s.sent.message
 text_out (AtPreoperate s) = master_text s.pre s.sent.message
 text_out (AtOperate s) = text_in s.layouts.run s.out
 
+-- the layout of its mode
+abbrev pub layout_out : State → Shape
+layout_out (AtDown s) = startup_shape
+layout_out (AtStartup s) = startup_shape
+layout_out (AtPreoperate s) = s.pre
+layout_out (AtOperate s) = s.layouts.run
+
 -- in OPERATE the message that is out stays so, else this one is out from now on
 -- LINK-2
 abbrev pub putting : MasterMsg → State → State
@@ -50,11 +58,12 @@ judged_out (Some sent) layouts came =
     operate_by (counted sent (good_reply layouts.run sent.message came)) layouts
     (attempt_of sent.tries (good_reply layouts.run sent.message came))
 
-abbrev pub judged : State → Option (List ℕ) → Outcome
-judged (AtDown s) came = InDown s
-judged (AtStartup s) came = startup_turned s (good_reply startup_shape s.sent.message came)
-judged (AtPreoperate s) came = preoperate_turned s (good_reply s.pre s.sent.message came)
-judged (AtOperate s) came = judged_out s.out s.layouts came
+-- what a start-up asks of the device counts where its page becomes whole
+abbrev pub judged : Configuration → State → Option (List ℕ) → Outcome
+judged c (AtDown s) came = InDown s
+judged c (AtStartup s) came = startup_turned c s (good_reply startup_shape s.sent.message came)
+judged c (AtPreoperate s) came = preoperate_turned s (good_reply s.pre s.sent.message came)
+judged c (AtOperate s) came = judged_out s.out s.layouts came
 
 -- how the attempt ends
 abbrev pub attempt_at : Option Sending → Shape → Option (List ℕ) → Attempt

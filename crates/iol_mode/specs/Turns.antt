@@ -16,9 +16,9 @@ use Rattle.iol_link.specs.WireFacts.{WireFacts, Passes}
 use Rattle.iol_mode.specs.declared.states.State.{State}
 use Rattle.iol_mode.specs.declared.states.State.TheVariants.{Startup as AtStartup, Preoperate as AtPreoperate, Operate as AtOperate}
 use Rattle.iol_mode.specs.declared.states.Operate.{Operate}
-use Rattle.iol_mode.specs.States.{Outcome, OutcomeFits, OperateFits, startup_turned, preoperate_turned, operate_by, operate_turned, sending_of}
+use Rattle.iol_mode.specs.States.{Outcome, any_device, OutcomeFits, OperateFits, startup_turned, preoperate_turned, operate_by, operate_turned, sending_of}
 use Rattle.iol_mode.specs.Stands.{OperateStands, OutcomeStands, IsOperating, IsAccepted}
-use Rattle.iol_mode.specs.Next.{MetFits, LostFits, FaultFits, EnteredFits}
+use Rattle.iol_mode.specs.Next.{MetFits, LostFits, FaultFits, DeviceFits, EnteredFits}
 
 -- how the new mode stands to the far end, also right after a good reply, and what a lost link needs
 pub record IsMet (outcome : Outcome) (silence : ℕ) (far : Far) : Type 0 where
@@ -27,11 +27,12 @@ pub record IsMet (outcome : Outcome) (silence : ℕ) (far : Far) : Type 0 where
   pub lost : LostFits outcome silence
 
 -- in a start-up also: the record stands still, a page fault is one of the far end's
--- page, and the turn that enters OPERATE tells how
+-- page, as is an identity that isn't expected, and the turn that enters OPERATE tells how
 pub record IsRisen (outcome : Outcome) (silence : ℕ) (old far : Far) : Type 0 where
   pub both : IsMet outcome silence far
   pub still : far.carried ≡ old.carried
   pub fault : FaultFits outcome far
+  pub device : DeviceFits outcome far
   pub entered : EnteredFits outcome silence far
 
 -- the attempt alone says what becomes of OPERATE
@@ -70,10 +71,11 @@ module _ {W : Type 0} (facts : WireFacts W) where
   IsStartTried wire (AtPreoperate s) attempt new = IsTried wire s.pre s.sent attempt new
   IsStartTried wire s attempt new = ⊥
 
+  -- with any device
   -- LINK-1
   abbrev pub IsStartTurn : W → State → Outcome → W → Type 0
   IsStartTurn wire (AtStartup s) outcome new =
-      IsRise wire startup_shape s.sent.message (startup_turned s) outcome new
+      IsRise wire startup_shape s.sent.message (startup_turned any_device s) outcome new
   IsStartTurn wire (AtPreoperate s) outcome new =
       IsRise wire s.pre s.sent.message (preoperate_turned s) outcome new
   IsStartTurn wire s outcome new = ⊥

@@ -6,11 +6,12 @@ ghost use Rattle.iol_far.specs.Far.{Far};
 ghost use Rattle.iol_far.specs.Octets.{octets_in};
 ghost use Rattle.iol_link.specs.Attempts.{good_reply, attempt_of};
 ghost use Rattle.iol_mode.specs.Messages.{stays};
-ghost use Rattle.iol_mode.specs.States.{StateFits, Takes, IsDown, IsStartup, IsPreoperate, OutFits, outcome_with, state_of, waked, counted, left_by};
+ghost use Rattle.iol_mode.specs.States.{StateFits, Takes, IsDown, IsStartup, IsPreoperate, OutFits, outcome_with, state_of, waked, counted, left_by, any_device};
 ghost use Rattle.iol_mode.specs.Stands.{text_in};
-ghost use Rattle.iol_mode.specs.Exchanges.{IsSending, IsOperateSending, AreFew, text_out, putting, judged, attempted, ExchangeGives, StandsOn, AcceptedBy, WakeStands};
+ghost use Rattle.iol_mode.specs.Exchanges.{IsSending, IsOperateSending, AreFew, text_out, layout_out, putting, judged, attempted, ExchangeGives, StandsOn, AcceptedBy, WakeStands};
 ghost use Rattle.iol_mode.specs.Laws.{Laws};
 
+use crate::configuration::Configuration;
 use crate::messages::copy_of;
 use crate::states::{Startup, State, operate_done, preoperate_done, startup_done, woken};
 use iol_far::{ends_stay_level, links_stay_level, texts_are_heard};
@@ -45,6 +46,17 @@ impl State {
         }
     }
 
+    /// The layout in which the messages of the mode go out.
+    pub fn layout(&self) -> Layout
+        ensures { result ≡ layout_out self.now }
+    {
+        match self {
+            State::Down(_) | State::Startup(_) => Layout::startup(),
+            State::Preoperate(preoperate) => preoperate.pre,
+            State::Operate(operate) => operate.layouts.run,
+        }
+    }
+
     /// In OPERATE: this message is out from now on, where none is out.
     ///
     /// Nothing went out yet: both ends stand as before, and the far end accepts the octets.
@@ -65,13 +77,14 @@ impl State {
     /// Takes what came back to the message that is out, and judges it: octets, or nothing.
     ///
     /// Without a good reply the message stays out, and the third attempt in a row has lost
-    /// the link. What comes back alone says what becomes of the mode.
+    /// the link. What comes back alone says what becomes of the mode; what a start-up asks of the
+    /// device counts where its page becomes whole.
     ///
     /// Rule LINK-2.
-    pub fn receives(&mut self, came: &Option<Message>) -> Attempt
+    pub fn receives(&mut self, came: &Option<Message>, configuration: &Configuration) -> Attempt
         requires fits { StateFits self.old }
         requires sends { IsSending self.old }
-        ensures state { outcome_with result self.new ≡ judged self.old (octets_in came.now) }
+        ensures state { outcome_with result self.new ≡ judged configuration.now self.old (octets_in came.now) }
         ensures fits { StateFits self.new }
         ensures few { AreFew self.old }
         ensures attempt { result ≡ attempted self.old (octets_in came.now) }
@@ -80,7 +93,7 @@ impl State {
         ensures gives { ExchangeGives self.old (octets_in came.now) (outcome_with result self.new) }
     {
         laws();
-        received(self, came)
+        received(self, came, configuration)
     }
 
     /// Whether a wake goes out in place of a message: in Down.
@@ -107,16 +120,16 @@ impl State {
     }
 }
 
-fn received(state: &mut State, came: &Option<Message>) -> Attempt
+fn received(state: &mut State, came: &Option<Message>, configuration: &Configuration) -> Attempt
     requires fits { StateFits state.old }
     requires sends { IsSending state.old }
-    ensures state { outcome_with result state.new ≡ judged state.old (octets_in came.now) }
+    ensures state { outcome_with result state.new ≡ judged configuration.now state.old (octets_in came.now) }
     ensures fits { StateFits state.new }
     ensures few { AreFew state.old }
     ensures attempt { result ≡ attempted state.old (octets_in came.now) }
 {
     match state {
-        State::Startup(_) => startup_receives(state, came),
+        State::Startup(_) => startup_receives(state, came, configuration),
         State::Preoperate(_) => preoperate_receives(state, came),
         State::Operate(_) => operate_receives(state, came),
         State::Down(_) => unreachable!(),
@@ -149,9 +162,13 @@ fn put_out(state: &mut State, message: &MasterMsg)
 }
 
 /// What came back in STARTUP.
-fn startup_receives(state: &mut State, came: &Option<Message>) -> Attempt
+fn startup_receives(
+    state: &mut State,
+    came: &Option<Message>,
+    configuration: &Configuration,
+) -> Attempt
     requires { IsStartup state.old }
-    ensures state { outcome_with result state.new ≡ judged state.old (octets_in came.now) }
+    ensures state { outcome_with result state.new ≡ judged configuration.now state.old (octets_in came.now) }
     ensures fits { StateFits state.new }
     ensures few { AreFew state.old }
     ensures attempt { result ≡ attempted state.old (octets_in came.now) }
@@ -160,14 +177,14 @@ fn startup_receives(state: &mut State, came: &Option<Message>) -> Attempt
         unreachable!()
     };
     let attempt = sent.judge(&Layout::startup(), came);
-    startup_done(state, &attempt);
+    startup_done(state, &attempt, configuration);
     attempt
 }
 
 /// What came back in PREOPERATE.
 fn preoperate_receives(state: &mut State, came: &Option<Message>) -> Attempt
     requires { IsPreoperate state.old }
-    ensures state { outcome_with result state.new ≡ judged state.old (octets_in came.now) }
+    ensures state { outcome_with result state.new ≡ judged any_device state.old (octets_in came.now) }
     ensures fits { StateFits state.new }
     ensures few { AreFew state.old }
     ensures attempt { result ≡ attempted state.old (octets_in came.now) }
@@ -184,7 +201,7 @@ fn preoperate_receives(state: &mut State, came: &Option<Message>) -> Attempt
 fn operate_receives(state: &mut State, came: &Option<Message>) -> Attempt
     requires fits { StateFits state.old }
     requires sends { IsOperateSending state.old }
-    ensures state { outcome_with result state.new ≡ judged state.old (octets_in came.now) }
+    ensures state { outcome_with result state.new ≡ judged any_device state.old (octets_in came.now) }
     ensures fits { StateFits state.new }
     ensures few { AreFew state.old }
     ensures attempt { result ≡ attempted state.old (octets_in came.now) }

@@ -9,12 +9,13 @@ ghost use Rattle.iol_far.specs.Octets.{octets_in};
 ghost use Rattle.iol_link.specs.declared.wire.Rate.{Rate};
 ghost use Rattle.iol_link.specs.WireFacts.{Wakes, Passes};
 ghost use Rattle.iol_mode.specs.Messages.{stays};
-ghost use Rattle.iol_mode.specs.States.{StateFits, IsDown, Takes, is_starting, waked, state_of, outcome_with, startup_turned, preoperate_turned};
+ghost use Rattle.iol_mode.specs.States.{StateFits, IsDown, Takes, is_starting, waked, state_of, outcome_with, any_device, startup_turned, preoperate_turned};
 ghost use Rattle.iol_mode.specs.Stands.{OutcomeStands, IsTold};
 ghost use Rattle.iol_mode.specs.Next.{wire_of, outcome_of, told_by, message_out};
 ghost use Rattle.iol_mode.specs.Turns.{IsStartTurn, IsStartTried, IsOperateTurn, IsRise, IsCycle, IsEnd};
 ghost use Rattle.iol_mode.specs.Exchanges.{IsSending, AreFew, text_out, judged, attempted, ExchangeGives};
 
+use crate::configuration::Configuration;
 use crate::exchange::laws;
 use crate::states::{Down, Mode, Operate, Preoperate, Startup, State, Up};
 use crate::why::Why;
@@ -66,7 +67,7 @@ fn exchanged<W: Wire>(state: &mut State, wire: &mut W) -> Attempt
     ensures called { (answer : Option (ArrayVec ℕ))
         × W.facts.exchange_gives wire.old (text_out state.old) answer wire.new
         × Passes W.facts wire.old (text_out state.old) answer wire.new
-        × (outcome_with result state.new ≡ judged state.old (octets_in answer))
+        × (outcome_with result state.new ≡ judged any_device state.old (octets_in answer))
         × (result ≡ attempted state.old (octets_in answer))
         × ExchangeGives state.old (octets_in answer) (outcome_with result state.new) }
     ensures honesty { W.facts.honest wire.new ≡ W.facts.honest wire.old }
@@ -74,7 +75,7 @@ fn exchanged<W: Wire>(state: &mut State, wire: &mut W) -> Attempt
     ensures few { AreFew state.old }
 {
     let came = pass(state, wire);
-    state.receives(&came)
+    state.receives(&came, &Configuration::any())
 }
 
 /// The message that is out goes out.
@@ -289,7 +290,7 @@ impl<W: Wire> Link<W, Startup> {
     /// the page, or with `Lost` at the third attempt in a row that had no good reply.
     pub fn turn(self) -> Next<W>
         ensures { IsRise W.facts self.wire startup_shape
-            self.state.sent.message (startup_turned self.state) (outcome_of result)
+            self.state.sent.message (startup_turned any_device self.state) (outcome_of result)
             (wire_of result) }
     {
         let mut link = Link {

@@ -1,3 +1,5 @@
 pub mod Commands
+pub mod Cycle
 pub mod Fault
+pub mod Identity
 pub mod Page

@@ -1,4 +1,5 @@
-//! The law of the layouts that a page asks for, without code.
+//! The laws of the layouts that a page asks for, and of cycle times, without code.
+ghost use Rattle.iol_page.specs.Cycle.{CyclesAreOrdered};
 ghost use Rattle.iol_page.specs.Page.{PagesAskForLayouts};
 
 /// A law of the definitions, without code: what a page asks for are layouts, that of
@@ -6,4 +7,9 @@ ghost use Rattle.iol_page.specs.Page.{PagesAskForLayouts};
 #[tactic(auto, using(crate::proofs::Asked::pages_ask_for_layouts))]
 pub fn pages_ask_for_layouts()
     ensures { PagesAskForLayouts }
+{}
+
+/// A law of the definitions, without code: of two cycle times the longer one has the larger octet.
+pub fn cycles_are_ordered()
+    ensures { CyclesAreOrdered }
 {}

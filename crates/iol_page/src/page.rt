@@ -2,10 +2,14 @@
 ghost use Rattle.std.specs.Prelude.{◌≡◌, length};
 
 use crate::capability::Capability;
+use crate::cycle::{CycleFault, CycleTime};
 use crate::fault::PageFault;
+use crate::identity::Identity;
 use crate::lengths::PdLength;
 use iol_mseq::Layout;
 use std::marker::Model;
+
+const MIN_CYCLE_TIME: u8 = 0x02;
 
 const CAPABILITY: u8 = 0x03;
 
@@ -14,6 +18,12 @@ const REVISION: u8 = 0x04;
 const PROCESS_DATA_IN: u8 = 0x05;
 
 const PROCESS_DATA_OUT: u8 = 0x06;
+
+/// The first of the two octets of VendorID.
+const VENDOR: u8 = 0x07;
+
+/// The first of the three octets of DeviceID.
+const DEVICE: u8 = 0x09;
 
 /// RevisionID of V1.0.
 const VERSION_1_0: u8 = 0x10;
@@ -50,6 +60,10 @@ impl Model for Page {
 }
 
 impl Page {
+    ghost use Rattle.std.specs.Prelude.{IfOk};
+    ghost use Rattle.std.specs.Result.{result_err};
+    ghost use Rattle.iol_page.specs.Cycle.{cycle_fault};
+    ghost use Rattle.iol_page.specs.Identity.{identity_of, is_expected};
     ghost use Rattle.iol_page.specs.Page.{layouts_of, page_octet};
 
     /// The page with these octets, that of address 0x02 first.
@@ -78,6 +92,47 @@ impl Page {
         match address {
             0x02..=0x0B => self.octets[address as usize - 2],
             _ => 0,
+        }
+    }
+
+    /// RevisionID: 0x11 is V1.1, 0x10 is V1.0 (IEC 61131-9, B.1.5).
+    pub fn revision(&self) -> u8
+        ensures { result ≡ page_octet self.now 4 }
+    {
+        self.octet(REVISION)
+    }
+
+    /// MinCycleTime, the shortest cycle time that the device allows (IEC 61131-9, B.1.3).
+    /// Refusal 39 BadCycleTime: its time base is reserved.
+    pub fn min_cycle(&self) -> Result<CycleTime, CycleFault>
+        ensures value { IfOk result (λ cycle. cycle.octet ≡ page_octet self.now 2) }
+        ensures refused { result_err result ≡ cycle_fault (page_octet self.now 2) }
+    {
+        CycleTime::from_octet(self.octet(MIN_CYCLE_TIME))
+    }
+
+    /// Who the device is.
+    ///
+    /// Rule PAGE-7.
+    pub fn identity(&self) -> Identity
+        ensures { result ≡ identity_of self.now }
+    {
+        let octet = |address: u8| u32::from(self.octet(address));
+        Identity {
+            vendor: 256 * u16::from(self.octet(VENDOR)) + u16::from(self.octet(VENDOR + 1)),
+            device: 65_536 * octet(DEVICE) + 256 * octet(DEVICE + 1) + octet(DEVICE + 2),
+        }
+    }
+
+    /// Whether the device is the one that is expected, if one is.
+    ///
+    /// Rule LINK-11.
+    pub fn is_expected(&self, expected: Option<Identity>) -> bool
+        ensures { result ≡ is_expected expected self.now }
+    {
+        match expected {
+            Some(expected) => expected.is(&self.identity()),
+            None => true,
         }
     }
 

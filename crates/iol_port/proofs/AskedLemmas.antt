@@ -32,6 +32,7 @@ flight_taken b t free = grind (arith, common_steps)
 pub asked_by_cancel : AskedByCancel
 asked_by_cancel a b c reply is = piece_leaves Asked a b c reply is (record {
   stays = λ kept images h. inl h;
+  expect = λ identity h. inl h;
   submit = λ q e r h. inl h;
   urgent = λ q e r h. inl h;
   collect = λ t out e h. inl h;

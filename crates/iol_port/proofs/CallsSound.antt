@@ -21,10 +21,11 @@ use Rattle.iol_steps.specs.Kinds.{restart_steps}
 use Rattle.iol_port.specs.Steps.{MayBookAll, book_through}
 use Rattle.iol_steps.specs.declared.mode.Mode.TheVariants.{Down}
 use Rattle.iol_port.specs.declared.call.Answered.{Answered}
-use Rattle.iol_port.specs.Run.{PortState, CallOf, Piece, Whole, Send, Receive, PieceOf, Pieces, opened, moment_in, moment_by, request_of, restarted, Is, Turn, TurnsAll, TurnsWork, submit_of, LacksMemory}
+use Rattle.iol_port.specs.Run.{PortState, CallOf, Piece, Whole, Send, Receive, PieceOf, Pieces, opened, moment_in, moment_by, request_of, restarted, expecting, Is, Turn, TurnsAll, TurnsWork, submit_of, LacksMemory}
 use Rattle.iol_port.specs.Sound.{Sound, IsSound, RecordFits, FitsOpen, pairs_from, request_taken, written}
 use Rattle.iol_port.proofs.Replaying.{entered_replayed, free_archive, BookLaws, taken_is, sound_book, sound_cut, sound_cancelling, sound_moved, sound_through}
 use Rattle.iol_event.specs.declared.event.Event.{Event}
+use Rattle.iol_page.specs.declared.identity.Identity.{Identity}
 use Rattle.iol_steps.specs.Images.{Images}
 use Rattle.iol_steps.specs.Step.{Image, Step, Moment, Exchanged}
 use Rattle.iol_port.specs.declared.call.Call.TheVariants as call
@@ -44,6 +45,7 @@ pub record Moves (m : Moment) (steps : List Step) (a b : PortState) : Type 0 whe
 -- What holds after each piece
 pub record Leaves (P : PortState → Type 0) (a : PortState) (c : Piece) (reply : Answered) : Type 0 where
   pub stays : (kept : List Event) (images : Images) → P (record a { kept = kept; images = images })
+  pub expect : (identity : Option Identity) → P (expecting a identity)
   pub submit : (q : Request) → c ≡ Whole (call.Submit q) → reply ≡ answered.Ticket (next_ticket a.book) → P (record a { book = submitted a.book q })
   pub urgent : (q : Request) → c ≡ Whole (call.SubmitUrgent q) → reply ≡ answered.Ticket (next_ticket a.book) → P (record a { book = submitted_urgent a.book q })
   pub collect : (t : Ticket) (out : Outcome) → lookup (same_ticket t) a.book.standing.outcomes ≡ Some out → P (record a { book = collected a.book t })
@@ -104,6 +106,9 @@ module _ (P : PortState → Type 0) (a b : PortState) where
   piece_leaves (Whole (call.SetOutput image)) reply e l = is (record a { images = b.images }) (l.stays a.kept b.images) (output_does a b image reply e)
   piece_leaves (Whole call.ClearOutput) reply e l = is (record a { images = record a.images { wanted = None } }) (l.stays a.kept (record a.images { wanted = None })) e.1
   piece_leaves (Whole call.Look) reply e l = is a (l.stays a.kept a.images) e.1
+  piece_leaves (Whole (call.Expect identity)) reply e l = is (expecting a identity) (l.expect identity) e.1
+  piece_leaves (Whole (call.Cycle cycle)) reply e l = is a (l.stays a.kept a.images) e.1
+  piece_leaves (Whole call.Page) reply e l = is a (l.stays a.kept a.images) e.1
   piece_leaves (Whole call.TakeEvent) reply e l = is (record a { kept = drop 1 a.kept }) (l.stays (drop 1 a.kept) a.images) (event_does a b reply e)
   piece_leaves (Whole call.Status) reply e l = is a (l.stays a.kept a.images) e.1
   piece_leaves (Whole call.Archive) reply e l = may_be (record a { book = record a.book { journal = [] }; base = length a.session.carried }) (l.stays a.kept a.images) l.archive (archive_does a b reply e)
@@ -169,6 +174,7 @@ module _ (laws : BookLaws) where
   piece_sound : (a b : PortState) (c : Piece) (reply : Answered) → PieceOf a c reply b → IsSound a → IsSound b
   piece_sound a b c reply is sound = piece_leaves IsSound a b c reply is (record {
     stays = λ kept images. sound;
+    expect = λ identity. sound;
     submit = λ q e r. sound_book a.book (submitted a.book q) a.session a.base (entered_replayed a.book (Submitted (next_ticket a.book) q) sound.replayed) refl refl (laws.submit a.book q).0 sound;
     urgent = λ q e r. sound_book a.book (submitted_urgent a.book q) a.session a.base (entered_replayed a.book (Urgent (next_ticket a.book) q) sound.replayed) refl refl (laws.submit_urgent a.book q).0 sound;
     collect = λ t out e. entry_sound a (collected a.book t) (Collected t) (collected_kept a.book t out e) refl (laws.collect a.book t).0 sound;

@@ -22,7 +22,7 @@ use Rattle.iol_event.specs.declared.event.Event.{Event}
 use Rattle.iol_steps.specs.Images.{MayImagesAll, images_through}
 use Rattle.iol_app.specs.State.{begun_in}
 use Rattle.iol_app.specs.StationState.{StationState, mode_in}
-use Rattle.iol_app.specs.Core.{Core, Ghost, Stands, BeginGives, IsAttempted, ordered, session_in, frozen_in, images_in, moment_of, begun_ghost, made_ghost, after_wake}
+use Rattle.iol_app.specs.Core.{Core, Ghost, Stands, TermsStay, BeginGives, IsAttempted, ordered, session_in, frozen_in, images_in, moment_of, begun_ghost, made_ghost, after_wake}
 use Rattle.iol_app.specs.Pieces.{IsSent, SendSteps, WakeSteps, ReceiveSteps, Received}
 use Rattle.iol_app.specs.Seen.{BeginSteps, DenySteps, core_of, station_of}
 use Rattle.iol_port.specs.declared.call.Call.{Call}
@@ -71,7 +71,7 @@ record Sent (mid k : Core) (g after : Ghost) (far : Far) (n : ℕ) (made : Bool)
   may : (call : WireCall) → MayImagesAll (moment_of mid g n call) (make_of made) (images_in mid g far)
   images : (call : WireCall) → images_in k after far ≡ images_through (moment_of mid g n call) (make_of made) (images_in mid g far)
   fresh : IsTrue g.fresh → IsTrue after.fresh
-  terms : (k.session.limit ≡ mid.session.limit) × (after.page ≡ g.page)
+  terms : TermsStay mid k g after
   asks : mode_in k.state ≡ Operate → n ≡ 0 → ordered k.state k.session ≡ mid.session.output.wanted
 
 is_sent : (mid k : Core) (g : Ghost) (far : Far) (n : ℕ) → SendSteps mid k → IsAttempted mid.state → Stands mid g far n → (after : Ghost) × (made : Bool) × Sent mid k g after far n made
@@ -88,7 +88,7 @@ is_sent mid k g far n sends tried stands = elim (sends g far n stands) as (λ _.
           may = λ call. tt;
           images = λ call. refl;
           fresh = λ k. k;
-          terms = (refl, refl);
+          terms = (refl, refl, refl);
           asks = λ up calm. again.asks tried calm;
         }),
   )
@@ -127,7 +127,7 @@ module _ (p : Bare) (far : Far) (n : ℕ) (base : ℕ) (g : Ghost) (k : Core) (b
       IsTrue (list_all is_sending steps) → IsTrue (is_clash_free steps) → MayBookAll steps p.book.state → b.state ≡ book_through steps p.book.state
       → ((call : WireCall) → MaySessionAll (moment_by before call) steps before.session) → session_in mid g' far ≡ session_through steps before.session
       → ((call : WireCall) → MayImagesAll (moment_by before call) steps before.images) → ((call : WireCall) → images_through (moment_of mid g' n call) (make_of made) (images_in mid g' far) ≡ images_through (moment_by before call) steps before.images)
-      → frozen_in g' far ≡ frozen_in g far → (mid.session.limit ≡ p.station.session.limit) × (g'.page ≡ g.page) → mid.session.output.wanted ≡ wanted → (IsTrue (list_any is_take steps) → IsTrue g'.fresh)
+      → frozen_in g' far ≡ frozen_in g far → TermsStay (core_of p.station) mid g g' → mid.session.output.wanted ≡ wanted → (IsTrue (list_any is_take steps) → IsTrue g'.fresh)
       → GoesOut
   goes_out first mid g' after made s only free may_book book may_session session may_images images frozen terms same fresh =
       let steps : List Step = first ++ make_of made in
@@ -150,7 +150,7 @@ module _ (p : Bare) (far : Far) (n : ℕ) (base : ℕ) (g : Ghost) (k : Core) (b
             frozen = s.frozen ∙ frozen;
             kept = refl;
             silence = refl;
-            terms = terms_of _ _ _ _ (s.terms.0 ∙ terms.0, s.terms.1 ∙ terms.1);
+            terms = terms_of _ _ _ _ _ _ (s.terms.0 ∙ terms.0, s.terms.1 ∙ terms.1, s.terms.2 ∙ terms.2);
             pending = refl;
           }),
         ),
@@ -160,29 +160,29 @@ module _ (p : Bare) (far : Far) (n : ℕ) (base : ℕ) (g : Ghost) (k : Core) (b
   -- nothing is taken or denied
   idle_out : (after : Ghost) (made : Bool) → Sent (core_of p.station) k g after far n made → b.state ≡ p.book.state → GoesOut
   idle_out after true s book =
-      goes_out [] (core_of p.station) g after true s refl refl (tt, tt) book (λ call. (tt, tt)) refl s.may (λ call. refl) refl (refl, refl) refl (λ k. absurd (let e : false ≡ true = k in cc))
+      goes_out [] (core_of p.station) g after true s refl refl (tt, tt) book (λ call. (tt, tt)) refl s.may (λ call. refl) refl (refl, refl, refl) refl (λ k. absurd (let e : false ≡ true = k in cc))
   idle_out after false s book =
-      goes_out [] (core_of p.station) g after false s refl refl tt book (λ call. tt) refl s.may (λ call. refl) refl (refl, refl) refl (λ k. absurd (let e : false ≡ true = k in cc))
+      goes_out [] (core_of p.station) g after false s refl refl tt book (λ call. tt) refl s.may (λ call. refl) refl (refl, refl, refl) refl (λ k. absurd (let e : false ≡ true = k in cc))
 
   -- the next request is taken
   taking_out : (t : Ticket) (q : Request) → next_taken p.book.state.standing ≡ Some (t, q) → let mid : Core = record (core_of p.station) { session = begun_in q p.station.session } in
       BeginGives (core_of p.station) mid g far n q → (after : Ghost) (made : Bool) → Sent mid k (begun_ghost g) after far n made → b.state ≡ took p.book.state (t, q) → GoesOut
   taking_out t q head begins after true s book =
       goes_out (Take t.0 q ∷ []) (record (core_of p.station) { session = begun_in q p.station.session }) (begun_ghost g) after true s refl refl (head, (tt, tt)) book
-      (λ call. (begins.may (moment_by before call) t.0 refl, (tt, tt))) (sym (begins.is t.0)) (λ call. (tt, s.may call)) (λ call. refl) refl (refl, refl) refl (λ _. refl)
+      (λ call. (begins.may (moment_by before call) t.0 refl, (tt, tt))) (sym (begins.is t.0)) (λ call. (tt, s.may call)) (λ call. refl) refl (refl, refl, refl) refl (λ _. refl)
   taking_out t q head begins after false s book =
       goes_out (Take t.0 q ∷ []) (record (core_of p.station) { session = begun_in q p.station.session }) (begun_ghost g) after false s refl refl (head, tt) book
-      (λ call. (begins.may (moment_by before call) t.0 refl, tt)) (sym (begins.is t.0)) (λ call. (tt, s.may call)) (λ call. refl) refl (refl, refl) refl (λ _. refl)
+      (λ call. (begins.may (moment_by before call) t.0 refl, tt)) (sym (begins.is t.0)) (λ call. (tt, s.may call)) (λ call. refl) refl (refl, refl, refl) refl (λ _. refl)
 
   -- or denied
   denying_out : (t : Ticket) → option_map (λ x. x.0) (next_taken p.book.state.standing) ≡ Some t → ((m : Moment) → m.terms.page ≡ g.page → MaySession m (Deny t.0) (session_in (core_of p.station) g far))
       → (after : Ghost) (made : Bool) → Sent (core_of p.station) k g after far n made → b.state ≡ denied p.book.state t → GoesOut
   denying_out t head may after true s book =
       goes_out (Deny t.0 ∷ []) (core_of p.station) g after true s refl refl (head, (tt, tt)) book
-      (λ call. (may (moment_by before call) refl, (tt, tt))) refl (λ call. (tt, s.may call)) (λ call. refl) refl (refl, refl) refl (λ k. absurd (let e : false ≡ true = k in cc))
+      (λ call. (may (moment_by before call) refl, (tt, tt))) refl (λ call. (tt, s.may call)) (λ call. refl) refl (refl, refl, refl) refl (λ k. absurd (let e : false ≡ true = k in cc))
   denying_out t head may after false s book =
       goes_out (Deny t.0 ∷ []) (core_of p.station) g after false s refl refl (head, tt) book
-      (λ call. (may (moment_by before call) refl, tt)) refl (λ call. (tt, s.may call)) (λ call. refl) refl (refl, refl) refl (λ k. absurd (let e : false ≡ true = k in cc))
+      (λ call. (may (moment_by before call) refl, tt)) refl (λ call. (tt, s.may call)) (λ call. refl) refl (refl, refl, refl) refl (λ k. absurd (let e : false ≡ true = k in cc))
 
   abbrev At : StationState (Unit {0}) → BookState → Type 0
   At s start = SendSteps (core_of s) k × (b.state ≡ start)
@@ -250,7 +250,7 @@ receives p next base g out far far' n n' said shows r free posts keeps =
           turn = record { call = x.call; steps = x.steps };
           only = unsent_all 0 x.steps (clash_free-deny 0 x.steps _ _ said x.said_book) r.unmade;
           calm = λ took. x.fresh (shows.out.1 took);
-          all = record { fits = x.fits; silence = x.silent; clash_free = x.clash_free; terms = terms_of _ _ _ _ x.terms };
+          all = record { fits = x.fits; silence = x.silent; clash_free = x.clash_free; terms = terms_of _ _ _ _ _ _ x.terms };
           work = record {
             may_book = MayBookAll-filter x.steps p.book.state (rw x.said_book (may_book_said _ _ said p.book.state));
             book = posts ∙ (rw (← x.said_book) (sym (book_through-filter x.steps p.book.state)));

@@ -3,6 +3,7 @@ pub mod CallsSound
 pub mod CallLemmas
 pub mod Filters
 pub mod TurnLemmas
+pub mod RightDevices
 pub mod RunLemmas
 pub mod CorePorts
 pub mod OverWire

@@ -1,15 +1,18 @@
 -- What a call of a port without the wire leaves, over a wire.
-use Rattle.std.proofs.Common.{List, Result, refl, ap}
+use Rattle.std.proofs.Common.{List, Option, Result, refl, ap}
 use Rattle.iol_event.specs.declared.event.Event.{Event}
+use Rattle.iol_page.specs.declared.cycle.CycleTime.{CycleTime}
+use Rattle.iol_page.specs.declared.identity.Identity.{Identity}
 use Rattle.iol_book.specs.declared.entries.Ticket.{Ticket}
 use Rattle.iol_book.specs.declared.entries.Entry.{Entry}
 use Rattle.iol_book.specs.declared.entries.Outcome.{Outcome}
 use Rattle.iol_book.specs.BookModel.{BookState}
 use Rattle.iol_steps.specs.Step.{Image}
+use Rattle.iol_port.specs.declared.call.Counting.{Counting}
 use Rattle.iol_port.specs.declared.fault.PortFault.{PortFault}
 use Rattle.iol_port.specs.View.{Parts}
 use Rattle.iol_port.specs.CorePort.{parts_over}
-use Rattle.iol_port.specs.EveryWire.{SubmitGives, CollectGives, WithdrawGives, CancelGives, ArchiveGives, TakeEventGives, SetOutputGives, ClearOutputGives, RestartGives}
+use Rattle.iol_port.specs.EveryWire.{SubmitGives, CollectGives, WithdrawGives, CancelGives, ArchiveGives, TakeEventGives, SetOutputGives, ClearOutputGives, ExpectGives, SetCycleGives, RestartGives}
 use Rattle.iol_port.proofs.CallLemmas.{on_ok, on_err}
 
 module _ {W : Type 0} (wire : W) (p next : Parts (Unit {0})) where
@@ -40,6 +43,12 @@ module _ {W : Type 0} (wire : W) (p next : Parts (Unit {0})) where
   pub clear_output_over : ClearOutputGives p next → ClearOutputGives (over p) (over next)
   clear_output_over h = ap over h
 
+  pub expect_over : {identity : Option Identity} {r : Counting} → ExpectGives p identity r next → ExpectGives (over p) identity r (over next)
+  expect_over h = record { counts = h.counts; expects = ap over h.expects }
+
+  pub set_cycle_over : {cycle : Option CycleTime} {r : Counting} → SetCycleGives p cycle r next → SetCycleGives (over p) cycle r (over next)
+  set_cycle_over h = record { counts = h.counts; paces = ap over h.paces }
+
   pub restart_over : RestartGives p next → RestartGives (over p) (over next)
   restart_over h = record { wire = refl; mode = h.mode; why = h.why; session_is = h.session_is; book = h.book; memory = h.memory; kept = h.kept; sent = h.sent }
 
@@ -53,5 +62,7 @@ pub ruleset over_wire = (
   take_event_over,
   set_output_over,
   clear_output_over,
+  expect_over,
+  set_cycle_over,
   restart_over,
 )

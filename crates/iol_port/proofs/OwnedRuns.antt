@@ -92,6 +92,7 @@ module _ (given : ℕ) (before : List Carried) (Happened : Piece → Answered �
   piece_owns : (a b : PortState) (c : Piece) (reply : Answered) (owned : List Owned) (u : Ticket) → PieceOf a c reply b → Happened c reply → OwnsPort owned u a → GoesPort (tally_at owned u a) b
   piece_owns a b c reply owned u is happened owns = piece_leaves (GoesPort (tally_at owned u a)) a b c reply is (record {
     stays = λ kept images. same;
+    expect = λ identity. same;
     submit = λ q e r. waits_owns given before Asked a.book a.session owned u owns urgent (waiting ++ (next_ticket a.book, q) ∷ []) outcomes (a.book.last + 1)
         (λ n. omega (arith, waiting_push n waiting (next_ticket a.book, q), ahead_next a.book.last n))
         owns.urgent (each_push Asked waiting (next_ticket a.book) q (inl (rw (e, r) at happened)) owns.waiting) owns.outcomes;
@@ -120,6 +121,7 @@ module _ (given : ℕ) (before : List Carried) (Happened : Piece → Answered �
   piece_wakes : (a b : PortState) (c : Piece) (reply : Answered) (owned : List Owned) (u : Ticket) → PieceOf a c reply b → a.session.mode ≡ Down → OwnsPort owned u a → (b.session.mode ≡ Down → ⊥) → GoesWoken (tally_at owned u a) b.book b.session
   piece_wakes a b c reply owned u is down owns = piece_leaves Woken a b c reply is (record {
     stays = λ kept images left. absurd (left down);
+    expect = λ identity left. absurd (left down);
     submit = λ q e r left. absurd (left down);
     urgent = λ q e r left. absurd (left down);
     collect = λ t out e left. absurd (left down);

@@ -25,14 +25,16 @@ use Rattle.iol_port.specs.Steps.{MayBookAll, book_after, book_through, kept_thro
 use Rattle.iol_port.specs.Run.{PortState, Pending, TurnOf, CallOf}
 use Rattle.iol_port.specs.View.{Parts, Choice, state_of, Shows, ShowsAt, Follows, BeginsNext}
 use Rattle.iol_port.proofs.Filters.{book_through-filter, MayBookAll-filter, kept_through-filter, clash_free-take, clash_free-deny, may_book_said}
+use Rattle.iol_mode.specs.declared.configuration.Configuration.{Configuration}
 use Rattle.iol_port.proofs.CallLemmas.{does_by_choice, none_pending}
 
 -- down leaves no request under way
 pub none_down : (state : State) (session : SessionState) (g : Ghost) (answer : Option Answer) → Joined state session → mode_in state ≡ Down → job_of (request_in session.current) answer g.request.busy g.request.asked ≡ None
 none_down state session g answer fits down = grind (arith, common_steps)
 
-pub terms_of : (limit was : ℕ) (page old : List ℕ) → (limit ≡ was) × (page ≡ old) → let a : Terms = record { busy_limit = limit; page = page } in let b : Terms = record { busy_limit = was; page = old } in a ≡ b
-terms_of limit was page old (e, f) = ap (λ (n : ℕ). let x : Terms = record { busy_limit = n; page = page } in x) e ∙ ap (λ (l : List ℕ). let x : Terms = record { busy_limit = was; page = l } in x) f
+pub terms_of : (limit was : ℕ) (page old : List ℕ) (asks asked : Configuration) → (limit ≡ was) × (page ≡ old) × (asks ≡ asked)
+    → let a : Terms = record { busy_limit = limit; page = page; expected = asks.expected } in let b : Terms = record { busy_limit = was; page = old; expected = asked.expected } in a ≡ b
+terms_of limit was page old asks asked same = cc
 
 module _ {W : Type 0} (facts : WireFacts W) (p next : Parts W) (base : ℕ) (g : Ghost) (said : Said) where
   abbrev before : PortState
@@ -61,7 +63,7 @@ module _ {W : Type 0} (facts : WireFacts W) (p next : Parts W) (base : ℕ) (g :
       let x = t.given in
       let book = book_steps p.book.state x.steps _ settles x.said_book in (
         record { call = x.call; steps = x.steps },
-        record { fits = x.fits; silence = x.silent; clash_free = x.clash_free; terms = terms_of _ _ _ _ x.terms },
+        record { fits = x.fits; silence = x.silent; clash_free = x.clash_free; terms = terms_of _ _ _ _ _ _ x.terms },
         record {
           may_book = book.0;
           book = book.1;
@@ -86,7 +88,7 @@ module _ {W : Type 0} (facts : WireFacts W) (p next : Parts W) (base : ℕ) (g :
       let m : Moment = moment_of (core_of p.station) g (silence_of facts p.station) x.call in
       let old : Session = session_in facts p.station g in (
         record { call = x.call; steps = Take k.0 q ∷ x.steps },
-        record { fits = x.fits; silence = x.silent; clash_free = rw (clash_free-take k.0 q x.steps (x.fresh refl) (clash_free-deny k.0 x.steps _ _ said x.said_book)) x.clash_free; terms = terms_of _ _ _ _ x.terms },
+        record { fits = x.fits; silence = x.silent; clash_free = rw (clash_free-take k.0 q x.steps (x.fresh refl) (clash_free-deny k.0 x.steps _ _ said x.said_book)) x.clash_free; terms = terms_of _ _ _ _ _ _ x.terms },
         record {
           may_book = (head, book.0);
           book = book.1;
@@ -108,7 +110,7 @@ module _ {W : Type 0} (facts : WireFacts W) (p next : Parts W) (base : ℕ) (g :
       let book = book_steps (denied p.book.state k) x.steps _ settles x.said_book in
       let m : Moment = moment_of (core_of p.station) g (silence_of facts p.station) x.call in (
         record { call = x.call; steps = Deny k.0 ∷ x.steps },
-        record { fits = x.fits; silence = x.silent; clash_free = rw (clash_free-deny k.0 x.steps _ _ said x.said_book) x.clash_free; terms = terms_of _ _ _ _ x.terms },
+        record { fits = x.fits; silence = x.silent; clash_free = rw (clash_free-deny k.0 x.steps _ _ said x.said_book) x.clash_free; terms = terms_of _ _ _ _ _ _ x.terms },
         record {
           may_book = (head, book.0);
           book = book.1;

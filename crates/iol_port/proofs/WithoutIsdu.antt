@@ -67,6 +67,7 @@ module _ (page : List ℕ) (carried : List Carried) where
   piece_holds : (a b : PortState) (c : Piece) (reply : Answered) → PieceOf a c reply b → AllHold a → AllHold b
   piece_holds a b c reply is h = piece_leaves AllHold a b c reply is (record {
     stays = λ kept images. h;
+    expect = λ identity. h;
     submit = λ q e r. h;
     urgent = λ q e r. h;
     collect = λ t out e. rw e (h.0, (h.1.0, λ knows. each_removed IsOther (same_ticket t) a.book.standing.outcomes (h.1.1 knows)));

@@ -5,12 +5,12 @@ use Rattle.iol_link.specs.WireFacts.{WireFacts}
 use Rattle.iol_link.specs.Honest.{HonestWake, HonestExchange}
 use Rattle.iol_mode.specs.declared.states.State.{State}
 use Rattle.iol_mode.specs.declared.states.State.TheVariants.{Down as AtDown}
-use Rattle.iol_mode.specs.Exchanges.{judged, text_out}
+use Rattle.iol_mode.specs.Exchanges.{text_out}
 use Rattle.iol_book.specs.declared.entries.Limits.{Limits}
 use Rattle.iol_steps.specs.declared.said.Said.{Said}
 use Rattle.iol_steps.specs.Step.{Reset, book_said, reports_said}
 use Rattle.iol_app.specs.StationState.{StationState, IsSettledSaid}
-use Rattle.iol_app.specs.Core.{Core, after_exchange, after_wake}
+use Rattle.iol_app.specs.Core.{Core, after_exchange, after_wake, came_of}
 use Rattle.iol_app.specs.Pieces.{IsSent}
 use Rattle.iol_app.specs.Seen.{core_of, station_of}
 use Rattle.iol_port.specs.declared.awaited.Awaited.{Awaited}
@@ -126,15 +126,15 @@ pub record SendGives (old new : Parts (Unit {0})) : Type 0 where
   pub kept : new.kept ≡ old.kept
   pub sent : new.sent ≡ true
 
--- what came back is judged by what was sent, and what that says goes to the book and to the
--- kept events
+-- what came back is judged by what was sent and by what start-ups ask, and what that says goes
+-- to the book and to the kept events
 -- PORT-1, PORT-9
 pub record ReceiveGives (old : Parts (Unit {0})) (came : Option (List ℕ)) (new : Parts (Unit {0})) :
     Type 0 where
   pub said : Said
   pub core : core_of new.station
-      ≡ after_exchange (judged old.station.link.state came) old.station.session
-  pub said_is : IsSettledSaid (judged old.station.link.state came) old.station.session said
+      ≡ after_exchange (came_of (core_of old.station) came) old.station.session
+  pub said_is : IsSettledSaid (came_of (core_of old.station) came) old.station.session said
   pub book : new.book.state ≡ book_through (book_said said) old.book.state
   pub memory : KeepsMemory old new
   pub kept : new.kept ≡ kept_through (reports_said said) old.kept

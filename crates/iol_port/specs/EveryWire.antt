@@ -1,12 +1,14 @@
 -- What each call of a port answers and leaves on every wire, honest or not, from
 -- the port's own parts.
-use Rattle.std.specs.Prelude.{◌≡◌, Bool, ◌&&◌, if◌then◌else◌, List, [], ◌∷◌, ◌++◌, drop, Option, Some, None, Result, is_ok, IfOk, IfErr, OnOk, OnErr, slice_get, ◌⊎◌, false, IsTrue}
+use Rattle.std.specs.Prelude.{◌≡◌, ℕ, Bool, ◌&&◌, if◌then◌else◌, List, [], ◌∷◌, ◌++◌, drop, Option, Some, None, Result, is_ok, IfOk, IfErr, OnOk, OnErr, slice_get, ◌⊎◌, false, IsTrue}
 use Rattle.std.specs.Option.{ok_or, option_map}
 use Rattle.std.specs.Result.{result_err}
 use Rattle.std.specs.Map.{lookup}
 use Rattle.iol_isdu.specs.declared.values.Request.{Request}
 use Rattle.iol_isdu.specs.declared.values.Cause.TheVariants.{Cancelled}
 use Rattle.iol_event.specs.declared.event.Event.{Event}
+use Rattle.iol_page.specs.declared.cycle.CycleTime.{CycleTime}
+use Rattle.iol_page.specs.declared.identity.Identity.{Identity}
 use Rattle.iol_link.specs.WireFacts.{WireFacts}
 use Rattle.iol_book.specs.declared.entries.Entry.{Entry}
 use Rattle.iol_book.specs.declared.entries.Outcome.{Outcome}
@@ -23,15 +25,17 @@ use Rattle.iol_app.specs.State as session
 use Rattle.iol_app.specs.Due.{is_ready}
 use Rattle.iol_app.specs.Asking.{prepared, IsCall}
 use Rattle.iol_app.specs.AskedCalls.{asked_facts}
-use Rattle.iol_app.specs.StationState.{StationState, wire_of, mode_of, why_of, is_operating, IsTurn}
+use Rattle.iol_app.specs.StationState.{StationState, wire_of, mode_of, why_of, page_in, is_operating, IsTurn}
 use Rattle.iol_port.specs.declared.fault.PortFault.{PortFault}
 use Rattle.iol_port.specs.declared.fault.PortFault.TheVariants as fault
 use Rattle.iol_port.specs.declared.call.Call.{Call}
 use Rattle.iol_port.specs.declared.call.Call.TheVariants as call
 use Rattle.iol_port.specs.declared.call.Answered.{Answered}
 use Rattle.iol_port.specs.declared.call.Answered.TheVariants as answered
+use Rattle.iol_port.specs.declared.call.Counting.{Counting}
 use Rattle.iol_port.specs.Asks.{has_room, asks_of, lacks_isdu, begun_next}
 use Rattle.iol_port.specs.Replies.{by_book, ticket_reply, outcome_reply, nothing_reply, event_reply, archive_reply}
+use Rattle.iol_port.specs.Run.{counting}
 use Rattle.iol_port.specs.Sound.{request_taken}
 use Rattle.iol_port.specs.Steps.{book_through, kept_through}
 use Rattle.iol_port.specs.View.{Parts, status_of}
@@ -147,6 +151,33 @@ module _ {W : Type 0} where
             record old.station { session = session.wanting None old.station.session };
       }
 
+  -- the page of the present session, once it was read whole and checked
+  -- PORT-11
+  abbrev pub page_shown : Parts W → Option (List ℕ)
+  page_shown p = page_in p.station.link.state p.station.session
+
+  -- another device is expected, or any, and nothing else changes
+  -- PORT-10
+  pub record ExpectGives (old : Parts W) (identity : Option Identity) (result : Counting)
+      (new : Parts W) : Type 0 where
+    pub counts : result ≡ counting (page_shown old)
+    pub expects : new
+        ≡ record old {
+          station =
+              record old.station { session = session.expecting identity old.station.session };
+        }
+
+  -- start-ups are to write this cycle time, or the least one, and nothing else changes
+  -- PORT-10
+  pub record SetCycleGives (old : Parts W) (cycle : Option CycleTime) (result : Counting)
+      (new : Parts W) : Type 0 where
+    pub counts : result ≡ counting (page_shown old)
+    pub paces : new
+        ≡ record old {
+          station =
+              record old.station { session = session.pacing cycle old.station.session };
+        }
+
   -- the wire stays, the link is down and has no fault; the request under way is cut
   -- off, and there is no image
   -- PORT-6, REQ-11
@@ -231,6 +262,13 @@ module _ {W : Type 0} where
     CallGives old call.ClearOutput reply new = (reply ≡ answered.Nothing) × ClearOutputGives old new
     CallGives old call.Look reply new = (reply ≡ answered.Image old.station.session.image)
         × (new ≡ old)
+    CallGives old (call.Expect identity) reply new =
+        (result : Counting) × (reply ≡ answered.Counts result)
+        × ExpectGives old identity result new
+    CallGives old (call.Cycle cycle) reply new =
+        (result : Counting) × (reply ≡ answered.Counts result)
+        × SetCycleGives old cycle result new
+    CallGives old call.Page reply new = (reply ≡ answered.Page (page_shown old)) × (new ≡ old)
     CallGives old call.TakeEvent reply new =
         (result : Result Event PortFault) × (reply ≡ event_reply result)
         × TakeEventGives old result new

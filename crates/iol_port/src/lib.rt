@@ -30,7 +30,7 @@ mod port_core;
 mod settle;
 
 pub use awaited::Awaited;
-pub use call::{Answered, Call};
+pub use call::{Answered, Call, Counting};
 pub use fault::PortFault;
 pub use laws::{
     cancelled_requests_were_asked, denied_requests_stay_out, each_done_has_its_pair,

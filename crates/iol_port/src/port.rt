@@ -15,6 +15,8 @@ ghost use Rattle.iol_port.specs.Asks.{asks_of, IsWireCall};
 ghost use Rattle.iol_port.specs.EveryWire.{SubmitGives, CollectGives, WithdrawGives, CancelGives, ArchiveGives};
 ghost use Rattle.iol_port.specs.EveryWire.{TakeEventGives, SetOutputGives, ClearOutputGives, RestartGives};
 ghost use Rattle.iol_port.specs.EveryWire.{TurnGives, CallGives, RunGives};
+ghost use Rattle.iol_port.specs.EveryWire.{ExpectGives, SetCycleGives, page_shown};
+ghost use Rattle.iol_port.specs.RightDevice.{IsForRightDevice};
 ghost use Rattle.iol_port.specs.WireCalls.{ComesFrom};
 ghost use Rattle.iol_port.specs.View.{Does, Runs, StandsFor, IsOpened, IsRun, OpensWell, opening_of};
 ghost use Rattle.iol_port.specs.View.{KeepsRecord, shown_in, status_of};
@@ -24,7 +26,7 @@ ghost use Rattle.iol_port.specs.Replies.{ticket_reply, outcome_reply, nothing_re
 use crate::copies::{copy_of_image, copy_of_request};
 use crate::laws::clean_laws;
 use crate::port_core::PortCore;
-use crate::{Answered, Call, PortFault, record_fits_journal};
+use crate::{Answered, Call, Counting, PortFault, record_fits_journal};
 use iol_app::{Asked, Status};
 use iol_book::{BookFault, Entry, Limits, Outcome, Ticket};
 use iol_cell::{Handle, ImageWriter};
@@ -32,6 +34,7 @@ use iol_event::Event;
 use iol_image::Image;
 use iol_isdu::Request;
 use iol_link::Wire;
+use iol_page::{CycleTime, Identity, Page};
 use std::alloc::{Allocator, Global};
 use std::marker::Model;
 use std::snapshot::Snapshot;
@@ -226,6 +229,51 @@ impl<W: Wire, A: Handle> Port<W, A> {
         self.core.clear_output();
     }
 
+    /// Expects this device from the next page on that a start-up reads whole.
+    ///
+    /// Where that page is another device's, the link goes down in the very turn, with
+    /// `Why::WrongDevice` and the identity that was found, and nothing was written to the device.
+    /// Requests wait on. A page that was checked already is not checked again.
+    pub fn expect(&mut self, identity: Identity) -> Counting
+        ensures does { Does W.facts self.old.parts (call.Expect (Some identity))
+            (answered.Counts result) self.new.parts }
+        ensures gives { ExpectGives self.old.parts (Some identity) result self.new.parts }
+        ensures rest { self.new ≡ record self.old { parts = self.new.parts } }
+    {
+        self.core.expect(identity)
+    }
+
+    /// Expects any device, as a port does that is new.
+    pub fn expect_any(&mut self) -> Counting
+        ensures does { Does W.facts self.old.parts (call.Expect None)
+            (answered.Counts result) self.new.parts }
+        ensures gives { ExpectGives self.old.parts None result self.new.parts }
+        ensures rest { self.new ≡ record self.old { parts = self.new.parts } }
+    {
+        self.core.expect_any()
+    }
+
+    /// Has start-ups write this cycle time to MasterCycleTime, where it is at least the device's
+    /// MinCycleTime; else, and with none, they write MinCycleTime as it stands in the page.
+    pub fn set_cycle(&mut self, cycle: Option<CycleTime>) -> Counting
+        ensures does { Does W.facts self.old.parts (call.Cycle cycle)
+            (answered.Counts result) self.new.parts }
+        ensures gives { SetCycleGives self.old.parts cycle result self.new.parts }
+        ensures rest { self.new ≡ record self.old { parts = self.new.parts } }
+    {
+        self.core.set_cycle(cycle)
+    }
+
+    /// The device's page, once the start-up of the present session has read it whole and checked
+    /// it; none before, and in down.
+    pub fn page(&self) -> Option<Page>
+        ensures does { Does W.facts
+            self.now.parts call.Page (answered.Page result) self.now.parts }
+        ensures value { result ≡ page_shown self.now.parts }
+    {
+        self.core.page()
+    }
+
     /// The device's input by the last good reply in OPERATE: one whole image, or
     /// none where it was not valid. None in every other mode.
     pub fn image(&self) -> Option<&Image>
@@ -336,6 +384,10 @@ impl<W: Wire, A: Handle> Port<W, A> {
                 Answered::Nothing
             }
             Call::Look => Answered::Image(copy_of_image(self.image())),
+            Call::Expect(Some(identity)) => Answered::Counts(self.expect(*identity)),
+            Call::Expect(None) => Answered::Counts(self.expect_any()),
+            Call::Cycle(cycle) => Answered::Counts(self.set_cycle(*cycle)),
+            Call::Page => Answered::Page(self.page()),
             Call::TakeEvent => match self.take_event() {
                 Ok(event) => Answered::Event(event),
                 Err(fault) => Answered::Refused(fault),
@@ -472,6 +524,15 @@ impl<W: Wire, A: Handle> Port<W, A> {
     {
         record_fits_journal();
         self.core.keeps_record();
+    }
+
+    /// A law of each port, without code: in OPERATE, where alone a request is taken and an output
+    /// goes out, the page of the present session was read whole. It is that of the device that
+    /// was expected when it was checked, if one was.
+    pub fn serves_right_device(&self)
+        ensures { IsForRightDevice self.now.parts }
+    {
+        self.core.serves_right_device();
     }
 }
 

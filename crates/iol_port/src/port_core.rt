@@ -16,12 +16,16 @@ ghost use Rattle.iol_port.specs.View.{Does, OpensWell, IsOpened, opening_of, sta
 ghost use Rattle.iol_port.specs.Asks.{asks_of, has_room};
 ghost use Rattle.iol_port.specs.EveryWire.{SubmitGives, CollectGives, WithdrawGives, CancelGives, ArchiveGives};
 ghost use Rattle.iol_port.specs.EveryWire.{TakeEventGives, SetOutputGives, ClearOutputGives, RestartGives, TurnGives};
+ghost use Rattle.iol_port.specs.EveryWire.{ExpectGives, SetCycleGives, page_shown};
+ghost use Rattle.iol_port.specs.RightDevice.{IsForRightDevice};
+ghost use Rattle.iol_port.specs.Run.{counting};
 ghost use Rattle.iol_port.specs.Clean.{CleanTurn};
 ghost use Rattle.iol_port.specs.CorePort.{CoreDoes, CoreOpens, CoreKeeps, IsNew, awaited, parts_over, SendGives, SendDoes, ReceiveGives, ReceiveDoes, WakeGives, WakeDoes};
 ghost use Rattle.iol_port.specs.Replies.{ticket_reply, outcome_reply, nothing_reply, event_reply, reply_of};
 
 use crate::PortFault;
 use crate::awaited::Awaited;
+use crate::call::Counting;
 use crate::laws::{clean_laws, record_fits_journal};
 use crate::settle::{KEPT, ROOM, begin_next, by_book, by_output, lacks_isdu, settle, woke_up};
 use arrayvec::ArrayVec;
@@ -32,6 +36,7 @@ use iol_image::Image;
 use iol_isdu::{Cause, Request};
 use iol_link::{Rate, Wire};
 use iol_mseq::Message;
+use iol_page::{CycleTime, Identity, Page};
 use iol_steps::{Mode, Said};
 use std::alloc::{Allocator, Global};
 use std::marker::Model;
@@ -254,6 +259,71 @@ impl<A: Allocator + Copy> PortCore<A> {
         self.core.clear_output();
     }
 
+    /// Expects this device from the next page on that a start-up reads whole.
+    ///
+    /// Where that page is another device's, the link goes down in the very turn, with
+    /// `Why::WrongDevice` and the identity that was found, and nothing was written to the device.
+    /// Requests wait on. A page that was checked already is not checked again.
+    ///
+    /// Rules PORT-10, LINK-11.
+    pub fn expect(&mut self, identity: Identity) -> Counting
+        ensures does { CoreDoes
+            self.old (call.Expect (Some identity)) (answered.Counts result) self.new }
+        ensures gives { ExpectGives self.old (Some identity) result self.new }
+    {
+        let counting = self.counting();
+        self.core.expect(Some(identity));
+        counting
+    }
+
+    /// Expects any device, as a port does that is new.
+    ///
+    /// Rules PORT-10, LINK-11.
+    pub fn expect_any(&mut self) -> Counting
+        ensures does { CoreDoes self.old (call.Expect None) (answered.Counts result) self.new }
+        ensures gives { ExpectGives self.old None result self.new }
+    {
+        let counting = self.counting();
+        self.core.expect(None);
+        counting
+    }
+
+    /// Has start-ups write this cycle time to MasterCycleTime, where it is at least the device's
+    /// MinCycleTime; else, and with none, they write MinCycleTime as it stands in the page.
+    ///
+    /// Rules PORT-10, LINK-12.
+    pub fn set_cycle(&mut self, cycle: Option<CycleTime>) -> Counting
+        ensures does { CoreDoes self.old (call.Cycle cycle) (answered.Counts result) self.new }
+        ensures gives { SetCycleGives self.old cycle result self.new }
+    {
+        let counting = self.counting();
+        self.core.set_cycle(cycle);
+        counting
+    }
+
+    /// The device's page, once the start-up of the present session has read it whole and checked
+    /// it; none before, and in down.
+    ///
+    /// Rule PORT-11.
+    pub fn page(&self) -> Option<Page>
+        ensures does { CoreDoes self.now call.Page (answered.Page result) self.now }
+        ensures value { result ≡ page_shown self.now }
+    {
+        self.core.page().copied()
+    }
+
+    /// From when on counts what start-ups are to ask.
+    ///
+    /// Rule PORT-10.
+    fn counting(&self) -> Counting
+        ensures { result ≡ counting (page_shown self.now) }
+    {
+        match self.page() {
+            Some(_) => Counting::Later,
+            None => Counting::Now,
+        }
+    }
+
     /// The device's input by the last good reply in OPERATE: one whole image, or
     /// none where it was not valid. None in every other mode.
     pub fn image(&self) -> Option<&Image>
@@ -422,5 +492,16 @@ impl<A: Allocator + Copy> PortCore<A> {
     {
         record_fits_journal();
         let _ = self.book.journal();
+    }
+
+    /// A law of each port, without code: in OPERATE, where alone a request is taken and an output
+    /// goes out, the page of the present session was read whole. It is that of the device that
+    /// was expected when it was checked, if one was.
+    ///
+    /// Rule LINK-11.
+    pub fn serves_right_device(&self)
+        ensures { IsForRightDevice self.now }
+    {
+        self.core.device_is_right();
     }
 }

@@ -1,29 +1,56 @@
--- over every simulated wire a port leaves the application with which the device was opened
-use Rattle.std.proofs.Common.{◌≡◌, List, [], ◌∷◌, ap, subst, ◌∙◌}
+-- over every simulated wire a port leaves the devices of the opening, each with its first application
+use Rattle.std.proofs.Common.{◌≡◌, ◌⊎◌, inl, inr, List, [], ◌∷◌, Option, Some, None, option_map, refl, ap, subst, ◌∙◌}
 use Rattle.iol_device.specs.App.{Gives, Follows}
+use Rattle.iol_device.specs.Device.{Running}
 use Rattle.iol_app.specs.declared.asked.Asked.{Asked}
 use Rattle.iol_app.specs.declared.asked.Asked.TheVariants.{Wake, Exchange}
 use Rattle.iol_app.specs.Asking.{IsCall}
 use Rattle.iol_port.specs.WireCalls.{AreCalls, ComesFrom}
 use Rattle.iol_sim.specs.declared.params.Entry.{Entry}
 use Rattle.iol_sim.specs.Params.{Stores, AnsweredBy}
-use Rattle.iol_sim.specs.Sim.{Simulated, sim_facts}
+use Rattle.iol_sim.specs.Script.{firsts_of, turned, AreThose}
+use Rattle.iol_sim.specs.Sim.{Simulated, devices_of, sim_facts}
+
+turned_twice : {P : Type 0} (x : P × Option P) → turned (turned x) ≡ x
+turned_twice (first, None) = refl
+turned_twice (first, Some other) = refl
+
+abbrev AreSame : {P : Type 0} → P × Option P → P × Option P → Type 0
+AreSame x y = (y ≡ x) ⊎ (y ≡ turned x)
+
+same_and : {P : Type 0} (x y z : P × Option P) → AreSame x y → AreSame y z → AreSame x z
+same_and x y z (inl p) (inl q) = inl (q ∙ p)
+same_and x y z (inl p) (inr q) = inr (q ∙ ap turned p)
+same_and x y z (inr p) (inl q) = inr (q ∙ p)
+same_and x y z (inr p) (inr q) = inl (q ∙ ap turned p ∙ turned_twice x)
+
+-- of one device it is the first of the two
+one_first : {P : Type 0} (x y : P × Option P) → AreSame x y → x.1 ≡ None → y.0 ≡ x.0
+one_first (first, None) y (inl e) one = ap (λ (z : _ × Option _). z.0) e
+one_first (first, None) y (inr e) one = ap (λ (z : _ × Option _). z.0) e
+one_first (first, Some other) y same one = absurd (cc)
 
 module _ {P : Type 0} (gives : Gives P) where
-  first_by : (asked : Asked) (old new : Simulated P) → IsCall (sim_facts gives) asked old new → new.device.first ≡ old.device.first
-  first_by Wake old new (answer, woken) = woken.first
-  first_by (Exchange octets) old new (answer, exchanged) = exchanged.first
+  those_by : (asked : Asked) (old new : Simulated P) → IsCall (sim_facts gives) asked old new → AreThose (devices_of old) (devices_of new)
+  those_by Wake old new (answer, woken) = woken.those
+  those_by (Exchange sent) old new (answer, exchanged) = exchanged.those
 
-  first_through : (calls : List Asked) (old new : Simulated P) → AreCalls (sim_facts gives) calls old new → new.device.first ≡ old.device.first
-  first_through [] old new same = ap (λ (s : Simulated P). s.device.first) same
-  first_through (asked ∷ calls) old new (mid, one, rest) = first_through calls mid new rest ∙ first_by asked old mid one
+  those_through : (calls : List Asked) (old new : Simulated P) → AreCalls (sim_facts gives) calls old new → AreThose (devices_of old) (devices_of new)
+  those_through [] old new same = inl (ap (λ (s : Simulated P). firsts_of (devices_of s)) same)
+  those_through (asked ∷ calls) old new (mid, one, rest) =
+      same_and (firsts_of (devices_of old)) (firsts_of (devices_of mid)) (firsts_of (devices_of new)) (those_by asked old mid one) (those_through calls mid new rest)
+
+  pub those_now : (old new : Simulated P) → ComesFrom (sim_facts gives) old new → AreThose (devices_of old) (devices_of new)
+  those_now old new (calls, through) = those_through calls old new through
 
   pub follows_first : (old new : Simulated P) → ComesFrom (sim_facts gives) old new → Follows gives new.device.first new.device.far.carried new.device.app
-      → Follows gives old.device.first new.device.far.carried new.device.app
-  follows_first old new (calls, through) follows =
-      subst (λ (first : P). Follows gives first new.device.far.carried new.device.app) (first_through calls old new through) follows
+      → old.away ≡ None → Follows gives old.device.first new.device.far.carried new.device.app
+  follows_first old new from follows one =
+      subst (λ (first : P). Follows gives first new.device.far.carried new.device.app)
+      (one_first (firsts_of (devices_of old)) (firsts_of (devices_of new)) (those_now old new from) (ap (option_map (λ (d : Running P). d.first)) one)) follows
 
 pub answered_first : (old new : Simulated (List Entry)) → ComesFrom (sim_facts Stores) old new → AnsweredBy new.device.first new.device.far.carried new.device.app
-    → AnsweredBy old.device.first new.device.far.carried new.device.app
-answered_first old new (calls, through) answered =
-    subst (λ (first : List Entry). AnsweredBy first new.device.far.carried new.device.app) (first_through Stores calls old new through) answered
+    → old.away ≡ None → AnsweredBy old.device.first new.device.far.carried new.device.app
+answered_first old new from answered one =
+    subst (λ (first : List Entry). AnsweredBy first new.device.far.carried new.device.app)
+    (one_first (firsts_of (devices_of old)) (firsts_of (devices_of new)) (those_now Stores old new from) (ap (option_map (λ (d : Running (List Entry)). d.first)) one)) answered

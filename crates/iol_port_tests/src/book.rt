@@ -38,11 +38,11 @@ impl Kind {
     }
 }
 
-/// Whether the journal has these submits of one kind and nothing else, from the first ticket on.
-fn has_submits(book: &Book<&RefusingAlloc<Global>>, kind: Kind, count: usize) -> bool {
+/// Whether a journal has these submits of one kind and nothing else, from the first ticket on.
+fn are_submits(journal: &[Entry], kind: Kind, count: usize) -> bool {
     let mut number = 0u64;
-    let mut is_right = book.journal().len() == count;
-    for entry in book.journal() {
+    let mut is_right = journal.len() == count;
+    for entry in journal {
         number = number.saturating_add(1);
         is_right &= *entry == kind.entry(Ticket(number));
     }
@@ -65,15 +65,15 @@ fn eight_go_through(
         let mut submitted = kind.submit(&mut book);
         if submitted == Err(BookFault::OutOfMemory) {
             is_refused = refusing.has_refused();
-            assert!(rt; has_submits(&book, kind, usize::from(before)));
+            assert!(rt; are_submits(book.journal(), kind, usize::from(before)));
             refusing.order(Refusal::Never);
             submitted = kind.submit(&mut book);
         }
-        assert_eq!(rt; submitted, Ok(Ticket(u64::from(before) + 1)));
+        assert!(rt; submitted == Ok(Ticket(u64::from(before) + 1)));
     }
     assert!(rt; is_refused);
-    assert!(rt; has_submits(&book, kind, 8));
-    assert_eq!(rt; book.take(), Some((Ticket(1), read(16))));
+    assert!(rt; are_submits(book.journal(), kind, 8));
+    assert!(rt; book.take() == Some((Ticket(1), read(16))));
     Ok(())
 }
 
@@ -86,7 +86,7 @@ fn each_request_for_memory_is_refused(rt: HostRuntime) -> Result<(), Fail> {
     for refusal in [Refusal::Only(0), Refusal::Only(1)] {
         refusing.order(refusal);
         let refused = Book::open(&refusing, &LIMITS).err();
-        assert_eq!(rt; refused, Some(BookFault::OutOfMemory));
+        assert!(rt; refused == Some(BookFault::OutOfMemory));
     }
     for number in 0..AT_SUBMITS {
         for refusal in [Refusal::Only(number), Refusal::From(number)] {

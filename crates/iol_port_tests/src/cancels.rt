@@ -1,26 +1,47 @@
 //! A request that is cancelled while there is no memory.
 use crate::device::device;
-use crate::limits::LIMITS;
-use crate::ports::{read, turn};
+use crate::ports::{opened, read, turn};
 use iol_book::{BookFault, Outcome, Ticket};
+use iol_cell::Handle;
 use iol_isdu::Cause;
+use iol_link::Wire;
 use iol_peers::ONE_OCTET;
-use iol_port::{Answered, Call, Port, PortFault};
-use iol_sim::{Params, Sim};
+use iol_port::{Answered, Call, PortFault};
 use refusing_alloc::{Refusal, RefusingAlloc};
-use std::alloc::Global;
+use std::process::Abort;
 use std::test::Fail;
 
 /// The last turn of start-up; the next one takes the request.
 const START_UP: u32 = 15;
 
-/// A port whose own memory runs out by an order.
-fn port_over(
-    alloc: Global,
+const WAITING: Ticket = Ticket(1);
+
+const URGENT: Ticket = Ticket(2);
+
+/// A request is cancelled where all memory is refused from its turn on.
+fn is_cancelled<W: Wire + Drop, A: Handle>(
+    rt: &impl Abort,
+    alloc: A,
     refusing: &RefusingAlloc,
-) -> Result<Port<Sim<Params>, &RefusingAlloc>, Fail> {
-    let wire = device(alloc, &ONE_OCTET, &[])?;
-    Port::open(refusing, wire, &LIMITS).map_err(|(fault, _)| Fail::from(fault))
+    wire: W,
+) -> Result<(), Fail> {
+    let mut port = opened(alloc, wire, 0)?;
+    assert!(rt; port.submit(read()) == Ok(WAITING));
+    assert!(rt; port.submit_urgent(read()) == Ok(URGENT));
+    turn(&mut port, START_UP);
+    refusing.order(Refusal::From(0));
+    turn(&mut port, 1);
+    let unknown = port.cancel(Ticket(3));
+    assert!(rt; unknown == Err(PortFault::Book(BookFault::UnknownTicket)));
+    let waits = port.cancel(WAITING);
+    assert!(rt; waits == Err(PortFault::Book(BookFault::NotInFlight)));
+    assert!(rt; port.cancel(URGENT) == Ok(()));
+    assert!(rt; port.call(&Call::Cancel(URGENT)) == Answered::Nothing);
+    turn(&mut port, 1);
+    let cut = Outcome::Unknown(Cause::Cancelled);
+    assert!(rt; port.collect(URGENT) == Ok(cut));
+    assert!(rt; !refusing.has_refused());
+    Ok(())
 }
 
 /// Nor does one that is refused, nor the turn that ends the request; a cancel again, by
@@ -29,25 +50,6 @@ fn port_over(
 #[test]
 fn a_cancel_takes_no_memory(rt: HostRuntime) -> Result<(), Fail> {
     let refusing = RefusingAlloc::new(rt.alloc());
-    let mut port = port_over(rt.alloc(), &refusing)?;
-    let waiting = port.submit(read())?;
-    let ticket = port.submit_urgent(read())?;
-    turn(&mut port, START_UP);
-    refusing.order(Refusal::From(0));
-    turn(&mut port, 1);
-    assert_eq!(rt;
-        port.cancel(Ticket(3)),
-        Err(PortFault::Book(BookFault::UnknownTicket))
-    );
-    assert_eq!(rt;
-        port.cancel(waiting),
-        Err(PortFault::Book(BookFault::NotInFlight))
-    );
-    assert_eq!(rt; port.cancel(ticket), Ok(()));
-    assert_eq!(rt; port.call(&Call::Cancel(ticket)), Answered::Nothing);
-    turn(&mut port, 1);
-    let cut = Outcome::Unknown(Cause::Cancelled);
-    assert_eq!(rt; port.collect(ticket), Ok(cut));
-    assert!(rt; !refusing.has_refused());
-    Ok(())
+    let wire = device(rt.alloc(), &ONE_OCTET, &[])?;
+    is_cancelled(&rt, &refusing, &refusing, wire)
 }

@@ -2,17 +2,20 @@
 use iol_device::{Device, Kept};
 use iol_isdu::Place;
 use iol_page::Page;
-use iol_sim::{Params, Sim, SimFault, Step};
+use iol_sim::{Params, Sim, Step};
 use std::alloc::{Allocator, Global};
 use std::test::Fail;
 
 /// How many requests a device records.
 pub const ROOM: u32 = 8;
 
+/// Where the parameter of each device here stands.
+pub const PLACE: Place = Place { index: 16, sub: 0 };
+
 /// A parameter 16/0 that is read only, which is `41 42`.
-pub fn params() -> Result<Params, SimFault> {
+pub fn params() -> Result<Params, Fail> {
     let mut params = Params::new();
-    params.add(Place { index: 16, sub: 0 }, false, &[0x41, 0x42])?;
+    params.add(PLACE, false, &[0x41, 0x42])?;
     Ok(params)
 }
 

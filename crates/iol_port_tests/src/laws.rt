@@ -1,7 +1,10 @@
 //! What holds of every port over a simulated wire, beside what its own contracts say.
+ghost use Rattle.std.specs.Prelude.{◌≡◌, None, IfSome};
 ghost use Rattle.iol_app.specs.StationState.{wire_of};
 ghost use Rattle.iol_device.specs.App.{Follows};
 ghost use Rattle.iol_sim.specs.Params.{AnsweredBy};
+ghost use Rattle.iol_sim.specs.Script.{AreThose};
+ghost use Rattle.iol_sim.specs.Sim.{devices_of};
 
 use iol_cell::Handle;
 use iol_device::App;
@@ -9,18 +12,34 @@ use iol_port::Port;
 use iol_sim::{Params, Sim};
 use std::alloc::Allocator;
 
-/// A law of each port over a simulated wire, without code of its own: whatever calls
-/// were made of it, the application at the far end is what the one that was there at
+/// A law of each port over a simulated wire of one device, without code of its own: whatever
+/// calls were made of it, the application at the far end is what the one that was there at
 /// the opening becomes by carrying out the requests of the device's record, in their
 /// order, each once and with the answer that stands beside it, and by nothing else.
 #[tactic(auto, using(crate::proofs::FirstApp::follows_first))]
 pub fn first_app_follows_record<P: App, B: Allocator + Copy, A: Handle>(port: &Port<Sim<P, B>, A>)
-    ensures { Follows P.carry_out_gives port.now.opening.wire.device.first
+    ensures { port.now.opening.wire.away ≡ None
+        → Follows P.carry_out_gives port.now.opening.wire.device.first
         (wire_of port.now.parts.station.link).device.far.carried
         (wire_of port.now.parts.station.link).device.app }
 {
     port.keeps_record();
     port.wire().app_follows_record();
+}
+
+/// The same of one device and of two: each device is one of the opening, with the application
+/// with which it was opened, and what its application is follows from its own record.
+pub fn each_app_follows_record<P: App, B: Allocator + Copy, A: Handle>(port: &Port<Sim<P, B>, A>)
+    ensures those { AreThose (devices_of port.now.opening.wire)
+        (devices_of (wire_of port.now.parts.station.link)) }
+    ensures device { let device = (wire_of port.now.parts.station.link).device in
+        Follows P.carry_out_gives device.first device.far.carried device.app }
+    ensures away { IfSome (wire_of port.now.parts.station.link).away (λ away.
+        Follows P.carry_out_gives away.first away.far.carried away.app) }
+{
+    port.keeps_record();
+    port.wire().app_follows_record();
+    port.wire().away_follows_record();
 }
 
 /// The same over parameters: each request of the record was answered by those of
@@ -29,7 +48,8 @@ pub fn first_app_follows_record<P: App, B: Allocator + Copy, A: Handle>(port: &P
 pub fn record_is_answered_by_the_first_params<B: Allocator + Copy, A: Handle>(
     port: &Port<Sim<Params, B>, A>,
 )
-    ensures { AnsweredBy port.now.opening.wire.device.first
+    ensures { port.now.opening.wire.away ≡ None
+        → AnsweredBy port.now.opening.wire.device.first
         (wire_of port.now.parts.station.link).device.far.carried
         (wire_of port.now.parts.station.link).device.app }
 {

@@ -5,6 +5,9 @@
 //! What a port answers to what goes in is in `tests/rows`. Beside the tests this crate has
 //! the laws of a port over a simulated wire that need both: whose application answered the
 //! record's requests.
+//!
+//! A test makes a wire, and hands it to functions that are generic over it: what is asked of a port
+//! over a known wire takes the prover longer.
 #![tactic(auto)]
 
 mod laws;

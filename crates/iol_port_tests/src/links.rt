@@ -90,7 +90,7 @@ fn turned_in_place<W: Wire>(wire: W, times: u8) -> AnyLink<W> {
 }
 
 /// The mode, the layouts that the page told, and how many exchanges went by the script.
-#[derive(Clone, Copy, Debug, PartialEq, Eq)]
+#[derive(Clone, Copy, PartialEq)]
 enum Seen {
     Down(Option<Why>),
     Startup(Option<Layouts>, usize),
@@ -138,11 +138,8 @@ fn both_kinds_of_links_start_up(rt: HostRuntime) {
         (18, Seen::Operate(layouts(), 17)),
         (19, Seen::Down(Some(Why::Lost))),
     ] {
-        assert_eq!(rt; state_of(&turned_times(scripted(), turns)), expected);
-        assert_eq!(rt;
-            state_in_place(&turned_in_place(scripted(), turns)),
-            expected
-        );
+        assert!(rt; state_of(&turned_times(scripted(), turns)) == expected);
+        assert!(rt; state_in_place(&turned_in_place(scripted(), turns)) == expected);
     }
 }
 
@@ -151,13 +148,13 @@ fn both_kinds_of_links_give_their_wire_back(rt: HostRuntime) -> Result<(), Fail>
     let Next::Operate(link, None) = turned_times(scripted(), 17) else {
         return Err("no message is out")?;
     };
-    assert_eq!(rt; link.out(), idle(&link.layout()).as_ref());
+    assert!(rt; link.out() == idle(&link.layout()).as_ref());
     let link = link.down();
-    assert_eq!(rt; link.why(), None);
-    assert_eq!(rt; link.into_wire().0.followed, 16);
+    assert!(rt; link.why().is_none());
+    assert!(rt; link.into_wire().0.followed == 16);
     let mut link = turned_in_place(scripted(), 17);
     link.leave();
-    assert_eq!(rt; state_in_place(&link), Seen::Down(None));
-    assert_eq!(rt; link.close().0.followed, 16);
+    assert!(rt; state_in_place(&link) == Seen::Down(None));
+    assert!(rt; link.close().0.followed == 16);
     Ok(())
 }

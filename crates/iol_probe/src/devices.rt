@@ -193,6 +193,10 @@ fn answer_call<P: App, R: Record>(
         print_image(output, "output", device.output())
     } else if is(name, b"page") {
         print_named(output, "page", device.page())
+    } else if is(name, b"mode") {
+        print_mode(output, device)
+    } else if is(name, b"cycle") {
+        print_named(output, "cycle", &[device.cycle_time()])
     } else {
         act(device, name, line);
         print_ok(output)
@@ -209,6 +213,8 @@ fn act<P: App, R: Record>(device: &mut Device<P, R>, name: &[u8], line: &mut Lin
         device.power_cycle();
     } else if is(name, b"clear") {
         device.clear_input();
+    } else if is(name, b"silence") {
+        device.silence();
     } else {
         line.refuse();
     }
@@ -237,6 +243,23 @@ fn print_reply(output: &mut String, reply: Option<Message>) -> Result<(), AllocE
         Some(octets) => print_named(output, "reply", octets.as_slice()),
         None => output.push_str("reply none\n"),
     }
+}
+
+/// The mode, and whether the master counts as silent.
+fn print_mode<P: App, R: Record>(
+    output: &mut String,
+    device: &Device<P, R>,
+) -> Result<(), AllocError> {
+    if device.is_awake() {
+        let mode = device.mode();
+        write!(output, "mode {mode:?}")?;
+    } else {
+        output.push_str("mode asleep")?;
+    }
+    if device.is_silent() {
+        output.push_str(" silent")?;
+    }
+    output.push_str("\n")
 }
 
 /// The request that is handed over, behind its number.

@@ -17,6 +17,7 @@
 //! buffer new|append OCTETS|zeros N|first N OO|close 0|1 valid|invalid
 //! part of OCTETS|zeros N|first N OO                  first OCTETS
 //! page OCTETS                octet AA (of the page)  capability OO   length OO   command OO
+//! identity    expected VENDOR DEVICE (of the page)     cycle OO   micros N
 //! total OCTETS               request OCTETS          answer read|write OCTETS
 //! encode REQUEST             encode answer read|write ANSWER
 //! cut request N REQUEST      cut answer N read|write ANSWER          cut next|again|source
@@ -28,12 +29,13 @@
 //! book reset|archive|journal
 //! device param INDEX SUB ro|rw WORD
 //! device open|apart ROOM OCTETS                      device bare OCTETS
-//! device hear OCTETS|raise QQ CCCC|input OCTETS|clear|wake|work|power
-//! device handed|answer N ANSWER (where apart)|output|record|page
+//! device hear OCTETS|raise QQ CCCC|input OCTETS|clear|wake|work|power|silence
+//! device handed|answer N ANSWER (where apart)|output|record|page|mode|cycle
 //! port open JOURNAL BUSY GIVEN
 //! port send|asks|awaits|receive OCTETS|silence|woken com1|com2|com3|none
 //! port submit|urgent REQUEST|collect T|withdraw T|cancel T|archive
 //! port restart|output OCTETS|clear|image|event|status
+//! port expect VENDOR DEVICE|any|pace OO|page|reply
 //! ```
 #![tactic(auto)]
 
@@ -42,6 +44,7 @@ mod buffers;
 mod devices;
 mod events;
 mod fault;
+mod identities;
 mod images;
 mod isdus;
 mod messages;

@@ -1,4 +1,5 @@
 //! The lines of direct parameter page 1, and of the octets on it.
+use crate::identities::answer_identities;
 use crate::messages::print_layout;
 use crate::printing::print_refused;
 use crate::reading::{Line, is};
@@ -25,7 +26,7 @@ pub(crate) fn answer_pages(
     } else if is(name, b"command") {
         print_command(output, line.octet())?;
     } else {
-        return Ok(false);
+        return answer_identities(output, page, name, line);
     }
     Ok(true)
 }

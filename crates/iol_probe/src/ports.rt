@@ -1,6 +1,7 @@
 //! The lines of a port without a wire.
 use crate::devices::print_image;
 use crate::events::print_event;
+use crate::identities::answer_asked;
 use crate::printing::{print_named, print_octets, print_ok, print_refused};
 use crate::reading::{Line, is};
 use crate::tickets::{
@@ -12,6 +13,7 @@ use iol_image::Image;
 use iol_link::Rate;
 use iol_mode::Why;
 use iol_mseq::Message;
+use iol_page::Identity;
 use iol_port::{Awaited, PortCore, PortFault};
 use std::alloc::{AllocError, Global};
 
@@ -60,6 +62,8 @@ fn answer_call(
         set_output(output, port, line.octets().as_slice())
     } else if is(name, b"archive") {
         print_archived(output, port.archive())
+    } else if answer_asked(output, port, name, line)? {
+        Ok(())
     } else {
         answer_bare(output, port, name, line)
     }
@@ -182,16 +186,18 @@ fn print_taken(output: &mut String, taken: Result<Event, PortFault>) -> Result<(
 fn print_asked(output: &mut String, name: &str, asked: Asked) -> Result<(), AllocError> {
     match asked {
         Asked::Wake => writeln!(output, "{name} wake"),
-        Asked::Exchange(octets) => print_named(output, name, octets.as_slice()),
+        Asked::Exchange(out) => print_named(output, name, out.octets.as_slice()),
     }
 }
 
-/// The number and the name of why a link is down; behind that of a RevisionID the octet.
+/// The number and the name of why a link is down; behind that of a RevisionID the octet, behind
+/// that of another device its identity.
 fn print_why(output: &mut String, why: Why) -> Result<(), AllocError> {
     let number = why.code();
     write!(output, " {number} {why}")?;
     match why {
         Why::Revision(octet) => print_octets(output, &[octet]),
+        Why::WrongDevice(Identity { vendor, device }) => write!(output, " {vendor} {device}"),
         Why::NoWake | Why::Lost | Why::PdLength | Why::Code => Ok(()),
     }
 }

@@ -7,8 +7,7 @@ use Rattle.iol_page.specs.Page.{layouts_of}
 use Rattle.iol_page.specs.declared.page.Layouts.{Layouts}
 use Rattle.iol_page.specs.declared.fault.PageFault.{PageFault}
 use Rattle.iol_script.specs.Numerals.{octets_of, within}
-use Rattle.iol_script.specs.RunLines.{is_page, page_form}
-use Rattle.iol_script.specs.declared.setting.Setting.TheVariants.{Page}
+use Rattle.iol_script.specs.RunLines.{is_page, page_octets}
 
 kept : (b : Bool) (octets items : List ℕ) → Some items ≡ cond b (Some octets) None → Some octets ≡ Some items
 kept true octets items e = sym e
@@ -54,15 +53,15 @@ a_page octets layouts size is = page_test (length octets) (is_ok (layouts_of oct
 no_page : (octets : List ℕ) (fault : PageFault) → Err fault ≡ layouts_of octets → is_page octets ≡ false
 no_page octets fault is = no_page_test (length octets == 10) (is_ok (layouts_of octets)) (sym (ap is_ok is))
 
--- the words of a page give its setting
+-- the words of a page give its octets
 pub page_read : (words : List (List ℕ)) (items octets : List ℕ) (layouts : Layouts) → Some items ≡ option_and_then (within 0 10) (octets_of words) → octets ≡ items → length items ≡ 10
-    → Ok layouts ≡ layouts_of octets → Some (Page octets) ≡ page_form words
+    → Ok layouts ≡ layouts_of octets → Some octets ≡ page_octets words
 page_read words items octets layouts given same size is =
     let good : is_page items ≡ true = a_page items layouts size (is ∙ ap layouts_of same) in
-    ap (λ (o : List ℕ). Some (Page o)) same ∙ sym (ap (option_and_then (λ (o : List ℕ). cond (is_page o) (Some (Page o)) None)) (within-is 10 items (octets_of words) given) ∙ ap (λ (b : Bool). cond b (Some (Page items)) None) good)
+    ap (λ (o : List ℕ). Some o) same ∙ sym (ap (option_and_then (λ (o : List ℕ). cond (is_page o) (Some o) None)) (within-is 10 items (octets_of words) given) ∙ ap (λ (b : Bool). cond b (Some items) None) good)
 
 pub no_page_read : (words : List (List ℕ)) (items octets : List ℕ) (fault : PageFault) → Some items ≡ option_and_then (within 0 10) (octets_of words) → octets ≡ items
-    → Err fault ≡ layouts_of octets → None ≡ page_form words
+    → Err fault ≡ layouts_of octets → None ≡ page_octets words
 no_page_read words items octets fault given same is =
     let bad : is_page items ≡ false = no_page items fault (is ∙ ap layouts_of same) in
-    sym (ap (option_and_then (λ (o : List ℕ). cond (is_page o) (Some (Page o)) None)) (within-is 10 items (octets_of words) given) ∙ ap (λ (b : Bool). cond b (Some (Page items)) None) bad)
+    sym (ap (option_and_then (λ (o : List ℕ). cond (is_page o) (Some o) None)) (within-is 10 items (octets_of words) given) ∙ ap (λ (b : Bool). cond b (Some items) None) bad)

@@ -1,4 +1,5 @@
 pub mod Cutting
+pub mod Cycles
 pub mod Decimals
 pub mod FieldsLemmas
 pub mod FitsLemmas

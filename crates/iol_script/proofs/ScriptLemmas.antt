@@ -5,7 +5,7 @@ use Rattle.std.specs.Result.{result_err}
 use Rattle.std.proofs.lemmas.List.Elements.{All-nil, All-cons}
 use Rattle.iol_sim.specs.Params.{number_of}
 use Rattle.iol_script.specs.RunLines.{run_form}
-use Rattle.iol_script.specs.Script.{Draft, with_setting, in_bounds, line_calls, calls_of, calls_in, script_after, draft_after, steps_of}
+use Rattle.iol_script.specs.Script.{Draft, with_setting, in_bounds, line_calls, calls_of, calls_in, script_after, draft_after, is_swap, steps_of}
 use Rattle.iol_script.specs.declared.setting.Setting.{Setting}
 use Rattle.iol_script.specs.declared.setting.Setting.TheVariants as setting
 use Rattle.iol_script.specs.declared.run_line.RunLine.{RunLine}
@@ -40,6 +40,7 @@ allowed false o y e = e
 
 setting-calls : (draft next : Draft) (s : Setting) → with_setting draft s ≡ Some next → draft.calls ≡ next.calls
 setting-calls draft next (setting.Page octets) e = ap (λ (d : Draft). d.calls) (given (is_none draft.page) (record draft { page = Some octets }) next e)
+setting-calls draft next (setting.Other octets) e = ap (λ (d : Draft). d.calls) (given (is_none draft.other) (record draft { other = Some octets }) next e)
 setting-calls draft next (setting.Limits busy journal) e =
     ap (λ (d : Draft). d.calls) (given (is_none draft.limits) (record draft { limits = Some (record { journal = journal; busy = busy; given = 0 }) }) next e)
 setting-calls draft next (setting.Param place writable value) e =
@@ -53,7 +54,9 @@ bounds-keep draft next e = given (nat_le (length draft.steps) 1000000 && nat_le 
 after-calls : (draft next : Draft) (form : RunLine) → script_after draft form ≡ Some next → next.calls ≡ draft.calls + length (calls_of form)
 after-calls draft next line.Skip e = let same : draft ≡ next = cc in omega (arith, ap (λ (d : Draft). d.calls) same)
 after-calls draft next (line.Setting s) e = omega (arith, setting-calls draft next s (allowed draft.begun (with_setting draft s) next e))
-after-calls draft next (line.Wire w) e = omega (arith, ap (λ (d : Draft). d.calls) (bounds-keep (record draft { steps = draft.steps ++ steps_of w; begun = true }) next e))
+after-calls draft next (line.Wire w) e =
+    let more : Draft = record draft { steps = draft.steps ++ steps_of w; begun = true } in
+    omega (arith, ap (λ (d : Draft). d.calls) (bounds-keep more next (allowed (is_swap w && is_none draft.other) (in_bounds more) next e)))
 after-calls draft next (line.Call c) e =
     omega (arith, ap (λ (d : Draft). d.calls) (bounds-keep (record draft { calls = draft.calls + length (line_calls c); begun = true }) next e))
 

@@ -11,6 +11,7 @@ module _ {A : Type 0} where
   abbrev pub draft_view : Inside A → Draft
   draft_view fields = record {
     page = fields.page;
+    other = fields.other;
     limits = fields.limits;
     params = fields.params;
     steps = fields.steps.items;
@@ -21,6 +22,7 @@ module _ {A : Type 0} where
   -- what holds of the fields of every draft
   pub record IsSound (fields : Inside A) : Type 0 where
     pub page : ForSome fields.page (λ octets. IsOk (layouts_of octets))
+    pub other : ForSome fields.other (λ octets. IsOk (layouts_of octets))
     pub limits : ForSome fields.limits AreLimits
     pub given : ForSome fields.limits (λ limits. limits.given ≡ 0)
     pub steps : length fields.steps.items ≤ 1000000

@@ -7,6 +7,7 @@ use Rattle.iol_script.specs.declared.setting.Setting.{Setting}
 use Rattle.iol_script.specs.declared.wire_line.WireLine.{WireLine}
 use Rattle.iol_script.specs.declared.call_line.CallLine.{CallLine}
 use Rattle.iol_script.specs.declared.call_line.CallLine.TheVariants.{Once}
+use Rattle.iol_script.specs.declared.run_line.RunLine.{RunLine}
 use Rattle.iol_script.specs.declared.run_line.RunLine.TheVariants as line
 
 -- the draft after the words of a line, where the line is good in its place
@@ -16,6 +17,9 @@ after_words draft words = option_and_then (script_after draft) (run_words words)
 -- the draft after a setting, a line of the wire, so many turns and one call, where there is one
 abbrev pub after_setting : Draft → Option Setting → Option Draft
 after_setting draft setting = option_and_then (script_after draft) (option_map line.Setting setting)
+
+abbrev pub after_page : Draft → Option RunLine → Option Draft
+after_page draft line = option_and_then (script_after draft) line
 
 abbrev pub after_wire : Draft → Option WireLine → Option Draft
 after_wire draft wire = option_and_then (script_after draft) (option_map line.Wire wire)

@@ -1,6 +1,7 @@
 pub mod Text
 pub mod Numerals
 pub mod CheckLines
+pub mod Cycles
 pub mod RunLines
 pub mod Script
 pub mod DraftLines

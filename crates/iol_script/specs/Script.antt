@@ -6,7 +6,7 @@ use Rattle.iol_book.specs.declared.entries.Limits.{Limits}
 use Rattle.iol_sim.specs.Params.{number_of}
 use Rattle.iol_sim.specs.declared.params.Entry.{Entry}
 use Rattle.iol_sim.specs.declared.script.Step.{Step}
-use Rattle.iol_sim.specs.declared.script.Step.TheVariants.{Fate}
+use Rattle.iol_sim.specs.declared.script.Step.TheVariants.{Fate, Swap}
 use Rattle.iol_script.specs.RunLines.{run_form}
 use Rattle.iol_port.specs.declared.call.Call.{Call}
 use Rattle.iol_port.specs.declared.call.Call.TheVariants.{Turn}
@@ -21,8 +21,9 @@ use Rattle.iol_script.specs.declared.run_line.RunLine.TheVariants as line
 
 -- a script, as far as its lines are read
 pub record Draft : Type 0 where
-  -- the page and the limits, where a line gave them
+  -- the page, that of a second device, and the limits, where a line gave them
   pub page : Option (List ℕ)
+  pub other : Option (List ℕ)
   pub limits : Option Limits
   pub params : List Entry
   pub steps : List Step
@@ -33,24 +34,38 @@ pub record Draft : Type 0 where
 
 -- no line is read
 abbrev pub empty_draft : Draft
-empty_draft =
-    record { page = None; limits = None; params = []; steps = []; calls = 0; begun = false }
+empty_draft = record {
+  page = None;
+  other = None;
+  limits = None;
+  params = [];
+  steps = [];
+  calls = 0;
+  begun = false;
+}
 
 -- the steps of a line of the wire
 abbrev pub steps_of : WireLine → List Step
 steps_of (Fates fate n) = replicate n (Fate fate)
 steps_of (One step) = step ∷ []
 
+-- whether a line of the wire exchanges the devices
+abbrev pub is_swap : WireLine → Bool
+is_swap (One Swap) = true
+is_swap other = false
+
 -- the calls of a line
 abbrev pub line_calls : CallLine → List Call
 line_calls (Once call) = call ∷ []
 line_calls (Turns n) = replicate n Turn
 
--- the draft after a setting: the page and the limits are given at most once, a
+-- the draft after a setting: the pages and the limits are given at most once, a
 -- parameter is one of 32 at places of their own
 abbrev pub with_setting : Draft → Setting → Option Draft
 with_setting draft (setting.Page octets) =
     if is_none draft.page then Some (record draft { page = Some octets }) else None
+with_setting draft (setting.Other octets) =
+    if is_none draft.other then Some (record draft { other = Some octets }) else None
 with_setting draft (setting.Limits busy journal) =
     if is_none draft.limits
     then Some
@@ -70,12 +85,14 @@ abbrev pub in_bounds : Draft → Option Draft
 in_bounds draft =
     if nat_le (length draft.steps) 1000000 && nat_le draft.calls 1000000 then Some draft else None
 
--- the draft after a line, where the line is good in its place
+-- the draft after a line, where the line is good in its place: devices are exchanged
+-- only where there is a second one
 abbrev pub script_after : Draft → RunLine → Option Draft
 script_after draft line.Skip = Some draft
 script_after draft (line.Setting setting) = if draft.begun then None else with_setting draft setting
 script_after draft (line.Wire wire) =
-    in_bounds (record draft { steps = draft.steps ++ steps_of wire; begun = true })
+    if is_swap wire && is_none draft.other then None
+    else in_bounds (record draft { steps = draft.steps ++ steps_of wire; begun = true })
 script_after draft (line.Call call) =
     in_bounds (record draft { calls = draft.calls + length (line_calls call); begun = true })
 
@@ -95,8 +112,10 @@ first_bad_run lines = result_err (draft_of lines)
 
 -- what a script sets up
 pub record ScriptValue : Type 0 where
-  -- direct parameter page 1 of the device, and its parameters
+  -- direct parameter page 1 of the device, that of a second one, and the parameters
+  -- that each of them has
   pub page : List ℕ
+  pub other : Option (List ℕ)
   pub params : List Entry
   -- what the port is opened with
   pub limits : Limits
@@ -113,6 +132,7 @@ default_limits = record { journal = 1000; busy = 100; given = 0 }
 abbrev pub script_of : Draft → ScriptValue
 script_of draft = record {
   page = unwrap_or draft.page default_page;
+  other = draft.other;
   params = draft.params;
   limits = unwrap_or draft.limits default_limits;
   steps = draft.steps;

@@ -6,6 +6,7 @@ ghost use Rattle.std.specs.Prelude.{◌≡◌, is_some};
 ghost use Rattle.iol_script.specs.RunLines.{alone, bare_call, call_form, image_form, read_form, request_form, ticket_form, urgent_form, write_form};
 ghost use Rattle.iol_script.specs.Text.{words_left};
 
+use crate::choices::{cycle_of, expect_of};
 use crate::fields::{end_of, fits_image, fits_value, is, place_of};
 use crate::numerals::decimal_number;
 use crate::parts::Words;
@@ -26,6 +27,10 @@ pub(crate) fn fits_call(name: &[u8], words: Words) -> bool
         fits_ticket(words)
     } else if is(name, b"output") {
         fits_image(words)
+    } else if is(name, b"expect") {
+        expect_of(words).is_some()
+    } else if is(name, b"cycle") {
+        cycle_of(words).is_some()
     } else {
         end_of(words).is_some() && is_bare(name)
     }

@@ -1,17 +1,18 @@
 //! A script, as far as its lines are read.
 ghost use Rattle.std.specs.Prelude.{◌≡◌, ◌++◌, ◌+◌, ◌≤◌, ℕ, Some, None, Ok, Err, OnOk, OnErr, IsOk, option_map, replicate};
+ghost use Rattle.std.specs.Option.{ForSome};
 ghost use Rattle.std.specs.Vec.{vec_len};
 ghost use Rattle.iol_book.specs.BookModel.{AreLimits};
 ghost use Rattle.iol_page.specs.Page.{layouts_of};
 ghost use Rattle.iol_script.specs.declared.fault.ScriptFault.TheVariants.{Line};
-ghost use Rattle.iol_script.specs.DraftLines.{after_call, after_setting, after_turns, after_wire, after_words, with_calls};
-ghost use Rattle.iol_script.specs.RunLines.{call_form, limits_form, page_form, param_form, turns_form, wire_form};
+ghost use Rattle.iol_script.specs.DraftLines.{after_call, after_page, after_setting, after_turns, after_wire, after_words, with_calls};
+ghost use Rattle.iol_script.specs.RunLines.{call_form, limits_form, other_form, page_form, page_line, param_form, turns_form, wire_form};
 ghost use Rattle.iol_script.specs.Text.{words_left};
 
 use crate::call_check::fits_call;
 use crate::call_line::turns_of;
 use crate::fault::ScriptFault;
-use crate::fields::is;
+use crate::fields::{end_of, is};
 use crate::parts::Words;
 use crate::script::Script;
 use crate::setting::{limits_of, page_of, param_of};
@@ -42,6 +43,8 @@ const LIMITS: Limits = Limits {
 #[derive(Drop)]
 pub(crate) struct Draft<A: Allocator> {
     page: Option<Page>,
+    /// The page of a second device.
+    other: Option<Page>,
     limits: Option<Limits>,
     params: Params,
     steps: Vec<Step, A>,
@@ -72,6 +75,7 @@ impl<A: Allocator> Draft<A> {
     {
         Draft {
             page: None,
+            other: None,
             limits: None,
             params: Params::new(),
             steps: Vec::new(alloc),
@@ -102,7 +106,9 @@ impl<A: Allocator> Draft<A> {
             return Ok(());
         };
         if is(name, b"page") {
-            self.take_page(words).ok_or(bad)
+            self.take_page_line(words).ok_or(bad)
+        } else if is(name, b"other") {
+            self.take_other(words).ok_or(bad)
         } else if is(name, b"limits") {
             self.take_limits(words).ok_or(bad)
         } else if is(name, b"param") {
@@ -116,7 +122,19 @@ impl<A: Allocator> Draft<A> {
         }
     }
 
-    /// The words behind `page`.
+    /// The words behind `page`: with none it is the call.
+    fn take_page_line(&mut self, words: Words) -> Option<()>
+        ensures { option_map (λ _. self.new) result
+            ≡ after_page self.old (page_line (words_left words.entry)) }
+    {
+        if end_of(words).is_some() {
+            self.add_calls(1)
+        } else {
+            self.take_page(words)
+        }
+    }
+
+    /// The words behind `page`, where there are some.
     fn take_page(&mut self, words: Words) -> Option<()>
         ensures { option_map (λ _. self.new) result
             ≡ after_setting self.old (page_form (words_left words.entry)) }
@@ -126,6 +144,19 @@ impl<A: Allocator> Draft<A> {
             return None;
         }
         self.page = Some(page);
+        Some(())
+    }
+
+    /// The words behind `other`.
+    fn take_other(&mut self, words: Words) -> Option<()>
+        ensures { option_map (λ _. self.new) result
+            ≡ after_setting self.old (other_form (words_left words.entry)) }
+    {
+        let page = page_of(words)?;
+        if self.begun || self.other.is_some() {
+            return None;
+        }
+        self.other = Some(page);
         Some(())
     }
 
@@ -189,12 +220,15 @@ impl<A: Allocator> Draft<A> {
         self.add_calls(1)
     }
 
-    /// Steps are taken up to 1,000,000. The memory for all of them is taken before the first.
+    /// Steps are taken up to 1,000,000, and a swap only with a second device. The memory for all of them is taken before the first.
     fn add_steps(&mut self, number: u64, line: WireLine) -> Result<(), ScriptFault>
         ensures good { OnOk result (script_after self.old (RunLine.Wire line) ≡ Some self.new) }
         ensures bad { (n : ℕ) → result ≡ Err (Line n) → (n ≡ number)
             × (script_after self.old (RunLine.Wire line) ≡ None) }
     {
+        if line.is_swap() && self.other.is_none() {
+            return Err(ScriptFault::Line(number));
+        }
         if self.steps.len() + line.count() as usize > STEPS {
             return Err(ScriptFault::Line(number));
         }
@@ -224,12 +258,14 @@ impl<A: Allocator> Draft<A> {
         ensures value { script_of self
             ≡ record {
               page = result.page;
+              other = result.other;
               params = result.params;
               limits = result.limits;
               steps =
                   result.steps.items;
             } }
         ensures page { IsOk (layouts_of result.page) }
+        ensures other { ForSome result.other (λ page. IsOk (layouts_of page)) }
         ensures limits { AreLimits result.limits }
         ensures given { result.limits.given ≡ 0 }
         ensures steps { vec_len result.steps ≤ 1000000 }
@@ -237,6 +273,7 @@ impl<A: Allocator> Draft<A> {
     {
         Script {
             page: self.page.unwrap_or(Page::from_octets(&PAGE)),
+            other: self.other,
             params: self.params,
             limits: self.limits.unwrap_or(LIMITS),
             steps: self.steps,

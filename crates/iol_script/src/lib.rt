@@ -13,6 +13,7 @@
 mod call_check;
 mod call_line;
 mod check_line;
+mod choices;
 mod draft;
 mod fault;
 mod fields;

@@ -1,13 +1,14 @@
 //! What a line of `run` says.
 ghost use Rattle.std.specs.Prelude.{◌≡◌, IfSome};
-ghost use Rattle.iol_script.specs.RunLines.{run_words, IsGoodLine};
+ghost use Rattle.iol_script.specs.RunLines.{page_line, run_words, IsGoodLine};
 ghost use Rattle.iol_script.specs.Text.{words_left};
 
 use crate::call_line::{CallLine, parse_call, turns_of};
-use crate::fields::is;
+use crate::fields::{end_of, is};
 use crate::parts::Words;
 use crate::setting::{Setting, limits_of, page_of, param_of};
 use crate::wire_line::{WireLine, parse_wire};
+use iol_port::Call;
 
 /// A line of `run`.
 #[derive(Clone, Debug, PartialEq, Eq, Drop)]
@@ -42,7 +43,9 @@ fn parse_words(mut words: Words) -> Option<RunLine>
         return Some(RunLine::Skip);
     };
     if is(name, b"page") {
-        Some(RunLine::Setting(Setting::Page(page_of(words)?)))
+        parse_page(words)
+    } else if is(name, b"other") {
+        Some(RunLine::Setting(Setting::Other(page_of(words)?)))
     } else if is(name, b"limits") {
         let (busy, journal) = limits_of(words)?;
         Some(RunLine::Setting(Setting::Limits { busy, journal }))
@@ -59,5 +62,17 @@ fn parse_words(mut words: Words) -> Option<RunLine>
         Some(RunLine::Call(CallLine::Turns(turns_of(words)?)))
     } else {
         Some(RunLine::Call(CallLine::Once(parse_call(name, words)?)))
+    }
+}
+
+/// The words behind `page`: with none it is the call.
+fn parse_page(words: Words) -> Option<RunLine>
+    ensures form { result ≡ page_line (words_left words.entry) }
+    ensures range { IfSome result IsGoodLine }
+{
+    if end_of(words).is_some() {
+        Some(RunLine::Call(CallLine::Once(Call::Page)))
+    } else {
+        Some(RunLine::Setting(Setting::Page(page_of(words)?)))
     }
 }

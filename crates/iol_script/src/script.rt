@@ -1,5 +1,6 @@
 //! The script of `run`.
 ghost use Rattle.std.specs.Prelude.{◌≡◌, ◌≤◌, ℕ, Some, None, Err, IfOk, OnOk, IsOk, IsSome, All, length};
+ghost use Rattle.std.specs.Option.{ForSome};
 ghost use Rattle.std.specs.Vec.{vec_len};
 ghost use Rattle.iol_book.specs.BookModel.{AreLimits};
 ghost use Rattle.iol_page.specs.Page.{layouts_of};
@@ -24,7 +25,9 @@ use std::alloc::{Allocator, Global};
 pub struct Script<A: Allocator = Global> {
     /// Direct parameter page 1 of the device.
     pub page: Page,
-    /// The device's parameters.
+    /// That of a second device, where there is one.
+    pub other: Option<Page>,
+    /// The parameters that each device has.
     pub params: Params,
     /// What the port is opened with.
     pub limits: Limits,
@@ -36,7 +39,8 @@ impl<A: Allocator> Script<A> {
     /// Reads the lines of a whole input, from first to last.
     ///
     /// The settings stand before the first line of the wire and the first call, the
-    /// page and the limits at most once. There are at most 1,000,000 steps and
+    /// pages and the limits at most once. Devices are exchanged only where there is a
+    /// second one. There are at most 1,000,000 steps and
     /// 1,000,000 calls. Answered is the first fault that is met: the first bad
     /// line, or a growth that is refused. A bad line is found without memory.
     pub fn read(alloc: A, input: &[u8]) -> Result<Script<A>, ScriptFault>
@@ -45,6 +49,7 @@ impl<A: Allocator> Script<A> {
         ensures script { IfOk result (λ s. script_in (numbered_lines input.now)
             ≡ Some (record {
               page = s.page;
+              other = s.other;
               params = s.params;
               limits = s.limits;
               steps =
@@ -55,6 +60,7 @@ impl<A: Allocator> Script<A> {
 
         // What holds of it.
         ensures page { IfOk result (λ s. IsOk (layouts_of s.page)) }
+        ensures other { IfOk result (λ s. ForSome s.other (λ page. IsOk (layouts_of page))) }
         ensures limits { IfOk result (λ s. AreLimits s.limits) }
         ensures given { IfOk result (λ s. s.limits.given ≡ 0) }
         ensures steps { IfOk result (λ s. vec_len s.steps ≤ 1000000) }

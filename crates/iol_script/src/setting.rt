@@ -2,7 +2,7 @@
 ghost use Rattle.std.specs.Prelude.{◌≡◌, IfSome, IsOk, option_map};
 ghost use Rattle.iol_book.specs.BookModel.{AreLimits};
 ghost use Rattle.iol_page.specs.Page.{layouts_of};
-ghost use Rattle.iol_script.specs.RunLines.{access_of, limits_form, page_form, param_form};
+ghost use Rattle.iol_script.specs.RunLines.{access_of, limits_form, page_octets, param_form};
 ghost use Rattle.iol_script.specs.declared.setting.Setting.{Setting};
 ghost use Rattle.iol_script.specs.Text.{words_left};
 
@@ -18,6 +18,8 @@ use iol_page::Page;
 pub enum Setting {
     /// The device's direct parameter page 1, whose layouts are not refused.
     Page(Page),
+    /// The page of a second device, whose layouts are not refused.
+    Other(Page),
     /// What the port is opened with.
     Limits {
         /// How many busy replies a request may have before it is cut off: 2 to 65,535.
@@ -36,9 +38,9 @@ pub enum Setting {
     },
 }
 
-/// The words behind `page`: ten octets whose layouts are not refused.
+/// The words behind `page` and `other`: ten octets whose layouts are not refused.
 pub(crate) fn page_of(words: Words) -> Option<Page>
-    ensures form { option_map Setting.Page result ≡ page_form (words_left words.entry) }
+    ensures form { result ≡ page_octets (words_left words.entry) }
     ensures range { IfSome result (λ page. IsOk (layouts_of page)) }
 {
     let octets: ArrayVec<u8, 10> = parted_octets(words)?;

@@ -21,7 +21,7 @@ pub enum WireLine {
 
 impl WireLine {
     ghost use Rattle.std.specs.Prelude.{length};
-    ghost use Rattle.iol_script.specs.Script.{steps_of};
+    ghost use Rattle.iol_script.specs.Script.{is_swap, steps_of};
 
     /// How many steps it makes.
     pub(crate) fn count(&self) -> u32
@@ -30,6 +30,16 @@ impl WireLine {
         match self {
             WireLine::Fates(_, count) => *count,
             WireLine::One(_) => 1,
+        }
+    }
+
+    /// Whether it exchanges the devices.
+    pub(crate) fn is_swap(&self) -> bool
+        ensures { result ≡ is_swap self.now }
+    {
+        match self {
+            WireLine::One(Step::Swap) => true,
+            WireLine::One(_) | WireLine::Fates(_, _) => false,
         }
     }
 }
@@ -45,6 +55,10 @@ pub(crate) fn parse_wire(mut words: Words) -> Option<WireLine>
         alone(WireLine::One(Step::Work), words)
     } else if is(name, b"power") {
         alone(WireLine::One(Step::Power), words)
+    } else if is(name, b"quiet") {
+        alone(WireLine::One(Step::Quiet), words)
+    } else if is(name, b"swap") {
+        alone(WireLine::One(Step::Swap), words)
     } else if is(name, b"auto") {
         Some(WireLine::One(parse_auto(words)?))
     } else if is(name, b"raise") {

@@ -4,10 +4,17 @@ use Rattle.std.proofs.Crossing.{crosses}
 use Rattle.std.specs.contracts.alloc.Global as Heap
 use Rattle.std.specs.contracts.impls.GlobalAllocator.TheImpl.{ghosts}
 use Rattle.std.specs.declared.clone.Clone.{Ghosts as Copies}
+use Rattle.iol_device.specs.contracts.device.Device as Device
+use Rattle.iol_device.specs.contracts.record.Kept as Kept
+use Rattle.iol_device.specs.declared.record.Record.{Ghosts as Records}
 use Rattle.iol_sim.specs.contracts.sim.Sim as Sim
 use Rattle.iol_sim.specs.contracts.params.Params as Params
 use Rattle.iol_sim.specs.contracts.params.ParamsApp.TheImpl as params
 
+-- the device itself, however its record is one
+device_send : (records : Records (Kept.the_row Heap.the_row ghosts).Denot) → IsSend (Device.the_row Params.the_row (Kept.the_row Heap.the_row ghosts) params.ghosts records)
+device_send records = search (crosses, sendable) depth 60 fits 20000
+
 -- however the heap's handle is copied
 pub sim_send : (copies : Copies (Heap.the_row).Denot) → IsSend (Sim.the_row Params.the_row Heap.the_row params.ghosts ghosts copies)
-sim_send copies = search (crosses, sendable) depth 60 fits 20000
+sim_send copies = search (device_send, crosses, sendable) depth 60 fits 20000

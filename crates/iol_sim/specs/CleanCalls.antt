@@ -13,7 +13,7 @@ use Rattle.iol_device.specs.App.{Gives, IsCarriedOut}
 use Rattle.iol_link.specs.Honest.{CleanExchange}
 use Rattle.iol_link.specs.declared.wire.Rate.{Rate}
 use Rattle.iol_sim.specs.declared.script.Step.{Step}
-use Rattle.iol_sim.specs.Script.{IsWorked}
+use Rattle.iol_sim.specs.Script.{Devices, IsWorked}
 use Rattle.iol_sim.specs.Sim.{Simulated, is_clean, IsWake, IsExchange}
 
 never : {A : Type 0} → false ≡ true → A
@@ -37,11 +37,13 @@ module _ {P : Type 0} (gives : Gives P) where
       by_room true h = (h.0, h.2, h.3)
       by_room false h = h.0
 
-  exchange_by : (device : Running P) (steps : List Step) (auto silent : Bool) (silence : ℕ)
-      (sent : List ℕ) (answer : Option (ArrayVec ℕ)) (new : Simulated P)
+  exchange_by : (device : Running P) (away : Option (Running P)) (steps : List Step)
+      (auto silent : Bool) (silence : ℕ) (sent : List ℕ) (answer : Option (ArrayVec ℕ))
+      (new : Simulated P)
       → is_clean
       (record {
         device = device;
+        away = away;
         steps = steps;
         auto = auto;
         silent = silent;
@@ -50,32 +52,36 @@ module _ {P : Type 0} (gives : Gives P) where
       → IsExchange gives
       (record {
         device = device;
+        away = away;
         steps = steps;
         auto = auto;
         silent = silent;
         silence = silence;
       }) sent answer new
       → CleanExchange device.far sent (octets_in answer) new.device.far × IsTrue (is_clean new)
-  exchange_by device [] true false silence sent answer new clean x =
-      let worked : IsWorked gives device x.ready =
-      subst (λ (d : Running P). IsWorked gives d x.ready) x.ready_is.steps x.ready_is.work in (
+  exchange_by device away [] true false silence sent answer new clean x =
+      let worked : IsWorked gives (record { device = device; away = away }) x.ready =
+      subst (λ (d : Devices P). IsWorked gives d x.ready) x.ready_is.steps x.ready_is.work in (
         record {
-          ready = x.ready.far;
-          work = worked_off _ device.far x.ready.far device.app x.ready.app worked.carried;
+          ready = x.ready.device.far;
+          work =
+              worked_off _ device.far x.ready.device.far device.app x.ready.device.app
+              worked.carried;
           far_is = ap (λ (s : Simulated P). s.device.far) x.new_is;
           answer_is = x.answer_is;
         },
         ap (λ (s : Simulated P). is_clean s) x.new_is,
       )
-  exchange_by device [] true true silence sent answer new clean x = never clean
-  exchange_by device [] false silent silence sent answer new clean x = never clean
-  exchange_by device (step ∷ steps) auto silent silence sent answer new clean x = never clean
+  exchange_by device away [] true true silence sent answer new clean x = never clean
+  exchange_by device away [] false silent silence sent answer new clean x = never clean
+  exchange_by device away (step ∷ steps) auto silent silence sent answer new clean x = never clean
 
-  wake_by : (device : Running P) (steps : List Step) (auto silent : Bool) (silence : ℕ)
-      (answer : Option Rate) (new : Simulated P)
+  wake_by : (device : Running P) (away : Option (Running P)) (steps : List Step)
+      (auto silent : Bool) (silence : ℕ) (answer : Option Rate) (new : Simulated P)
       → is_clean
       (record {
         device = device;
+        away = away;
         steps = steps;
         auto = auto;
         silent = silent;
@@ -84,24 +90,26 @@ module _ {P : Type 0} (gives : Gives P) where
       → IsWake gives
       (record {
         device = device;
+        away = away;
         steps = steps;
         auto = auto;
         silent = silent;
         silence = silence;
       }) answer new → IsTrue (is_clean new)
-  wake_by device [] true false silence answer new clean x =
+  wake_by device away [] true false silence answer new clean x =
       ap (λ (s : Simulated P). is_clean s) x.new_is
-  wake_by device [] true true silence answer new clean x = never clean
-  wake_by device [] false silent silence answer new clean x = never clean
-  wake_by device (step ∷ steps) auto silent silence answer new clean x = never clean
+  wake_by device away [] true true silence answer new clean x = never clean
+  wake_by device away [] false silent silence answer new clean x = never clean
+  wake_by device away (step ∷ steps) auto silent silence answer new clean x = never clean
 
   pub exchanges_cleanly : (old : Simulated P) (sent : List ℕ) (answer : Option (ArrayVec ℕ))
       (new : Simulated P) → IsTrue (is_clean old) → IsExchange gives old sent answer new
       → CleanExchange old.device.far sent (octets_in answer) new.device.far × IsTrue (is_clean new)
   exchanges_cleanly old sent answer new clean x =
-      exchange_by old.device old.steps old.auto old.silent old.silence sent answer new clean x
+      exchange_by old.device old.away old.steps old.auto old.silent old.silence sent answer new
+      clean x
 
   pub wakes_cleanly : (old : Simulated P) (answer : Option Rate) (new : Simulated P)
       → IsTrue (is_clean old) → IsWake gives old answer new → IsTrue (is_clean new)
   wakes_cleanly old answer new clean x =
-      wake_by old.device old.steps old.auto old.silent old.silence answer new clean x
+      wake_by old.device old.away old.steps old.auto old.silent old.silence answer new clean x

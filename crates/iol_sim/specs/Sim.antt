@@ -1,11 +1,11 @@
 -- The simulated wire.
-use Rattle.std.specs.Prelude.{◌≡◌, ℕ, ◌-◌, Bool, true, false, not, ◌&&◌, nat_le, if◌then◌else◌, List, [], ◌∷◌, length, MatchBool, Option, Some, None, option_map}
+use Rattle.std.specs.Prelude.{◌≡◌, ℕ, ◌-◌, Bool, true, false, not, ◌&&◌, nat_le, if◌then◌else◌, List, [], ◌∷◌, length, MatchBool, Option, Some, None, option_map, is_some}
 use Rattle.arrayvec.specs.ArrayVec.{ArrayVec}
 use Rattle.iol_octets.specs.Checksum.{with_flip}
 use Rattle.iol_device.specs.Device.{Running}
-use Rattle.iol_device.specs.Number.{with_far}
+use Rattle.iol_device.specs.Hearing.{heard}
 use Rattle.iol_far.specs.Octets.{octets_in}
-use Rattle.iol_far.specs.Far.{Far, Heard, hear}
+use Rattle.iol_far.specs.Far.{Far, hear}
 use Rattle.iol_far.specs.Local.{woken}
 use Rattle.iol_device.specs.App.{Gives}
 use Rattle.iol_link.specs.Honest.{silence_after}
@@ -15,10 +15,13 @@ use Rattle.iol_link.specs.declared.wire.Rate.TheVariants.{Com2}
 use Rattle.iol_sim.specs.declared.script.Fate.{Fate}
 use Rattle.iol_sim.specs.declared.script.Fate.TheVariants.{Clean, BackLost, OutDamaged, BackDamaged, Silent}
 use Rattle.iol_sim.specs.declared.script.Step.{Step}
-use Rattle.iol_sim.specs.Script.{fate_of, rest_of, auto_of, IsWorked, AreDone}
+use Rattle.iol_sim.specs.Script.{fate_of, rest_of, auto_of, Devices, IsWorked, AreDone, AreThose}
 
 pub record Simulated (P : Type 0) : Type 0 where
+  -- the device at the far end
   pub device : Running P
+  -- the device that isn't plugged in, where there is a second one
+  pub away : Option (Running P)
   -- the steps that were not used yet
   pub steps : List Step
   -- whether the application works before each call
@@ -27,6 +30,13 @@ pub record Simulated (P : Type 0) : Type 0 where
   pub silent : Bool
   -- how many exchanges in a row, up to now, brought no unaltered reply, counted up to 3
   pub silence : ℕ
+
+abbrev pub devices_of : {P : Type 0} → Simulated P → Devices P
+devices_of sim = record { device = sim.device; away = sim.away }
+
+-- whether it is a line to one device: with two, another one may stand at the far end later
+abbrev pub has_one_device : {P : Type 0} → Simulated P → Bool
+has_one_device sim = not (is_some sim.away)
 
 -- A clean wire: its script has ended, the application works before each call, and it isn't silent
 
@@ -46,25 +56,26 @@ abbrev pub is_silent : Fate → Bool
 is_silent Silent = true
 is_silent fate = false
 
--- the wire, with this device, once the steps before a call are used
-abbrev pub prepared : {P : Type 0} → Simulated P → Running P → Simulated P
-prepared sim device = record {
-  device = device;
+-- the wire, with these devices, once the steps before a call are used
+abbrev pub prepared : {P : Type 0} → Simulated P → Devices P → Simulated P
+prepared sim devices = record {
+  device = devices.device;
+  away = devices.away;
   steps = if sim.silent then sim.steps else rest_of sim.steps;
   auto = if sim.silent then sim.auto else auto_of sim.auto sim.steps;
   silent = is_silent (fate_now sim);
   silence = sim.silence;
 }
 
--- the device as the call finds it: the steps are done, unless the wire is silent,
+-- the devices as the call finds them: the steps are done, unless the wire is silent,
 -- and then the work where it is automatic
 pub record IsReady {P : Type 0} (gives : Gives P) (sim : Simulated P)
-    (device : Running P) : Type 0 where
-  pub stepped : Running P
-  pub steps : MatchBool sim.silent (stepped ≡ sim.device)
-      (AreDone gives sim.steps sim.device stepped)
+    (ready : Devices P) : Type 0 where
+  pub stepped : Devices P
+  pub steps : MatchBool sim.silent (stepped ≡ devices_of sim)
+      (AreDone gives sim.steps (devices_of sim) stepped)
   pub work : MatchBool (if sim.silent then sim.auto else auto_of sim.auto sim.steps)
-      (IsWorked gives stepped device) (device ≡ stepped)
+      (IsWorked gives stepped ready) (ready ≡ stepped)
 
 -- A wake
 
@@ -80,11 +91,12 @@ rate_by fate = None
 
 pub record IsWake {P : Type 0} (gives : Gives P) (old : Simulated P) (answer : Option Rate)
     (new : Simulated P) : Type 0 where
-  pub ready : Running P
+  pub ready : Devices P
   pub ready_is : IsReady gives old ready
-  pub new_is : new ≡ prepared old (woken_by (fate_now old) ready)
+  pub new_is : new
+      ≡ prepared old (record ready { device = woken_by (fate_now old) ready.device })
   pub answer_is : answer ≡ rate_by (fate_now old)
-  pub first : new.device.first ≡ old.device.first
+  pub those : AreThose (devices_of old) (devices_of new)
 
 -- An exchange
 
@@ -92,16 +104,23 @@ pub record IsWake {P : Type 0} (gives : Gives P) (old : Simulated P) (answer : O
 abbrev pub damaged : List ℕ → List ℕ
 damaged octets = with_flip octets (length octets - 1) 0
 
--- the far end after an exchange, and what comes back; more than 66 octets, which no
--- layout has, are lost where they would be damaged
-abbrev pub exchanged : Fate → Far → List ℕ → Heard
-exchanged Clean far sent = hear far sent
-exchanged BackLost far sent = record { far = (hear far sent).far; reply = None }
-exchanged BackDamaged far sent =
-    record { far = (hear far sent).far; reply = option_map damaged (hear far sent).reply }
-exchanged OutDamaged far sent =
-    if nat_le (length sent) 66 then hear far (damaged sent) else record { far = far; reply = None }
-exchanged fate far sent = record { far = far; reply = None }
+-- the device after an exchange; more than 66 octets, which no layout has, are lost
+-- where they would be damaged
+abbrev pub heard_by : {P : Type 0} → Fate → Running P → List ℕ → Running P
+heard_by Clean device sent = heard device sent
+heard_by BackLost device sent = heard device sent
+heard_by BackDamaged device sent = heard device sent
+heard_by OutDamaged device sent =
+    if nat_le (length sent) 66 then heard device (damaged sent) else device
+heard_by fate device sent = device
+
+-- what comes back
+abbrev pub reply_by : Fate → Far → List ℕ → Option (List ℕ)
+reply_by Clean far sent = (hear far sent).reply
+reply_by BackDamaged far sent = option_map damaged (hear far sent).reply
+reply_by OutDamaged far sent =
+    if nat_le (length sent) 66 then (hear far (damaged sent)).reply else None
+reply_by fate far sent = None
 
 -- only a clean exchange brings an unaltered reply
 abbrev pub silence_by : Fate → ℕ → Option (List ℕ) → ℕ
@@ -110,21 +129,22 @@ silence_by fate silence reply = silence_after silence None
 
 pub record IsExchange {P : Type 0} (gives : Gives P) (old : Simulated P) (sent : List ℕ)
     (answer : Option (ArrayVec ℕ)) (new : Simulated P) : Type 0 where
-  pub ready : Running P
+  pub ready : Devices P
   pub ready_is : IsReady gives old ready
   pub new_is : new
       ≡ record (prepared old
-      (with_far ready (exchanged (fate_now old) ready.far sent).far)) {
+      (record ready { device = heard_by (fate_now old) ready.device sent })) {
         silence =
             silence_by (fate_now old) old.silence (octets_in answer);
       }
-  pub answer_is : octets_in answer ≡ (exchanged (fate_now old) ready.far sent).reply
-  pub first : new.device.first ≡ old.device.first
+  pub answer_is : octets_in answer ≡ reply_by (fate_now old) ready.device.far sent
+  pub those : AreThose (devices_of old) (devices_of new)
 
--- what it is to a contract, by what the calls of its application give; it is told nothing
+-- what it is to a contract, by what the calls of its application give; it is told
+-- nothing. A line of one device is lossy
 abbrev pub sim_facts : {P : Type 0} → Gives P → WireFacts (Simulated P)
 sim_facts gives = record {
-  honest = λ sim. true;
+  honest = has_one_device;
   far = λ sim. sim.device.far;
   silence = λ sim. sim.silence;
   clean = is_clean;

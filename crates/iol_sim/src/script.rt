@@ -38,4 +38,9 @@ pub enum Step {
     NoInput,
     /// A power cycle of the device.
     Power,
+    /// The device's driver says that no message came for longer than it allows.
+    Quiet,
+    /// The device is pulled, and the other one is plugged in, with a power cycle;
+    /// where there is no other one, nothing happens.
+    Swap,
 }

@@ -1,5 +1,5 @@
 //! A simulated wire, with a device at its far end.
-ghost use Rattle.std.specs.Prelude.{◌≡◌, ℕ, [], true, None, Option, false, List, Some, IfOk, IfErr, IfSome, MatchBool, length, min, ◌+◌, ◌≤◌, if◌then◌else◌, ◌∷◌};
+ghost use Rattle.std.specs.Prelude.{◌≡◌, ℕ, [], true, None, Option, false, List, Some, IfOk, IfErr, IfSome, MatchBool, length, min, ◌+◌, ◌≤◌, if◌then◌else◌, ◌∷◌, option_copied};
 ghost use Rattle.std.specs.Vec.Iter.{into_iter_items};
 ghost use Rattle.iol_octets.specs.Checksum.{AreOctets};
 ghost use Rattle.iol_far.specs.Octets.{octets_in, buffered};
@@ -15,12 +15,16 @@ use iol_mseq::Message;
 use iol_octets::one_flip_is_seen;
 use std::alloc::{Allocator, Global};
 use std::marker::Model;
+use std::mem;
 use std::vec::IntoIter;
 
 /// The most octets that a message can have.
 const LONGEST: usize = 66;
 
 /// A wire with a device at its far end, and a script of what happens to it and to each call.
+/// There may be a second device, which the script plugs in in place of the first.
+///
+/// With one device it is a lossy line. With two it isn't: another device may come to its far end.
 ///
 /// Each call first uses the steps of the script up to and with the next fate, then
 /// has the application work where that is automatic, as it is at first, and then
@@ -30,6 +34,8 @@ pub struct Sim<P: App, A: Allocator + Copy = Global> {
     line: Line,
     // Apart, since a device is large and a wire is moved with the link that owns it.
     device: Box<Device<P, Kept<A>>, A>,
+    /// The device that isn't plugged in, where there is a second one.
+    away: Option<Box<Device<P, Kept<A>>, A>>,
     /// The steps of the script that were not used yet.
     steps: IntoIter<Step, A>,
 }
@@ -44,7 +50,7 @@ struct Line {
 }
 
 impl<P: App, A: Allocator + Copy> Model for Sim<P, A> {
-    ghost use Rattle.std.specs.Prelude.{◌≤◌};
+    ghost use Rattle.std.specs.Prelude.{◌≤◌, option_map};
     ghost use Rattle.std.specs.Vec.Iter.{into_iter_items};
     ghost use Rattle.iol_sim.specs.Sim.{Simulated};
 
@@ -52,6 +58,7 @@ impl<P: App, A: Allocator + Copy> Model for Sim<P, A> {
 
     ghost view = { λ sim. record {
       device = sim.device.value;
+      away = option_map (λ device. device.value) sim.away;
       steps = into_iter_items sim.steps;
       auto = sim.line.auto;
       silent = sim.line.silent;
@@ -64,11 +71,11 @@ impl<P: App, A: Allocator + Copy> Model for Sim<P, A> {
 impl<P: App, A: Allocator + Copy> Sim<P, A> {
     ghost use Rattle.iol_far.specs.Far.{hear};
     ghost use Rattle.iol_device.specs.App.{Follows};
-    ghost use Rattle.iol_device.specs.Number.{with_far};
+    ghost use Rattle.iol_device.specs.Hearing.{heard};
     ghost use Rattle.iol_sim.specs.declared.fault.SimFault.{SimFault};
     ghost use Rattle.iol_sim.specs.declared.script.Fate.{Fate};
-    ghost use Rattle.iol_sim.specs.Script.{fate_of, rest_of, auto_of, IsDone, AreDone};
-    ghost use Rattle.iol_sim.specs.Sim.{fate_now, prepared, IsReady, woken_by, rate_by, exchanged, silence_by};
+    ghost use Rattle.iol_sim.specs.Script.{fate_of, rest_of, auto_of, swapped, IsDone, AreDone};
+    ghost use Rattle.iol_sim.specs.Sim.{devices_of, fate_now, prepared, IsReady, woken_by, rate_by, heard_by, reply_by, silence_by};
 
     /// A wire to this device, with this script, which isn't copied.
     ///
@@ -81,6 +88,7 @@ impl<P: App, A: Allocator + Copy> Sim<P, A> {
     ) -> Result<Sim<P, A>, (SimFault, Device<P, Kept<A>>, Vec<Step, A>)>
         ensures value { IfOk result (λ sim. sim ≡ record {
           device = device;
+          away = None;
           steps = steps.items;
           auto = true;
           silent = false;
@@ -98,9 +106,55 @@ impl<P: App, A: Allocator + Copy> Sim<P, A> {
                     silence: 0,
                 },
                 device,
+                away: None,
                 steps: steps.into_iter(),
             }),
             Err(failed) => Err((SimFault::OutOfMemory, failed.value, steps)),
+        }
+    }
+
+    /// A wire to this device, and a second one that the script may plug in, with this
+    /// script, which isn't copied. It isn't a lossy line.
+    ///
+    /// Refused with 24 OutOfMemory, the devices and the script handed back, where
+    /// there is no memory for the devices.
+    pub fn with_other(
+        alloc: A,
+        device: Device<P, Kept<A>>,
+        other: Device<P, Kept<A>>,
+        steps: Vec<Step, A>,
+    ) -> Result<
+        Sim<P, A>,
+        (
+            SimFault,
+            Device<P, Kept<A>>,
+            Device<P, Kept<A>>,
+            Vec<Step, A>,
+        ),
+    >
+        ensures value { IfOk result (λ sim. sim ≡ record {
+          device = device;
+          away = Some other;
+          steps = steps.items;
+          auto = true;
+          silent = false;
+          silence = 0;
+        }) }
+        ensures refused { IfErr result (λ e. e.0 ≡ SimFault.OutOfMemory) }
+        ensures device { IfErr result (λ e. e.1 ≡ device) }
+        ensures other { IfErr result (λ e. e.2 ≡ other) }
+        ensures script { IfErr result (λ e. e.3 ≡ steps) }
+    {
+        let other = match Box::new(alloc, other) {
+            Ok(other) => other,
+            Err(failed) => return Err((SimFault::OutOfMemory, device, failed.value, steps)),
+        };
+        match Sim::new(alloc, device, steps) {
+            Ok(mut sim) => {
+                sim.away = Some(other);
+                Ok(sim)
+            }
+            Err((fault, device, steps)) => Err((fault, device, Box::into_inner(other), steps)),
         }
     }
 
@@ -109,6 +163,16 @@ impl<P: App, A: Allocator + Copy> Sim<P, A> {
         ensures { result.now ≡ self.now.device }
     {
         &self.device
+    }
+
+    /// The device that isn't plugged in, where there is a second one.
+    pub fn away(&self) -> Option<&Device<P, Kept<A>>>
+        ensures { option_copied result ≡ self.now.away }
+    {
+        match &self.away {
+            Some(device) => Some(device.as_ref()),
+            None => None,
+        }
     }
 
     /// A law of each such wire, without code of its own: the application of the
@@ -122,6 +186,16 @@ impl<P: App, A: Allocator + Copy> Sim<P, A> {
         self.device.app_follows_record();
     }
 
+    /// The same law of the device that isn't plugged in, where there is a second one.
+    pub fn away_follows_record(&self)
+        ensures { IfSome self.now.away (λ away. Follows P.carry_out_gives away.first
+            away.far.carried away.app) }
+    {
+        if let Some(device) = &self.away {
+            device.app_follows_record();
+        }
+    }
+
     /// From now on the wire is no longer silent, and goes on with the script.
     pub fn mend(&mut self)
         ensures { self.new ≡ record self.old { silent = false } }
@@ -129,12 +203,29 @@ impl<P: App, A: Allocator + Copy> Sim<P, A> {
         self.line.silent = false;
     }
 
-    /// Does one step that is no fate.
-    fn act(&mut self, step: &Step)
-        ensures device { IsDone P.carry_out_gives step.now self.old.device self.new.device }
+    /// The device is pulled, and the other one plugged in, with a power cycle.
+    fn swap(&mut self)
+        ensures devices { devices_of self.new ≡ swapped (devices_of self.old) }
         ensures rest { self.new
             ≡ record self.old {
               device = self.new.device;
+              away = self.new.away;
+            } }
+    {
+        if let Some(mut other) = self.away.take() {
+            other.power_cycle();
+            self.away = Some(mem::replace(&mut self.device, other));
+        }
+    }
+
+    /// Does one step that is no fate.
+    fn act(&mut self, step: &Step)
+        ensures devices { IsDone P.carry_out_gives step.now (devices_of self.old)
+            (devices_of self.new) }
+        ensures rest { self.new
+            ≡ record self.old {
+              device = self.new.device;
+              away = self.new.away;
               auto = auto_of self.old.auto
                   (step.now ∷ []);
             } }
@@ -152,16 +243,20 @@ impl<P: App, A: Allocator + Copy> Sim<P, A> {
             }
             Step::NoInput => self.device.clear_input(),
             Step::Power => self.device.power_cycle(),
+            Step::Quiet => self.device.silence(),
+            Step::Swap => self.swap(),
         }
     }
 
     /// Does the steps up to and with the next fate, which is answered.
     fn next_fate(&mut self) -> Fate
         ensures fate { result ≡ fate_of self.old.steps }
-        ensures device { AreDone P.carry_out_gives self.old.steps self.old.device self.new.device }
+        ensures devices { AreDone P.carry_out_gives self.old.steps (devices_of self.old)
+            (devices_of self.new) }
         ensures rest { self.new
             ≡ record self.old {
               device = self.new.device;
+              away = self.new.away;
               steps = rest_of self.old.steps;
               auto =
                   auto_of self.old.auto self.old.steps;
@@ -179,10 +274,10 @@ impl<P: App, A: Allocator + Copy> Sim<P, A> {
     /// Uses the steps before a call, whose fate is answered; none where it is silent.
     fn begin(&mut self) -> Fate
         ensures fate { result ≡ fate_now self.old }
-        ensures device { MatchBool self.old.silent (self.new.device
-            ≡ self.old.device) (AreDone P.carry_out_gives self.old.steps self.old.device
-            self.new.device) }
-        ensures rest { self.new ≡ prepared self.old self.new.device }
+        ensures devices { MatchBool self.old.silent (devices_of self.new
+            ≡ devices_of self.old) (AreDone P.carry_out_gives self.old.steps (devices_of self.old)
+            (devices_of self.new)) }
+        ensures rest { self.new ≡ prepared self.old (devices_of self.new) }
     {
         if self.line.silent {
             return Fate::Silent;
@@ -195,8 +290,8 @@ impl<P: App, A: Allocator + Copy> Sim<P, A> {
     /// Does all that comes before a call, whose fate is answered.
     fn prepare(&mut self) -> Fate
         ensures fate { result ≡ fate_now self.old }
-        ensures device { IsReady P.carry_out_gives self.old self.new.device }
-        ensures rest { self.new ≡ prepared self.old self.new.device }
+        ensures devices { IsReady P.carry_out_gives self.old (devices_of self.new) }
+        ensures rest { self.new ≡ prepared self.old (devices_of self.new) }
     {
         let fate = self.begin();
         if self.line.auto {
@@ -224,16 +319,11 @@ impl<P: App, A: Allocator + Copy> Sim<P, A> {
     }
 
     /// The octets are sent. Answers whether a reply comes back; it is put into the buffer.
-    #[tactic(auto, using(crate::proofs::Calls::same_far))]
     fn pass(&mut self, fate: Fate, sent: &[u8], reply: &mut Message) -> bool
         ensures answer { buffered result reply.new
-            ≡ (exchanged fate self.old.device.far sent.now).reply }
+            ≡ reply_by fate self.old.device.far sent.now }
         ensures device { self.new
-            ≡ record self.old {
-              device =
-                  with_far self.old.device
-                  (exchanged fate self.old.device.far sent.now).far;
-            } }
+            ≡ record self.old { device = heard_by fate self.old.device sent.now } }
         ensures octets { fate ≡ Fate.BackDamaged
             → IfSome (hear self.old.device.far sent.now).reply AreOctets }
     {
@@ -259,10 +349,7 @@ impl<P: App, A: Allocator + Copy> Sim<P, A> {
         ensures answer { buffered result reply.new
             ≡ (hear self.old.device.far (damaged sent.now)).reply }
         ensures device { self.new
-            ≡ record self.old {
-              device =
-                  with_far self.old.device (hear self.old.device.far (damaged sent.now)).far;
-            } }
+            ≡ record self.old { device = heard self.old.device (damaged sent.now) } }
     {
         let mut message = Message::try_from(sent).unwrap();
         damage(&mut message);
@@ -293,6 +380,14 @@ impl<A: Allocator + Copy> Sim<Params, A> {
         ensures { AnsweredBy self.now.device.first self.now.device.far.carried self.now.device.app }
     {
         self.app_follows_record();
+    }
+
+    /// The same law of the device that isn't plugged in, where there is a second one.
+    #[tactic(auto, using(crate::proofs::Entries::stored_away))]
+    pub fn away_is_answered_by_params(&self)
+        ensures { IfSome self.now.away (λ away. AnsweredBy away.first away.far.carried away.app) }
+    {
+        self.away_follows_record();
     }
 }
 

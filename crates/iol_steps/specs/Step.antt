@@ -1,7 +1,9 @@
 -- What may happen at one port: an alphabet of steps, and a turn as they are judged in it.
 use Rattle.std.specs.Prelude.{ℕ, ◌+◌, min, Bool, true, false, not, ◌&&◌, cond, List, [], ◌∷◌, Option, Some, None, Result, Ok, Err, ⊤}
 use Rattle.std.specs.List.{list_all}
+use Rattle.iol_page.specs.Identity.{is_expected}
 use Rattle.iol_page.specs.Page.{layouts_of}
+use Rattle.iol_page.specs.declared.identity.Identity.{Identity}
 use Rattle.iol_page.specs.declared.page.Layouts.{Layouts}
 use Rattle.iol_page.specs.declared.fault.PageFault.{PageFault}
 use Rattle.iol_isdu.specs.declared.values.Request.{Request}
@@ -80,11 +82,17 @@ CallFits Preoperate (Exchanged replied) = ⊤
 CallFits Operate (Exchanged replied) = ⊤
 CallFits mode call = ⊥
 
--- what doesn't change while a port runs: how many busy replies a request may have,
--- and the page of its device
+-- what no turn changes: how many busy replies a request may have, the page of the port's
+-- device, and the device that is expected
 pub record Terms : Type 0 where
   pub busy_limit : ℕ
   pub page : List ℕ
+  pub expected : Option Identity
+
+-- the device is the one that is expected, if one is
+-- LINK-11
+abbrev pub is_right : Terms → Bool
+is_right terms = is_expected terms.expected terms.page
 
 -- how many octets the device takes as process data
 abbrev pub output_length : List ℕ → ℕ

@@ -34,6 +34,7 @@ Every line, and what is printed for it: docs/guide.md.";
 pub(crate) const RUN: &str = "\
 Reads standard input to its end, a line at a time. First the device and the port:
   page OCTET ..                           direct parameter page 1 of the device, 0x02 to 0x0B
+  other OCTET ..                          that of a second device, not plugged in, with the same parameters
   limits BUSY JOURNAL                     the busy replies that end a request, the entries of the journal
   param INDEX SUB ro H                    a parameter that is read; rw: and written
 Then what happens on the wire, and the calls of the port, in any order:
@@ -43,12 +44,17 @@ Then what happens on the wire, and the calls of the port, in any order:
   wire raise QQ CCCC                      an event of the device
   wire input H | wire input none          the device's process data
   wire power                              a power cycle of the device
+  wire swap                               the second device is plugged in in place of the first, or the first again
+  wire quiet                              the device's driver says that no message came for too long
   read INDEX SUB | write INDEX SUB H      submits a request, and prints its ticket
   urgent read .. | urgent write ..        the same, before all that are not urgent
   collect T | withdraw T                  the outcome of a ticket; takes a request back that waits
   cancel T                                asks to cut off a request that is under way
   output H | output none | image          process data out; in
   event | status | archive | restart      as the port's calls of these names
+  expect VENDOR DEVICE | expect any       which device the port expects
+  cycle MICROS | cycle least              the cycle time that it asks for
+  page                                    the page of the device, as the port read it
   turn N                                  N turns of the port, each one call of the wire
   # ..                                    a comment; an empty line is skipped too
 H is octets without spaces, as 4142, or - for none.

@@ -1,5 +1,5 @@
 -- The calls of a device, as C sees them: by a handle, and with numbers in place of answers.
-use Rattle.std.specs.Prelude.{◌≡◌, ℕ, List, Option, Some, None}
+use Rattle.std.specs.Prelude.{◌≡◌, ℕ, Bool, List, Option, Some, None}
 use Rattle.iol_isdu.specs.declared.values.Answer.{Answer}
 use Rattle.iol_isdu.specs.declared.values.Answer.TheVariants.{Read}
 use Rattle.iol_far.specs.Far.{Far}
@@ -22,6 +22,10 @@ far_of handle = (device_of handle).far
 -- the number of the request that was handed over last
 abbrev pub number_of : IolDevice → ℕ
 number_of handle = (device_of handle).number
+
+-- whether the master counts as silent there
+abbrev pub silent_of : IolDevice → Bool
+silent_of handle = (device_of handle).silent
 
 -- a call of a closed handle: refused, with nothing changed
 abbrev pub IsRefused : ℕ → IolDevice → IolDevice → Type 0

@@ -5,7 +5,7 @@ ghost use Rattle.iol_page.specs.Fault.{fault_number};
 ghost use Rattle.iol_page.specs.Page.{layouts_of};
 ghost use Rattle.iol_far.specs.Far.{opened};
 ghost use Rattle.iol_far.specs.Local.{local, woken, LocalStep};
-ghost use Rattle.iolink_device_c.specs.Calls.{far_of, number_of, IsRefused};
+ghost use Rattle.iolink_device_c.specs.Calls.{device_of, far_of, number_of, silent_of, IsRefused};
 
 use crate::held::{IolDevice, Sensor};
 use core::mem::replace_with;
@@ -30,6 +30,7 @@ pub extern "C" fn iol_device_open(alloc: Global, handle: &mut IolDevice, page: &
     ensures opened { result ≡ 0 → handle.new.is_open ≡ true }
     ensures far { result ≡ 0 → far_of handle.new ≡ opened page.now None }
     ensures number { result ≡ 0 → number_of handle.new ≡ 0 }
+    ensures silent { result ≡ 0 → silent_of handle.new ≡ false }
 {
     if handle.is_open {
         return IS_OPEN;
@@ -72,6 +73,7 @@ pub extern "C" fn iol_device_wake(alloc: Global, handle: &mut IolDevice) -> u8
     ensures closed { IsFalse handle.old.is_open → IsRefused result handle.old handle.new }
     ensures stays { handle.new.is_open ≡ handle.old.is_open }
     ensures number { number_of handle.new ≡ number_of handle.old }
+    ensures silent { silent_of handle.new ≡ silent_of handle.old }
     ensures far { IsTrue handle.old.is_open → (result ≡ 0)
         × (far_of handle.new ≡ woken (far_of handle.old)) }
 {
@@ -92,6 +94,7 @@ pub extern "C" fn iol_device_power_cycle(alloc: Global, handle: &mut IolDevice) 
     ensures closed { IsFalse handle.old.is_open → IsRefused result handle.old handle.new }
     ensures stays { handle.new.is_open ≡ handle.old.is_open }
     ensures number { number_of handle.new ≡ number_of handle.old }
+    ensures silent { silent_of handle.new ≡ silent_of handle.old }
     ensures far { IsTrue handle.old.is_open →
         (result ≡ 0) × (far_of handle.new ≡ local (far_of handle.old) LocalStep.Power) }
 {
@@ -101,6 +104,26 @@ pub extern "C" fn iol_device_power_cycle(alloc: Global, handle: &mut IolDevice) 
     replace_with(handle, alloc, |handle, alloc| {
         let mut sensor = handle.into_box(alloc);
         sensor.device.power_cycle();
+        (IolDevice::of(sensor), ())
+    });
+    0
+}
+
+/// No message came for longer than C allows: no process data out is shown from now on, until
+/// ProcessDataOutputOperate is accepted in OPERATE. 0, or 252 where the handle is closed.
+#[unsafe(no_mangle)]
+pub extern "C" fn iol_device_silence(alloc: Global, handle: &mut IolDevice) -> u8
+    ensures closed { IsFalse handle.old.is_open → IsRefused result handle.old handle.new }
+    ensures stays { handle.new.is_open ≡ handle.old.is_open }
+    ensures silent { IsTrue handle.old.is_open → (result ≡ 0)
+        × (device_of handle.new ≡ record (device_of handle.old) { silent = true }) }
+{
+    if !handle.is_open {
+        return CLOSED;
+    }
+    replace_with(handle, alloc, |handle, alloc| {
+        let mut sensor = handle.into_box(alloc);
+        sensor.device.silence();
         (IolDevice::of(sensor), ())
     });
     0
@@ -118,6 +141,7 @@ pub extern "C" fn iol_device_raise(
     ensures closed { IsFalse handle.old.is_open → IsRefused result handle.old handle.new }
     ensures stays { handle.new.is_open ≡ handle.old.is_open }
     ensures number { number_of handle.new ≡ number_of handle.old }
+    ensures silent { silent_of handle.new ≡ silent_of handle.old }
     ensures far { IsTrue handle.old.is_open → far_of handle.new ≡ local (far_of handle.old)
         (LocalStep.Raise (record { qualifier = qualifier; code = code })) }
     ensures full { IsTrue handle.old.is_open → IsTrue (is_full (far_of handle.old).events) →

@@ -2,7 +2,8 @@
 ghost use Rattle.std.specs.Prelude.{◌≡◌, length, take, unwrap_or, [], IsTrue, IsFalse};
 ghost use Rattle.iol_far.specs.Far.{hear};
 ghost use Rattle.iol_device.specs.Number.{number_after};
-ghost use Rattle.iolink_device_c.specs.Calls.{far_of, number_of, IsRefused};
+ghost use Rattle.iol_device.specs.Silence.{silent_after};
+ghost use Rattle.iolink_device_c.specs.Calls.{far_of, number_of, silent_of, IsRefused};
 
 use crate::held::IolDevice;
 use core::mem::replace_with;
@@ -32,6 +33,8 @@ pub extern "C" fn iol_device_hear(
         (result ≡ 0) × (far_of handle.new ≡ (hear (far_of handle.old) octets.now).far) }
     ensures number { IsTrue handle.old.is_open → number_of handle.new
         ≡ number_after (number_of handle.old) (far_of handle.old) (far_of handle.new) }
+    ensures silent { IsTrue handle.old.is_open → silent_of handle.new
+        ≡ silent_after (silent_of handle.old) (far_of handle.old) octets.now }
     ensures length { IsTrue handle.old.is_open → out.new.length
         ≡ length (unwrap_or (hear (far_of handle.old) octets.now).reply []) }
     ensures reply { IsTrue handle.old.is_open → take out.new.length out.new.octets

@@ -1,9 +1,9 @@
 //! Process data.
 ghost use Rattle.std.specs.Prelude.{◌≡◌, length, take, unwrap_or, [], IsTrue, IsFalse};
 ghost use Rattle.iol_image.specs.Image.{IsImage};
-ghost use Rattle.iol_far.specs.Far.{output_of};
 ghost use Rattle.iol_far.specs.Local.{local, is_input, LocalStep};
-ghost use Rattle.iolink_device_c.specs.Calls.{far_of, number_of, IsRefused};
+ghost use Rattle.iol_device.specs.Silence.{device_output};
+ghost use Rattle.iolink_device_c.specs.Calls.{device_of, far_of, number_of, silent_of, IsRefused};
 
 use crate::held::IolDevice;
 use core::mem::replace_with;
@@ -18,6 +18,7 @@ pub extern "C" fn iol_device_set_input(alloc: Global, handle: &mut IolDevice, oc
     ensures closed { IsFalse handle.old.is_open → IsRefused result handle.old handle.new }
     ensures stays { handle.new.is_open ≡ handle.old.is_open }
     ensures number { number_of handle.new ≡ number_of handle.old }
+    ensures silent { silent_of handle.new ≡ silent_of handle.old }
     ensures far { IsTrue handle.old.is_open → IsImage octets.now →
         far_of handle.new ≡ local (far_of handle.old) (LocalStep.Input octets.now) }
     ensures done { IsTrue handle.old.is_open → IsImage octets.now →
@@ -51,6 +52,7 @@ pub extern "C" fn iol_device_clear_input(alloc: Global, handle: &mut IolDevice) 
     ensures closed { IsFalse handle.old.is_open → IsRefused result handle.old handle.new }
     ensures stays { handle.new.is_open ≡ handle.old.is_open }
     ensures number { number_of handle.new ≡ number_of handle.old }
+    ensures silent { silent_of handle.new ≡ silent_of handle.old }
     ensures far { IsTrue handle.old.is_open →
         (result ≡ 0) × (far_of handle.new ≡ local (far_of handle.old) LocalStep.NoInput) }
 {
@@ -65,8 +67,8 @@ pub extern "C" fn iol_device_clear_input(alloc: Global, handle: &mut IolDevice) 
     0
 }
 
-/// The process data out, none while none is valid: 0, or 252 where the handle is
-/// closed, with `out` as it was.
+/// The process data out, none while none is valid or the master is silent: 0, or 252
+/// where the handle is closed, with `out` as it was.
 #[unsafe(no_mangle)]
 pub extern "C" fn iol_device_output(alloc: Global, handle: &mut IolDevice, out: &mut IolImage) -> u8
     ensures closed { IsFalse handle.old.is_open → IsRefused result handle.old handle.new }
@@ -74,9 +76,10 @@ pub extern "C" fn iol_device_output(alloc: Global, handle: &mut IolDevice, out: 
     ensures untouched { IsFalse handle.old.is_open → out.new ≡ out.old }
     ensures same { handle.new.held.value ≡ handle.old.held.value }
     ensures length { IsTrue handle.old.is_open → out.new.length
-        ≡ length (unwrap_or (output_of (far_of handle.old)) []) }
+        ≡ length (unwrap_or (device_output (device_of handle.old)) []) }
     ensures image { IsTrue handle.old.is_open → (result ≡ 0)
-        × (take out.new.length out.new.octets ≡ unwrap_or (output_of (far_of handle.old)) []) }
+        × (take out.new.length out.new.octets
+        ≡ unwrap_or (device_output (device_of handle.old)) []) }
 {
     if !handle.is_open {
         return CLOSED;

@@ -3,7 +3,7 @@ ghost use Rattle.std.specs.Prelude.{◌≡◌, ◌≤◌, ◌<◌, length, unwra
 ghost use Rattle.iol_far.specs.Isdu.{handed};
 ghost use Rattle.iol_isdu.specs.declared.values.Answer.TheVariants as answer;
 ghost use Rattle.iol_device.specs.Number.{handed_number};
-ghost use Rattle.iolink_device_c.specs.Calls.{device_of, far_of, number_of, IsRefused, Answers, read_of};
+ghost use Rattle.iolink_device_c.specs.Calls.{device_of, far_of, number_of, silent_of, IsRefused, Answers, read_of};
 ghost use Rattle.iolink_device_c.specs.Shown.{IsShown};
 
 use crate::held::IolDevice;
@@ -61,6 +61,7 @@ fn answered(alloc: Global, handle: &mut IolDevice, number: u64, answer: Answer) 
     ensures stays { handle.new.is_open ≡ handle.old.is_open }
     ensures answer { Answers number answer handle.old result handle.new }
     ensures number { number_of handle.new ≡ number_of handle.old }
+    ensures silent { silent_of handle.new ≡ silent_of handle.old }
 {
     replace_with(
         handle,
@@ -94,6 +95,7 @@ pub extern "C" fn iol_device_answer_read(
     ensures answer { IsTrue handle.old.is_open → length octets.now ≤ 232 →
         Answers number (read_of octets.now) handle.old result handle.new }
     ensures number { number_of handle.new ≡ number_of handle.old }
+    ensures silent { silent_of handle.new ≡ silent_of handle.old }
 {
     if !handle.is_open {
         return CLOSED;
@@ -119,6 +121,7 @@ pub extern "C" fn iol_device_answer_written(
     ensures answer { IsTrue handle.old.is_open
         → Answers number answer.Written handle.old result handle.new }
     ensures number { number_of handle.new ≡ number_of handle.old }
+    ensures silent { silent_of handle.new ≡ silent_of handle.old }
 {
     if !handle.is_open {
         return CLOSED;
@@ -144,6 +147,7 @@ pub extern "C" fn iol_device_answer_refused(
     ensures answer { IsTrue handle.old.is_open →
         Answers number (answer.Refused code additional) handle.old result handle.new }
     ensures number { number_of handle.new ≡ number_of handle.old }
+    ensures silent { silent_of handle.new ≡ silent_of handle.old }
 {
     if !handle.is_open {
         return CLOSED;

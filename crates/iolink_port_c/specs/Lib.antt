@@ -4,3 +4,4 @@ pub mod LineCalls
 pub mod RequestCalls
 pub mod StateCalls
 pub mod JournalCalls
+pub mod DeviceCalls

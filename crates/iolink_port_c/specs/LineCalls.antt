@@ -1,5 +1,6 @@
 -- What the calls of C on the line answer and leave, where the handle is open.
 use Rattle.std.specs.Prelude.{◌≡◌, ℕ, List, Option, IsTrue, is_some}
+use Rattle.iol_mseq.specs.Shape.{Shape}
 use Rattle.iol_link.specs.declared.wire.Rate.{Rate}
 use Rattle.iol_app.specs.declared.asked.Asked.{Asked}
 use Rattle.iol_app.specs.declared.asked.Asked.TheVariants.{Wake, Exchange}
@@ -11,10 +12,17 @@ use Rattle.iolink_port_c.specs.declared.held.IolPort.{IolPort}
 use Rattle.iolink_port_c.specs.declared.line.IolMessage.{IolMessage}
 use Rattle.iolink_port_c.specs.Calls.{parts_of}
 
--- what goes out as C is shown it: a message's octets, or no length for a wake
+-- the layout of the mode as C is shown it
+abbrev pub IsLaidOut : Shape → IolMessage → Type 0
+IsLaidOut layout out = (out.kind ≡ layout.kind) × (out.od ≡ layout.od)
+    × (out.pd_in ≡ layout.pd_in) × (out.pd_out ≡ layout.pd_out)
+
+-- what goes out as C is shown it: a message's octets, its layout and how many octets a good
+-- reply has, or no length for a wake
 abbrev pub IsMessage : Asked → IolMessage → Type 0
 IsMessage Wake out = out.length ≡ 0
-IsMessage (Exchange octets) out = AreShown octets.items out.length out.octets
+IsMessage (Exchange sent) out = AreShown sent.octets.items out.length out.octets
+    × (out.reply ≡ sent.reply) × IsLaidOut sent.layout out
 
 -- What the port asks for goes out, and is what it then waits to have answered. Where it was
 -- out already it is the same, and nothing changes

@@ -7,10 +7,11 @@
 //! of what came.
 //!
 //! Each export answers the number of a refusal, or 0. The numbers are those of the
-//! library, 1 to 37, and four of its own ([`iolink_handle`]).
+//! library, 1 to 39, and four of its own ([`iolink_handle`]).
 #![tactic(auto)]
 
 mod archive;
+mod device;
 mod held;
 mod line;
 mod outcome;

@@ -14,11 +14,18 @@ use iol_port::Awaited;
 use iolink_handle::{CLOSED, NOT_ASKED, OUT_OF_RANGE, put};
 use std::alloc::Global;
 
-/// What goes out: `length` octets, or a wake-up request where that is 0.
+/// What goes out: `length` octets, or a wake-up request where that is 0, which leaves the rest.
 #[repr(C)]
 pub struct IolMessage {
     pub length: u8,
     pub octets: [u8; 66],
+    /// How many octets a good reply has, 1 to 65: then it is whole.
+    pub reply: u8,
+    /// The layout of the mode: its M-sequence type, and the octets of each part.
+    pub kind: u8,
+    pub od: u8,
+    pub pd_in: u8,
+    pub pd_out: u8,
 }
 
 /// What goes out, which waits for its answer from now on: 0, or 252 where the handle is closed,
@@ -36,8 +43,13 @@ pub extern "C" fn iol_port_asks(alloc: Global, handle: &mut IolPort, out: &mut I
     match handle.with(alloc, |master| master.port.send()) {
         Some(Asked::Wake) => out.length = 0,
         Some(Asked::Exchange(sent)) => {
-            out.length = sent.len() as u8;
-            put(sent.as_slice(), &mut out.octets);
+            out.length = sent.octets.len() as u8;
+            put(sent.octets.as_slice(), &mut out.octets);
+            out.reply = sent.reply;
+            out.kind = sent.layout.kind().bits();
+            out.od = sent.layout.od();
+            out.pd_in = sent.layout.pd_in();
+            out.pd_out = sent.layout.pd_out();
         }
         None => return CLOSED,
     }

@@ -125,7 +125,7 @@ fn a_thousand_lists_of_calls(rt: HostRuntime) -> Result<(), Fail> {
             assert!(rt; same_reply(&mut book, &mut plain, call)?);
             assert!(rt; same_next(&book, &plain));
         }
-        assert_eq!(rt; book.journal().len(), plain.entries);
+        assert!(rt; book.journal().len() == plain.entries);
     }
     Ok(())
 }

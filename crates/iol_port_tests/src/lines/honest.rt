@@ -91,7 +91,7 @@ fn meet(port: &mut HonestPort, device: &mut Device<Store>, fate: Fate)
             woken_by(port, device);
         }
         Asked::Exchange(sent) => {
-            let came = exchange(device, sent.as_slice(), fate);
+            let came = exchange(device, sent.octets.as_slice(), fate);
             answered_by(port, &came, device);
         }
     }
@@ -124,7 +124,7 @@ fn answered_by(port: &mut HonestPort, came: &Option<Message>, device: &Device<St
 fn a_claimed_line_meets_its_premise(rt: HostRuntime) -> Result<(), Fail> {
     let mut device = opened_device(rt.alloc())?;
     let mut port = port_to(rt.alloc(), &device)?;
-    assert_eq!(rt; port.submit(Request::read(PARAMETER)), Ok(Ticket(1)));
+    assert!(rt; port.submit(Request::read(PARAMETER)) == Ok(Ticket(1)));
     for turn in 0..60 {
         let fate = match turn % 4 {
             0 => Fate::OutLost,
@@ -133,13 +133,10 @@ fn a_claimed_line_meets_its_premise(rt: HostRuntime) -> Result<(), Fail> {
         };
         meet(&mut port, &mut device, fate);
     }
-    assert_eq!(rt; port.core().status().mode, Mode::Operate);
+    assert!(rt; port.core().status().mode == Mode::Operate);
     let read = Octets::try_from([0x0A].as_slice()).map_err(|_| Fail::from("too long"))?;
-    assert_eq!(rt;
-        port.collect(Ticket(1)),
-        Ok(Outcome::Done(Answer::Read(read)))
-    );
-    assert_eq!(rt; device.carried().len(), 1);
+    assert!(rt; port.collect(Ticket(1)) == Ok(Outcome::Done(Answer::Read(read))));
+    assert!(rt; device.carried().len() == 1);
     port.keeps_record();
     Ok(())
 }

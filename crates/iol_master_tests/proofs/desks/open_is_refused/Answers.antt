@@ -6,5 +6,5 @@ use Rattle.iol_master_tests.proofs.desks.open_is_refused.Goals as goal
 pub open-requires-clause-fresh : goal.open-requires-clause-fresh
 open-requires-clause-fresh g c =
     All-same (λ p. HasGiven p 0) _ _ c.in_ok-ports.ensures.1
-    (All-cons (λ p. HasGiven p 0) _ [] c.in_ok-opened_port.ensures
+    (All-cons (λ p. HasGiven p 0) _ [] c.requires.fresh
     (All-nil (λ p. HasGiven p 0)))

@@ -3,5 +3,5 @@ use Rattle.std.proofs.Crossing.{crosses}
 use Rattle.iol_sim.proofs.Crosses.{sim_send}
 use Rattle.iol_master_tests.proofs.masters.row.Goals as goal
 
-pub meeting-requires-send-W : goal.meeting-requires-send-W
-meeting-requires-send-W g c κs within = search (sim_send, crosses, sendable) depth 60 fits 20000
+pub serves_two-requires-send-W : goal.serves_two-requires-send-W
+serves_two-requires-send-W g c κs within = search (sim_send, crosses, sendable) depth 60 fits 20000

@@ -1,13 +1,14 @@
 -- A turn: what goes out, one call of the wire, and what is made of what came.
 use Rattle.std.proofs.lemmas.Grind.{common_steps}
-use Rattle.std.proofs.Common.{◌≡◌, ◌∙◌, List, ℕ, sym, subst, ap, arith}
+use Rattle.std.proofs.Common.{◌≡◌, ◌∙◌, List, ℕ, sym, subst, ap, arith, Some}
 use Rattle.std.specs.Prelude.{IsTrue, is_some}
 use Rattle.iol_octets.specs.Checksum.{has_checksum}
 use Rattle.iol_far.specs.Octets.{octets_in}
 use Rattle.iol_link.specs.WireFacts.{Passes}
 use Rattle.iol_mode.specs.States.{StateFits as ModeFits}
 use Rattle.iol_mode.specs.Exchanges.{text_out}
-use Rattle.iol_app.specs.declared.asked.Asked.TheVariants.{Exchange}
+use Rattle.iol_app.specs.declared.asked.Outgoing.{Outgoing}
+use Rattle.iol_app.specs.Asking.{octets_asked}
 use Rattle.iol_app.specs.State.{IsSession}
 use Rattle.iol_app.specs.StationState.{StateFits}
 use Rattle.iol_app.specs.Core.{Core}
@@ -31,7 +32,8 @@ returns-in-Wake-clause-steps g c =
 
 -- the octets that the wire was given are those of the message that is out
 octets_are : (g : given.Over) (c : goal.After-take g) → c.as_slice.result.now ≡ text_out c.send.new.self.state
-octets_are g c = c.as_slice.ensures.value ∙ c.in-Exchange.ensures.says.1
+octets_are g c =
+    c.as_slice.ensures.value ∙ ap (λ (o : Outgoing). o.octets.items) c.in-Exchange.ensures.says.1
 
 passed : (g : given.Over) (c : goal.After-take g) → Passes g.W.Wire.facts c.args.wire.now (text_out c.send.new.self.state) c.exchange-came.result c.exchange-came.new.self
 passed g c =
@@ -86,5 +88,5 @@ returns-in-Exchange-clause-exact g c =
     exchange_is_exact g.W.Wire.facts c.args.wire.now c.exchange-came.new.self c.args.room
     c.take.new.said c.args.self.now c.send.new.self c.take.new.self (fitting g c) (joined g c)
     c.in-Exchange.ensures.sent c.in-Exchange.ensures.says.0 c.requires.stands (exchanged g c) _
-    (sym c.in-Exchange.ensures.asked
-    ∙ ap (λ (octets : List ℕ). Exchange (record { items = octets })) c.in-Exchange.ensures.says.1)
+    (ap octets_asked (sym c.in-Exchange.ensures.asked)
+    ∙ ap (λ (o : Outgoing). Some o.octets.items) c.in-Exchange.ensures.says.1)

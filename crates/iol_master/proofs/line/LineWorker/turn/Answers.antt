@@ -21,7 +21,7 @@ returns-clause-turned g c =
       | in-Exchange w ↦
           rw (← c.self.view_is, w.self-inside-is)
           (record {
-            asked = asked.Exchange w.in-Exchange.octets;
+            asked = asked.Exchange w.in-Exchange.out;
             first = c.deref_mut.result.now;
             sent = c.send-asked.new.self;
             sends = w.in-Exchange.ensures.sends;

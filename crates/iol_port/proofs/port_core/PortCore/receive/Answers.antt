@@ -1,8 +1,7 @@
 -- What comes back goes to the book and to the kept events, and is one piece of a run.
 use Rattle.std.proofs.Common.{◌≡◌, ◌∙◌, true, false, refl, ap, inl}
 use Rattle.iol_far.specs.Octets.{octets_in}
-use Rattle.iol_mode.specs.Exchanges.{judged}
-use Rattle.iol_app.specs.Core.{Core}
+use Rattle.iol_app.specs.Core.{Core, came_of}
 use Rattle.iol_port.specs.View.{Parts}
 use Rattle.iol_port.specs.CorePort.{awaited, bare}
 use Rattle.iol_port.proofs.CorePorts.{reply_out, receive_does}
@@ -13,7 +12,7 @@ pub invariant_of-self : goal.invariant_of-self
 invariant_of-self g c =
     let p : Parts (Unit {0}) = record { station = bare c.self.inside.core; book = c.self.inside.book; kept = c.self.inside.kept.items; sent = c.self.inside.sent } in
     turn_tied p p.station (bare c.receive.new.self) p.book.state c.settle.new.kept.items c.settle.new.book false false c.receive.new.said c.self.invariant (inl (refl, refl))
-    (ap (λ (k : Core). k.session.limit) c.receive.ensures.core ∙ settled_limit (judged c.self.inside.core.state (octets_in c.args.came.now)) c.self.inside.core.session)
+    (ap (λ (k : Core). k.session.limit) c.receive.ensures.core ∙ settled_limit (came_of c.self.inside.core (octets_in c.args.came.now)) c.self.inside.core.session)
     c.receive.ensures.request c.receive.ensures.reading (λ room. absurd (let k : false ≡ true = room in cc)) c.settle.ensures.book c.settle.ensures.kept
 
 pub returns-clause-gives : goal.returns-clause-gives

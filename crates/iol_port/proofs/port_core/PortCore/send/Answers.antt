@@ -1,5 +1,5 @@
 -- What goes out: the next request is begun before it where nothing was out.
-use Rattle.std.proofs.Common.{◌≡◌, ◌∙◌, Bool, true, false, ◌&&◌, Option, refl, sym, subst, ap}
+use Rattle.std.proofs.Common.{◌≡◌, ◌∙◌, Bool, true, false, ◌&&◌, Option, List, refl, sym, subst, ap, inl}
 use Rattle.iol_isdu.specs.declared.values.Request.{Request}
 use Rattle.iol_book.specs.BookModel.{BookValue, next_taken}
 use Rattle.iol_app.specs.StationState.{operates}
@@ -10,12 +10,39 @@ use Rattle.iol_app.specs.Pieces.{IsSent, SendSteps}
 use Rattle.iol_app.specs.Seen.{core_of}
 use Rattle.iol_port.specs.Asks.{has_room, lacks_isdu, to_begin}
 use Rattle.iol_port.specs.EveryWire.{taken_where, station_begun}
-use Rattle.iol_port.specs.View.{Parts}
+use Rattle.iol_event.specs.declared.event.Event.{Event}
+use Rattle.iol_book.specs.BookModel.{BookState}
+use Rattle.iol_port.specs.View.{Parts, BeginsNext}
+use Rattle.iol_port.proofs.TieLemmas.{send_tied}
 use Rattle.iol_port.specs.CorePort.{bare, SendGives, SendDoes}
 use Rattle.iol_port.proofs.CorePorts.{send_does, again_does, sent_same}
 use Rattle.iol_port.proofs.port_core.PortCore.send.Goals.{then-not-self, else-not-self}
 use Rattle.iol_port.proofs.port_core.PortCore.send.Given as given
 use Rattle.iol_port.proofs.port_core.PortCore.send.Goals as goal
+
+pub invariant_of-self : goal.invariant_of-self
+invariant_of-self g c =
+    let p : Parts (Unit {0}) = record { station = bare c.self.inside.core; book = c.self.inside.book; kept = c.self.inside.kept.items; sent = c.self.inside.sent } in
+    let mid : Core = c.if-not-self.self-inside.core in
+    let book : BookValue = c.if-not-self.self-inside.book in
+    let later : List Event = c.if-not-self.self-inside.kept.items in
+    let room : c.has_room-room.result ≡ has_room p.kept = c.has_room-room.ensures ∙ ap (λ (q : Parts (Unit {0})). has_room q.kept) (sym c.self.view_is) in
+    let begun : BeginsNext p.station p.book.state (bare mid) book.state × (later ≡ p.kept) =
+    elim c.if-not-self.branch as (λ _. BeginsNext p.station p.book.state (bare mid) book.state × (later ≡ p.kept)) [
+      | then-not-self w ↦
+          let is = w.self-inside-is in
+          let begun = w.begin_next in
+          let core_is : mid ≡ begun.new.core = ap (λ x. x.core) is in
+          let book_is : book ≡ begun.new.book = ap (λ x. x.book) is in (
+            subst (λ (k : Core). BeginsNext p.station p.book.state (bare k) book.state) (sym core_is)
+                (subst (λ (s : BookState). BeginsNext p.station p.book.state (bare begun.new.core) s) (sym (ap (λ (b : BookValue). b.state) book_is)) begun.ensures.next),
+            ap (λ x. x.kept.items) is,
+          )
+      | else-not-self w ↦
+          let is = w.self-inside-is in
+          (inl (ap bare (ap (λ x. x.core) is), ap (λ x. x.book.state) is), ap (λ x. x.kept.items) is)
+    ] in
+    send_tied p mid c.send.new.self book later c.if-not-self.self-inside.sent c.has_room-room.result c.send.result c.self.invariant begun.0 begun.1 room c.send.ensures.sent c.send.ensures.reads c.send.ensures.says
 
 both : (g : given.Over) (c : goal.After-send g) → let next : Parts (Unit {0}) = record { station = bare c.send.new.self; book = c.if-not-self.self-inside.book; kept = c.if-not-self.self-inside.kept.items; sent = c.if-not-self.self-inside.sent } in
     SendGives c.args.self.now next × SendDoes c.args.self.now next

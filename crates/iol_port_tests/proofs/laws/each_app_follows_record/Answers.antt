@@ -1,0 +1,5 @@
+use Rattle.iol_port_tests.proofs.FirstApp.{those_now}
+use Rattle.iol_port_tests.proofs.laws.each_app_follows_record.Goals as goal
+
+pub returns-clause-those : goal.returns-clause-those
+returns-clause-those g c = those_now _ _ _ c.keeps_record.ensures.wire

@@ -1,0 +1,71 @@
+//! How a device stands.
+ghost use Rattle.std.specs.Prelude.{◌≡◌, IsTrue, IsFalse};
+ghost use Rattle.iolink_device_c.specs.Calls.{far_of, IsRefused};
+ghost use Rattle.iolink_device_c.specs.Shown.{shown_mode};
+
+use crate::held::IolDevice;
+use core::mem::replace_with;
+use iol_device::{Apart, Device, Mode, Unkept};
+use iolink_handle::CLOSED;
+use std::alloc::Global;
+
+const ASLEEP: u8 = 1;
+
+/// The mode: 1 asleep, 2 startup, 3 preoperate, 4 operate. 0, or 252 where the handle is
+/// closed, with `out` as it was. It changes nothing.
+#[unsafe(no_mangle)]
+pub extern "C" fn iol_device_mode(alloc: Global, handle: &mut IolDevice, out: &mut u8) -> u8
+    ensures closed { IsFalse handle.old.is_open → IsRefused result handle.old handle.new }
+    ensures stays { handle.new.is_open ≡ handle.old.is_open }
+    ensures untouched { IsFalse handle.old.is_open → out.new ≡ out.old }
+    ensures same { handle.new.held.value ≡ handle.old.held.value }
+    ensures mode { IsTrue handle.old.is_open → (result ≡ 0)
+        × (out.new ≡ shown_mode (far_of handle.old)) }
+{
+    if !handle.is_open {
+        return CLOSED;
+    }
+    let shown = replace_with(handle, alloc, |handle, alloc| {
+        let sensor = handle.into_box(alloc);
+        let shown = shown_mode(&sensor.device);
+        (IolDevice::of(sensor), shown)
+    });
+    *out = shown;
+    0
+}
+
+fn shown_mode(device: &Device<Apart, Unkept>) -> u8
+    ensures { result ≡ shown_mode device.now.far }
+{
+    if !device.is_awake() {
+        return ASLEEP;
+    }
+    match device.mode() {
+        Mode::Startup => 2,
+        Mode::Preoperate => 3,
+        Mode::Operate => 4,
+    }
+}
+
+/// MasterCycleTime, the octet of page address 0x01 as the master wrote it last, 0 before: 0, or
+/// 252 where the handle is closed, with `out` as it was. It changes nothing.
+#[unsafe(no_mangle)]
+pub extern "C" fn iol_device_cycle_time(alloc: Global, handle: &mut IolDevice, out: &mut u8) -> u8
+    ensures closed { IsFalse handle.old.is_open → IsRefused result handle.old handle.new }
+    ensures stays { handle.new.is_open ≡ handle.old.is_open }
+    ensures untouched { IsFalse handle.old.is_open → out.new ≡ out.old }
+    ensures same { handle.new.held.value ≡ handle.old.held.value }
+    ensures octet { IsTrue handle.old.is_open → (result ≡ 0)
+        × (out.new ≡ (far_of handle.old).cycle_time) }
+{
+    if !handle.is_open {
+        return CLOSED;
+    }
+    let octet = replace_with(handle, alloc, |handle, alloc| {
+        let sensor = handle.into_box(alloc);
+        let octet = sensor.device.cycle_time();
+        (IolDevice::of(sensor), octet)
+    });
+    *out = octet;
+    0
+}

@@ -1,0 +1,166 @@
+//! Which device is expected, its page, and the cycle time that it is given.
+ghost use Rattle.std.specs.Prelude.{◌≡◌, ◌≤◌, ◌<◌, ◌↔◌, Some, None, unwrap_or, [], IsTrue, IsFalse, IsErr, IfOk, IfSome, IfNone};
+ghost use Rattle.iol_page.specs.Cycle.{longest_cycle};
+ghost use Rattle.iol_port.specs.declared.call.Call.TheVariants as call;
+ghost use Rattle.iol_port.specs.declared.call.Answered.TheVariants as answered;
+ghost use Rattle.iol_port.specs.EveryWire.{page_shown};
+ghost use Rattle.iolink_handle.specs.Shown.{AreShown};
+ghost use Rattle.iolink_port_c.specs.Calls.{parts_of, IsRefused, Stays, CallDoes};
+ghost use Rattle.iolink_port_c.specs.DeviceCalls.{identity_at, largest_device, counting_number, IsCycleOf, Expects, Paces};
+
+use crate::held::IolPort;
+use iol_page::{CycleFault, CycleTime, Identity, Page};
+use iol_port::Counting;
+use iolink_handle::{CLOSED, OUT_OF_RANGE, put};
+use std::alloc::Global;
+
+/// The largest DeviceID, which has 24 bits (IEC 61131-9, B.1.9).
+const LARGEST_DEVICE: u32 = 0xFF_FFFF;
+
+/// What was asked for counts for the session that is there or comes next.
+const NOW: u8 = 1;
+/// It counts from the next start-up on.
+const LATER: u8 = 2;
+
+/// Expects this device: a link to another one goes down.
+///
+/// 0, or the first of 252 where the handle is closed, and 254 for a DeviceID above 24 bits. With 0
+/// `counts` is 1 for now, or 2 for later: the page of the present session was checked already.
+/// Where it is refused, nothing changed, and `counts` stays as it is.
+#[unsafe(no_mangle)]
+pub extern "C" fn iol_port_expect(
+    alloc: Global,
+    handle: &mut IolPort,
+    vendor: u16,
+    device: u32,
+    counts: &mut u8,
+) -> u8
+    ensures closed { IsFalse handle.old.is_open → IsRefused result handle.old handle.new }
+    ensures unwritten { ¬ (result ≡ 0) → counts.new ≡ counts.old }
+    ensures stays { Stays handle.old handle.new }
+    ensures range { IsTrue handle.old.is_open → largest_device < device →
+        (result ≡ 254) × (handle.new ≡ handle.old) }
+    ensures expects { IsTrue handle.old.is_open → device ≤ largest_device →
+        Expects (Some (identity_at vendor device)) handle.old result counts.new handle.new }
+{
+    if !handle.is_open {
+        return CLOSED;
+    }
+    if device > LARGEST_DEVICE {
+        return OUT_OF_RANGE;
+    }
+    let identity = Identity { vendor, device };
+    let answer = handle.with(alloc, |master| master.port.expect(identity));
+    show_counting(answer, counts)
+}
+
+/// Expects any device again: 0, or 252 where the handle is closed, which leaves `counts` as it
+/// is. With 0 `counts` is as of `iol_port_expect`.
+#[unsafe(no_mangle)]
+pub extern "C" fn iol_port_expect_any(alloc: Global, handle: &mut IolPort, counts: &mut u8) -> u8
+    ensures closed { IsFalse handle.old.is_open → IsRefused result handle.old handle.new }
+    ensures unwritten { IsFalse handle.old.is_open → counts.new ≡ counts.old }
+    ensures stays { Stays handle.old handle.new }
+    ensures expects { IsTrue handle.old.is_open →
+        Expects None handle.old result counts.new handle.new }
+{
+    let answer = handle.with(alloc, |master| master.port.expect_any());
+    show_counting(answer, counts)
+}
+
+/// Has start-ups write the shortest cycle time that takes at least so many microseconds, where
+/// the device allows it; else, and for 0, the device's least one.
+///
+/// 0, or the first of 252 where the handle is closed, and 39 above 132,800. With 0 `counts` is as
+/// of `iol_port_expect`. Where it is refused, nothing changed, and `counts` stays as it is.
+#[unsafe(no_mangle)]
+pub extern "C" fn iol_port_set_cycle(
+    alloc: Global,
+    handle: &mut IolPort,
+    micros: u32,
+    counts: &mut u8,
+) -> u8
+    ensures closed { IsFalse handle.old.is_open → IsRefused result handle.old handle.new }
+    ensures unwritten { ¬ (result ≡ 0) → counts.new ≡ counts.old }
+    ensures stays { Stays handle.old handle.new }
+    ensures range { IsTrue handle.old.is_open → longest_cycle < micros →
+        (result ≡ 39) × (handle.new ≡ handle.old) }
+    ensures paces { IsTrue handle.old.is_open → micros ≤ longest_cycle →
+        Paces micros handle.old result counts.new handle.new }
+{
+    if !handle.is_open {
+        return CLOSED;
+    }
+    let cycle = match cycle_of(micros) {
+        Ok(cycle) => cycle,
+        Err(fault) => return fault.code(),
+    };
+    let answer = handle.with(alloc, |master| master.port.set_cycle(cycle));
+    show_counting(answer, counts)
+}
+
+/// The cycle time of so many microseconds; none for 0. Refusal 39: above 132,800.
+fn cycle_of(micros: u32) -> Result<Option<CycleTime>, CycleFault>
+    ensures refused { IsErr result ↔ (longest_cycle < micros) }
+    ensures cycle { IfOk result (λ cycle. IsCycleOf micros cycle) }
+{
+    if micros == 0 {
+        return Ok(None);
+    }
+    let cycle = CycleTime::from_micros(micros)?;
+    Ok(Some(cycle))
+}
+
+/// Shows C what a call counts for: 0, or 252 where the handle is closed.
+fn show_counting(answer: Option<Counting>, counts: &mut u8) -> u8
+    ensures closed { IfNone answer ((result ≡ 252) × (counts.new ≡ counts.old)) }
+    ensures shown { IfSome answer (λ answer.
+        (result ≡ 0) × (counts.new ≡ counting_number answer)) }
+{
+    *counts = match answer {
+        Some(Counting::Now) => NOW,
+        Some(Counting::Later) => LATER,
+        None => return CLOSED,
+    };
+    0
+}
+
+/// Direct parameter page 1: ten octets, that of address 0x02 first; none where `length` is 0.
+#[repr(C)]
+pub struct IolPage {
+    pub length: u8,
+    pub octets: [u8; 10],
+}
+
+/// The page of the device of the present session: 0, or 252 where the handle is closed, which
+/// leaves `out` as it is. It has no octet in down and before a start-up has checked it.
+#[unsafe(no_mangle)]
+pub extern "C" fn iol_port_page(alloc: Global, handle: &mut IolPort, out: &mut IolPage) -> u8
+    ensures closed { IsFalse handle.old.is_open → IsRefused result handle.old handle.new }
+    ensures unwritten { IsFalse handle.old.is_open → out.new ≡ out.old }
+    ensures stays { handle.new.is_open ≡ handle.old.is_open }
+    ensures same { handle.new.held.value ≡ handle.old.held.value }
+    ensures page { IsTrue handle.old.is_open → (result ≡ 0)
+        × AreShown (unwrap_or (page_shown (parts_of handle.old)) []) out.new.length out.new.octets }
+    ensures does { IsTrue handle.old.is_open → CallDoes handle.old
+        call.Page (answered.Page (page_shown (parts_of handle.old))) handle.new }
+{
+    match handle.with(alloc, |master| master.port.page()) {
+        Some(page) => show_page(page, out),
+        None => return CLOSED,
+    }
+    0
+}
+
+fn show_page(page: Option<Page>, out: &mut IolPage)
+    ensures { AreShown (unwrap_or page []) out.new.length out.new.octets }
+{
+    match page {
+        Some(page) => {
+            let octets = page.octets();
+            out.length = octets.len() as u8;
+            put(octets, &mut out.octets);
+        }
+        None => out.length = 0,
+    }
+}
