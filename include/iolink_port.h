@@ -199,6 +199,30 @@ typedef struct { uint8_t mode; uint8_t why; bool event_form; } iol_status;
 /* How the link is. 252. */
 uint8_t iol_port_status(iol_port *port, iol_status *out);
 
+/* ---- what was counted, for diagnosis */
+
+/* What a port has counted since it was opened. Each count stays at 2^64 - 1. An exchange has a good reply or a bad one
+ * of one kind. The last five are requests that were cut off, by the cause. */
+typedef struct {
+    uint64_t exchanges;             /* messages that went out, repeats as well */
+    uint64_t good_replies;          /* good replies */
+    uint64_t repeats;               /* messages that went out a second or third time in a row */
+    uint64_t no_reply;              /* exchanges to which no reply came in time */
+    uint64_t wrong_length;          /* replies with more or fewer octets than a good one has */
+    uint64_t wrong_checksum;        /* replies of the right length with a wrong checksum */
+    uint64_t links_lost;            /* links lost: three attempts in a row brought no good reply */
+    uint64_t start_ups;             /* start-ups: wake-up requests that a device answered */
+    uint64_t done;                  /* requests that have their device's answer */
+    uint64_t unknown_link_lost;     /* the device no longer replied */
+    uint64_t unknown_restarted;     /* the port was restarted */
+    uint64_t unknown_busy_too_long; /* the device was busy for as many replies as the port allows */
+    uint64_t unknown_protocol;      /* the device sent no text of an answer */
+    uint64_t unknown_cancelled;     /* a client asked for it */
+} iol_counters;
+
+/* What was counted. What is out counts once it is answered. 252. */
+uint8_t iol_port_counters(iol_port *port, iol_counters *out);
+
 /* ---- the journal */
 
 /* An entry of the journal. Where `kind` is 1 the request was submitted, 2 submitted as urgent; 8 the master began to

@@ -173,6 +173,16 @@ static void closed_handles(void)
     IS(octet, 0);
 }
 
+static void closed_to_counters(void)
+{
+    iol_port none = {0};
+    iol_counters counters, before;
+    memset(&counters, 5, sizeof counters);
+    before = counters;
+    IS(iol_port_counters(&none, &counters), IOL_CLOSED);
+    IS(memcmp(&counters, &before, sizeof counters), 0);
+}
+
 /* Where it is closed, that is tested before the numbers are. */
 static void closed_to_devices(void)
 {
@@ -223,6 +233,36 @@ static void refusals_at_opening(void)
     IS(iol_device_open(&device, page), 8);
     IS(port.is_open, 0);
     IS(device.is_open, 0);
+}
+
+/* Whether the port has counted this, and nothing else. */
+static void counted(iol_counters wanted)
+{
+    iol_counters counters;
+    memset(&counters, 5, sizeof counters);
+    IS(iol_port_counters(&port, &counters), 0);
+    IS(memcmp(&counters, &wanted, sizeof counters), 0);
+}
+
+/* A start-up is a wake and 14 exchanges, a read of two octets is 3. What is out isn't counted yet. */
+static void counted_by_hand(void)
+{
+    iol_message asked;
+    uint64_t ticket = 0;
+    counted((iol_counters){0});
+    turns(15);
+    counted((iol_counters){.exchanges = 14, .good_replies = 14, .start_ups = 1});
+    IS(iol_port_read(&port, 16, 0, &ticket), 0);
+    turns(3);
+    counted((iol_counters){.exchanges = 17, .good_replies = 17, .start_ups = 1, .done = 1});
+    lost = 1;
+    turn();
+    counted((iol_counters){.exchanges = 18, .good_replies = 17, .no_reply = 1, .start_ups = 1, .done = 1});
+    IS(iol_port_asks(&port, &asked), 0);
+    counted((iol_counters){.exchanges = 18, .good_replies = 17, .no_reply = 1, .start_ups = 1, .done = 1});
+    turn();
+    counted((iol_counters){
+        .exchanges = 19, .good_replies = 18, .repeats = 1, .no_reply = 1, .start_ups = 1, .done = 1});
 }
 
 static void requests(void)
@@ -564,6 +604,7 @@ int main(void)
 {
     closed_handles();
     closed_to_devices();
+    closed_to_counters();
     refusals_at_opening();
     open_both(plain);
     requests();
@@ -577,6 +618,9 @@ int main(void)
     IS(mode(), 4);
     close_both();
     open_both(plain);
+    counted_by_hand();
+    close_both();
+    open_both(plain);
     expected();
     cycles();
     close_both();
@@ -586,9 +630,9 @@ int main(void)
     open_both(deaf);
     without_isdu();
     close_both();
-    printf("sizes %zu %zu %zu %zu %zu %zu %zu %zu %zu\n", sizeof(iol_port), sizeof(iol_device), sizeof(iol_message),
+    printf("sizes %zu %zu %zu %zu %zu %zu %zu %zu %zu %zu\n", sizeof(iol_port), sizeof(iol_device), sizeof(iol_message),
            sizeof(iol_outcome), sizeof(iol_request), sizeof(iol_entry), sizeof(iol_image), sizeof(iol_status),
-           sizeof(iol_page));
+           sizeof(iol_page), sizeof(iol_counters));
     printf("wrong %d\n", wrong);
     return wrong != 0;
 }

@@ -64,6 +64,8 @@ def check_traces(room):
 def record_wrong(room, text):
     """Whether the page finds in the record what it has to hold. The order tells it for each of these texts."""
     fits, found = room.window.run("(({recordFits, counts}) => [recordFits, counts.surprises])(page.state.trace)")
+    if "\naway " in text:
+        return "the page fits one record to two devices" if fits else ""
     if not fits:
         return "the page says that the record doesn't fit"
     wanted = cut_off_and_carried(text)

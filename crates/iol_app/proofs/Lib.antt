@@ -1,4 +1,5 @@
 pub mod Accepted
+pub mod Verdicts
 pub mod FirstOctet
 pub mod OwnSession
 pub mod FrozenPart

@@ -92,11 +92,6 @@ asked_in (AtOperate state) s room =
     Exchange
     (outgoing state.layouts.run (text_of state.layouts.run (message_out state.out) s room))
 
--- the octets that are asked for
-abbrev pub octets_asked : Asked → Option (List ℕ)
-octets_asked Wake = None
-octets_asked (Exchange out) = Some out.octets.items
-
 module _ {W : Type 0} where
   abbrev pub prepared : Option Request → StationState W → Bool → StationState W
   prepared next s room = record s { session = beginning_in next s.link.state s.session room }

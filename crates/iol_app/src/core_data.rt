@@ -6,7 +6,7 @@ ghost use Rattle.iol_far.specs.Octets.{octets_in};
 ghost use Rattle.iol_link.specs.WireFacts.{Wakes, Passes};
 ghost use Rattle.iol_mode.specs.States.{IsDown, OutcomeFits, outcome_with};
 ghost use Rattle.iol_mode.specs.Stands.{StateStands};
-ghost use Rattle.iol_mode.specs.Exchanges.{IsSending, AreFew, ExchangeGives, StandsOn, WakeStands};
+ghost use Rattle.iol_mode.specs.Exchanges.{IsSending, AreFew, ExchangeGives, StandsOn, WakeStands, tries_in};
 ghost use Rattle.iol_app.specs.EventReading.{is_refused};
 ghost use Rattle.iol_app.specs.State.{aborted_in, begun_in, wanting, expecting, pacing, output_refusal, IsSession};
 ghost use Rattle.iol_app.specs.Requests.{request_in, request_after, EndsRequest};
@@ -14,12 +14,13 @@ ghost use Rattle.iol_app.specs.Due.{is_ready};
 ghost use Rattle.iol_app.specs.Reports.{is_reading, ReadingAfter};
 ghost use Rattle.iol_app.specs.StationState.{mode_in, why_in, page_in, operates, settled_session, NextFits, IsSettledSaid, IsTurn, StateFits as Joined};
 ghost use Rattle.iol_app.specs.Asking.{asked_in, beginning_in, asked_of, outgoing, IsCall};
-ghost use Rattle.iol_app.specs.AskedCalls.{asked_facts};
+ghost use Rattle.iol_app.specs.Brought.{brought_in, brought_facts};
 ghost use Rattle.iol_app.specs.Core.{after_exchange, after_wake, came_of, opened_core, restarted_core, wanting_core, IsRight};
 ghost use Rattle.iol_app.specs.Pieces.{IsAskedOut, IsSent, ReadsOn, SendSteps, WakeSteps, ReceiveSteps};
 ghost use Rattle.iol_app.specs.Seen.{station_of, NewSteps, BeginSteps, DenySteps, AbortSteps, CancelSteps, WantSteps, RestartSteps, TurnSteps};
 
 use crate::asked::{Asked, Outgoing};
+use crate::brought::{Brought, Out};
 use crate::laws::station_laws;
 use crate::output::OutputFault;
 use crate::session::Session;
@@ -343,8 +344,9 @@ impl Core {
     /// row has lost the link.
     ///
     /// It says `Reported`, `Answered` or `Cut` where that happened, else `Busy` where a request
-    /// is under way afterwards, else `Idle`, and then writes nothing.
-    pub fn receive(&mut self, came: &Option<Message>, said: &mut Said)
+    /// is under way afterwards, else `Idle`, and then writes nothing. It answers what the exchange
+    /// brought.
+    pub fn receive(&mut self, came: &Option<Message>, said: &mut Said) -> Brought
         requires idle { said.old ≡ Said.Idle }
         requires out { IsSending self.old.state }
         ensures core { self.new
@@ -357,12 +359,13 @@ impl Core {
         ensures reading { ReadingAfter false (is_reading self.old.session) said.new
             (is_reading self.new.session) }
         ensures steps { ReceiveSteps self.old (octets_in came.now) said.new self.new }
+        ensures brought { result ≡ brought_in self.old.state (octets_in came.now) }
     {
         station_laws();
-        self.take(came, said);
+        self.take(came, said)
     }
 
-    fn take(&mut self, came: &Option<Message>, said: &mut Said)
+    fn take(&mut self, came: &Option<Message>, said: &mut Said) -> Brought
         requires idle { said.old ≡ Said.Idle }
         requires out { IsSending self.old.state }
         ensures core { self.new
@@ -377,13 +380,17 @@ impl Core {
         ensures joined { Joined self.old.state self.old.session }
         ensures gives { ExchangeGives self.old.state (octets_in came.now)
             (came_of self.old (octets_in came.now)) }
+        ensures brought { result ≡ brought_in self.old.state (octets_in came.now) }
     {
         self.session.is_valid();
+        let out = Out::of(&self.state);
         let attempt = self.state.receives(came, self.session.configuration());
-        settled(&self.state, &attempt, &mut self.session, said)
+        settled(&self.state, &attempt, &mut self.session, said);
+        out.brought(&attempt, came)
     }
 
-    /// One turn over this wire: `send`, one call of the wire, and `receive` or `receive_wake`.
+    /// One turn over this wire: `send`, one call of the wire, and `receive` or `receive_wake`. It
+    /// answers what that call brought.
     ///
     /// On every wire an answer and a cut end the request under way, and a report ends a reading
     /// of events that an earlier turn began; `room` says whether this turn may begin one. Over an
@@ -391,7 +398,7 @@ impl Core {
     /// is taken.
     ///
     /// Rule PD-7.
-    pub fn turn<W: Wire>(&mut self, wire: &mut W, room: bool, said: &mut Said)
+    pub fn turn<W: Wire>(&mut self, wire: &mut W, room: bool, said: &mut Said) -> Brought
         requires idle { said.old ≡ Said.Idle }
         requires stands { IsTrue (W.facts.honest wire.old)
             → StateStands self.old.state (W.facts.silence wire.old) (W.facts.far wire.old) }
@@ -406,7 +413,8 @@ impl Core {
             (station_of wire.old self.old) said.new (station_of wire.new self.new) }
         ensures asked { IsCall W.facts (asked_in self.old.state self.old.session room)
             wire.old wire.new }
-        ensures exact { IsTurn (asked_facts W.facts (asked_in self.old.state self.old.session room))
+        ensures exact { IsTurn (brought_facts W.facts
+            (asked_in self.old.state self.old.session room) (tries_in self.old.state) result)
             room (station_of wire.old self.old) said.new (station_of wire.new self.new) }
         ensures honest { W.facts.honest wire.new ≡ W.facts.honest wire.old }
         ensures stands { IsTrue (W.facts.honest wire.new)
@@ -418,10 +426,11 @@ impl Core {
             Asked::Wake => {
                 let rate = wire.wake();
                 self.take_wake(rate);
+                Brought::of_wake(rate)
             }
             Asked::Exchange(sent) => {
                 let came = wire.exchange(sent.octets.as_slice());
-                self.take(&came, said);
+                self.take(&came, said)
             }
         }
     }

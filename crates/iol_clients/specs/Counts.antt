@@ -15,6 +15,7 @@ use Rattle.iol_master.specs.declared.accounts.Settled.TheVariants.{Part, Last}
 use Rattle.iol_master.specs.Counts.{DeskState}
 use Rattle.iol_master.specs.Master.{WasSettled}
 use Rattle.iol_clients.specs.declared.counts.Counted.{Counted}
+use Rattle.iol_clients.specs.declared.counts.PortCounts.{PortCounts}
 
 -- each ticket stands in one of three counts
 abbrev pub AddsUp : Counted → Type 0
@@ -81,18 +82,20 @@ module _ {W : Type 0} (facts : WireFacts W) where
   abbrev pub Collected : ℕ → Port W × Counted → ClientState → Port W × Counted → Type 0
   Collected port before client after = FoldsTo Notes before (tickets_at port client) after
 
-  -- some port, whose lock was held, at which this was so of each client, and of nobody else
-  abbrev pub WasCounted : ℕ → List ClientState → Counted → Type 0
-  WasCounted port clients counted = (p : Port W) × (next : Port W)
-      × FoldsTo (Collected port) (p, none) clients (next, counted)
+  -- some port, whose lock was held, at which this was so of each client, and of nobody else, and
+  -- which had counted this then
+  abbrev pub WasCounted : ℕ → List ClientState → PortCounts → Type 0
+  WasCounted port clients counts = (p : Port W) × (next : Port W)
+      × FoldsTo (Collected port) (p, none) clients (next, counts.requests)
+      × (counts.counters ≡ next.parts.counters)
 
   -- the ports from the first on were counted
-  abbrev pub AreCounted : ℕ → List ClientState → List Counted → Type 0
+  abbrev pub AreCounted : ℕ → List ClientState → List PortCounts → Type 0
   AreCounted first clients [] = ⊤
-  AreCounted first clients (counted ∷ counts) =
-      WasCounted first clients counted × AreCounted (first + 1) clients counts
+  AreCounted first clients (port ∷ ports) =
+      WasCounted first clients port × AreCounted (first + 1) clients ports
 
   -- Some clients, whose tickets were all counted, and whose desks were settled with this total
-  abbrev pub AreServed : List Counted → ℕ → Type 0
-  AreServed counts total = (clients : List ClientState)
-      × AreCounted 1 clients counts × AreSettled clients total
+  abbrev pub AreServed : List PortCounts → ℕ → Type 0
+  AreServed ports total = (clients : List ClientState)
+      × AreCounted 1 clients ports × AreSettled clients total

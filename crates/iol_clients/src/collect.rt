@@ -5,14 +5,15 @@ ghost use Rattle.iol_clients.specs.Counts.{AddsUp, accepted_at};
 ghost use Rattle.iol_clients.specs.Counts.{seen, WasCounted, AreCounted, AreSettled};
 
 use crate::client::Client;
-use crate::counts::Counted;
+use crate::counts::{Counted, PortCounts};
 use iol_link::Wire;
 use iol_master::{Master, Settled};
 use std::alloc::{AllocError, Global};
 use std::sync::Wait;
 use std::sync::ledger::Ledger;
 
-/// Collects the tickets of one port's clients, and counts what is answered.
+/// Collects the tickets of one port's clients, and counts what is answered. Then the port tells
+/// what it counted.
 ///
 /// The clause says that this was so at some port. At which one the lock hides: row
 /// `clients/many_three_ports` of tests/rows holds it.
@@ -21,36 +22,40 @@ fn count_port<W: Wire, L: Ledger, K: Ledger, R: Wait>(
     master: &Master<W, L, K>,
     port: u32,
     clients: &[Client<L>],
-) -> Counted
+) -> PortCounts
     requires port { (1 ≤ port) × (port ≤ master.now) }
     requires few { length clients.now ≤ 512 }
-    ensures up { AddsUp result }
-    ensures tickets { result.tickets ≡ sum_by (λ client. accepted_at port client.desk) clients.now }
+    ensures up { AddsUp result.requests }
+    ensures tickets { result.requests.tickets
+        ≡ sum_by (λ client. accepted_at port client.desk) clients.now }
     ensures counted { WasCounted W.facts port
         (map (λ client. seen client.desk client.tickets.items) clients.now) result }
 {
     let Ok(mut held) = master.lock(rt, port) else {
         unreachable!()
     };
-    let mut counted = Counted::none();
+    let mut requests = Counted::none();
     for client in clients {
-        client.collect(port, &mut held, &mut counted);
+        client.collect(port, &mut held, &mut requests);
     }
-    counted
+    PortCounts {
+        requests,
+        counters: *held.counters(),
+    }
 }
 
-/// Collects all tickets, and counts them by ports.
+/// Collects all tickets, and counts them by ports. Each port tells what it counted.
 pub(crate) fn count_ports<W: Wire, L: Ledger, K: Ledger, R: Wait>(
     rt: &R,
     alloc: Global,
     master: &Master<W, L, K>,
     ports: u32,
     clients: &[Client<L>],
-) -> Result<Vec<Counted>, AllocError>
+) -> Result<Vec<PortCounts>, AllocError>
     requires ports { ports ≡ master.now }
     requires few { length clients.now ≤ 512 }
     ensures count { IfOk result (λ counts. vec_len counts ≡ ports) }
-    ensures up { IfOk result (λ counts. All AddsUp counts.items) }
+    ensures up { IfOk result (λ counts. All (λ port. AddsUp port.requests) counts.items) }
     ensures counted { IfOk result (λ counts. AreCounted W.facts 1
         (map (λ client. seen client.desk client.tickets.items) clients.now) counts.items) }
 {

@@ -2,7 +2,7 @@
 ghost use Rattle.std.specs.Prelude.{◌≡◌, ◌+◌, ◌<◌, ◌^◌};
 
 use iol_book::Outcome;
-use iol_port::PortFault;
+use iol_port::{Counters, PortFault};
 use std::alloc::Global;
 
 /// What became of the requests of one port.
@@ -20,11 +20,20 @@ pub struct Counted {
     pub waiting: u64,
 }
 
-/// What became of the requests of all ports.
+/// What there is to tell of one port.
+#[derive(Clone, Copy, Debug, PartialEq, Eq)]
+pub struct PortCounts {
+    /// What became of its requests.
+    pub requests: Counted,
+    /// What it had counted since its opening, once the tickets were collected.
+    pub counters: Counters,
+}
+
+/// What there is to tell of all ports.
 #[derive(Debug, PartialEq, Eq, Drop)]
 pub struct Counts {
     /// The ports in their order, from port 1.
-    pub ports: Vec<Counted, Global>,
+    pub ports: Vec<PortCounts, Global>,
     /// The accepted submits of all desks, as the last desk was told when it was settled.
     pub total: u64,
 }

@@ -1,7 +1,8 @@
 //! Many ports, clients and workers over the simulated wire.
 //!
 //! [`serve_clients`] opens a master whose ports stand over clean wires, lets clients in threads
-//! of their own submit while its workers make turns, and counts what became of the tickets.
+//! of their own submit while its workers make turns, counts what became of the tickets, and tells
+//! what the ports counted.
 //!
 //! Its definitions are `specs/Counts`: the tickets of a port are those done, unknown and waiting.
 #![tactic(auto)]
@@ -14,6 +15,6 @@ mod ports;
 mod run;
 mod serve;
 
-pub use counts::{Counted, Counts};
+pub use counts::{Counted, Counts, PortCounts};
 pub use fault::ClientsFault;
 pub use serve::serve_clients;

@@ -24,7 +24,8 @@ use std::thread::Threads;
 /// 11 00 00 12 34 00 01 07` and one parameter, 16/0, which is read and has the octets
 /// `41 42`. The clients submit their reads of it, each in a thread of its own, while a
 /// worker for each port makes the plan's turns; when all have submitted, the workers
-/// make as many again. Then each client's tickets are collected and its desk is settled.
+/// make as many again. Then each client's tickets are collected, each port tells what it
+/// counted, and each desk is settled.
 ///
 /// Refused by 24 where a request for memory is refused, and by 32 where a thread
 /// can't be started. Threads that were started have then ended.
@@ -34,7 +35,8 @@ pub fn serve_clients<R: Threads + Wait + Sync>(
     plan: &Plan,
 ) -> Result<Counts, ClientsFault>
     ensures ports { IfOk result (λ counts. vec_len counts.ports ≡ plan.now.ports) }
-    ensures up { IfOk result (λ counts. All AddsUp counts.ports.items) }
+    ensures up { IfOk result (λ counts.
+        All (λ port. AddsUp port.requests) counts.ports.items) }
     ensures served { IfOk result (λ counts.
         AreServed ⟦<Sim<Params> as Wire>⟧.facts counts.ports.items counts.total) }
 {
@@ -53,7 +55,8 @@ fn with_ledgers<L: Ledger + Sync, K: Ledger + Sync, R: Threads + Wait + Sync>(
     requires clients { IsBlankFor clients L.name L.parts 1025 }
     requires tickets { IsBlankFor tickets K.name K.parts plan.now.ports }
     ensures ports { IfOk result (λ counts. vec_len counts.ports ≡ plan.now.ports) }
-    ensures up { IfOk result (λ counts. All AddsUp counts.ports.items) }
+    ensures up { IfOk result (λ counts.
+        All (λ port. AddsUp port.requests) counts.ports.items) }
     ensures served { IfOk result (λ counts.
         AreServed ⟦<Sim<Params> as Wire>⟧.facts counts.ports.items counts.total) }
 {

@@ -2,7 +2,8 @@
 use Rattle.std.proofs.Common.{◌≡◌, ℕ, ◌+◌, ◌<◌, zero, suc, List, [], ◌∷◌, ◌++◌, length, get_or, take, sym, ap, ◌∙◌, arith, add-one, add-zero, append_assoc}
 use Rattle.std.proofs.lemmas.List.{append-nil}
 use Rattle.std.specs.List.{flat_map, enumerate_from}
-use Rattle.iol_clients.specs.declared.counts.Counted.{Counted}
+use Rattle.iol_clients.specs.declared.counts.PortCounts.{PortCounts}
+use Rattle.iol_script.specs.declared.plan.Shown.{Shown}
 use Rattle.iol_commands.specs.ManyPrinted.{port_text, ports_text}
 
 module _ {X : Type 0} (text : ℕ × X → List ℕ) where
@@ -26,7 +27,11 @@ module _ {X : Type 0} (text : ℕ × X → List ℕ) where
       wrote ∙ ap (λ (l : List ℕ). l ++ text (i + 1, get_or xs i d)) is ∙ ap (λ (k : ℕ). (old ++ texts 1 (take i xs)) ++ text (k, get_or xs i d)) same
       ∙ append_assoc old (texts 1 (take i xs)) (text (1 + i, get_or xs i d)) ∙ ap (λ (l : List ℕ). old ++ l) (sym (one_more 1 xs i d within)) ∙ ap (λ (k : ℕ). old ++ texts 1 (take k xs)) (sym (add-one i))
 
--- one more port's line is printed
-pub port_printed : (old out new : List ℕ) (ports : List Counted) (i : ℕ) (d : Counted) → out ≡ old ++ ports_text (take i ports) → i < length ports
-    → new ≡ out ++ port_text (i + 1) (get_or ports i d) → new ≡ old ++ ports_text (take (i + 1) ports)
-port_printed old out new ports i d is within wrote = one_printed (λ port. port_text port.0 port.1) old out new ports i d is within wrote
+-- one more port's lines are printed
+pub port_printed : (shown : Shown) (old out new : List ℕ) (ports : List PortCounts) (i : ℕ)
+    (d : PortCounts)
+    → out ≡ old ++ ports_text shown (take i ports) → i < length ports
+    → new ≡ out ++ port_text shown (i + 1) (get_or ports i d)
+    → new ≡ old ++ ports_text shown (take (i + 1) ports)
+port_printed shown old out new ports i d is within wrote =
+    one_printed (λ port. port_text shown port.0 port.1) old out new ports i d is within wrote

@@ -83,6 +83,8 @@ module _ {W : Type 0} (facts : WireFacts W) where
     passes_of (call.Expect identity) asked old new s t layout text before after shape called printed = (printed.0, after ∙ ap (λ (w : Tapped W). w.wire) called ∙ sym before, printed.1)
     passes_of (call.Cycle time) asked old new s t layout text before after shape called printed = (printed.0, after ∙ ap (λ (w : Tapped W). w.wire) called ∙ sym before, printed.1)
     passes_of call.Page asked old new s t layout text before after shape called printed = (printed.0, after ∙ ap (λ (w : Tapped W). w.wire) called ∙ sym before, printed.1)
+    passes_of call.Counters asked old new s t layout text before after shape called printed =
+        (printed.0, after ∙ ap (λ (w : Tapped W). w.wire) called ∙ sym before, printed.1)
     passes_of call.TakeEvent asked old new s t layout text before after shape called printed = (printed.0, after ∙ ap (λ (w : Tapped W). w.wire) called ∙ sym before, printed.1)
     passes_of call.Status asked old new s t layout text before after shape called printed = (printed.0, after ∙ ap (λ (w : Tapped W). w.wire) called ∙ sym before, printed.1)
     passes_of call.Archive asked old new s t layout text before after shape called printed = (printed.0, after ∙ ap (λ (w : Tapped W). w.wire) called ∙ sym before, printed.1)

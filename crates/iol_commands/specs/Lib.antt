@@ -2,6 +2,7 @@ pub mod Faults
 pub mod Input
 pub mod Printed
 pub mod Checked
+pub mod CountersPrinted
 pub mod RunPrinted
 pub mod RunPlayed
 pub mod ManyPrinted

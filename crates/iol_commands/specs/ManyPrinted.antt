@@ -1,36 +1,57 @@
 -- What `many` prints.
-use Rattle.std.specs.Prelude.{◌≡◌, ℕ, List, ◌++◌, All, Ok, vec_len, flat_map, codes}
+use Rattle.std.specs.Prelude.{◌≡◌, ℕ, List, [], ◌++◌, All, Ok, vec_len, flat_map, codes}
 use Rattle.std.specs.List.{enumerate_from}
-use Rattle.iol_clients.specs.Counts.{AddsUp}
+use Rattle.iol_sim.specs.Params.{Stores}
+use Rattle.iol_sim.specs.Sim.{sim_facts}
+use Rattle.iol_port.specs.declared.counters.Counters.{Counters}
+use Rattle.iol_clients.specs.Counts.{AddsUp, AreServed}
 use Rattle.iol_clients.specs.declared.counts.Counted.{Counted}
+use Rattle.iol_clients.specs.declared.counts.PortCounts.{PortCounts}
 use Rattle.iol_clients.specs.declared.counts.Counts.{Counts}
 use Rattle.iol_script.specs.Plan.{PlanNumbers, plan_of}
+use Rattle.iol_script.specs.declared.plan.Shown.{Shown}
+use Rattle.iol_script.specs.declared.plan.Shown.TheVariants as shown
 use Rattle.iol_commands.specs.Printed.{number_text}
+use Rattle.iol_commands.specs.CountersPrinted.{counters_text}
 
--- the line of a port: its number, and how many tickets it gave, how many are done,
+-- the line of a port's tickets: its number, and how many tickets it gave, how many are done,
 -- unknown and waiting
-abbrev pub port_text : ℕ → Counted → List ℕ
-port_text port counted =
+abbrev pub tickets_line : ℕ → Counted → List ℕ
+tickets_line port counted =
     number_text (codes "port ") port ++ number_text (codes " tickets ") counted.tickets
     ++ number_text (codes " done ") counted.done
     ++ number_text (codes " unknown ") counted.unknown
     ++ number_text (codes " waiting ") counted.waiting ++ codes "\n"
 
--- the lines of ports, which are numbered from 1 on
-abbrev pub ports_text : List Counted → List ℕ
-ports_text ports = flat_map (λ port. port_text port.0 port.1) (enumerate_from 1 ports)
+-- the line of a port's counters, where they are shown: its number, and what `run` prints
+abbrev pub counters_line : Shown → ℕ → Counters → List ℕ
+counters_line shown.Tickets port counters = []
+counters_line shown.Counters port counters =
+    number_text (codes "port ") port ++ codes " " ++ counters_text counters
 
--- a line for each port, and the total
-abbrev pub counts_text : Counts → List ℕ
-counts_text counts =
-    ports_text counts.ports.items ++ number_text (codes "total ") counts.total ++ codes "\n"
+-- the lines of a port
+abbrev pub port_text : Shown → ℕ → PortCounts → List ℕ
+port_text shown port counts =
+    tickets_line port counts.requests ++ counters_line shown port counts.counters
+
+-- the lines of ports, which are numbered from 1 on
+abbrev pub ports_text : Shown → List PortCounts → List ℕ
+ports_text shown ports =
+    flat_map (λ port. port_text shown port.0 port.1) (enumerate_from 1 ports)
+
+-- the lines of each port, and the total
+abbrev pub counts_text : Shown → Counts → List ℕ
+counts_text shown counts =
+    ports_text shown counts.ports.items ++ number_text (codes "total ") counts.total ++ codes "\n"
 
 -- The text shows some counts, with one entry for each port of the plan that the
--- lines say. Each ticket of a port is done, unknown or waiting.
+-- lines say. Each ticket of a port is done, unknown or waiting, as its collect answered, and its
+-- counters are those that it had then.
 pub record PrintsCounts (lines : List (ℕ × List ℕ)) (text : List ℕ) : Type 0 where
   pub plan : PlanNumbers
   pub counts : Counts
   pub planned : plan_of lines ≡ Ok plan
   pub ports : vec_len counts.ports ≡ plan.ports
-  pub up : All AddsUp counts.ports.items
-  pub text_is : text ≡ counts_text counts
+  pub up : All (λ port. AddsUp port.requests) counts.ports.items
+  pub served : AreServed (sim_facts Stores) counts.ports.items counts.total
+  pub text_is : text ≡ counts_text plan.shown counts

@@ -6,8 +6,6 @@ use Rattle.iol_isdu.specs.declared.values.Request.{Request}
 use Rattle.iol_isdu.specs.declared.values.Request.TheVariants as request
 use Rattle.iol_isdu.specs.declared.values.Answer.{Answer}
 use Rattle.iol_isdu.specs.declared.values.Answer.TheVariants as answer
-use Rattle.iol_isdu.specs.declared.values.Cause.{Cause}
-use Rattle.iol_isdu.specs.declared.values.Cause.TheVariants.{LinkLost, Restarted, BusyTooLong, Protocol, Cancelled}
 use Rattle.iol_event.specs.declared.event.Event.{Event}
 use Rattle.iol_far.specs.declared.carried.Carried.{Carried}
 use Rattle.iol_mode.specs.declared.why.Why.{Why}
@@ -32,6 +30,7 @@ use Rattle.iol_port.specs.declared.call.Answered.TheVariants as answered
 use Rattle.iol_port.specs.declared.fault.PortFault.{PortFault}
 use Rattle.iol_port.specs.declared.fault.PortFault.TheVariants.{Book, Output, NoEvent}
 use Rattle.iol_commands.specs.Printed.{hexadecimal, octets_text, number_text}
+use Rattle.iol_commands.specs.CountersPrinted.{cause_name, counters_text}
 
 -- Requests and answers
 
@@ -58,14 +57,6 @@ device_text (answer.Refused error additional) =
     codes "refused" ++ octets_text (error ∷ additional ∷ [])
 
 -- Tickets and outcomes
-
--- why a request was cut off
-abbrev pub cause_name : Cause → List ℕ
-cause_name LinkLost = codes "LinkLost"
-cause_name Restarted = codes "Restarted"
-cause_name BusyTooLong = codes "BusyTooLong"
-cause_name Protocol = codes "Protocol"
-cause_name Cancelled = codes "Cancelled"
 
 -- how a request ended
 abbrev pub outcome_text : Outcome → List ℕ
@@ -187,6 +178,7 @@ answer_text call (answered.Status status) = state_text status
 answer_text call (answered.Archived count) = number_text (codes "archived ") count ++ codes "\n"
 answer_text call (answered.Counts counting) = counting_text counting
 answer_text call (answered.Page page) = page_text page
+answer_text call (answered.Counters counters) = counters_text counters
 answer_text call answered.Nothing = nothing_text call
 
 -- what is printed for calls, each with its answer

@@ -10,6 +10,7 @@
 #![tactic(auto)]
 
 mod check_command;
+mod counters_printing;
 mod fault;
 mod many_command;
 mod many_printing;

@@ -1,10 +1,13 @@
 //! `many`: many ports, and clients in threads of their own.
-ghost use Rattle.std.specs.Prelude.{◌≡◌, ◌≢◌, ◌<◌, ◌≤◌, ◌+◌, ◌⊎◌, length, ℕ, Err, IfErr, IfOk, IsOk, OnErr, OnOk};
+ghost use Rattle.std.specs.Prelude.{◌≡◌, ◌≢◌, ◌<◌, ◌≤◌, ◌+◌, ◌⊎◌, length, ℕ};
+ghost use Rattle.std.specs.Prelude.{Err, IfErr, IfOk, IsOk, OnErr, OnOk};
 ghost use Rattle.std.specs.Io.KnownBytes.{Keeps};
 ghost use Rattle.std.specs.String.{string_bytes};
 ghost use Rattle.iol_script.specs.Plan.{plan_of};
 ghost use Rattle.iol_script.specs.Text.{numbered_lines};
-ghost use Rattle.iol_commands.specs.declared.fault.ProgramFault.TheVariants.{Line, NoThread, OutOfMemory, TooLong, WriteFailed};
+ghost use Rattle.iol_commands.specs.declared.fault.ProgramFault.TheVariants.{Line, NoThread};
+ghost use Rattle.iol_commands.specs.declared.fault.ProgramFault.TheVariants.{OutOfMemory, TooLong};
+ghost use Rattle.iol_commands.specs.declared.fault.ProgramFault.TheVariants.{WriteFailed};
 ghost use Rattle.iol_commands.specs.ManyPrinted.{PrintsCounts};
 ghost use Rattle.iol_commands.specs.Input.{IsTooLong, OfLines, TakesInput, Writes};
 
@@ -22,9 +25,10 @@ use std::thread::Threads;
 /// what became of the tickets.
 ///
 /// The input is read whole, up to 1,048,576 bytes. Its lines are then read from first to last,
-/// and the plan that they say is carried out. A line is printed for each port, from port 1, and
-/// one for the total; the output is written at the end. The first fault that is met ends the
-/// call: nothing is written then, but where it is a write that fails part of the output may be.
+/// and the plan that they say is carried out. A line is printed for each port, from port 1, behind
+/// it one for its counters if the plan shows them, and at the end one for the total. The output is
+/// written at the end. The first fault that is met ends the call: nothing is written then, but
+/// where it is a write that fails part of the output may be.
 pub fn many<T: Threads + Wait + Sync, R: Read, W: Write>(
     rt: &T,
     alloc: Global,
@@ -69,6 +73,6 @@ fn served<T: Threads + Wait + Sync>(
     let plan = Plan::read(input)?;
     let counts = serve_clients(rt, alloc, &plan)?;
     let mut output = String::new(alloc);
-    print_counts(&mut output, &counts)?;
+    print_counts(&mut output, &counts, plan.shown)?;
     Ok(output)
 }

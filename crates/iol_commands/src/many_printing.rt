@@ -1,19 +1,23 @@
 //! What `many` prints for the counts of its ports.
 ghost use Rattle.std.specs.Prelude.{◌≡◌, ◌++◌, OnOk};
 ghost use Rattle.std.specs.String.{string_bytes};
-ghost use Rattle.iol_commands.specs.ManyPrinted.{counts_text, port_text, ports_text};
+ghost use Rattle.iol_commands.specs.ManyPrinted.{counters_line, counts_text, port_text, ports_text};
+ghost use Rattle.iol_commands.specs.ManyPrinted.{tickets_line};
 
-use iol_clients::{Counted, Counts};
+use crate::counters_printing::print_counters;
+use iol_clients::{Counted, Counts, PortCounts};
+use iol_port::Counters;
+use iol_script::Shown;
 use std::alloc::{AllocError, Allocator};
 
 /// A port's number, and what became of its tickets.
-fn print_port<A: Allocator>(
+fn print_tickets<A: Allocator>(
     output: &mut String<A>,
     port: usize,
     counted: &Counted,
 ) -> Result<(), AllocError>
     ensures { OnOk result (string_bytes output.new
-        ≡ string_bytes output.old ++ port_text port counted.now) }
+        ≡ string_bytes output.old ++ tickets_line port counted.now) }
 {
     let Counted {
         tickets,
@@ -27,26 +31,64 @@ fn print_port<A: Allocator>(
     )
 }
 
-/// A line for each port, from port 1.
-fn print_ports<A: Allocator>(output: &mut String<A>, ports: &[Counted]) -> Result<(), AllocError>
+/// A port's number, and what it counted, where that is shown.
+fn print_counted<A: Allocator>(
+    output: &mut String<A>,
+    shown: Shown,
+    port: usize,
+    counters: &Counters,
+) -> Result<(), AllocError>
     ensures { OnOk result (string_bytes output.new
-        ≡ string_bytes output.old ++ ports_text ports.now) }
+        ≡ string_bytes output.old ++ counters_line shown port counters.now) }
 {
-    for (place, counted) in ports.iter().enumerate() {
-        print_port(output, place + 1, counted)?;
+    match shown {
+        Shown::Tickets => Ok(()),
+        Shown::Counters => {
+            write!(output, "port {port} ")?;
+            print_counters(output, counters)
+        }
+    }
+}
+
+/// The lines of a port.
+fn print_port<A: Allocator>(
+    output: &mut String<A>,
+    shown: Shown,
+    port: usize,
+    counts: &PortCounts,
+) -> Result<(), AllocError>
+    ensures { OnOk result (string_bytes output.new
+        ≡ string_bytes output.old ++ port_text shown port counts.now) }
+{
+    print_tickets(output, port, &counts.requests)?;
+    print_counted(output, shown, port, &counts.counters)
+}
+
+/// The lines of each port, from port 1.
+fn print_ports<A: Allocator>(
+    output: &mut String<A>,
+    shown: Shown,
+    ports: &[PortCounts],
+) -> Result<(), AllocError>
+    ensures { OnOk result (string_bytes output.new
+        ≡ string_bytes output.old ++ ports_text shown ports.now) }
+{
+    for (place, counts) in ports.iter().enumerate() {
+        print_port(output, shown, place + 1, counts)?;
     }
     Ok(())
 }
 
-/// A line for each port, and how many tickets there are in all.
+/// The lines of each port, and how many tickets there are in all.
 pub(crate) fn print_counts<A: Allocator>(
     output: &mut String<A>,
     counts: &Counts,
+    shown: Shown,
 ) -> Result<(), AllocError>
     ensures { OnOk result (string_bytes output.new
-        ≡ string_bytes output.old ++ counts_text counts.now) }
+        ≡ string_bytes output.old ++ counts_text shown counts.now) }
 {
-    print_ports(output, counts.ports.as_slice())?;
+    print_ports(output, shown, counts.ports.as_slice())?;
     let total = counts.total;
     writeln!(output, "total {total}")
 }

@@ -2,16 +2,26 @@
 ghost use Rattle.std.specs.Prelude.{◌≡◌, ◌++◌, OnOk, Some};
 ghost use Rattle.std.specs.String.{string_bytes};
 ghost use Rattle.std.specs.Option.{option_copied};
-ghost use Rattle.iol_commands.specs.RunPrinted.{listed_text, place_text, request_text, device_text, cause_name, outcome_text, ticket_text, collected_text, image_text, code_text, event_text, mode_name, why_name, why_text, link_text, state_text, book_fault_name, output_fault_name, port_fault_name, refused_text, nothing_text, answer_text, carried_text, entries_text, record_text, counting_text, page_text, away_text};
+ghost use Rattle.iol_commands.specs.RunPrinted.{listed_text, place_text, request_text, device_text};
+ghost use Rattle.iol_commands.specs.RunPrinted.{outcome_text, ticket_text, collected_text};
+ghost use Rattle.iol_commands.specs.RunPrinted.{image_text, code_text, event_text};
+ghost use Rattle.iol_commands.specs.RunPrinted.{mode_name, why_name, why_text};
+ghost use Rattle.iol_commands.specs.RunPrinted.{link_text, state_text};
+ghost use Rattle.iol_commands.specs.RunPrinted.{book_fault_name, output_fault_name};
+ghost use Rattle.iol_commands.specs.RunPrinted.{port_fault_name, refused_text};
+ghost use Rattle.iol_commands.specs.RunPrinted.{counting_text, page_text};
+ghost use Rattle.iol_commands.specs.RunPrinted.{nothing_text, answer_text};
+ghost use Rattle.iol_commands.specs.RunPrinted.{carried_text, entries_text, record_text, away_text};
 ghost use Rattle.iol_commands.specs.RunPlayed.{records_text};
 
+use crate::counters_printing::{cause_name, print_counters};
 use crate::printing::{print_hexadecimal, print_octets};
 use iol_app::{OutputFault, Status};
 use iol_book::{BookFault, Outcome, Ticket};
 use iol_device::Carried;
 use iol_event::Event;
 use iol_image::Image;
-use iol_isdu::{Answer, Cause, Place, Request};
+use iol_isdu::{Answer, Place, Request};
 use iol_mode::Why;
 use iol_page::Page;
 use iol_port::{Answered, Call, Counting, PortFault};
@@ -74,19 +84,6 @@ fn print_device_answer<A: Allocator>(
             output.push_str("refused")?;
             print_octets(output, &[*error, *additional])
         }
-    }
-}
-
-/// Why a request was cut off.
-fn cause_name(cause: Cause) -> &'static str
-    ensures { result.now ≡ cause_name cause }
-{
-    match cause {
-        Cause::LinkLost => "LinkLost",
-        Cause::Restarted => "Restarted",
-        Cause::BusyTooLong => "BusyTooLong",
-        Cause::Protocol => "Protocol",
-        Cause::Cancelled => "Cancelled",
     }
 }
 
@@ -333,6 +330,7 @@ pub(crate) fn print_answer<A: Allocator>(
         Answered::Archived(count) => writeln!(output, "archived {count}"),
         Answered::Counts(counting) => output.push_str(counting_line(*counting)),
         Answered::Page(page) => print_page(output, page.as_ref()),
+        Answered::Counters(counters) => print_counters(output, counters),
         Answered::Nothing => print_nothing(output, call),
     }
 }
@@ -367,7 +365,8 @@ pub(crate) fn print_records<C: Allocator + Copy, A: Allocator>(
     output: &mut String<A>,
     sim: &Sim<Params, C>,
 ) -> Result<(), AllocError>
-    ensures { OnOk result (string_bytes output.new ≡ string_bytes output.old ++ records_text sim.now) }
+    ensures { OnOk result (string_bytes output.new
+        ≡ string_bytes output.old ++ records_text sim.now) }
 {
     print_record(output, sim.device().carried())?;
     let Some(away) = sim.away() else {

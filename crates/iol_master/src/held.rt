@@ -29,7 +29,7 @@ use iol_image::Image;
 use iol_isdu::Request;
 use iol_link::Wire;
 use iol_page::{CycleTime, Identity, Page};
-use iol_port::{Counting, Port, PortFault};
+use iol_port::{Counters, Counting, Port, PortFault};
 use std::alloc::Global;
 use std::marker::Model;
 use std::sync::Wait;
@@ -256,6 +256,15 @@ impl<W: Wire, K: Ledger, A: Handle> Held<W, K, A> {
         ensures value { result ≡ page_shown self.now.parts }
     {
         self.port.page()
+    }
+
+    /// What the port counted since its opening.
+    pub fn counters(&self) -> &Counters
+        ensures does { Does W.facts self.now.parts
+            call.Counters (answered.Counters result.now) self.now.parts }
+        ensures value { result.now ≡ self.now.parts.counters }
+    {
+        self.port.counters()
     }
 
     /// The device's input by the last good reply in OPERATE: one whole image, or none where it was

@@ -33,7 +33,7 @@ use iol_isdu::Request;
 use iol_link::{Rate, Wire};
 use iol_mseq::Message;
 use iol_page::{CycleTime, Identity, Page};
-use iol_port::{Awaited, Counting, PortCore, PortFault};
+use iol_port::{Awaited, Counters, Counting, PortCore, PortFault};
 use std::alloc::{Allocator, Global};
 use std::marker::Model;
 use std::sync::ledger::{Blank, Book, Ledger, Share};
@@ -286,6 +286,15 @@ impl<K: Ledger, A: Allocator + Copy> LinePort<K, A> {
         ensures value { result ≡ page_shown self.now.parts }
     {
         self.port.page()
+    }
+
+    /// What the port counted since its opening.
+    pub fn counters(&self) -> &Counters
+        ensures does { CoreDoes self.now.parts
+            call.Counters (answered.Counters result.now) self.now.parts }
+        ensures value { result.now ≡ self.now.parts.counters }
+    {
+        self.port.counters()
     }
 
     /// The device's input by the last good reply in OPERATE: one whole image, or none where it was

@@ -44,6 +44,18 @@ layout_out (AtStartup s) = startup_shape
 layout_out (AtPreoperate s) = s.pre
 layout_out (AtOperate s) = s.layouts.run
 
+-- how many attempts in a row at the message that is out brought no good reply
+-- LINK-2
+abbrev pub tries_of : Option Sending → ℕ
+tries_of None = 0
+tries_of (Some sent) = sent.tries
+
+abbrev pub tries_in : State → ℕ
+tries_in (AtDown s) = 0
+tries_in (AtStartup s) = s.sent.tries
+tries_in (AtPreoperate s) = s.sent.tries
+tries_in (AtOperate s) = tries_of s.out
+
 -- in OPERATE the message that is out stays so, else this one is out from now on
 -- LINK-2
 abbrev pub putting : MasterMsg → State → State

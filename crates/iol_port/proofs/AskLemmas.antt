@@ -10,7 +10,9 @@ use Rattle.iol_steps.specs.Step.{Reset, is_down, woke_up, book_said}
 use Rattle.iol_app.specs.StationState.{StationState, mode_of, IsTurn}
 use Rattle.iol_app.specs.Asking.{asked_of, prepared}
 use Rattle.iol_port.specs.Steps.{book_through}
-use Rattle.iol_app.specs.AskedCalls.{asked_facts}
+use Rattle.iol_mode.specs.Exchanges.{tries_in}
+use Rattle.iol_app.specs.declared.brought.Brought.{Brought}
+use Rattle.iol_app.specs.Brought.{brought_facts}
 
 module _ {W : Type 0} where
   -- a wake had success where the mode says so
@@ -23,13 +25,15 @@ module _ {W : Type 0} where
 -- The exact turn of a port makes the call that the port asks for.
 
 module _ {W : Type 0} (facts : WireFacts W) where
-  -- the station's turn, with the call that it asks for
-  abbrev Turns : Bool → StationState W → Said → StationState W → Type 0
-  Turns room s said new = IsTurn (asked_facts facts (asked_of s room)) room s said new
+  -- the station's turn, with the call that it asks for, which brought this
+  abbrev Turns : Bool → StationState W → Said → Brought → StationState W → Type 0
+  Turns room s said brought new =
+      IsTurn (brought_facts facts (asked_of s room) (tries_in s.link.state) brought) room s said new
 
   -- it began with the next request begun
-  pub turn_begun_asked : (old mid new : StationState W) (next : Option Request) (room has : Bool) (said : Said) → room ≡ has → mid ≡ prepared next old room
-      → IsTurn (asked_facts facts (asked_of mid room)) room mid said new
-      → IsTurn (asked_facts facts (asked_of (prepared next old has) has)) has (prepared next old has) said new
-  turn_begun_asked old mid new next room has said same begun turn =
-      subst (λ (r : Bool). Turns r (prepared next old r) said new) same (subst (λ (s : StationState W). Turns room s said new) begun turn)
+  pub turn_begun_asked : (old mid new : StationState W) (next : Option Request) (room has : Bool)
+      (said : Said) (brought : Brought) → room ≡ has → mid ≡ prepared next old room
+      → Turns room mid said brought new → Turns has (prepared next old has) said brought new
+  turn_begun_asked old mid new next room has said brought same begun turn =
+      subst (λ (r : Bool). Turns r (prepared next old r) said brought new) same
+      (subst (λ (s : StationState W). Turns room s said brought new) begun turn)

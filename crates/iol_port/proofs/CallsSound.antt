@@ -109,6 +109,7 @@ module _ (P : PortState → Type 0) (a b : PortState) where
   piece_leaves (Whole (call.Expect identity)) reply e l = is (expecting a identity) (l.expect identity) e.1
   piece_leaves (Whole (call.Cycle cycle)) reply e l = is a (l.stays a.kept a.images) e.1
   piece_leaves (Whole call.Page) reply e l = is a (l.stays a.kept a.images) e.1
+  piece_leaves (Whole call.Counters) reply (k, e) l = is a (l.stays a.kept a.images) e.1
   piece_leaves (Whole call.TakeEvent) reply e l = is (record a { kept = drop 1 a.kept }) (l.stays (drop 1 a.kept) a.images) (event_does a b reply e)
   piece_leaves (Whole call.Status) reply e l = is a (l.stays a.kept a.images) e.1
   piece_leaves (Whole call.Archive) reply e l = may_be (record a { book = record a.book { journal = [] }; base = length a.session.carried }) (l.stays a.kept a.images) l.archive (archive_does a b reply e)

@@ -25,6 +25,7 @@ use Rattle.iol_app.specs.StationState.{StationState, mode_in}
 use Rattle.iol_app.specs.Core.{Core, Ghost, Stands, TermsStay, BeginGives, IsAttempted, ordered, session_in, frozen_in, images_in, moment_of, begun_ghost, made_ghost, after_wake}
 use Rattle.iol_app.specs.Pieces.{IsSent, SendSteps, WakeSteps, ReceiveSteps, Received}
 use Rattle.iol_app.specs.Seen.{BeginSteps, DenySteps, core_of, station_of}
+use Rattle.iol_port.specs.declared.counters.Counters.{Counters}
 use Rattle.iol_port.specs.declared.call.Call.{Call}
 use Rattle.iol_port.specs.declared.call.Answered.{Answered}
 use Rattle.iol_port.specs.declared.call.Answered.TheVariants as answered
@@ -114,7 +115,7 @@ module _ (p : Bare) (far : Far) (n : ℕ) (base : ℕ) (g : Ghost) (k : Core) (b
   before = state_of (at_end far n) p (not_yet base g)
 
   abbrev sent_to : Bare
-  sent_to = record { station = bare k; book = b; kept = p.kept; sent = true }
+  sent_to = record { station = bare k; book = b; kept = p.kept; sent = true; counters = p.counters }
 
   abbrev wanted : Option (List ℕ)
   wanted = p.station.session.output.wanted
@@ -204,9 +205,9 @@ module _ (p : Bare) (far : Far) (n : ℕ) (base : ℕ) (g : Ghost) (k : Core) (b
       let (after, made, sent) = is_sent (core_of p.station) k g far n sends tried stands in
       denying_out t head (λ m page. denies g far n stands m t.0 page) after made sent book
 
-pub send_does : (p next : Bare) (s : StationState (Unit {0})) (start : BookState) → p.sent ≡ false → BeginsNext p.station p.book.state s start → SendSteps (core_of s) (core_of next.station) → next.book.state ≡ start → next.kept ≡ p.kept → next.sent ≡ true → SendDoes p next
+pub send_does : (p next : Bare) (s : StationState (Unit {0})) (start : BookState) → p.sent ≡ false → BeginsNext p.station p.book.state s start → SendSteps (core_of s) (core_of next.station) → next.book.state ≡ start → next.kept ≡ p.kept → next.sent ≡ true → next.counters ≡ p.counters → SendDoes p next
 unfolding SendDoes
-send_does p next s start free begins sends book kept sent = λ far n a for_a.
+send_does p next s start free begins sends book kept sent counters = λ far n a for_a.
     let (u, shows, is) = for_a in
     let none : u.pending ≡ None = none_pending u.pending p.sent (core_of p.station) u.ghost n free shows.out in
     let same : u ≡ not_yet u.base u.ghost = ap (λ (x : Option Pending). record u { pending = x }) none in
@@ -214,7 +215,9 @@ send_does p next s start free begins sends book kept sent = λ far n a for_a.
     let (m, piece, after) = begins_out p far n u.base u.ghost (core_of next.station) next.book s start begins (sends, book) whole.out.1 whole.both in
     let a_is : state_of (at_end far n) p (not_yet u.base u.ghost) ≡ a = ap (state_of (at_end far n) p) (sym same) ∙ sym is in
     let next_is : sent_to p far n u.base u.ghost (core_of next.station) next.book ≡ next =
-    ap (λ (k : List Event). record next { kept = k; sent = true }) (sym kept) ∙ ap (λ (x : Bool). record next { sent = x }) (sym sent) in
+    ap (λ (k : List Event). record next { kept = k; sent = true; counters = p.counters }) (sym kept)
+    ∙ ap (λ (x : Bool). record next { sent = x; counters = p.counters }) (sym sent)
+    ∙ ap (λ (x : Counters). record next { counters = x }) (sym counters) in
     (m, subst (λ (x : PortState). PieceOf x Send answered.Nothing m) a_is piece, subst (λ (x : Bare). StandsFor (at_end far n) x m) next_is after)
 
 -- what is out goes out again
@@ -339,7 +342,7 @@ module _ {W : Type 0} (facts : WireFacts W) (wire : W) where
   pub new_over : (limits : Limits) (p : Bare) → IsNew limits p → IsOpened (opening_of facts limits wire) (parts_over wire p)
   new_over limits p new =
       let is = new (far wire) (silence wire) in
-      record { wire_is = refl; mode = is.mode; why = is.why; session_is = is.session_is; book = is.book; kept = is.kept; sent = is.sent }
+      record { wire_is = refl; mode = is.mode; why = is.why; session_is = is.session_is; book = is.book; kept = is.kept; sent = is.sent; counters = is.counters }
 
   pub opens_over : (limits : Limits) (p : Bare) → CoreOpens limits p → OpensWell (opening_of facts limits wire) → StandsFor facts (parts_over wire p) (opened limits (far wire) (silence wire))
   opens_over limits p opens (is_honest, quiet) = over_wire p _ is_honest (opens (far wire) (silence wire) (refl, quiet))

@@ -12,6 +12,7 @@ use Rattle.iol_app.proofs.core_data.Core.TheSendSync as inner
 use Rattle.iol_book.proofs.book.Book.TheSendSync as book
 use Rattle.iol_cell.specs.contracts.cell.ImageWriter as Writer
 use Rattle.iol_cell.proofs.cell.ImageWriter.TheSendSync as writer
+use Rattle.iol_port.proofs.counters.Counters.TheSendSync as counters
 use Rattle.iol_port.specs.contracts.port_core.PortCore as Core
 use Rattle.iol_port.specs.contracts.port_core.PortCore.TheInside as core
 use Rattle.iol_port.specs.contracts.port.Port as Port
@@ -21,7 +22,16 @@ core_send : (A : RattleType) (h : alloc.Ghosts A.Denot) → IsSend A → Frees h
 core_send A h a f =
     view_send (core.the_row A h) _ _ _ _
     (recorded_send (core.the_field A h).row _ _ (core.the_type A h).to_one
-    (struct_send (shape (core.the_type A h)) (inner.the_send, (book.the_send A h a f, (search (crosses, sendable) depth 20, (search (crosses, sendable) depth 20, tt))))))
+    (struct_send (shape (core.the_type A h)) (
+      inner.the_send,
+      (
+        book.the_send A h a f,
+        (
+          search (crosses, sendable) depth 20,
+          (search (crosses, sendable) depth 20, (counters.the_field_send, tt)),
+        ),
+      ),
+    )))
 
 pub port_send : (W A : RattleType) (g : wire.Ghosts W.Denot) (h : alloc.Ghosts A.Denot) → IsSend W → IsSend A → IsSync A → Frees h h.dealloc_token → IsSend (Port.the_row W A g h)
 port_send W A g h w a y f =

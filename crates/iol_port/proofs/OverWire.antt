@@ -50,7 +50,7 @@ module _ {W : Type 0} (wire : W) (p next : Parts (Unit {0})) where
   set_cycle_over h = record { counts = h.counts; paces = ap over h.paces }
 
   pub restart_over : RestartGives p next → RestartGives (over p) (over next)
-  restart_over h = record { wire = refl; mode = h.mode; why = h.why; session_is = h.session_is; book = h.book; memory = h.memory; kept = h.kept; sent = h.sent }
+  restart_over h = record { wire = refl; mode = h.mode; why = h.why; session_is = h.session_is; book = h.book; memory = h.memory; kept = h.kept; sent = h.sent; counters = h.counters }
 
 -- what each call answers and leaves, over a wire
 pub ruleset over_wire = (

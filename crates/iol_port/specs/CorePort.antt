@@ -11,6 +11,7 @@ use Rattle.iol_steps.specs.declared.said.Said.{Said}
 use Rattle.iol_steps.specs.Step.{Reset, book_said, reports_said}
 use Rattle.iol_app.specs.StationState.{StationState, IsSettledSaid}
 use Rattle.iol_app.specs.Core.{Core, after_exchange, after_wake, came_of}
+use Rattle.iol_app.specs.Brought.{brought_in, woken_by}
 use Rattle.iol_app.specs.Pieces.{IsSent}
 use Rattle.iol_app.specs.Seen.{core_of, station_of}
 use Rattle.iol_port.specs.declared.awaited.Awaited.{Awaited}
@@ -21,6 +22,7 @@ use Rattle.iol_port.specs.declared.call.Answered.TheVariants as answered
 use Rattle.iol_port.specs.Asks.{has_room}
 use Rattle.iol_port.specs.EveryWire.{KeepsMemory, station_begun, book_begun}
 use Rattle.iol_port.specs.Run.{PortState, Piece, Send, Receive, PieceOf, opened}
+use Rattle.iol_port.specs.Counters.{call_counted, said_counted}
 use Rattle.iol_port.specs.Steps.{book_through, kept_through}
 use Rattle.iol_port.specs.Clean.{IsLevelBetween}
 use Rattle.iol_port.specs.Sound.{IsSound}
@@ -33,6 +35,7 @@ parts_over wire p = record {
   book = p.book;
   kept = p.kept;
   sent = p.sent;
+  counters = p.counters;
 }
 
 -- a core as a station over no wire
@@ -125,10 +128,12 @@ pub record SendGives (old new : Parts (Unit {0})) : Type 0 where
   pub memory : KeepsMemory old new
   pub kept : new.kept ≡ old.kept
   pub sent : new.sent ≡ true
+  -- an exchange counts once it is answered
+  pub counters : new.counters ≡ old.counters
 
 -- what came back is judged by what was sent and by what start-ups ask, and what that says goes
--- to the book and to the kept events
--- PORT-1, PORT-9
+-- to the book and to the kept events; both are counted
+-- PORT-1, PORT-9, PORT-12
 pub record ReceiveGives (old : Parts (Unit {0})) (came : Option (List ℕ)) (new : Parts (Unit {0})) :
     Type 0 where
   pub said : Said
@@ -139,10 +144,12 @@ pub record ReceiveGives (old : Parts (Unit {0})) (came : Option (List ℕ)) (new
   pub memory : KeepsMemory old new
   pub kept : new.kept ≡ kept_through (reports_said said) old.kept
   pub sent : new.sent ≡ false
+  pub counters : new.counters
+      ≡ said_counted said (call_counted (brought_in old.station.link.state came) old.counters)
 
 -- a start-up begins where the wake was answered, which ends what a request that was cut off
 -- may still do; else the link is still down
--- PORT-1, PORT-9
+-- PORT-1, PORT-9, PORT-12
 pub record WakeGives (old : Parts (Unit {0})) (answered : Bool) (new : Parts (Unit {0})) :
     Type 0 where
   pub core : core_of new.station ≡ after_wake answered old.station.session
@@ -150,3 +157,4 @@ pub record WakeGives (old : Parts (Unit {0})) (answered : Bool) (new : Parts (Un
   pub memory : KeepsMemory old new
   pub kept : new.kept ≡ old.kept
   pub sent : new.sent ≡ false
+  pub counters : new.counters ≡ call_counted (woken_by answered) old.counters

@@ -17,6 +17,7 @@ use Rattle.iol_book.specs.declared.fault.BookFault.TheVariants.{Outstanding}
 use Rattle.iol_book.specs.declared.entries.Outcome.TheVariants.{NoIsdu}
 use Rattle.iol_book.specs.Replay.{same_ticket}
 use Rattle.iol_book.specs.BookModel.{BookState, BookValue, MemoryGrows, memory_archived, RefusesFor, submit_refusal, submitted, submitted_urgent, next_ticket, next_taken, took, denied, waits, collect_answer, collected, withdraw_refusal, withdrawn, flight_refusal, may_archive, archived}
+use Rattle.iol_mode.specs.Exchanges.{tries_in}
 use Rattle.iol_steps.specs.declared.mode.Mode.TheVariants.{Down}
 use Rattle.iol_steps.specs.declared.said.Said.{Said}
 use Rattle.iol_steps.specs.Step.{Image, woke_up, book_said, reports_said}
@@ -24,7 +25,8 @@ use Rattle.iol_steps.specs.Kinds.{restart_steps}
 use Rattle.iol_app.specs.State as session
 use Rattle.iol_app.specs.Due.{is_ready}
 use Rattle.iol_app.specs.Asking.{prepared, IsCall}
-use Rattle.iol_app.specs.AskedCalls.{asked_facts}
+use Rattle.iol_app.specs.declared.brought.Brought.{Brought}
+use Rattle.iol_app.specs.Brought.{brought_facts}
 use Rattle.iol_app.specs.StationState.{StationState, wire_of, mode_of, why_of, page_in, is_operating, IsTurn}
 use Rattle.iol_port.specs.declared.fault.PortFault.{PortFault}
 use Rattle.iol_port.specs.declared.fault.PortFault.TheVariants as fault
@@ -37,6 +39,7 @@ use Rattle.iol_port.specs.Asks.{has_room, asks_of, lacks_isdu, begun_next}
 use Rattle.iol_port.specs.Replies.{by_book, ticket_reply, outcome_reply, nothing_reply, event_reply, archive_reply}
 use Rattle.iol_port.specs.Run.{counting}
 use Rattle.iol_port.specs.Sound.{request_taken}
+use Rattle.iol_port.specs.Counters.{call_counted, said_counted, restart_counted}
 use Rattle.iol_port.specs.Steps.{book_through, kept_through}
 use Rattle.iol_port.specs.View.{Parts, status_of}
 
@@ -191,6 +194,8 @@ module _ {W : Type 0} where
     pub memory : KeepsMemory old new
     pub kept : new.kept ≡ old.kept
     pub sent : new.sent ≡ old.sent
+    pub counters : new.counters
+        ≡ restart_counted (request_taken old.book.state.standing.taken) old.counters
 
   -- whether the next turn would send IDLE 1, so that it takes or denies the next request
   -- REQ-2
@@ -221,18 +226,21 @@ module _ {W : Type 0} where
     -- A turn: the next request is begun or denied; the station makes its own one, with room
     -- for events where at most 58 are kept, and what that says goes to the book and to the
     -- kept events; a wake that had success ends what a request that was cut off may still do
-    -- PORT-1
+    -- PORT-1, PORT-12
     pub record TurnGives (old new : Parts W) : Type 0 where
       pub said : Said
-      -- its one call of the wire is the one that the port asks for
-      pub turn : IsTurn (asked_facts facts (asks_of old)) (has_room old.kept)
-          (station_begun old) said new.station
+      pub brought : Brought
+      -- its one call of the wire is the one that the port asks for, and brought this
+      pub turn :
+          IsTurn (brought_facts facts (asks_of old) (tries_in old.station.link.state) brought)
+          (has_room old.kept) (station_begun old) said new.station
       pub book : new.book.state
           ≡ book_through
           (woke_up (mode_of old.station.link) (mode_of new.station.link) ++ book_said said)
           (book_begun old)
       pub memory : KeepsMemory old new
       pub kept : new.kept ≡ kept_through (reports_said said) old.kept
+      pub counters : new.counters ≡ said_counted said (call_counted brought old.counters)
       -- each new outcome NoIsdu is that of a request which this turn denied
       pub denies : (ticket : Ticket) → HasNoIsdu new.book.state ticket
           → HasNoIsdu old.book.state ticket ⊎ IsDenied old new ticket
@@ -268,6 +276,7 @@ module _ {W : Type 0} where
     CallGives old (call.Cycle cycle) reply new =
         (result : Counting) × (reply ≡ answered.Counts result)
         × SetCycleGives old cycle result new
+    CallGives old call.Counters reply new = (reply ≡ answered.Counters old.counters) × (new ≡ old)
     CallGives old call.Page reply new = (reply ≡ answered.Page (page_shown old)) × (new ≡ old)
     CallGives old call.TakeEvent reply new =
         (result : Result Event PortFault) × (reply ≡ event_reply result)

@@ -1,5 +1,6 @@
 pub mod Faults
 pub mod Steps
+pub mod Counters
 pub mod RightDevice
 pub mod Run
 pub mod Sound

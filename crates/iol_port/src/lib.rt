@@ -23,6 +23,7 @@
 mod awaited;
 mod call;
 mod copies;
+mod counters;
 mod fault;
 mod laws;
 mod port;
@@ -31,6 +32,7 @@ mod settle;
 
 pub use awaited::Awaited;
 pub use call::{Answered, Call, Counting};
+pub use counters::{Counters, Unknown};
 pub use fault::PortFault;
 pub use laws::{
     cancelled_requests_were_asked, denied_requests_stay_out, each_done_has_its_pair,

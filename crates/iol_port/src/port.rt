@@ -26,7 +26,7 @@ ghost use Rattle.iol_port.specs.Replies.{ticket_reply, outcome_reply, nothing_re
 use crate::copies::{copy_of_image, copy_of_request};
 use crate::laws::clean_laws;
 use crate::port_core::PortCore;
-use crate::{Answered, Call, Counting, PortFault, record_fits_journal};
+use crate::{Answered, Call, Counters, Counting, PortFault, record_fits_journal};
 use iol_app::{Asked, Status};
 use iol_book::{BookFault, Entry, Limits, Outcome, Ticket};
 use iol_cell::{Handle, ImageWriter};
@@ -274,6 +274,15 @@ impl<W: Wire, A: Handle> Port<W, A> {
         self.core.page()
     }
 
+    /// What was counted since the opening.
+    pub fn counters(&self) -> &Counters
+        ensures does { Does W.facts self.now.parts
+            call.Counters (answered.Counters result.now) self.now.parts }
+        ensures value { result.now ≡ self.now.parts.counters }
+    {
+        self.core.counters()
+    }
+
     /// The device's input by the last good reply in OPERATE: one whole image, or
     /// none where it was not valid. None in every other mode.
     pub fn image(&self) -> Option<&Image>
@@ -388,6 +397,7 @@ impl<W: Wire, A: Handle> Port<W, A> {
             Call::Expect(None) => Answered::Counts(self.expect_any()),
             Call::Cycle(cycle) => Answered::Counts(self.set_cycle(*cycle)),
             Call::Page => Answered::Page(self.page()),
+            Call::Counters => Answered::Counters(*self.counters()),
             Call::TakeEvent => match self.take_event() {
                 Ok(event) => Answered::Event(event),
                 Err(fault) => Answered::Refused(fault),

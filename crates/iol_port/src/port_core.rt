@@ -26,10 +26,11 @@ ghost use Rattle.iol_port.specs.Replies.{ticket_reply, outcome_reply, nothing_re
 use crate::PortFault;
 use crate::awaited::Awaited;
 use crate::call::Counting;
+use crate::counters::Counters;
 use crate::laws::{clean_laws, record_fits_journal};
 use crate::settle::{KEPT, ROOM, begin_next, by_book, by_output, lacks_isdu, settle, woke_up};
 use arrayvec::ArrayVec;
-use iol_app::{Asked, Core, Status};
+use iol_app::{Asked, Brought, Core, Status};
 use iol_book::{Book, Entry, Limits, Outcome, Ticket};
 use iol_event::Event;
 use iol_image::Image;
@@ -67,6 +68,7 @@ pub struct PortCore<A: Allocator + Copy = Global> {
     kept: ArrayVec<Event, KEPT>,
     /// What was sent last waits for its answer.
     sent: bool,
+    counters: Counters,
 }
 
 impl<A: Allocator + Copy> Model for PortCore<A> {
@@ -80,6 +82,7 @@ impl<A: Allocator + Copy> Model for PortCore<A> {
       book = p.book;
       kept = p.kept.items;
       sent = p.sent;
+      counters = p.counters;
     } };
 
     ghost invariant = { λ p. IsTied (record {
@@ -87,6 +90,7 @@ impl<A: Allocator + Copy> Model for PortCore<A> {
       book = p.book;
       kept = p.kept.items;
       sent = p.sent;
+      counters = p.counters;
     }) };
 }
 
@@ -105,6 +109,7 @@ impl<A: Allocator + Copy> PortCore<A> {
                 book,
                 kept: ArrayVec::new(),
                 sent: false,
+                counters: Counters::zero(),
             }),
             Err(fault) => Err(PortFault::Book(fault)),
         }
@@ -233,6 +238,7 @@ impl<A: Allocator + Copy> PortCore<A> {
         ensures gives { RestartGives self.old self.new }
     {
         if self.core.restart() {
+            self.counters.unknown.cut(Cause::Restarted);
             self.book.post(Outcome::Unknown(Cause::Restarted));
         }
     }
@@ -310,6 +316,17 @@ impl<A: Allocator + Copy> PortCore<A> {
         ensures value { result ≡ page_shown self.now }
     {
         self.core.page().copied()
+    }
+
+    /// What was counted since the opening. A message that is out counts once it is answered.
+    ///
+    /// Rule PORT-12.
+    pub fn counters(&self) -> &Counters
+        ensures does { CoreDoes
+            self.now call.Counters (answered.Counters result.now) self.now }
+        ensures value { result.now ≡ self.now.counters }
+    {
+        &self.counters
     }
 
     /// From when on counts what start-ups are to ask.
@@ -426,22 +443,23 @@ impl<A: Allocator + Copy> PortCore<A> {
     /// Without a good reply the message stays out, and the next `send` gives it again; the third
     /// time in a row has lost the link.
     ///
-    /// Rules PD-7, PORT-1, PORT-4, PORT-9.
+    /// Rules PD-7, PORT-1, PORT-4, PORT-9, PORT-12.
     pub fn receive(&mut self, came: &Option<Message>)
         requires { awaited self.old ≡ Awaited.Reply }
         ensures gives { ReceiveGives self.old (octets_in came.now) self.new }
         ensures does { ReceiveDoes self.old (octets_in came.now) self.new }
     {
         let mut said = Said::Idle;
-        self.core.receive(came, &mut said);
+        let brought = self.core.receive(came, &mut said);
         self.sent = false;
+        self.counters.turned(brought, &said);
         settle(&mut self.book, &mut self.kept, false, said);
     }
 
     /// Takes what came of a wake-up request: the rate of the device that answered it, or that
     /// none did.
     ///
-    /// Rules PORT-1, PORT-4, PORT-9.
+    /// Rules PORT-1, PORT-4, PORT-9, PORT-12.
     pub fn receive_wake(&mut self, rate: Option<Rate>)
         requires { awaited self.old ≡ Awaited.Wake }
         ensures gives { WakeGives self.old (is_some rate) self.new }
@@ -449,12 +467,13 @@ impl<A: Allocator + Copy> PortCore<A> {
     {
         self.core.receive_wake(rate);
         self.sent = false;
+        self.counters.turned(Brought::of_wake(rate), &Said::Idle);
         settle(&mut self.book, &mut self.kept, rate.is_some(), Said::Idle);
     }
 
     /// One turn over this wire, with no call between its pieces.
     ///
-    /// Rule PORT-1.
+    /// Rules PORT-1, PORT-12.
     pub(crate) fn turn<W: Wire>(&mut self, wire: &mut W)
         requires free { self.old.sent ≡ false }
         requires stands { IsTrue (W.facts.honest wire.old) → StateStands
@@ -475,7 +494,8 @@ impl<A: Allocator + Copy> PortCore<A> {
         begin_next(&mut self.core, &mut self.book, room);
         let began = self.core.status().mode;
         let mut said = Said::Idle;
-        self.core.turn(wire, room, &mut said);
+        let brought = self.core.turn(wire, room, &mut said);
+        self.counters.turned(brought, &said);
         let woke = woke_up(began, self.core.status().mode);
         settle(&mut self.book, &mut self.kept, woke, said);
     }

@@ -89,6 +89,9 @@ fn answer_bare(
         print_image(output, "image", port.image())
     } else if is(name, b"status") {
         print_status(output, port.status())
+    } else if is(name, b"counters") {
+        let counters = port.counters();
+        writeln!(output, "{counters:?}")
     } else {
         act(port, name, line);
         print_ok(output)

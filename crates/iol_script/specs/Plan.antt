@@ -6,6 +6,8 @@ use Rattle.iol_script.specs.Numerals.{number_in}
 use Rattle.iol_script.specs.PlanRanges.{ArePlanned}
 use Rattle.iol_script.specs.Text.{line_words}
 use Rattle.iol_script.specs.declared.plan.Plan.{Plan}
+use Rattle.iol_script.specs.declared.plan.Shown.{Shown}
+use Rattle.iol_script.specs.declared.plan.Shown.TheVariants.{Tickets, Counters}
 use Rattle.iol_script.specs.declared.plan_draft.PlanDraft.{PlanDraft}
 use Rattle.iol_script.specs.declared.plan_draft.PlanDraft.TheVariants.{Empty, Ports, Clients, Each, Turns}
 
@@ -18,6 +20,11 @@ field_of name wanted most _ = None
 abbrev pub bounded : ℕ → ℕ → Option ℕ
 bounded clients each = if nat_le (clients * each) 64 then Some each else None
 
+-- what the line behind the four shows: `counters` alone
+abbrev pub shown_by : List ℕ → List (List ℕ) → Option Shown
+shown_by name [] = if bytes_eq name (codes "counters") then Some Counters else None
+shown_by name (word ∷ words) = None
+
 -- the draft after the words of a line: a line without words says nothing, and each
 -- other has its place
 abbrev pub words_after : PlanDraft → List (List ℕ) → Option PlanDraft
@@ -28,8 +35,10 @@ words_after (Ports p) (name ∷ words) =
 words_after (Clients p k) (name ∷ words) =
     option_map (Each p k) (option_and_then (bounded k) (field_of name (codes "each") 64 words))
 words_after (Each p k m) (name ∷ words) =
-    option_map (Turns p k m) (field_of name (codes "turns") 100000 words)
-words_after (Turns p k m t) (name ∷ words) = None
+    option_map (λ t. Turns p k m t Tickets) (field_of name (codes "turns") 100000 words)
+words_after (Turns p k m t Tickets) (name ∷ words) =
+    option_map (Turns p k m t) (shown_by name words)
+words_after (Turns p k m t Counters) (name ∷ words) = None
 
 -- the draft after a line, where the line is good in its place
 abbrev pub draft_after : PlanDraft → List ℕ → Option PlanDraft
@@ -40,21 +49,29 @@ abbrev pub planned_after : Result PlanDraft ℕ → ℕ × List ℕ → Result P
 planned_after (Err bad) line = Err bad
 planned_after (Ok draft) line = ok_or (draft_after draft line.1) line.0
 
--- the numbers of a plan
+-- the numbers of a plan, and what it shows
 pub record PlanNumbers : Type 0 where
   pub ports : ℕ
   pub clients : ℕ
   pub each : ℕ
   pub turns : ℕ
+  pub shown : Shown
 
 abbrev pub numbers_of : Plan → PlanNumbers
 numbers_of plan =
-    record { ports = plan.ports; clients = plan.clients; each = plan.each; turns = plan.turns }
+    record {
+      ports = plan.ports;
+      clients = plan.clients;
+      each = plan.each;
+      turns = plan.turns;
+      shown = plan.shown;
+    }
 
 -- the plan of a draft, or the number of the line behind the last, where a line is missing
 abbrev pub whole_plan : ℕ → Result PlanDraft ℕ → Result PlanNumbers ℕ
 whole_plan behind (Err bad) = Err bad
-whole_plan behind (Ok (Turns p k m t)) = Ok (record { ports = p; clients = k; each = m; turns = t })
+whole_plan behind (Ok (Turns p k m t s)) =
+    Ok (record { ports = p; clients = k; each = m; turns = t; shown = s })
 whole_plan behind (Ok draft) = Err behind
 
 -- the plan of lines, or the number of the first bad one
@@ -67,4 +84,4 @@ IsPlanned Empty = Unit {0}
 IsPlanned (Ports p) = ArePlanned p 1 1 1
 IsPlanned (Clients p k) = ArePlanned p k 1 1
 IsPlanned (Each p k m) = ArePlanned p k m 1
-IsPlanned (Turns p k m t) = ArePlanned p k m t
+IsPlanned (Turns p k m t s) = ArePlanned p k m t

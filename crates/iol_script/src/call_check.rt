@@ -3,7 +3,8 @@
 //! While a script is read its calls are only counted. Nothing is built here: a
 //! request has up to 232 octets.
 ghost use Rattle.std.specs.Prelude.{◌≡◌, is_some};
-ghost use Rattle.iol_script.specs.RunLines.{alone, bare_call, call_form, image_form, read_form, request_form, ticket_form, urgent_form, write_form};
+ghost use Rattle.iol_script.specs.RunLines.{alone, bare_call, call_form, image_form, read_form};
+ghost use Rattle.iol_script.specs.RunLines.{request_form, ticket_form, urgent_form, write_form};
 ghost use Rattle.iol_script.specs.Text.{words_left};
 
 use crate::choices::{cycle_of, expect_of};
@@ -44,6 +45,7 @@ fn is_bare(name: &[u8]) -> bool
         || is(name, b"image")
         || is(name, b"event")
         || is(name, b"status")
+        || is(name, b"counters")
         || is(name, b"archive")
 }
 

@@ -33,7 +33,7 @@ pub use numerals::{
     decimal_number, hexadecimal_code, hexadecimal_octet, hexadecimal_octets, parted_octets,
 };
 pub use parts::{Lines, Words};
-pub use plan::Plan;
+pub use plan::{Plan, Shown};
 pub use run_line::RunLine;
 pub use script::Script;
 pub use setting::Setting;

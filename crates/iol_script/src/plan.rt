@@ -8,6 +8,15 @@ use crate::fault::ScriptFault;
 use crate::parts::Lines;
 use crate::plan_draft::PlanDraft;
 
+/// What `many` prints of each port.
+#[derive(Clone, Copy, Debug, PartialEq, Eq)]
+pub enum Shown {
+    /// What became of its tickets.
+    Tickets,
+    /// That, and what the port counted.
+    Counters,
+}
+
 /// What `many` is to do.
 #[derive(Clone, Copy, Debug, PartialEq, Eq)]
 pub struct Plan {
@@ -21,6 +30,8 @@ pub struct Plan {
     /// How many turns each port makes while its clients submit, and how many
     /// afterwards: 1 to 100,000.
     pub turns: u32,
+    /// What is printed of each port.
+    pub shown: Shown,
     pub ghost ranges: { ArePlanned ports clients each turns },
 }
 
@@ -30,9 +41,10 @@ impl Plan {
     /// Reads the lines of a whole input, from first to last, without memory.
     ///
     /// Four lines say something, in this order: `ports`, `clients`, `each` and `turns`, each
-    /// with its number. Refused is the first line that is bad: one that fits no form, that
-    /// stands in another's place, or that makes the clients of a port submit more than 64
-    /// requests. Where the input ends before its `turns`, the line behind its last is bad.
+    /// with its number. A fifth one may follow: `counters`. Refused is the first line that is
+    /// bad: one that fits no form, that stands in another's place, or that makes the clients of
+    /// a port submit more than 64 requests. Where the input ends before its `turns`, the line
+    /// behind its last is bad.
     pub fn read(input: &[u8]) -> Result<Plan, ScriptFault>
         requires { length input.now < usize.MAX }
         ensures plan { IfOk result (λ plan. plan_of (numbered_lines input.now)
@@ -48,11 +60,12 @@ impl Plan {
             draft = next;
         }
         match draft {
-            PlanDraft::Turns(ports, clients, each, turns) => Ok(Plan {
+            PlanDraft::Turns(ports, clients, each, turns, shown) => Ok(Plan {
                 ports,
                 clients,
                 each,
                 turns,
+                shown,
             }),
             _ => Err(ScriptFault::Line(Lines::of(input).count() as u64 + 1)),
         }

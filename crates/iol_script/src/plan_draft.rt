@@ -1,11 +1,12 @@
 //! A plan, as far as its lines are read.
 ghost use Rattle.std.specs.Prelude.{◌≡◌, ◌≤◌, IfSome};
-ghost use Rattle.iol_script.specs.Plan.{draft_after, field_of, words_after, IsPlanned};
+ghost use Rattle.iol_script.specs.Plan.{draft_after, field_of, shown_by, words_after, IsPlanned};
 ghost use Rattle.iol_script.specs.Text.{words_left};
 
 use crate::fields::{end_of, is};
 use crate::numerals::decimal_number;
 use crate::parts::Words;
+use crate::plan::Shown;
 
 /// The most requests that the clients of one port submit.
 const REQUESTS: u32 = 64;
@@ -21,8 +22,8 @@ pub(crate) enum PlanDraft {
     Clients(u32, u32),
     /// Both, and how many requests each client submits.
     Each(u32, u32, u32),
-    /// All three, and how many turns each port makes: no line is missing.
-    Turns(u32, u32, u32, u32),
+    /// All three, how many turns each port makes, and what is shown of it: no line is missing.
+    Turns(u32, u32, u32, u32, Shown),
 }
 
 impl PlanDraft {
@@ -62,11 +63,26 @@ impl PlanDraft {
             }
             PlanDraft::Each(ports, clients, each) => {
                 let turns = field_of(name, b"turns", 100_000, words)?;
-                Some(PlanDraft::Turns(ports, clients, each, turns))
+                Some(PlanDraft::Turns(ports, clients, each, turns, Shown::Tickets))
+            }
+            PlanDraft::Turns(ports, clients, each, turns, Shown::Tickets) => {
+                let shown = shown_by(name, words)?;
+                Some(PlanDraft::Turns(ports, clients, each, turns, shown))
             }
             PlanDraft::Turns(..) => None,
         }
     }
+}
+
+/// What a line that follows the four shows: `counters`, and nothing behind it.
+fn shown_by(name: &[u8], words: Words) -> Option<Shown>
+    ensures { result ≡ shown_by name.now (words_left words.entry) }
+{
+    if !is(name, b"counters") {
+        return None;
+    }
+    end_of(words)?;
+    Some(Shown::Counters)
 }
 
 /// The number of a line of this name, 1 to `most`.

@@ -52,6 +52,7 @@ Then what happens on the wire, and the calls of the port, in any order:
   cancel T                                asks to cut off a request that is under way
   output H | output none | image          process data out; in
   event | status | archive | restart      as the port's calls of these names
+  counters                                what the port counted since its opening
   expect VENDOR DEVICE | expect any       which device the port expects
   cycle MICROS | cycle least              the cycle time that it asks for
   page                                    the page of the device, as the port read it
@@ -103,11 +104,12 @@ memory ran out.
 Every line, and what is printed for it: docs/guide.md.";
 
 pub(crate) const MANY: &str = "\
-Reads standard input to its end: four lines in this order.
+Reads standard input to its end: four lines in this order, and the fifth to see the counters.
   ports P                 how many ports
   clients K               how many clients at each port
   each M                  how many reads each client submits
   turns T                 how many turns each port makes while they do, and as many afterwards
+  counters                behind the line of each port, what it counted
   # ..                    a comment; an empty line is skipped too
 
 Example:

@@ -1,4 +1,4 @@
--- What C is shown of a status, an outcome and an entry of a journal, as numbers.
+-- What C is shown of a status, an outcome, an entry of a journal and what was counted, as numbers.
 use Rattle.std.specs.Prelude.{◌≡◌, ℕ, List, [], ◌∷◌, Option, Some, None}
 use Rattle.iol_isdu.specs.declared.values.Answer.{Answer}
 use Rattle.iol_isdu.specs.declared.values.Answer.TheVariants.{Read, Written, Refused}
@@ -13,10 +13,12 @@ use Rattle.iol_mode.specs.Why.{why_number}
 use Rattle.iol_steps.specs.declared.mode.Mode.{Mode}
 use Rattle.iol_steps.specs.declared.mode.Mode.TheVariants.{Down, Startup, Preoperate, Operate}
 use Rattle.iol_app.specs.declared.core_data.Status.{Status}
+use Rattle.iol_port.specs.declared.counters.Counters.{Counters}
 use Rattle.iolink_handle.specs.Shown.{AreShown, IsRequest}
 use Rattle.iolink_port_c.specs.declared.state.IolStatus.{IolStatus}
 use Rattle.iolink_port_c.specs.declared.outcome.IolOutcome.{IolOutcome}
 use Rattle.iolink_port_c.specs.declared.archive.IolEntry.{IolEntry}
+use Rattle.iolink_port_c.specs.declared.counters.IolCounters.{IolCounters}
 
 -- a mode's number
 abbrev pub mode_number : Mode → ℕ
@@ -105,3 +107,22 @@ IsEntry (entry.Collected ticket) out = (out.kind ≡ 16) × (out.ticket ≡ tick
 abbrev pub IsNext : Option Entry → IolEntry → Type 0
 IsNext None out = (out.kind ≡ 0) × HasNoRequest out × HasNoOutcome out
 IsNext (Some entry) out = IsEntry entry out
+
+-- what was counted, as C is shown it
+abbrev pub counters_shown : Counters → IolCounters
+counters_shown c = record {
+  exchanges = c.exchanges;
+  good_replies = c.good_replies;
+  repeats = c.repeats;
+  no_reply = c.no_reply;
+  wrong_length = c.wrong_length;
+  wrong_checksum = c.wrong_checksum;
+  links_lost = c.links_lost;
+  start_ups = c.start_ups;
+  done = c.done;
+  unknown_link_lost = c.unknown.link_lost;
+  unknown_restarted = c.unknown.restarted;
+  unknown_busy_too_long = c.unknown.busy_too_long;
+  unknown_protocol = c.unknown.protocol;
+  unknown_cancelled = c.unknown.cancelled;
+}

@@ -1,12 +1,14 @@
 //! Which device is expected, its page, and the cycle time that it is given.
-ghost use Rattle.std.specs.Prelude.{◌≡◌, ◌≤◌, ◌<◌, ◌↔◌, Some, None, unwrap_or, [], IsTrue, IsFalse, IsErr, IfOk, IfSome, IfNone};
+ghost use Rattle.std.specs.Prelude.{◌≡◌, ◌≤◌, ◌<◌, ◌↔◌, Some, None, unwrap_or, [], IsTrue, IsFalse};
+ghost use Rattle.std.specs.Prelude.{IsErr, IfOk, IfSome, IfNone};
 ghost use Rattle.iol_page.specs.Cycle.{longest_cycle};
 ghost use Rattle.iol_port.specs.declared.call.Call.TheVariants as call;
 ghost use Rattle.iol_port.specs.declared.call.Answered.TheVariants as answered;
 ghost use Rattle.iol_port.specs.EveryWire.{page_shown};
 ghost use Rattle.iolink_handle.specs.Shown.{AreShown};
 ghost use Rattle.iolink_port_c.specs.Calls.{parts_of, IsRefused, Stays, CallDoes};
-ghost use Rattle.iolink_port_c.specs.DeviceCalls.{identity_at, largest_device, counting_number, IsCycleOf, Expects, Paces};
+ghost use Rattle.iolink_port_c.specs.DeviceCalls.{identity_at, largest_device, counting_number};
+ghost use Rattle.iolink_port_c.specs.DeviceCalls.{IsCycleOf, Expects, Paces};
 
 use crate::held::IolPort;
 use iol_page::{CycleFault, CycleTime, Identity, Page};
@@ -43,11 +45,8 @@ pub extern "C" fn iol_port_expect(
     ensures expects { IsTrue handle.old.is_open → device ≤ largest_device →
         Expects (Some (identity_at vendor device)) handle.old result counts.new handle.new }
 {
-    if !handle.is_open {
-        return CLOSED;
-    }
     if device > LARGEST_DEVICE {
-        return OUT_OF_RANGE;
+        return refusal_by(handle, OUT_OF_RANGE);
     }
     let identity = Identity { vendor, device };
     let answer = handle.with(alloc, |master| master.port.expect(identity));
@@ -88,12 +87,9 @@ pub extern "C" fn iol_port_set_cycle(
     ensures paces { IsTrue handle.old.is_open → micros ≤ longest_cycle →
         Paces micros handle.old result counts.new handle.new }
 {
-    if !handle.is_open {
-        return CLOSED;
-    }
     let cycle = match cycle_of(micros) {
         Ok(cycle) => cycle,
-        Err(fault) => return fault.code(),
+        Err(fault) => return refusal_by(handle, fault.code()),
     };
     let answer = handle.with(alloc, |master| master.port.set_cycle(cycle));
     show_counting(answer, counts)
@@ -109,6 +105,14 @@ fn cycle_of(micros: u32) -> Result<Option<CycleTime>, CycleFault>
     }
     let cycle = CycleTime::from_micros(micros)?;
     Ok(Some(cycle))
+}
+
+/// The number of a refusal: 252 where the handle is closed, which is tested first, else this one.
+fn refusal_by(handle: &IolPort, number: u8) -> u8
+    ensures closed { IsFalse handle.now.is_open → result ≡ 252 }
+    ensures open { IsTrue handle.now.is_open → result ≡ number }
+{
+    if handle.is_open { number } else { CLOSED }
 }
 
 /// Shows C what a call counts for: 0, or 252 where the handle is closed.

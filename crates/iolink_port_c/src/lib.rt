@@ -11,6 +11,7 @@
 #![tactic(auto)]
 
 mod archive;
+mod counters;
 mod device;
 mod held;
 mod line;

@@ -1,5 +1,6 @@
 //! Requests: entered, collected, taken back and cut off.
-ghost use Rattle.std.specs.Prelude.{◌≡◌, ◌≤◌, ◌<◌, length, IsTrue, IsFalse, IfOk, IfErr, IfSome, IfNone};
+ghost use Rattle.std.specs.Prelude.{◌≡◌, ◌≤◌, ◌<◌, length, IsTrue, IsFalse};
+ghost use Rattle.std.specs.Prelude.{IfOk, IfErr, IfSome, IfNone};
 ghost use Rattle.iol_isdu.specs.Fault.{fault_number as isdu_number};
 ghost use Rattle.iolink_port_c.specs.declared.request.Urgency.{Urgency};
 ghost use Rattle.iolink_port_c.specs.RequestCalls.{Enters, Collects, Withdraws, Cancels};

@@ -10,9 +10,11 @@ loop-client-preserved g c =
     let is = c.client-item.is in
     record {
       up = collect.up;
-      tickets = summed _ _ _ is c.loop-client-test.true (λ client. accepted_at c.args.port client.desk) _ _ before.tickets collect.tickets;
+      tickets = summed _ _ _ is c.loop-client-test.true
+          (λ client. accepted_at c.args.port client.desk) _ _ before.tickets collect.tickets;
       few = omega (arith, before.few, collect.tickets, collect.few);
-      counted = mapped _ _ _ is c.loop-client-test.true _ _ _ (Collected g.W.Wire.facts c.args.port)
+      counted = mapped _ _ _ is c.loop-client-test.true _ _ _
+          (Collected g.W.Wire.facts c.args.port)
           (λ client. seen client.desk client.tickets.items) before.counted
           (rw c.deref_mut.ensures.value at collect.collected);
     }
@@ -21,5 +23,7 @@ pub returns-clause-counted : goal.returns-clause-counted
 returns-clause-counted g c = (
   c.in-Ok.held.value,
   c.loop-client.held.value,
-  rw (whole _ _ c.loop-client.auto.client-index-end c.loop-client-test.false) at c.loop-client.invariant.counted,
+  rw (whole _ _ c.loop-client.auto.client-index-end c.loop-client-test.false)
+      at c.loop-client.invariant.counted,
+  rw c.deref.ensures at c.counters.ensures.value,
 )

@@ -6,9 +6,11 @@ use Rattle.iol_clients.proofs.collect.count_port.Given as goal
 -- the clients up to here are counted, from the port as its lock was got
 abbrev pub invariant-loop-client : goal.invariant-loop-client
 invariant-loop-client g l = record {
-  up : AddsUp l.counted;
-  tickets : l.counted.tickets ≡ sum_by (λ client. accepted_at l.port client.desk) (take l.client-index l.clients);
-  few : l.counted.tickets ≤ 64 * l.client-index;
+  up : AddsUp l.requests;
+  tickets : l.requests.tickets
+      ≡ sum_by (λ client. accepted_at l.port client.desk) (take l.client-index l.clients);
+  few : l.requests.tickets ≤ 64 * l.client-index;
   counted : FoldsTo (Collected g.W.Wire.facts l.port) (l.initial.held.value, none)
-      (map (λ client. seen client.desk client.tickets.items) (take l.client-index l.clients)) (l.held.value, l.counted);
+      (map (λ client. seen client.desk client.tickets.items) (take l.client-index l.clients))
+      (l.held.value, l.requests);
 }

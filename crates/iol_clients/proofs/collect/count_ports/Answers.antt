@@ -15,6 +15,8 @@ loop-port-preserved g c =
     record {
       count = omega (arith, before.count, push.len);
       items = rw (push.items, length-append) (omega (arith, before.items));
-      up = rw push.items (All-push AddsUp _ _ before.up counted.up);
-      counted = rw push.items (one_more g.W.Wire.facts _ _ 1 _ before.counted (rw (next _ _ before.items) counted.counted));
+      up = rw push.items (All-push (λ port. AddsUp port.requests) _ _ before.up counted.up);
+      counted = rw push.items
+          (one_more g.W.Wire.facts _ _ 1 _ before.counted
+          (rw (next _ _ before.items) counted.counted));
     }

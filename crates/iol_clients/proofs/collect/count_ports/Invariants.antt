@@ -6,6 +6,7 @@ abbrev pub invariant-loop-port : goal.invariant-loop-port
 invariant-loop-port g l = record {
   count : vec_len l.counts ≡ l.port;
   items : length l.counts.items ≡ l.port;
-  up : All AddsUp l.counts.items;
-  counted : AreCounted g.W.Wire.facts 1 (map (λ client. seen client.desk client.tickets.items) l.clients) l.counts.items;
+  up : All (λ port. AddsUp port.requests) l.counts.items;
+  counted : AreCounted g.W.Wire.facts 1
+      (map (λ client. seen client.desk client.tickets.items) l.clients) l.counts.items;
 }

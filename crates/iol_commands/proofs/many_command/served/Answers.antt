@@ -17,5 +17,7 @@ returns-clause-printed g c =
       planned = c.in_ok-plan.ensures.plan;
       ports = c.in_ok-counts.ensures.ports;
       up = c.in_ok-counts.ensures.up;
-      text_is = alone (string_bytes c.new-output.result) (string_bytes c.print_counts.new.output) (counts_text counts) (search rules) c.in_ok-print_counts.ensures;
+      served = c.in_ok-counts.ensures.served;
+      text_is = alone (string_bytes c.new-output.result) (string_bytes c.print_counts.new.output)
+          (counts_text c.in_ok-plan.plan.shown counts) (search rules) c.in_ok-print_counts.ensures;
     }

@@ -7,12 +7,14 @@ use Rattle.iolink_port_c.proofs.port.iol_port_open.Goals as goal
 
 pub returns-in-Ok-new-clause-parts : goal.returns-in-Ok-new-clause-parts
 returns-in-Ok-new-clause-parts c e =
-    let limits : Limits = record { journal = c.args.journal; busy = c.args.busy; given = c.args.given } in
+    let limits : Limits =
+    record { journal = c.args.journal; busy = c.args.busy; given = c.args.given } in
     subst (λ (m : Master). IsNew limits m.port)
     (sym (c.of.ensures.value ∙ c.in-Ok-new.ensures.ok)) c.in-Ok.ensures.parts
 
 pub returns-in-Ok-new-clause-opens : goal.returns-in-Ok-new-clause-opens
 returns-in-Ok-new-clause-opens c e =
-    let limits : Limits = record { journal = c.args.journal; busy = c.args.busy; given = c.args.given } in
+    let limits : Limits =
+    record { journal = c.args.journal; busy = c.args.busy; given = c.args.given } in
     subst (λ (m : Master). CoreOpens limits m.port)
     (sym (c.of.ensures.value ∙ c.in-Ok-new.ensures.ok)) c.in-Ok.ensures.opens

@@ -11,6 +11,7 @@ use Rattle.iol_app.specs.StationState.{StateFits, NextFits, settled_session}
 use Rattle.iol_app.specs.Core.{Core, came_of}
 use Rattle.iol_app.proofs.Settling.{outcome_state, settled_fits}
 use Rattle.iol_app.proofs.Pieces.{judged_next}
+use Rattle.iol_app.proofs.Verdicts.{brought_is}
 use Rattle.iol_app.proofs.core_data.Core.take.Goals as goal
 
 -- what came is judged by what start-ups ask
@@ -60,3 +61,6 @@ returns-clause-gives c =
     let up = c.receives-attempt in
     subst (λ (k : Core). ExchangeGives k.state (octets_in c.args.came.now) (came_of k (octets_in c.args.came.now))) c.self.view_is
     (subst (λ (o : Outcome). ExchangeGives c.self.inside.state (octets_in c.args.came.now) o) (is_judged (outcome_with up.result up.new.self) c.self.inside.state c.self.inside.session c.configuration.result.now (octets_in c.args.came.now) up.ensures.state c.configuration.ensures) up.ensures.gives)
+
+pub returns-clause-brought : goal.returns-clause-brought
+returns-clause-brought c = grind (arith, common_steps, brought_is)

@@ -1,14 +1,18 @@
 -- A turn: what goes out, one call of the wire, and what is made of what came.
 use Rattle.std.proofs.lemmas.Grind.{common_steps}
-use Rattle.std.proofs.Common.{◌≡◌, ◌∙◌, List, ℕ, sym, subst, ap, arith, Some}
+use Rattle.std.proofs.Common.{◌≡◌, ◌∙◌, List, ℕ, Option, refl, sym, subst, ap, arith}
 use Rattle.std.specs.Prelude.{IsTrue, is_some}
 use Rattle.iol_octets.specs.Checksum.{has_checksum}
 use Rattle.iol_far.specs.Octets.{octets_in}
 use Rattle.iol_link.specs.WireFacts.{Passes}
 use Rattle.iol_mode.specs.States.{StateFits as ModeFits}
-use Rattle.iol_mode.specs.Exchanges.{text_out}
+use Rattle.iol_mode.specs.Exchanges.{text_out, layout_out, tries_in}
 use Rattle.iol_app.specs.declared.asked.Outgoing.{Outgoing}
-use Rattle.iol_app.specs.Asking.{octets_asked}
+use Rattle.iol_app.specs.declared.asked.Asked.{Asked}
+use Rattle.iol_app.specs.declared.asked.Asked.TheVariants.{Exchange}
+use Rattle.iol_app.specs.Asking.{asked_in, outgoing}
+use Rattle.iol_app.specs.declared.brought.Brought.TheVariants as brought
+use Rattle.iol_app.specs.Brought.{IsReplied, verdict_on}
 use Rattle.iol_app.specs.State.{IsSession}
 use Rattle.iol_app.specs.StationState.{StateFits}
 use Rattle.iol_app.specs.Core.{Core}
@@ -17,7 +21,7 @@ use Rattle.iol_app.specs.Seen.{station_of}
 use Rattle.iol_app.proofs.Ending.{settled_ends}
 use Rattle.iol_app.proofs.Reporting.{turn_reading}
 use Rattle.iol_app.proofs.Pieces.{receive_steps, wake_steps as core_wake_steps}
-use Rattle.iol_app.proofs.Stepping.{Exchanged, sent_down, sent_current, wake_steps, exchange_steps, exchange_is_turn, exchange_is_exact}
+use Rattle.iol_app.proofs.Stepping.{Exchanged, sent_down, sent_current, wake_steps, exchange_steps, exchange_is_turn, exchange_is_exact, sent_tries}
 use Rattle.iol_app.proofs.core_data.Core.turn.Given as given
 use Rattle.iol_app.proofs.core_data.Core.turn.Goals as goal
 
@@ -83,10 +87,28 @@ returns-in-Exchange-clause-steps g c =
     exchange_steps g.W.Wire.facts c.args.wire.now c.exchange-came.new.self c.args.room c.take.new.said c.args.self.now c.send.new.self c.take.new.self c.exchange-came.result c.in-Exchange.ensures.steps
     (receive_steps c.station_laws.ensures c.send.new.self (octets_in c.exchange-came.result) c.take.new.said c.take.new.self up.valid c.in-Exchange.ensures.says.0 up.few up.fits up.gives up.said up.core) (passed g c) c.exchange-came.ensures.honesty
 
+-- what was asked for went out, and brought what the exchange brought
+replied : (g : given.Over) (c : goal.After-take g)
+    → IsReplied (asked_in c.args.self.now.state c.args.self.now.session c.args.room)
+    (text_out c.send.new.self.state) (tries_in c.args.self.now.state)
+    (octets_in c.exchange-came.result) c.take.result
+replied g c =
+    let mid = c.send.new.self.state in
+    let out : Outgoing = outgoing (layout_out mid) (text_out mid) in
+    let came : Option (List ℕ) = octets_in c.exchange-came.result in
+    let tries : tries_in mid ≡ tries_in c.args.self.now.state =
+    sent_tries c.args.self.now c.send.new.self c.args.room c.in-Exchange.ensures.sent in
+    let is : Exchange out ≡ asked_in c.args.self.now.state c.args.self.now.session c.args.room =
+    ap (λ (o : Outgoing). Exchange o) (sym c.in-Exchange.ensures.says.1)
+    ∙ c.in-Exchange.ensures.asked in
+    subst (λ (a : Asked). IsReplied a (text_out mid) (tries_in c.args.self.now.state) came c.take.result)
+    is
+    (refl, c.take.ensures.brought ∙ ap (λ (n : ℕ). brought.Exchanged n (verdict_on out came)) tries)
+
 pub returns-in-Exchange-clause-exact : goal.returns-in-Exchange-clause-exact
+unfolding exchanged
 returns-in-Exchange-clause-exact g c =
     exchange_is_exact g.W.Wire.facts c.args.wire.now c.exchange-came.new.self c.args.room
     c.take.new.said c.args.self.now c.send.new.self c.take.new.self (fitting g c) (joined g c)
-    c.in-Exchange.ensures.sent c.in-Exchange.ensures.says.0 c.requires.stands (exchanged g c) _
-    (ap octets_asked (sym c.in-Exchange.ensures.asked)
-    ∙ ap (λ (o : Outgoing). Some o.octets.items) c.in-Exchange.ensures.says.1)
+    c.in-Exchange.ensures.sent c.in-Exchange.ensures.says.0 c.requires.stands (exchanged g c) _ _ _
+    (replied g c)

@@ -22,7 +22,7 @@ use Rattle.iol_port.proofs.port_core.PortCore.send.Goals as goal
 
 pub invariant_of-self : goal.invariant_of-self
 invariant_of-self g c =
-    let p : Parts (Unit {0}) = record { station = bare c.self.inside.core; book = c.self.inside.book; kept = c.self.inside.kept.items; sent = c.self.inside.sent } in
+    let p : Parts (Unit {0}) = record { station = bare c.self.inside.core; book = c.self.inside.book; kept = c.self.inside.kept.items; sent = c.self.inside.sent; counters = c.self.inside.counters } in
     let mid : Core = c.if-not-self.self-inside.core in
     let book : BookValue = c.if-not-self.self-inside.book in
     let later : List Event = c.if-not-self.self-inside.kept.items in
@@ -44,11 +44,11 @@ invariant_of-self g c =
     ] in
     send_tied p mid c.send.new.self book later c.if-not-self.self-inside.sent c.has_room-room.result c.send.result c.self.invariant begun.0 begun.1 room c.send.ensures.sent c.send.ensures.reads c.send.ensures.says
 
-both : (g : given.Over) (c : goal.After-send g) → let next : Parts (Unit {0}) = record { station = bare c.send.new.self; book = c.if-not-self.self-inside.book; kept = c.if-not-self.self-inside.kept.items; sent = c.if-not-self.self-inside.sent } in
+both : (g : given.Over) (c : goal.After-send g) → let next : Parts (Unit {0}) = record { station = bare c.send.new.self; book = c.if-not-self.self-inside.book; kept = c.if-not-self.self-inside.kept.items; sent = c.if-not-self.self-inside.sent; counters = c.if-not-self.self-inside.counters } in
     SendGives c.args.self.now next × SendDoes c.args.self.now next
 both g c =
-    let p : Parts (Unit {0}) = record { station = bare c.self.inside.core; book = c.self.inside.book; kept = c.self.inside.kept.items; sent = c.self.inside.sent } in
-    let next : Parts (Unit {0}) = record { station = bare c.send.new.self; book = c.if-not-self.self-inside.book; kept = c.if-not-self.self-inside.kept.items; sent = c.if-not-self.self-inside.sent } in
+    let p : Parts (Unit {0}) = record { station = bare c.self.inside.core; book = c.self.inside.book; kept = c.self.inside.kept.items; sent = c.self.inside.sent; counters = c.self.inside.counters } in
+    let next : Parts (Unit {0}) = record { station = bare c.send.new.self; book = c.if-not-self.self-inside.book; kept = c.if-not-self.self-inside.kept.items; sent = c.if-not-self.self-inside.sent; counters = c.if-not-self.self-inside.counters } in
     let room : c.has_room-room.result ≡ has_room p.kept = c.has_room-room.ensures ∙ ap (λ (q : Parts (Unit {0})). has_room q.kept) (sym c.self.view_is) in
     subst (λ (q : Parts (Unit {0})). SendGives q next × SendDoes q next) c.self.view_is
     (elim c.if-not-self.branch as (λ _. SendGives p next × SendDoes p next) [
@@ -69,8 +69,9 @@ both g c =
               memory = ap (λ (b : BookValue). b.memory) book_is ∙ begun.ensures.memory;
               kept = ap (λ x. x.kept.items) is;
               sent = ap (λ x. x.sent) is;
+              counters = ap (λ x. x.counters) is;
             },
-            send_does p next (bare begun.new.core) begun.new.book.state free begun.ensures.next (subst (λ (k : Core). SendSteps k c.send.new.self) core_is c.send.ensures.steps) (ap (λ (b : BookValue). b.state) book_is) (ap (λ x. x.kept.items) is) (ap (λ x. x.sent) is),
+            send_does p next (bare begun.new.core) begun.new.book.state free begun.ensures.next (subst (λ (k : Core). SendSteps k c.send.new.self) core_is c.send.ensures.steps) (ap (λ (b : BookValue). b.state) book_is) (ap (λ x. x.kept.items) is) (ap (λ x. x.sent) is) (ap (λ x. x.counters) is),
           )
       | else-not-self w ↦
           let sent : p.sent ≡ true = cc in
@@ -79,7 +80,7 @@ both g c =
           let same : c.send.new.self ≡ c.self.inside.core = sent_same c.has_room-room.result c.self.inside.core c.send.new.self (c.self.invariant.out sent) (subst (λ (k : Core). IsSent c.has_room-room.result k c.send.new.self) core_is c.send.ensures.sent) in
           let next_is : next ≡ p = cc in
           subst (λ (q : Parts (Unit {0})). SendGives p q × SendDoes p q) (sym next_is)
-          (record { core = λ free. absurd (let k : true ≡ false = sym sent ∙ free in cc); book = λ free. absurd (let k : true ≡ false = sym sent ∙ free in cc); memory = refl; kept = refl; sent = sent }, again_does p sent)
+          (record { core = λ free. absurd (let k : true ≡ false = sym sent ∙ free in cc); book = λ free. absurd (let k : true ≡ false = sym sent ∙ free in cc); memory = refl; kept = refl; sent = sent; counters = refl }, again_does p sent)
     ])
 
 pub returns-clause-gives : goal.returns-clause-gives
