@@ -3,7 +3,7 @@
 //! `iol_bench CASE COUNT` does the work of a case so many times, and prints a word
 //! that everything which came out of it has a part in. Without words it does nothing,
 //! and prints nothing. A plain Rust program of the same rules, with the same cases
-//! and words, stands in `bench/plain`; docs/speed.md has what the two need.
+//! and words, stands in `tests/bench/plain`; docs/speed.md has what the two need.
 #![tactic(auto)]
 
 mod case;

@@ -1,6 +1,7 @@
 //! The master's end of the line (docs/protocol.md, LINK, REQ and PD).
 
 use crate::bounded::Bounded;
+use crate::counters::{Counters, count};
 use crate::event::{EventList, EventReader};
 use crate::image::Image;
 use crate::isdu::{Answer, Cause, Cutter, Joiner, Request, Took};
@@ -8,7 +9,7 @@ use crate::message::{
     ABORT, Channel, IDLE_1, Layout, MasterMsg, Mc, Message, Reply, START, encode_master, flow_of,
     read_reply,
 };
-use crate::page::{self, Layouts, Page, command};
+use crate::page::{self, Identity, Layouts, Page, command};
 use crate::refusal::Refusal;
 use crate::wire::Wire;
 
@@ -26,6 +27,7 @@ pub enum Why {
     NoWake,
     Lost,
     Page(Refusal),
+    WrongDevice,
 }
 
 #[derive(Clone, Copy, Debug, PartialEq, Eq)]
@@ -43,6 +45,14 @@ pub enum Said {
     Answered(Answer),
     Cut(Cause),
     Reported(EventList),
+}
+
+/// From when on a choice counts.
+#[derive(Clone, Copy, Debug, PartialEq, Eq)]
+pub enum When {
+    Now,
+    /// From the next start-up.
+    Later,
 }
 
 /// What a message is for.
@@ -99,6 +109,14 @@ pub struct Station<W> {
     page: Page,
     layouts: Option<Layouts>,
     told: Option<Told>,
+    /// Whether the page of this session was read whole and passed.
+    is_page_good: bool,
+    expected: Option<Identity>,
+    /// The octet of the cycle time that was chosen.
+    chosen_cycle: Option<u8>,
+    /// The octet of the cycle time that is written.
+    cycle: u8,
+    counters: Counters,
     message: Message,
     out: Option<Out>,
     /// The next step of the start-up.
@@ -136,6 +154,11 @@ impl<W: Wire> Station<W> {
             page: Page([0; 10]),
             layouts: None,
             told: None,
+            is_page_good: false,
+            expected: None,
+            chosen_cycle: None,
+            cycle: 0,
+            counters: Counters::default(),
             message: Message::new(),
             out: None,
             next: Purpose::ReadPage(page::FIRST),
@@ -167,6 +190,40 @@ impl<W: Wire> Station<W> {
 
     pub fn image(&self) -> Option<&Image> {
         self.image.as_ref()
+    }
+
+    /// The page of this session.
+    pub fn page(&self) -> Option<&Page> {
+        self.is_page_good.then_some(&self.page)
+    }
+
+    pub fn expect(&mut self, expected: Option<Identity>) -> When {
+        self.expected = expected;
+        self.counts_from()
+    }
+
+    pub fn set_cycle(&mut self, chosen: Option<u8>) -> When {
+        self.chosen_cycle = chosen;
+        self.counts_from()
+    }
+
+    fn counts_from(&self) -> When {
+        match self.is_page_good {
+            true => When::Later,
+            false => When::Now,
+        }
+    }
+
+    pub fn counters(&self) -> &Counters {
+        &self.counters
+    }
+
+    /// Counts a request that ended.
+    pub fn count_end(&mut self, cut: Option<Cause>) {
+        match cut {
+            Some(cause) => self.counters.count_unknown(cause),
+            None => count(&mut self.counters.done),
+        }
     }
 
     pub fn told(&self) -> Option<Told> {
@@ -227,6 +284,7 @@ impl<W: Wire> Station<W> {
         self.mode = Mode::Down;
         self.why = why;
         self.layout = Layout::STARTUP;
+        self.is_page_good = false;
         self.out = None;
         self.image = None;
         self.reader = EventReader::new();
@@ -252,10 +310,11 @@ impl<W: Wire> Station<W> {
         let (purpose, read, attempts) = (out.purpose, out.read, out.attempts);
         let answer = self.wire.exchange(&self.message);
         let layout = self.layout;
-        match answer
+        let came = answer
             .as_ref()
-            .map(|octets| read_reply(&layout, read, octets))
-        {
+            .map(|octets| read_reply(&layout, read, octets));
+        self.counters.count_exchange(&came, attempts);
+        match came {
             Some(Ok(reply)) => self.take(purpose, &reply),
             _ if attempts == ATTEMPTS => self.lose(),
             _ => Said::Nothing,
@@ -272,10 +331,12 @@ impl<W: Wire> Station<W> {
         self.next = Purpose::ReadPage(page::FIRST);
         self.output_told = false;
         self.event_form = false;
+        count(&mut self.counters.startups);
         Said::Woken
     }
 
     fn lose(&mut self) -> Said {
+        count(&mut self.counters.lost);
         self.leave(Some(Why::Lost));
         self.abort = None;
         match self.stage.take() {
@@ -315,7 +376,7 @@ impl<W: Wire> Station<W> {
             Purpose::DevicePreoperate => {
                 self.write(&mut od, Channel::Page, 0, command::DEVICE_PREOPERATE)
             }
-            Purpose::CycleTime => self.write(&mut od, Channel::Page, 1, self.page.octet(0x02)),
+            Purpose::CycleTime => self.write(&mut od, Channel::Page, 1, self.cycle),
             Purpose::DeviceOperate | Purpose::TellOutput(false) => {
                 self.write(&mut od, Channel::Page, 0, command::DEVICE_OPERATE)
             }
@@ -437,6 +498,9 @@ impl<W: Wire> Station<W> {
 
     /// The page is whole.
     fn take_page(&mut self) {
+        if self.expected.is_some_and(|it| it != self.page.identity()) {
+            return self.leave(Some(Why::WrongDevice));
+        }
         let layouts = match self.page.layouts() {
             Ok(layouts) => layouts,
             Err(refusal) => return self.leave(Some(Why::Page(refusal))),
@@ -452,6 +516,9 @@ impl<W: Wire> Station<W> {
             isdu: layouts.isdu,
         });
         self.layouts = Some(layouts);
+        self.is_page_good = true;
+        let least = self.page.octet(page::MIN_CYCLE_TIME);
+        self.cycle = self.chosen_cycle.map_or(least, |chosen| chosen.max(least));
     }
 
     fn take_event_octet(&mut self, octet: u8) -> Said {

@@ -14,6 +14,9 @@ pub trait Wire {
     fn exchange(&mut self, sent: &[u8]) -> Option<Message>;
 
     fn device(&self) -> &Device;
+
+    /// The device that isn't plugged in, where there are two.
+    fn away(&self) -> Option<&Device>;
 }
 
 /// What becomes of one call of the wire.
@@ -38,11 +41,14 @@ pub enum Step {
     Input(Image),
     NoInput,
     Power,
+    Swap,
+    Quiet,
 }
 
 /// A wire with a device at its far end, and a list of what happens.
 pub struct Sim {
     device: Box<Device>,
+    away: Option<Box<Device>>,
     steps: IntoIter<Step>,
     auto: bool,
     silent: bool,
@@ -52,9 +58,24 @@ impl Sim {
     pub fn new(device: Device, steps: Vec<Step>) -> Sim {
         Sim {
             device: Box::new(device),
+            away: None,
             steps: steps.into_iter(),
             auto: true,
             silent: false,
+        }
+    }
+
+    /// The same wire with a second device, not plugged in.
+    pub fn with_other(mut self, other: Device) -> Sim {
+        self.away = Some(Box::new(other));
+        self
+    }
+
+    /// The other device is plugged in, if there is one.
+    fn swap(&mut self) {
+        if let Some(other) = &mut self.away {
+            other.power_cycle();
+            std::mem::swap(&mut self.device, other);
         }
     }
 
@@ -73,7 +94,7 @@ impl Sim {
 
     /// Does the steps up to and with the next fate.
     fn next_fate(&mut self) -> Fate {
-        for step in self.steps.by_ref() {
+        while let Some(step) = self.steps.next() {
             match step {
                 Step::Fate(fate) => return fate,
                 Step::Work => self.device.work(),
@@ -83,6 +104,8 @@ impl Sim {
                 Step::Input(image) => drop(self.device.set_input(&image)),
                 Step::NoInput => self.device.clear_input(),
                 Step::Power => self.device.power_cycle(),
+                Step::Swap => self.swap(),
+                Step::Quiet => self.device.silence(),
             }
         }
         Fate::Clean
@@ -124,6 +147,10 @@ impl Wire for Sim {
     fn device(&self) -> &Device {
         &self.device
     }
+
+    fn away(&self) -> Option<&Device> {
+        self.away.as_deref()
+    }
 }
 
 /// What passed over a wire.
@@ -161,5 +188,9 @@ impl<W: Wire> Wire for Tap<W> {
 
     fn device(&self) -> &Device {
         self.wire.device()
+    }
+
+    fn away(&self) -> Option<&Device> {
+        self.wire.away()
     }
 }

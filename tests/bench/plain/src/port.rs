@@ -1,12 +1,14 @@
 //! One port of a master.
 
 use crate::book::{Book, Entry, Outcome, Ticket};
+use crate::counters::Counters;
 use crate::event::Event;
 use crate::image::Image;
 use crate::isdu::{Cause, Request};
 use crate::message::Layout;
+use crate::page::{Identity, Page};
 use crate::refusal::Refusal;
-use crate::station::{Said, Station, Status};
+use crate::station::{Said, Station, Status, When};
 use crate::wire::Wire;
 use std::collections::VecDeque;
 
@@ -60,7 +62,7 @@ impl<W: Wire> Port<W> {
 
     pub fn restart(&mut self) {
         if let Some(cause) = self.station.restart() {
-            self.book.post(Outcome::Unknown(cause));
+            self.cut(cause);
         }
     }
 
@@ -84,6 +86,24 @@ impl<W: Wire> Port<W> {
         self.station.status()
     }
 
+    /// Which device is expected, or any. It counts for the next page that is read whole.
+    pub fn expect(&mut self, expected: Option<Identity>) -> When {
+        self.station.expect(expected)
+    }
+
+    /// The octet of the cycle time that is asked for, or the least. It counts as `expect` does.
+    pub fn set_cycle(&mut self, chosen: Option<u8>) -> When {
+        self.station.set_cycle(chosen)
+    }
+
+    pub fn page(&self) -> Option<&Page> {
+        self.station.page()
+    }
+
+    pub fn counters(&self) -> &Counters {
+        self.station.counters()
+    }
+
     pub fn archive(&mut self) -> Result<Vec<Entry>, Refusal> {
         self.book.archive()
     }
@@ -105,10 +125,18 @@ impl<W: Wire> Port<W> {
         match self.station.turn(room) {
             Said::Nothing => {}
             Said::Woken => self.book.reset(),
-            Said::Answered(answer) => self.book.post(Outcome::Done(answer)),
-            Said::Cut(cause) => self.book.post(Outcome::Unknown(cause)),
+            Said::Answered(answer) => {
+                self.station.count_end(None);
+                self.book.post(Outcome::Done(answer));
+            }
+            Said::Cut(cause) => self.cut(cause),
             Said::Reported(list) => self.kept.extend(list.events()),
         }
+    }
+
+    fn cut(&mut self, cause: Cause) {
+        self.station.count_end(Some(cause));
+        self.book.post(Outcome::Unknown(cause));
     }
 
     /// The next request is begun, or denied where the device has no ISDU.

@@ -70,8 +70,7 @@ impl Book {
 
     pub fn submit(&mut self, request: Request) -> Result<Ticket, Refusal> {
         let ticket = self.admit()?;
-        self.journal
-            .push(Entry::Submitted(ticket, request.clone()));
+        self.journal.push(Entry::Submitted(ticket, request.clone()));
         self.waiting.push_back((ticket, request));
         Ok(ticket)
     }

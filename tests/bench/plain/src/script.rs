@@ -3,7 +3,7 @@
 use crate::event::Event;
 use crate::image::Image;
 use crate::isdu::{Data, Place, Request};
-use crate::page::{PLAIN, Page};
+use crate::page::{Identity, PLAIN, Page, cycle_octet};
 use crate::params::Params;
 use crate::port::Limits;
 use crate::wire::{Fate, Step};
@@ -26,12 +26,19 @@ pub enum Call {
     Look,
     TakeEvent,
     Status,
+    Counters,
     Archive,
+    /// Any device where there is none.
+    Expect(Option<Identity>),
+    /// The octet of a cycle time, or the least of the device.
+    Cycle(Option<u8>),
+    Page,
     Turns(u32),
 }
 
 enum Setting {
     Page(Page),
+    Other(Page),
     Limits(Limits),
     Param(Place, bool, Data),
 }
@@ -51,6 +58,8 @@ enum Line {
 /// What the lines set up. The calls are read again when they are made.
 pub struct Script {
     pub page: Page,
+    /// That of a second device.
+    pub other: Option<Page>,
     pub limits: Limits,
     pub params: Params,
     pub steps: Vec<Step>,
@@ -80,6 +89,7 @@ impl Script {
         }
         Ok(Script {
             page: draft.page.unwrap_or(PLAIN),
+            other: draft.other,
             limits: draft.limits.unwrap_or(Limits {
                 busy: 100,
                 journal: 1000,
@@ -93,6 +103,7 @@ impl Script {
 /// A script, as far as its lines are read.
 struct Draft {
     page: Option<Page>,
+    other: Option<Page>,
     limits: Option<Limits>,
     params: Params,
     steps: Vec<Step>,
@@ -104,6 +115,7 @@ impl Draft {
     fn new() -> Draft {
         Draft {
             page: None,
+            other: None,
             limits: None,
             params: Params::new(),
             steps: Vec::new(),
@@ -127,6 +139,7 @@ impl Draft {
         }
         match setting {
             Setting::Page(page) if self.page.is_none() => self.page = Some(page),
+            Setting::Other(page) if self.other.is_none() => self.other = Some(page),
             Setting::Limits(limits) if self.limits.is_none() => self.limits = Some(limits),
             Setting::Param(place, writable, data) => {
                 self.params.add(place, writable, &data).ok()?;
@@ -141,7 +154,8 @@ impl Draft {
             WireLine::Fates(fate, count) => (Step::Fate(fate), count as usize),
             WireLine::One(step) => (step, 1),
         };
-        if self.steps.len() + count > MOST {
+        let is_for_two = matches!(step, Step::Swap);
+        if self.steps.len() + count > MOST || (is_for_two && self.other.is_none()) {
             return None;
         }
         self.steps.extend(std::iter::repeat_n(step, count));
@@ -171,7 +185,9 @@ fn parse(line: &[u8]) -> Option<Line> {
     let name = words.next()?;
     let words = &mut words;
     let parsed = match name {
+        b"page" if line.len() == name.len() => Line::Call(Call::Page),
         b"page" => Line::Setting(Setting::Page(page(words)?)),
+        b"other" => Line::Setting(Setting::Other(page(words)?)),
         b"limits" => Line::Setting(Setting::Limits(limits(words)?)),
         b"param" => Line::Setting(param(words)?),
         b"wire" => Line::Wire(wire(words)?),
@@ -217,6 +233,8 @@ fn wire<'a>(words: &mut impl Iterator<Item = &'a [u8]>) -> Option<WireLine> {
         b"silent" => Step::Fate(Fate::Silent),
         b"work" => Step::Work,
         b"power" => Step::Power,
+        b"swap" => Step::Swap,
+        b"quiet" => Step::Quiet,
         b"auto" => match words.next()? {
             b"on" => Step::Auto(true),
             b"off" => Step::Auto(false),
@@ -265,8 +283,30 @@ fn call<'a>(name: &[u8], words: &mut impl Iterator<Item = &'a [u8]>) -> Option<C
         b"event" => Call::TakeEvent,
         b"status" => Call::Status,
         b"archive" => Call::Archive,
+        b"counters" => Call::Counters,
+        b"expect" => Call::Expect(expected(words)?),
+        b"cycle" => Call::Cycle(cycle(words)?),
         _ => return None,
     })
+}
+
+fn expected<'a>(words: &mut impl Iterator<Item = &'a [u8]>) -> Option<Option<Identity>> {
+    let vendor = match words.next()? {
+        b"any" => return Some(None),
+        word => number(word)?.try_into().ok()?,
+    };
+    let device = number(words.next()?)?.try_into().ok()?;
+    let fits = device < 1 << 24;
+    fits.then_some(Some(Identity { vendor, device }))
+}
+
+fn cycle<'a>(words: &mut impl Iterator<Item = &'a [u8]>) -> Option<Option<u8>> {
+    let micros: u32 = match words.next()? {
+        b"least" => return Some(None),
+        word => number(word)?.try_into().ok()?,
+    };
+    let octet = cycle_octet(micros).ok()?;
+    (micros > 0).then_some(Some(octet))
 }
 
 fn request<'a>(name: &[u8], words: &mut impl Iterator<Item = &'a [u8]>) -> Option<Request> {

@@ -301,6 +301,11 @@ impl Device {
         self.input = None;
     }
 
+    /// No message came for too long.
+    pub fn silence(&mut self) {
+        self.is_output_valid = false;
+    }
+
     pub fn power_cycle(&mut self) {
         self.awake = false;
         self.stage = Stage::Empty;
