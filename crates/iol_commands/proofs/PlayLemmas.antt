@@ -64,11 +64,11 @@ module _ {W : Type 0} (facts : WireFacts W) where
   made_join p q r (call ∷ calls) more [] others made later = absurd made
 
   -- and so it is for what it stands for
-  runs_none : (p : Parts W) → Runs facts p [] [] p
+  pub runs_none : (p : Parts W) → Runs facts p [] [] p
   unfolding Runs
   runs_none p a stands = (a, refl, stands)
 
-  runs_more : RunsJoin → (p q r : Parts W) (calls more : List Call) (replies others : List Answered) → Runs facts p calls replies q → Runs facts q more others r
+  pub runs_more : RunsJoin → (p q r : Parts W) (calls more : List Call) (replies others : List Answered) → Runs facts p calls replies q → Runs facts q more others r
       → Runs facts p (calls ++ more) (replies ++ others) r
   unfolding Runs
   runs_more join p q r calls more replies others first second a stands =

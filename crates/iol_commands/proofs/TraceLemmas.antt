@@ -1,14 +1,12 @@
 -- Calls that are traced one after the other.
-use Rattle.std.proofs.Common.{◌≡◌, ℕ, ◌+◌, ◌<◌, ◌≤◌, false, IsOkAnd, IsSomeAnd, IfSome, Some, None, Option, Result, Ok, Err, OnOk, List, [], ◌∷◌, ◌++◌, length, replicate, refl, sym, ap, subst, ◌∙◌, arith, append_assoc, append-nil, length-append}
+use Rattle.std.proofs.Common.{◌≡◌, ℕ, ◌+◌, ◌<◌, ◌≤◌, false, IsSomeAnd, IfSome, Some, None, Option, Result, Ok, Err, OnOk, List, [], ◌∷◌, ◌++◌, length, replicate, refl, sym, ap, subst, ◌∙◌, arith, append_assoc, append-nil, length-append}
 use Rattle.std.proofs.lemmas.List.{length-replicate}
 use Rattle.std.proofs.KnownBytes.{Appends-nil, Appends-trans}
 use Rattle.std.specs.Io.KnownBytes.{Appends}
 use Rattle.iol_mseq.specs.Shape.{Shape}
-use Rattle.iol_page.specs.declared.page.Layouts.{Layouts}
 use Rattle.iol_tap.specs.Tapped.{Tapped, wake_noted, exchange_noted, tap_facts, IsNoteOf}
 use Rattle.iol_tap.specs.declared.tap.Passed.{Passed}
 use Rattle.iol_tap.specs.declared.tap.Passed.TheVariants as passed
-use Rattle.iol_steps.specs.declared.mode.Mode.{Mode}
 use Rattle.iol_app.specs.declared.asked.Asked.{Asked}
 use Rattle.iol_app.specs.declared.asked.Asked.TheVariants.{Wake, Exchange}
 use Rattle.iol_app.specs.declared.core_data.Status.{Status}
@@ -19,21 +17,22 @@ use Rattle.iol_port.specs.declared.call.Call.TheVariants as call
 use Rattle.iol_port.specs.declared.call.Answered.{Answered}
 use Rattle.iol_port.specs.declared.call.Answered.TheVariants as answered
 use Rattle.iol_port.specs.Asks.{IsWireCall}
-use Rattle.iol_port.specs.Run.{PortState}
-use Rattle.iol_port.specs.View.{Parts, Opening, Follows, StandsFor, IsOpened, opening_of}
-use Rattle.iol_port.specs.EveryWire.{CallGives}
+use Rattle.iol_port.specs.Promises.{RunsJoin}
+use Rattle.iol_port.specs.Run.{PortState, Run}
+use Rattle.iol_port.specs.View.{Parts, Opening, Follows, Runs, StandsFor, IsOpened, opening_of, status_of}
+use Rattle.iol_port.specs.EveryWire.{CallGives, page_shown}
 use Rattle.iol_far.specs.declared.carried.Carried.{Carried}
 use Rattle.iol_sim.specs.Params.{Stores}
 use Rattle.iol_sim.specs.Sim.{Simulated, sim_facts}
 use Rattle.iol_sim.specs.declared.params.Entry.{Entry}
-use Rattle.iol_page.specs.Page.{layouts_of}
 use Rattle.iol_link.specs.WireFacts.{WireFacts}
 use Rattle.iol_script.specs.Script.{ScriptValue, script_in, calls_in}
 use Rattle.iol_script.specs.Text.{numbered_lines}
+use Rattle.iol_commands.proofs.PlayLemmas.{runs_none, runs_more}
 use Rattle.iol_commands.proofs.RunLemmas.{carried_is}
 use Rattle.iol_commands.specs.RunPlayed.{records_text, first_port, lacks_memory}
 use Rattle.iol_commands.specs.RunPrinted.{answer_text}
-use Rattle.iol_commands.specs.TracePrinted.{layout_in, first_stage, first_tap, TracesOut, TracesOverWire, PrintsTrace, Stage, wire_at, Passes, TracesCall, Traces, stage_of, PortTraces, Flows, PrintsNote, PrintsNoteOf}
+use Rattle.iol_commands.specs.TracePrinted.{layout_at, layout_now, first_tap, tapped_opening, TracesOut, TracesOverWire, PrintsTrace, Stage, stage, tap_at, Passes, TracesCall, Traces, PortTraces, Flows, PrintsNote, PrintsNoteOf}
 
 -- Text that is written in pieces
 
@@ -56,114 +55,181 @@ flows_join a b c x y z text later p q = record {
 
 module _ {W : Type 0} (facts : WireFacts W) where
   -- a call of the wire, and the note of it
-  noted : (asked : Asked) (old new : Tapped W) → IsCall (tap_facts facts) asked old new → (note : Passed) × (new.last ≡ Some note) × IsNoteOf facts note old.wire new.wire
+  noted : (asked : Asked) (old new : Tapped W) → IsCall (tap_facts facts) asked old new
+      → (note : Passed) × (new.last ≡ Some note) × IsNoteOf facts note old.wire new.wire
   noted Wake old new (answer, called) = (wake_noted answer, called.1, called.0)
-  noted (Exchange sent) old new (answer, called) = (exchange_noted sent.octets.items answer, called.1, (sent.octets.items, refl, called.0))
+  noted (Exchange sent) old new (answer, called) =
+      (exchange_noted sent.octets.items answer, called.1, (sent.octets.items, refl, called.0))
 
-  module _ (layouts : Layouts) where
-    -- what passes in a call is what is noted of it
-    passes_of : (call : Call) (asked : Asked) (old new : Tapped W) (s : Stage W) (t : Stage W) (layout : Shape) (text : List ℕ)
-        → wire_at s ≡ old.wire → wire_at t ≡ new.wire → layout ≡ layout_in s.port.session.mode layouts
-        → IsWireCall (tap_facts facts) call asked old new → PrintsNoteOf call s.number layout new.last t.number text
-        → Passes facts layouts s call t text
-    passes_of call.Turn asked old new s t layout text before after shape called printed =
-        let (note, last, is) = noted asked old new called in
-        let shown : PrintsNote s.number (layout_in s.port.session.mode layouts) (Some note) t.number text =
-        subst (λ (l : Shape). PrintsNote s.number l (Some note) t.number text) shape (subst (λ (o : Option Passed). PrintsNote s.number layout o t.number text) last printed) in
-        (note, subst (λ (w : W). IsNoteOf facts note w (wire_at t)) (sym before) (subst (λ (w : W). IsNoteOf facts note old.wire w) (sym after) is), shown.0, shown.1)
-    passes_of (call.Submit request) asked old new s t layout text before after shape called printed = (printed.0, after ∙ ap (λ (w : Tapped W). w.wire) called ∙ sym before, printed.1)
-    passes_of (call.SubmitUrgent request) asked old new s t layout text before after shape called printed = (printed.0, after ∙ ap (λ (w : Tapped W). w.wire) called ∙ sym before, printed.1)
-    passes_of (call.Collect ticket) asked old new s t layout text before after shape called printed = (printed.0, after ∙ ap (λ (w : Tapped W). w.wire) called ∙ sym before, printed.1)
-    passes_of (call.Withdraw ticket) asked old new s t layout text before after shape called printed = (printed.0, after ∙ ap (λ (w : Tapped W). w.wire) called ∙ sym before, printed.1)
-    passes_of (call.Cancel ticket) asked old new s t layout text before after shape called printed = (printed.0, after ∙ ap (λ (w : Tapped W). w.wire) called ∙ sym before, printed.1)
-    passes_of call.Restart asked old new s t layout text before after shape called printed = (printed.0, after ∙ ap (λ (w : Tapped W). w.wire) called ∙ sym before, printed.1)
-    passes_of (call.SetOutput image) asked old new s t layout text before after shape called printed = (printed.0, after ∙ ap (λ (w : Tapped W). w.wire) called ∙ sym before, printed.1)
-    passes_of call.ClearOutput asked old new s t layout text before after shape called printed = (printed.0, after ∙ ap (λ (w : Tapped W). w.wire) called ∙ sym before, printed.1)
-    passes_of call.Look asked old new s t layout text before after shape called printed = (printed.0, after ∙ ap (λ (w : Tapped W). w.wire) called ∙ sym before, printed.1)
-    passes_of (call.Expect identity) asked old new s t layout text before after shape called printed = (printed.0, after ∙ ap (λ (w : Tapped W). w.wire) called ∙ sym before, printed.1)
-    passes_of (call.Cycle time) asked old new s t layout text before after shape called printed = (printed.0, after ∙ ap (λ (w : Tapped W). w.wire) called ∙ sym before, printed.1)
-    passes_of call.Page asked old new s t layout text before after shape called printed = (printed.0, after ∙ ap (λ (w : Tapped W). w.wire) called ∙ sym before, printed.1)
-    passes_of call.Counters asked old new s t layout text before after shape called printed =
-        (printed.0, after ∙ ap (λ (w : Tapped W). w.wire) called ∙ sym before, printed.1)
-    passes_of call.TakeEvent asked old new s t layout text before after shape called printed = (printed.0, after ∙ ap (λ (w : Tapped W). w.wire) called ∙ sym before, printed.1)
-    passes_of call.Status asked old new s t layout text before after shape called printed = (printed.0, after ∙ ap (λ (w : Tapped W). w.wire) called ∙ sym before, printed.1)
-    passes_of call.Archive asked old new s t layout text before after shape called printed = (printed.0, after ∙ ap (λ (w : Tapped W). w.wire) called ∙ sym before, printed.1)
+  -- what is printed where a call that isn't a turn leaves the wire alone
+  still : (number after : ℕ) (old new : Tapped W) (text : List ℕ)
+      → new ≡ old → (text ≡ []) × (after ≡ number)
+      → (text ≡ []) × (new.wire ≡ old.wire) × (after ≡ number)
+  still number after old new text same (none, stays) =
+      (none, ap (λ (w : Tapped W). w.wire) same, stays)
 
-    traces_join : (s m t : Stage W) (calls more : List Call) (text later : List ℕ) → Traces facts layouts s calls m text → Traces facts layouts m more t later → Traces facts layouts s (calls ++ more) t (text ++ later)
-    traces_join s m t [] more text later (same, none) second =
-        subst (λ (l : List ℕ). Traces facts layouts s more t (l ++ later)) (sym none) (subst (λ (x : Stage W). Traces facts layouts x more t later) same second)
-    traces_join s m t (call ∷ calls) more text later (mid, first, rest, is, one, others) second =
-        (mid, first, rest ++ later, ap (λ (l : List ℕ). l ++ later) is ∙ append_assoc first rest later, one, traces_join mid m t calls more rest later others second)
+  -- what passes in a call is what is noted of it
+  passes_of : (call : Call) (asked : Asked) (s t : Stage W) (text : List ℕ)
+      → IsWireCall (tap_facts facts) call asked (tap_at s) (tap_at t)
+      → PrintsNoteOf call s.number (layout_at s.port) (tap_at t).last t.number text
+      → Passes facts s call t text
+  passes_of call.Turn asked s t text called printed =
+      let (note, last, is) = noted asked (tap_at s) (tap_at t) called in
+      let shown : PrintsNote s.number (layout_at s.port) (Some note) t.number text =
+          subst (λ (o : Option Passed). PrintsNote s.number (layout_at s.port) o t.number text)
+          last printed in
+      (note, is, shown.0, shown.1)
+  passes_of (call.Submit request) asked s t text called printed =
+      still s.number t.number (tap_at s) (tap_at t) text called printed
+  passes_of (call.SubmitUrgent request) asked s t text called printed =
+      still s.number t.number (tap_at s) (tap_at t) text called printed
+  passes_of (call.Collect ticket) asked s t text called printed =
+      still s.number t.number (tap_at s) (tap_at t) text called printed
+  passes_of (call.Withdraw ticket) asked s t text called printed =
+      still s.number t.number (tap_at s) (tap_at t) text called printed
+  passes_of (call.Cancel ticket) asked s t text called printed =
+      still s.number t.number (tap_at s) (tap_at t) text called printed
+  passes_of call.Restart asked s t text called printed =
+      still s.number t.number (tap_at s) (tap_at t) text called printed
+  passes_of (call.SetOutput image) asked s t text called printed =
+      still s.number t.number (tap_at s) (tap_at t) text called printed
+  passes_of call.ClearOutput asked s t text called printed =
+      still s.number t.number (tap_at s) (tap_at t) text called printed
+  passes_of call.Look asked s t text called printed =
+      still s.number t.number (tap_at s) (tap_at t) text called printed
+  passes_of (call.Expect identity) asked s t text called printed =
+      still s.number t.number (tap_at s) (tap_at t) text called printed
+  passes_of (call.Cycle time) asked s t text called printed =
+      still s.number t.number (tap_at s) (tap_at t) text called printed
+  passes_of call.Page asked s t text called printed =
+      still s.number t.number (tap_at s) (tap_at t) text called printed
+  passes_of call.Counters asked s t text called printed =
+      still s.number t.number (tap_at s) (tap_at t) text called printed
+  passes_of call.TakeEvent asked s t text called printed =
+      still s.number t.number (tap_at s) (tap_at t) text called printed
+  passes_of call.Status asked s t text called printed =
+      still s.number t.number (tap_at s) (tap_at t) text called printed
+  passes_of call.Archive asked s t text called printed =
+      still s.number t.number (tap_at s) (tap_at t) text called printed
 
-module _ {W : Type 0} (facts : WireFacts W) (layouts : Layouts) where
+  traces_join : (s m t : Stage W) (calls more : List Call) (replies others : List Answered)
+      (text later : List ℕ) → Traces facts s calls replies m text
+      → Traces facts m more others t later
+      → Traces facts s (calls ++ more) (replies ++ others) t (text ++ later)
+  traces_join s m t [] more [] others text later (same, none) second =
+      subst (λ (l : List ℕ). Traces facts s more others t (l ++ later)) (sym none)
+      (subst (λ (x : Stage W). Traces facts x more others t later) same second)
+  traces_join s m t (call ∷ calls) more (reply ∷ replies) others text later
+      (mid, first, rest, is, one, goes) second = (
+        mid,
+        first,
+        rest ++ later,
+        ap (λ (l : List ℕ). l ++ later) is ∙ append_assoc first rest later,
+        one,
+        traces_join mid m t calls more replies others rest later goes second,
+      )
+  traces_join s m t [] more (reply ∷ replies) others text later goes second = absurd goes
+  traces_join s m t (call ∷ calls) more [] others text later goes second = absurd goes
+
   -- no call is made
-  pub port_traces_none : (n : ℕ) (p : Parts (Tapped W)) → PortTraces facts layouts n p [] n p []
-  unfolding PortTraces
-  port_traces_none n p a stands = (a, (refl, refl), stands)
+  pub port_traces_none : (n : ℕ) (p : Parts (Tapped W)) → PortTraces facts n p [] n p []
+  port_traces_none n p =
+      record { answers = []; traces = (refl, refl); runs = runs_none (tap_facts facts) p }
 
   -- more calls are made
-  pub port_traces_join : (n m k : ℕ) (p q r : Parts (Tapped W)) (calls more : List Call) (text later : List ℕ)
-      → PortTraces facts layouts n p calls m q text → PortTraces facts layouts m q more k r later
-      → PortTraces facts layouts n p (calls ++ more) k r (text ++ later)
-  unfolding PortTraces
-  port_traces_join n m k p q r calls more text later first second a stands =
-      let (b, traces, there) = first a stands in
-      let (c, goes_on, last) = second b there in
-      (c, traces_join facts layouts (stage_of n a p) (stage_of m b q) (stage_of k c r) calls more text later traces goes_on, last)
+  pub port_traces_join : RunsJoin → (n m k : ℕ) (p q r : Parts (Tapped W)) (calls more : List Call)
+      (text later : List ℕ) → PortTraces facts n p calls m q text
+      → PortTraces facts m q more k r later
+      → PortTraces facts n p (calls ++ more) k r (text ++ later)
+  port_traces_join join n m k p q r calls more text later first second = record {
+    answers = first.answers ++ second.answers;
+    traces = traces_join (stage n p) (stage m q) (stage k r) calls more first.answers
+        second.answers text later first.traces second.traces;
+    runs = runs_more (tap_facts facts) join p q r calls more first.answers second.answers
+        first.runs second.runs;
+  }
+
+  -- what one call leads to, a run of it leads to
+  runs_one : (p q : Parts (Tapped W)) (made : Call) (reply : Answered)
+      → Follows (tap_facts facts) p made reply q
+      → Runs (tap_facts facts) p (made ∷ []) (reply ∷ []) q
+  unfolding Follows Runs
+  runs_one p q made reply goes a stands =
+      let (b, call_is, there) = goes a stands in (b, (b, call_is, refl), there)
 
   -- one call, by what its port says of itself, of the call and of the wire
-  pub call_traced : (n m : ℕ) (p q : Parts (Tapped W)) (made : Call) (reply : Answered) (status : Status) (asked : Asked) (text passed : List ℕ)
-      → Follows (tap_facts facts) p call.Status (answered.Status status) p
+  pub call_traced : (n m : ℕ) (p q : Parts (Tapped W)) (made : Call) (reply : Answered)
+      (asked : Asked) (text passed : List ℕ)
       → Follows (tap_facts facts) p made reply q
       → CallGives (tap_facts facts) p made reply q
       → IsWireCall (tap_facts facts) made asked (wire_of p.station.link) (wire_of q.station.link)
-      → lacks_memory reply ≡ false → PrintsNoteOf made n (layout_in status.mode layouts) (wire_of q.station.link).last m passed
-      → text ≡ passed ++ answer_text made reply → PortTraces facts layouts n p (made ∷ []) m q text
-  unfolding PortTraces Follows
-  call_traced n m p q made reply status asked text passed says goes gives_it called granted printed is a stands =
-      let (same, said, still) = says a stands in
-      let (b, call_is, there) = goes a stands in
-      let inner : status ≡ record { mode = a.session.mode; why = a.session.why; event_form = false } = cc (said.0) in
-      let mode : status.mode ≡ a.session.mode = ap (λ (s : Status). s.mode) inner in
-      let passes : Passes facts layouts (stage_of n a p) made (stage_of m b q) passed =
-      passes_of facts layouts made asked (wire_of p.station.link) (wire_of q.station.link) (stage_of n a p) (stage_of m b q) (layout_in status.mode layouts) passed
-      refl refl (ap (λ (x : Mode). layout_in x layouts) mode) called printed in
-      let one : TracesCall facts layouts (stage_of n a p) made (stage_of m b q) text = record { reply = reply; passed = passed; call_is = call_is; made = gives_it; granted = granted; passes = passes; text_is = is } in
-      (b, (stage_of m b q, text, [], sym (append-nil text), one, (refl, refl)), there)
+      → lacks_memory reply ≡ false
+      → PrintsNoteOf made n (layout_at p) (wire_of q.station.link).last m passed
+      → text ≡ passed ++ answer_text made reply → PortTraces facts n p (made ∷ []) m q text
+  call_traced n m p q made reply asked text passed goes gives_it called granted printed is =
+      let one : TracesCall facts (stage n p) made reply (stage m q) text = record {
+        passed = passed;
+        made = gives_it;
+        granted = granted;
+        passes = passes_of made asked (stage n p) (stage m q) passed called printed;
+        text_is = is;
+      } in
+      record {
+        answers = reply ∷ [];
+        traces = (stage m q, text, [], sym (append-nil text), one, (refl, refl));
+        runs = runs_one p q made reply goes;
+      }
 
   -- the same as it is printed
-  pub call_printed : {T E : Type 0} (r : Result T E) (old mid new : List ℕ) (n m : ℕ) (p q : Parts (Tapped W)) (made : Call) (reply : Answered) (status : Status) (asked : Asked) (layout : Shape) (wire : Tapped W) (passed : List ℕ)
-      → Follows (tap_facts facts) p call.Status (answered.Status status) p
+  pub call_printed : {T E : Type 0} (r : Result T E) (old mid new : List ℕ) (n m : ℕ)
+      (p q : Parts (Tapped W)) (made : Call) (reply : Answered) (asked : Asked)
+      (status : Status) (page : Option (List ℕ)) (layout : Shape) (wire : Tapped W)
+      (passed : List ℕ)
+      → status ≡ status_of p.station → page ≡ page_shown p
       → Follows (tap_facts facts) p made reply q
       → CallGives (tap_facts facts) p made reply q
       → IsWireCall (tap_facts facts) made asked (wire_of p.station.link) (wire_of q.station.link)
-      → false ≡ lacks_memory reply → layout ≡ layout_in status.mode layouts → wire ≡ wire_of q.station.link → PrintsNoteOf made n layout wire.last m passed
+      → false ≡ lacks_memory reply → layout ≡ layout_now status.mode page
+      → wire ≡ wire_of q.station.link → PrintsNoteOf made n layout wire.last m passed
       → mid ≡ old ++ passed → OnOk r (new ≡ mid ++ answer_text made reply)
-      → OnOk r ((text : List ℕ) × (new ≡ old ++ text) × PortTraces facts layouts n p (made ∷ []) m q text)
-  call_printed (Ok x) old mid new n m p q made reply status asked layout wire passed says goes gives_it called granted shape same printed before wrote =
-      let text : List ℕ = passed ++ answer_text made reply in
-      let noted_by : PrintsNoteOf made n (layout_in status.mode layouts) (wire_of q.station.link).last m passed =
-      subst (λ (w : Tapped W). PrintsNoteOf made n (layout_in status.mode layouts) w.last m passed) same (subst (λ (l : Shape). PrintsNoteOf made n l wire.last m passed) shape printed) in (
-        text,
-        wrote ∙ ap (λ (l : List ℕ). l ++ answer_text made reply) before ∙ append_assoc old passed (answer_text made reply),
-        call_traced n m p q made reply status asked text passed says goes gives_it called (sym granted) noted_by refl,
+      → OnOk r ((text : List ℕ) × (new ≡ old ++ text) × PortTraces facts n p (made ∷ []) m q text)
+  call_printed (Ok x) old mid new n m p q made reply asked status page layout wire passed
+      stands shows goes gives_it called granted shape same printed before wrote =
+      let answer : List ℕ = answer_text made reply in
+      let at : layout ≡ layout_at p =
+          shape ∙ ap (λ (s : Status). layout_now s.mode page) stands
+          ∙ ap (layout_now (status_of p.station).mode) shows in
+      let noted_by : PrintsNoteOf made n (layout_at p) (wire_of q.station.link).last m passed =
+          subst (λ (w : Tapped W). PrintsNoteOf made n (layout_at p) w.last m passed) same
+          (subst (λ (l : Shape). PrintsNoteOf made n l wire.last m passed) at printed) in (
+        passed ++ answer,
+        wrote ∙ ap (λ (l : List ℕ). l ++ answer) before ∙ append_assoc old passed answer,
+        call_traced n m p q made reply asked (passed ++ answer) passed goes gives_it called
+            (sym granted) noted_by refl,
       )
-  call_printed (Err x) old mid new n m p q made reply status asked layout wire passed says goes gives_it called granted shape same printed before wrote = tt
+  call_printed (Err x) old mid new n m p q made reply asked status page layout wire passed
+      stands shows goes gives_it called granted shape same printed before wrote = tt
 
   -- some calls are traced, and what is printed is written or waits
-  abbrev pub Goes : Layouts → Option (List ℕ) → Option (List ℕ) → List ℕ → List ℕ → ℕ → Parts (Tapped W) → List Call → ℕ → Parts (Tapped W) → Type 0
-  Goes of a b x y n p calls m q = (text : List ℕ) × Flows a b x y text × PortTraces facts of n p calls m q text
+  abbrev pub Goes : Option (List ℕ) → Option (List ℕ) → List ℕ → List ℕ → ℕ → Parts (Tapped W)
+      → List Call → ℕ → Parts (Tapped W) → Type 0
+  Goes a b x y n p calls m q =
+      (text : List ℕ) × Flows a b x y text × PortTraces facts n p calls m q text
 
-  pub goes_none : (a : Option (List ℕ)) (x : List ℕ) (n : ℕ) (p : Parts (Tapped W)) → Goes layouts a a x x n p [] n p
+  pub goes_none : (a : Option (List ℕ)) (x : List ℕ) (n : ℕ) (p : Parts (Tapped W))
+      → Goes a a x x n p [] n p
   goes_none a x n p = ([], flows_none a x, port_traces_none n p)
 
-  pub goes_join : (same : Layouts) (a b c : Option (List ℕ)) (x y z : List ℕ) (n m k : ℕ) (p q r : Parts (Tapped W)) (calls more all : List Call)
-      → same ≡ layouts → calls ++ more ≡ all → Goes layouts a b x y n p calls m q → Goes same b c y z m q more k r → Goes layouts a c x z n p all k r
-  goes_join same a b c x y z n m k p q r calls more all is whole (text, flows, traces) (later, flows_on, traces_on) =
-      let traced : PortTraces facts layouts m q more k r later = subst (λ (l : Layouts). PortTraces facts l m q more k r later) is traces_on in (
+  pub goes_join : RunsJoin → (a b c : Option (List ℕ)) (x y z : List ℕ) (n m k : ℕ)
+      (p q r : Parts (Tapped W)) (calls more all : List Call)
+      → calls ++ more ≡ all → Goes a b x y n p calls m q → Goes b c y z m q more k r
+      → Goes a c x z n p all k r
+  goes_join join a b c x y z n m k p q r calls more all whole
+      (text, flows, traces) (later, flows_on, traces_on) = (
         text ++ later,
         flows_join a b c x y z text later flows flows_on,
-        subst (λ (l : List Call). PortTraces facts layouts n p l k r (text ++ later)) whole (port_traces_join n m k p q r calls more text later traces traced),
+        subst (λ (l : List Call). PortTraces facts n p l k r (text ++ later)) whole
+            (port_traces_join join n m k p q r calls more text later traces traces_on),
       )
 
 -- a text is printed, and some of what waits is written
@@ -200,32 +266,40 @@ abbrev tapped : WireFacts (Tapped (Simulated (List Entry)))
 tapped = tap_facts (sim_facts Stores)
 
 -- a port over a tap on the first wire of a script, and its calls traced to the end
-pub traced_out : (script : ScriptValue) (layouts : Layouts) (p q : Parts (Tapped (Simulated (List Entry)))) (a : PortState) (opening : Opening (Tapped (Simulated (List Entry)))) (tap : Tapped (Simulated (List Entry))) (of : Layouts) (n m : ℕ) (calls : List Call) (text : List ℕ) (last_wire : Simulated (List Entry))
-    → of ≡ layouts → n ≡ 1 → StandsFor tapped p a → a ≡ first_port script.limits script.page
+pub traced_out : (script : ScriptValue) (p q : Parts (Tapped (Simulated (List Entry))))
+    (a : PortState) (opening : Opening (Tapped (Simulated (List Entry))))
+    (tap : Tapped (Simulated (List Entry))) (n m : ℕ) (calls : List Call) (text : List ℕ)
+    (last_wire : Simulated (List Entry))
+    → n ≡ 1 → (script.other ≡ None → StandsFor tapped p a)
+    → a ≡ first_port script.limits script.page
     → opening ≡ opening_of tapped script.limits tap → tap ≡ first_tap script → IsOpened opening p
-    → PortTraces (sim_facts Stores) of n p calls m q text
-    → last_wire ≡ (wire_of q.station.link).wire → TracesOut script layouts calls (text ++ records_text last_wire)
-unfolding PortTraces
-traced_out script layouts p q a opening tap of n m calls text last_wire told from_one stands first over tap_is opens goes those =
-    let (b, traces, there) = goes a stands in
-    let begun : Stage (Simulated (List Entry)) = stage_of n a p in
-    let stage : begun ≡ first_stage script p =
-    ap (λ (k : ℕ). stage_of k a p) from_one ∙ ap (λ (x : PortState). stage_of 1 x p) first in
-    let carried : (wire_of q.station.link).wire.device.far.carried ≡ b.session.carried = carried_is tapped q b there in
+    → PortTraces (sim_facts Stores) n p calls m q text
+    → last_wire ≡ (wire_of q.station.link).wire
+    → TracesOut script calls (text ++ records_text last_wire)
+unfolding Runs
+traced_out script p q a opening tap n m calls text last_wire from_one stands first over tap_is
+    opens traced those =
+    let is_opened : opening ≡ tapped_opening script =
+        over ∙ ap (opening_of tapped script.limits) tap_is in
     record {
+      answers = traced.answers;
       first = p;
-      opens = subst (λ (o : Opening (Tapped (Simulated (List Entry)))). IsOpened o p) (over ∙ ap (λ (t : Tapped (Simulated (List Entry))). opening_of tapped script.limits t) tap_is) opens;
-      last = stage_of m b q;
+      opens = subst (λ (o : Opening (Tapped (Simulated (List Entry)))). IsOpened o p)
+          is_opened opens;
+      last = stage m q;
       calls_text = text;
-      traces = subst (λ (s : Stage (Simulated (List Entry))). TracesOverWire layouts s calls (stage_of m b q) text) stage
-          (subst (λ (l : Layouts). TracesOverWire l begun calls (stage_of m b q) text) told traces);
-      carried = carried;
+      traces = subst
+          (λ (k : ℕ). TracesOverWire (stage k p) calls traced.answers (stage m q) text)
+          from_one traced.traces;
+      alike = λ one.
+          let (b, run, there) = traced.runs a (stands one) in
+          record {
+            after = b;
+            run = subst (λ (s : PortState). Run s calls traced.answers b) first run;
+            carried = carried_is tapped q b there;
+          };
       text_is = ap (λ (w : Simulated (List Entry)). text ++ records_text w) those;
     }
-
--- the layouts of a page that has some
-pub with_layouts : {E : Type 0} (r s : Result Layouts E) (layouts : Layouts) (P : Layouts → Type 0) → s ≡ r → s ≡ Ok layouts → P layouts → IsOkAnd r P
-with_layouts r s layouts P is good holds = subst (λ (o : Result Layouts _). IsOkAnd o P) (sym good ∙ is) holds
 
 -- what holds of what was read holds of all that was there
 if_some_of : (had : Option (List ℕ)) (items : List ℕ) (P : List ℕ → Type 0) → IfSome had (λ xs. items ≡ xs) → P items → IfSome had P
@@ -233,15 +307,24 @@ if_some_of None items P is holds = tt
 if_some_of (Some xs) items P is holds = subst P is holds
 
 -- a script that was read is traced
-pub script_traced : {T E : Type 0} (r : Result T E) (a b had : Option (List ℕ)) (items one two : List ℕ) (script : ScriptValue)
-    → IfSome had (λ xs. items ≡ xs) → one ≡ items → two ≡ items → script_in (numbered_lines one) ≡ Some script
-    → OnOk r ((text : List ℕ) × Appends a b text × IsOkAnd (layouts_of script.page) (λ layouts. script.other ≡ None → TracesOut script layouts (calls_in (numbered_lines two)) text))
-    → OnOk r ((text : List ℕ) × Appends a b text × IfSome had (λ input. PrintsTrace (numbered_lines input) text))
+pub script_traced : {T E : Type 0} (r : Result T E) (a b had : Option (List ℕ))
+    (items one two : List ℕ) (script : ScriptValue)
+    → IfSome had (λ xs. items ≡ xs) → one ≡ items → two ≡ items
+    → script_in (numbered_lines one) ≡ Some script
+    → OnOk r ((text : List ℕ) × Appends a b text
+      × TracesOut script (calls_in (numbered_lines two)) text)
+    → OnOk r ((text : List ℕ) × Appends a b text
+      × IfSome had (λ input. PrintsTrace (numbered_lines input) text))
 script_traced (Ok x) a b had items one two script all first second is (text, wrote, says) =
-    let read : script_in (numbered_lines items) ≡ Some script = ap (λ (l : List ℕ). script_in (numbered_lines l)) (sym first) ∙ is in
-    let said : IsOkAnd (layouts_of script.page) (λ layouts. script.other ≡ None → TracesOut script layouts (calls_in (numbered_lines items)) text) =
-    subst (λ (l : List ℕ). IsOkAnd (layouts_of script.page) (λ layouts. script.other ≡ None → TracesOut script layouts (calls_in (numbered_lines l)) text)) second says in
+    let read : script_in (numbered_lines items) ≡ Some script =
+        ap (λ (l : List ℕ). script_in (numbered_lines l)) (sym first) ∙ is in
+    let said : TracesOut script (calls_in (numbered_lines items)) text =
+        subst (λ (l : List ℕ). TracesOut script (calls_in (numbered_lines l)) text) second says in
     let prints : PrintsTrace (numbered_lines items) text =
-    subst (λ (o : Option ScriptValue). IsSomeAnd o (λ s. IsOkAnd (layouts_of s.page) (λ layouts. s.other ≡ None → TracesOut s layouts (calls_in (numbered_lines items)) text))) (sym read) said in
-    (text, wrote, if_some_of had items (λ (input : List ℕ). PrintsTrace (numbered_lines input) text) all prints)
+        subst (λ (o : Option ScriptValue).
+        IsSomeAnd o (λ s. TracesOut s (calls_in (numbered_lines items)) text)) (sym read) said in (
+      text,
+      wrote,
+      if_some_of had items (λ (input : List ℕ). PrintsTrace (numbered_lines input) text) all prints,
+    )
 script_traced (Err x) a b had items one two script all first second is says = tt

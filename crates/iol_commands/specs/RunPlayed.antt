@@ -82,12 +82,13 @@ abbrev pub first_opening : ScriptValue → Opening (Simulated (List Entry))
 first_opening script =
     opening_of (sim_facts Stores) script.limits (first_wire script)
 
--- the abstract port over the new device makes these calls with the same answers
+-- the abstract port over the new device makes these calls with the same answers, and its
+-- device has the record of this wire's
 pub record RunsAlike (script : ScriptValue) (calls : List Call) (answers : List Answered)
-    (last : Parts (Simulated (List Entry))) : Type 0 where
+    (wire : Simulated (List Entry)) : Type 0 where
   pub after : PortState
   pub run : Run (first_port script.limits script.page) calls answers after
-  pub carried : (wire_of last.station.link).device.far.carried ≡ after.session.carried
+  pub carried : wire.device.far.carried ≡ after.session.carried
 
 -- What is printed for calls: what they answer, and then the records. They are made on a
 -- new port over the script's wire; with one device the abstract port makes them alike.
@@ -97,7 +98,7 @@ pub record PlaysOut (script : ScriptValue) (calls : List Call) (text : List ℕ)
   pub opens : IsOpened (first_opening script) first
   pub last : Parts (Simulated (List Entry))
   pub made : MadeOverWire first calls answers last
-  pub alike : script.other ≡ None → RunsAlike script calls answers last
+  pub alike : script.other ≡ None → RunsAlike script calls answers (wire_of last.station.link)
   pub granted : list_any lacks_memory answers ≡ false
   pub text_is : text ≡ answers_text calls answers ++ records_text (wire_of last.station.link)
 

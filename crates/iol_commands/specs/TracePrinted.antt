@@ -1,6 +1,7 @@
 -- What `trace` carries out, and what it prints of it.
-use Rattle.std.specs.Prelude.{◌≡◌, ℕ, ◌+◌, false, Option, Some, None, List, [], ◌∷◌, ◌++◌, IsSomeAnd, IsOkAnd, unwrap_or}
+use Rattle.std.specs.Prelude.{◌≡◌, ℕ, ◌+◌, ⊥, false, Option, Some, None, List, [], ◌∷◌, ◌++◌, IsSomeAnd, unwrap_or}
 use Rattle.std.specs.Io.KnownBytes.{Appends}
+use Rattle.std.specs.Result.{result_ok}
 use Rattle.iol_mseq.specs.Shape.{Shape, startup_shape}
 use Rattle.iol_page.specs.Page.{layouts_of}
 use Rattle.iol_page.specs.declared.page.Layouts.{Layouts}
@@ -16,60 +17,80 @@ use Rattle.iol_app.specs.StationState.{wire_of}
 use Rattle.iol_port.specs.declared.call.Call.{Call}
 use Rattle.iol_port.specs.declared.call.Call.TheVariants.{Turn}
 use Rattle.iol_port.specs.declared.call.Answered.{Answered}
-use Rattle.iol_port.specs.Run.{PortState, CallOf}
-use Rattle.iol_port.specs.View.{Parts, Opening, StandsFor, IsOpened, opening_of}
-use Rattle.iol_port.specs.EveryWire.{CallGives}
+use Rattle.iol_port.specs.View.{Parts, Opening, Runs, IsOpened, opening_of, status_of}
+use Rattle.iol_port.specs.EveryWire.{CallGives, page_shown}
 use Rattle.iol_script.specs.Script.{ScriptValue, script_in, calls_in}
 use Rattle.iol_commands.specs.Passing.{PrintsPassed}
-use Rattle.iol_commands.specs.RunPlayed.{first_port, first_wire, records_text, lacks_memory}
+use Rattle.iol_commands.specs.RunPlayed.{RunsAlike, first_wire, records_text, lacks_memory}
 use Rattle.iol_commands.specs.RunPrinted.{answer_text}
 
--- the layout of a mode, where these are the device's; in down no message is sent
+-- the layout of a mode, if a page asks for these; in down no message is sent
 abbrev pub layout_in : Mode → Layouts → Shape
 layout_in Down layouts = startup_shape
 layout_in Startup layouts = startup_shape
 layout_in Preoperate layouts = unwrap_or layouts.pre startup_shape
 layout_in Operate layouts = layouts.run
 
--- where a trace is: the number of the next call of the wire, and the port over a
--- tap, as the abstract port that it stands for and in its own parts
+-- what a page asks for, if one was read and its layouts aren't refused
+abbrev pub layouts_shown : Option (List ℕ) → Option Layouts
+layouts_shown None = None
+layouts_shown (Some page) = result_ok (layouts_of page)
+
+-- the layout of a mode in a session with this page: before it was read, that of STARTUP
+abbrev pub layout_now : Mode → Option (List ℕ) → Shape
+layout_now mode page = layout_under mode (layouts_shown page)
+
+abbrev pub layout_under : Mode → Option Layouts → Shape
+layout_under mode None = startup_shape
+layout_under mode (Some layouts) = layout_in mode layouts
+
+-- the layout in which a port sends, as the page of its session asks for it
+abbrev pub layout_at : {W : Type 0} → Parts W → Shape
+layout_at p = layout_now (status_of p.station).mode (page_shown p)
+
+-- where a trace is: the number of the next call of the wire, and the port over a tap
 pub record Stage (W : Type 0) : Type 0 where
   pub number : ℕ
-  pub port : PortState
-  pub parts : Parts (Tapped W)
+  pub port : Parts (Tapped W)
 
--- the wire within the tap
+abbrev pub stage : {W : Type 0} → ℕ → Parts (Tapped W) → Stage W
+stage number port = record { number = number; port = port }
+
+-- the tap, and the wire within it
+abbrev pub tap_at : {W : Type 0} → Stage W → Tapped W
+tap_at s = wire_of s.port.station.link
+
 abbrev pub wire_at : {W : Type 0} → Stage W → W
-wire_at s = (wire_of s.parts.station.link).wire
+wire_at s = (tap_at s).wire
 
-module _ {W : Type 0} (facts : WireFacts W) (layouts : Layouts) where
-  -- what passes in a call: a turn makes one call of the wire, whose octets are
-  -- shown in the layout of the mode before it; no other call touches the wire
+module _ {W : Type 0} (facts : WireFacts W) where
+  -- what passes in a call: a turn makes one call of the wire, whose octets are shown in
+  -- the layout in which the port sends before it; no other call touches the wire
   abbrev pub Passes : Stage W → Call → Stage W → List ℕ → Type 0
   Passes s Turn t text =
       (note : Passed) × IsNoteOf facts note (wire_at s) (wire_at t)
-      × PrintsPassed s.number (layout_in s.port.session.mode layouts) note text
+      × PrintsPassed s.number (layout_at s.port) note text
       × (t.number ≡ s.number + 1)
   Passes s other t text = (text ≡ []) × (wire_at t ≡ wire_at s) × (t.number ≡ s.number)
 
-  -- one call, which doesn't lack memory: it is the abstract port's, and does to the
-  -- port's own parts and to its wire just what a call does there; what passes is
-  -- printed, and then what it answers
-  pub record TracesCall (s : Stage W) (call : Call) (t : Stage W) (text : List ℕ) : Type 0 where
-    pub reply : Answered
+  -- one call, which doesn't lack memory: it does to the port's own parts and to its wire
+  -- just what a call does there; what passes is printed, and then what it answers
+  pub record TracesCall (s : Stage W) (call : Call) (reply : Answered) (t : Stage W)
+      (text : List ℕ) : Type 0 where
     pub passed : List ℕ
-    pub call_is : CallOf s.port call reply t.port
-    pub made : CallGives (tap_facts facts) s.parts call reply t.parts
+    pub made : CallGives (tap_facts facts) s.port call reply t.port
     pub granted : lacks_memory reply ≡ false
     pub passes : Passes s call t passed
     pub text_is : text ≡ passed ++ answer_text call reply
 
-  -- calls, one after the other
-  abbrev pub Traces : Stage W → List Call → Stage W → List ℕ → Type 0
-  Traces s [] t text = (t ≡ s) × (text ≡ [])
-  Traces s (call ∷ calls) t text =
+  -- calls, one after the other, each with its answer
+  abbrev pub Traces : Stage W → List Call → List Answered → Stage W → List ℕ → Type 0
+  Traces s [] [] t text = (t ≡ s) × (text ≡ [])
+  Traces s (call ∷ calls) (reply ∷ replies) t text =
       (mid : Stage W) × (first : List ℕ) × (later : List ℕ) × (text ≡ first ++ later)
-      × TracesCall s call mid first × Traces mid calls t later
+      × TracesCall s call reply mid first × Traces mid calls replies t later
+  Traces s [] (reply ∷ replies) t text = ⊥
+  Traces s (call ∷ calls) [] t text = ⊥
 
 -- a tap on the wire of a script at first, with nothing noted
 abbrev pub first_tap : ScriptValue → Tapped (Simulated (List Entry))
@@ -80,40 +101,28 @@ abbrev pub tapped_opening : ScriptValue → Opening (Tapped (Simulated (List Ent
 tapped_opening script =
     opening_of (tap_facts (sim_facts Stores)) script.limits (first_tap script)
 
--- a new port over the tap, before its first call
-abbrev pub first_stage : ScriptValue → Parts (Tapped (Simulated (List Entry)))
-    → Stage (Simulated (List Entry))
-first_stage script first =
-    record { number = 1; port = first_port script.limits script.page; parts = first }
-
--- calls are traced over the wire of a script
-abbrev pub TracesOverWire : Layouts → Stage (Simulated (List Entry)) → List Call
+-- Calls are traced over the wire of a script.
+abbrev pub TracesOverWire : Stage (Simulated (List Entry)) → List Call → List Answered
     → Stage (Simulated (List Entry)) → List ℕ → Type 0
-TracesOverWire layouts s calls t text =
-    Traces (sim_facts Stores) layouts s calls t text
+TracesOverWire s calls answers t text = Traces (sim_facts Stores) s calls answers t text
 
--- What is printed for calls: what passes and what they answer, and then the
--- device's record. They are made on a new port over a tap on the script's wire of one device.
-pub record TracesOut (script : ScriptValue) (layouts : Layouts) (calls : List Call)
-    (text : List ℕ) : Type 0 where
+-- What is printed for calls: what passes and what they answer, and then the records. They
+-- are made on a new port over a tap on the script's wire; with one device the abstract port
+-- makes them alike.
+pub record TracesOut (script : ScriptValue) (calls : List Call) (text : List ℕ) : Type 0 where
+  pub answers : List Answered
   pub first : Parts (Tapped (Simulated (List Entry)))
   pub opens : IsOpened (tapped_opening script) first
   pub last : Stage (Simulated (List Entry))
   pub calls_text : List ℕ
-  pub traces : TracesOverWire layouts (first_stage script first) calls last calls_text
-  pub carried : (wire_at last).device.far.carried ≡ last.port.session.carried
+  pub traces : TracesOverWire (stage 1 first) calls answers last calls_text
+  pub alike : script.other ≡ None → RunsAlike script calls answers (wire_at last)
   pub text_is : text ≡ calls_text ++ records_text (wire_at last)
 
 -- what `trace` prints for lines, which are a script
 abbrev pub PrintsTrace : List (ℕ × List ℕ) → List ℕ → Type 0
 PrintsTrace lines text =
-    IsSomeAnd (script_in lines)
-    (λ script. IsOkAnd (layouts_of script.page)
-    (λ layouts. script.other ≡ None → TracesOut script layouts (calls_in lines) text))
-
--- the stage of a port over a tap, where it stands for this abstract port
-abbrev pub stage_of : {W : Type 0} → ℕ → PortState → Parts (Tapped W) → Stage W
-stage_of number a p = record { number = number; port = a; parts = p }
+    IsSomeAnd (script_in lines) (λ script. TracesOut script (calls_in lines) text)
 
 -- a text is printed behind what waits to be written: of both, the first part is
 -- written, and the rest waits
@@ -134,17 +143,14 @@ abbrev pub place : {W : Type 0} → ℕ → List ℕ → Option (List ℕ) → P
 place number waits written port =
     record { number = number; waits = waits; written = written; port = port }
 
--- Whatever abstract port a port over a tap stands for: the calls are traced, and
--- the port stands for the one that they lead to.
-module _ {W : Type 0} (facts : WireFacts W) (layouts : Layouts) where
-  unfoldable pub PortTraces : ℕ → Parts (Tapped W) → List Call → ℕ → Parts (Tapped W) → List ℕ
-      → Type 0
-  PortTraces number p calls after next text =
-      (a : PortState) → StandsFor (tap_facts facts) p a
-      → (b : PortState)
-      × Traces facts layouts (stage_of number a p) calls
-      (stage_of after b next) text
-      × StandsFor (tap_facts facts) next b
+module _ {W : Type 0} (facts : WireFacts W) where
+  -- calls of a port over a tap are traced, from the one number to the other; and whatever
+  -- abstract port it stands for, that makes these calls with the same answers
+  pub record PortTraces (number : ℕ) (p : Parts (Tapped W)) (calls : List Call) (after : ℕ)
+      (next : Parts (Tapped W)) (text : List ℕ) : Type 0 where
+    pub answers : List Answered
+    pub traces : Traces facts (stage number p) calls answers (stage after next) text
+    pub runs : Runs (tap_facts facts) p calls answers next
 
   -- from one place to the next: these calls are traced, and their text is printed behind what waits
   abbrev pub TracesFrom : Place W → List Call → Place W → Type 0

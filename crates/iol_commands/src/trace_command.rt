@@ -68,25 +68,22 @@ fn traced<A: Handle, W: Write>(
     requires calls { length (calls_in (numbered_lines input.now)) ≤ 1000000 }
     ensures printed { OnOk result
         ((text : List ℕ) × Appends (W.contents writer.old) (W.contents writer.new) text
-        × IsOkAnd (layouts_of script.page) (λ layouts. script.other ≡ None → TracesOut (record {
+        × TracesOut (record {
           page = script.page;
           other = script.other;
           params = script.params;
           limits = script.limits;
           steps = script.steps.items;
         })
-        layouts (calls_in (numbered_lines input.now)) text)) }
+        (calls_in (numbered_lines input.now)) text) }
     ensures faults { IfErr result (λ e. (e ≡ OutOfMemory) ⊎ (e ≡ WriteFailed)) }
 {
     let limits = script.limits;
-    let Ok(layouts) = script.page.layouts() else {
-        unreachable!()
-    };
     let wire = Tap::new(wire_of(alloc, script)?);
     let Ok(mut port) = Port::open(alloc, wire, &limits) else {
         return Err(ProgramFault::OutOfMemory);
     };
-    let mut tracer = Tracer::new(alloc, layouts);
+    let mut tracer = Tracer::new(alloc);
     tracer.follow(&mut port, writer, input)?;
     print_records(&mut tracer.output, port.wire().wire())?;
     write_output(writer, tracer.output.as_str())

@@ -6,7 +6,7 @@ ghost use Rattle.iol_port.specs.declared.call.Call.TheVariants.{Turn};
 ghost use Rattle.iol_script.specs.Script.{calls_in, line_calls};
 ghost use Rattle.iol_script.specs.Text.{numbered_lines};
 ghost use Rattle.iol_commands.specs.declared.fault.ProgramFault.TheVariants.{OutOfMemory, WriteFailed};
-ghost use Rattle.iol_commands.specs.TracePrinted.{layout_in, place, Flows, PortTraces, TracesFrom, PrintsNoteOf};
+ghost use Rattle.iol_commands.specs.TracePrinted.{layout_in, layout_now, layouts_shown, place, Flows, PortTraces, TracesFrom, PrintsNoteOf};
 
 use crate::fault::ProgramFault;
 use crate::passing::print_passed;
@@ -16,8 +16,8 @@ use crate::streams::write_output;
 use iol_cell::Handle;
 use iol_link::Wire;
 use iol_mseq::Layout;
-use iol_page::Layouts;
-use iol_port::{Call, Port};
+use iol_page::{Layouts, Page};
+use iol_port::{Call, Port, runs_join};
 use iol_script::{CallLine, Lines, RunLine};
 use iol_steps::Mode;
 use iol_tap::Tap;
@@ -34,21 +34,17 @@ pub(crate) struct Tracer<A: Allocator> {
     pub(crate) output: String<A>,
     /// The number of the next call of the wire.
     number: u64,
-    /// Those that the device's page asks for.
-    layouts: Layouts,
 }
 
 impl<A: Handle> Tracer<A> {
-    /// A trace of no call, for a device whose page asks for these layouts.
-    pub(crate) fn new(alloc: A, layouts: Layouts) -> Tracer<A>
+    /// A trace of no call.
+    pub(crate) fn new(alloc: A) -> Tracer<A>
         ensures output { string_bytes result.output ≡ [] }
         ensures number { result.number ≡ 1 }
-        ensures layouts { result.layouts ≡ layouts }
     {
         Tracer {
             output: String::new(alloc),
             number: 1,
-            layouts,
         }
     }
 
@@ -61,7 +57,7 @@ impl<A: Handle> Tracer<A> {
     ) -> Result<(), ProgramFault>
         requires { self.old.number + length (calls_in (numbered_lines input.now)) < 2 ^ 64 }
         ensures traced { OnOk result
-            (TracesFrom W.facts self.old.layouts
+            (TracesFrom W.facts
             (place self.old.number (string_bytes self.old.output)
             (O.contents writer.old) port.old.parts)
             (calls_in (numbered_lines input.now))
@@ -69,6 +65,7 @@ impl<A: Handle> Tracer<A> {
             (O.contents writer.new) port.new.parts)) }
         ensures faults { IfErr result (λ e. (e ≡ OutOfMemory) ⊎ (e ≡ WriteFailed)) }
     {
+        runs_join();
         for (_, line) in Lines::of(input) {
             if let Some(RunLine::Call(call)) = RunLine::parse(line) {
                 self.follow_line(port, writer, &call)?;
@@ -87,7 +84,7 @@ impl<A: Handle> Tracer<A> {
     ) -> Result<(), ProgramFault>
         requires { self.old.number + length (line_calls line.now) < 2 ^ 64 }
         ensures traced { OnOk result
-            (TracesFrom W.facts self.old.layouts
+            (TracesFrom W.facts
             (place self.old.number (string_bytes self.old.output)
             (O.contents writer.old) port.old.parts)
             (line_calls line.now)
@@ -95,7 +92,6 @@ impl<A: Handle> Tracer<A> {
             (O.contents writer.new) port.new.parts)) }
         ensures number { OnOk result (self.new.number ≤ self.old.number + length
             (line_calls line.now)) }
-        ensures layouts { self.new.layouts ≡ self.old.layouts }
         ensures faults { IfErr result (λ e. (e ≡ OutOfMemory) ⊎ (e ≡ WriteFailed)) }
     {
         match line {
@@ -113,16 +109,16 @@ impl<A: Handle> Tracer<A> {
     ) -> Result<(), ProgramFault>
         requires { self.old.number + count < 2 ^ 64 }
         ensures traced { OnOk result
-            (TracesFrom W.facts self.old.layouts
+            (TracesFrom W.facts
             (place self.old.number (string_bytes self.old.output)
             (O.contents writer.old) port.old.parts)
             (replicate count Turn)
             (place self.new.number (string_bytes self.new.output)
             (O.contents writer.new) port.new.parts)) }
         ensures number { OnOk result (self.new.number ≤ self.old.number + count) }
-        ensures layouts { self.new.layouts ≡ self.old.layouts }
         ensures faults { IfErr result (λ e. (e ≡ OutOfMemory) ⊎ (e ≡ WriteFailed)) }
     {
+        runs_join();
         for _ in 0..count {
             self.follow_call(port, writer, &Call::Turn)?;
         }
@@ -138,14 +134,13 @@ impl<A: Handle> Tracer<A> {
     ) -> Result<(), ProgramFault>
         requires { self.old.number + 1 < 2 ^ 64 }
         ensures traced { OnOk result
-            (TracesFrom W.facts self.old.layouts
+            (TracesFrom W.facts
             (place self.old.number (string_bytes self.old.output)
             (O.contents writer.old) port.old.parts)
             (call.now ∷ [])
             (place self.new.number (string_bytes self.new.output)
             (O.contents writer.new) port.new.parts)) }
         ensures number { OnOk result (self.new.number ≤ self.old.number + 1) }
-        ensures layouts { self.new.layouts ≡ self.old.layouts }
         ensures faults { IfErr result (λ e. (e ≡ OutOfMemory) ⊎ (e ≡ WriteFailed)) }
     {
         self.make(port, call)?;
@@ -157,12 +152,11 @@ impl<A: Handle> Tracer<A> {
         requires { self.old.number + 1 < 2 ^ 64 }
         ensures traced { OnOk result ((text : List ℕ)
             × (string_bytes self.new.output ≡ string_bytes self.old.output ++ text)
-            × PortTraces W.facts self.old.layouts
+            × PortTraces W.facts
             self.old.number port.old.parts (call.now ∷ []) self.new.number port.new.parts text) }
         ensures number { OnOk result (self.new.number ≤ self.old.number + 1) }
-        ensures layouts { self.new.layouts ≡ self.old.layouts }
     {
-        let layout = layout_in(port.status().mode, &self.layouts);
+        let layout = layout_now(port.status().mode, port.page());
         let answer = port.call(call);
         if lacks_memory(&answer) {
             return Err(AllocError);
@@ -184,7 +178,6 @@ impl<A: Handle> Tracer<A> {
             × (string_bytes self.new.output ≡ string_bytes self.old.output ++ text)
             × PrintsNoteOf call.now self.old.number layout.now wire.now.last self.new.number text) }
         ensures number { OnOk result (self.new.number ≤ self.old.number + 1) }
-        ensures layouts { self.new.layouts ≡ self.old.layouts }
     {
         match (call, wire.last()) {
             (Call::Turn, Some(passed)) => {
@@ -195,6 +188,23 @@ impl<A: Handle> Tracer<A> {
             _ => Ok(()),
         }
     }
+}
+
+/// The layout of a mode in a session with this page: before it was read, that of STARTUP.
+fn layout_now(mode: Mode, page: Option<Page>) -> Layout
+    ensures { result ≡ layout_now mode page }
+{
+    match layouts_shown(page) {
+        Some(layouts) => layout_in(mode, &layouts),
+        None => Layout::startup(),
+    }
+}
+
+/// What a page asks for, if one was read.
+fn layouts_shown(page: Option<Page>) -> Option<Layouts>
+    ensures { result ≡ layouts_shown page }
+{
+    page?.layouts().ok()
 }
 
 /// The layout of a mode. In down no message is sent.

@@ -1,7 +1,5 @@
-use Rattle.std.proofs.Common.{◌≡◌, ℕ, List, None, IsOkAnd, refl, ap, ◌∙◌}
+use Rattle.std.proofs.Common.{◌≡◌, ℕ, List, None, ◌++◌, ap, ◌∙◌}
 use Rattle.std.specs.String.{string_bytes}
-use Rattle.iol_page.specs.Page.{layouts_of}
-use Rattle.iol_page.specs.declared.page.Layouts.{Layouts}
 use Rattle.iol_port.specs.Run.{opened}
 use Rattle.iol_script.specs.Script.{ScriptValue, calls_in}
 use Rattle.iol_script.specs.Text.{numbered_lines}
@@ -11,7 +9,7 @@ use Rattle.iol_tap.specs.Tapped.{Tapped}
 use Rattle.iol_commands.specs.RunPlayed.{records_text}
 use Rattle.iol_commands.specs.TracePrinted.{TracesOut, first_tap}
 use Rattle.iol_commands.proofs.RunLemmas.{one_device, opens_well, opened_first}
-use Rattle.iol_commands.proofs.TraceLemmas.{traced_out, whole_written, with_layouts}
+use Rattle.iol_commands.proofs.TraceLemmas.{traced_out, whole_written}
 use Rattle.iol_commands.proofs.trace_command.traced.Goals as goal
 
 pub returns-clause-printed : goal.returns-clause-printed
@@ -20,21 +18,27 @@ returns-clause-printed g c =
     let script : ScriptValue = record { page = given.page; other = given.other; params = given.params; limits = given.limits; steps = given.steps.items } in
     let wire = c.in_ok-wire_of.field-0 in
     let tap = c.new-wire.result in
-    let port = c.in-Ok-open.port in
+    let port = c.in-Ok.port in
     let new = ap (λ (t : Tapped (Simulated (List Entry))). t.wire.device.far) c.new-wire.ensures ∙ c.in_ok-wire_of.ensures.far in
     let quiet = ap (λ (t : Tapped (Simulated (List Entry))). t.wire.silence) c.new-wire.ensures ∙ c.in_ok-wire_of.ensures.silence in
     let first : tap ≡ first_tap script = c.new-wire.ensures ∙ ap (λ (s : Simulated (List Entry)). record { wire = s; last = None }) c.in_ok-wire_of.ensures.whole in
-    let stands = λ (one : given.other ≡ None). c.in-Ok-open.ensures.stands
-    (opens_well port.opening given.limits tap tap.wire.device.far tap.wire.silence (has_one_device tap.wire) given.page c.in-Ok-open.ensures.opening
+    let stands = λ (one : given.other ≡ None). c.in-Ok.ensures.stands
+    (opens_well port.opening given.limits tap tap.wire.device.far tap.wire.silence (has_one_device tap.wire) given.page c.in-Ok.ensures.opening
     (one_device script tap.wire (ap (λ (t : Tapped (Simulated (List Entry))). t.wire) first) one) new) in
     let wire_is = c.wire-2.ensures ∙ ap (λ (t : Tapped (Simulated (List Entry))). t.wire) c.wire.ensures in
     let followed = c.in_ok-follow.ensures.traced in
     let calls = calls_in (numbered_lines c.args.input.now) in
-    let out = λ (one : given.other ≡ None). traced_out script c.in-Ok.layouts port.parts c.follow.new.port.parts (opened given.limits tap.wire.device.far tap.wire.silence) port.opening tap c.new-tracer.result.layouts c.new-tracer.result.number c.follow.new.self.number
-    calls followed.0 c.wire-2.result.now c.new-tracer.ensures.layouts c.new-tracer.ensures.number (stands one) (opened_first given.limits tap.wire.device.far tap.wire.silence given.page new quiet)
-    c.in-Ok-open.ensures.opening first c.in-Ok-open.ensures.parts followed.2 wire_is in
-    whole_written c.write_output.result (g.W.Write.contents c.args.writer.now) (g.W.Write.contents c.follow.new.writer) (g.W.Write.contents c.write_output.new.writer)
-    (string_bytes c.new-tracer.result.output) (string_bytes c.follow.new.self.output) (string_bytes c.print_records.new.output) c.as_str.result.now followed.0 (records_text c.wire-2.result.now)
-    (λ (text : List ℕ). IsOkAnd (layouts_of given.page) (λ (layouts : Layouts). given.other ≡ None → TracesOut script layouts calls text))
+    let opened_as = opened given.limits tap.wire.device.far tap.wire.silence in
+    let begins = opened_first given.limits tap.wire.device.far tap.wire.silence given.page new quiet in
+    let out : TracesOut script calls (followed.0 ++ records_text c.wire-2.result.now) =
+        traced_out script port.parts c.follow.new.port.parts opened_as port.opening tap
+        c.new-tracer.result.number c.follow.new.self.number calls followed.0 c.wire-2.result.now
+        c.new-tracer.ensures.number stands begins c.in-Ok.ensures.opening first
+        c.in-Ok.ensures.parts followed.2 wire_is in
+    whole_written c.write_output.result (g.W.Write.contents c.args.writer.now)
+    (g.W.Write.contents c.follow.new.writer) (g.W.Write.contents c.write_output.new.writer)
+    (string_bytes c.new-tracer.result.output) (string_bytes c.follow.new.self.output)
+    (string_bytes c.print_records.new.output) c.as_str.result.now followed.0
+    (records_text c.wire-2.result.now) (λ (text : List ℕ). TracesOut script calls text)
     c.new-tracer.ensures.output followed.1 c.in_ok-print_records.ensures c.as_str.ensures.value
-    (with_layouts (layouts_of given.page) c.layouts.result c.in-Ok.layouts (λ (layouts : Layouts). given.other ≡ None → TracesOut script layouts calls _) c.layouts.ensures c.in-Ok.is out) c.write_output.ensures.ok
+    out c.write_output.ensures.ok

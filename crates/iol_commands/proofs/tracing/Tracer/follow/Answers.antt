@@ -13,8 +13,7 @@ loop-line-init g c =
       [],
       ap calls_in same,
       omega arith,
-      refl,
-      goes_none g.W.Wire.facts c.args.self.now.layouts (g.O.Write.contents c.args.writer.now) (string_bytes c.args.self.now.output) c.args.self.now.number c.args.port.now.parts,
+      goes_none g.W.Wire.facts (g.O.Write.contents c.args.writer.now) (string_bytes c.args.self.now.output) c.args.self.now.number c.args.port.now.parts,
     )
 
 pub follow_line-requires : goal.follow_line-requires
@@ -33,9 +32,7 @@ loop-line-preserved-in-Call-1 g c =
       so_far.0 ++ calls,
       so_far.1 ∙ ap (λ (l : List Call). so_far.0 ++ l) first ∙ sym (append_assoc so_far.0 calls (calls_in (lines_left c.next.new.self))),
       omega (arith, so_far.2, c.in_ok-follow_line.ensures.number, length-append so_far.0 calls),
-      c.follow_line.ensures.layouts ∙ so_far.3,
-      goes_join g.W.Wire.facts c.args.self.now.layouts c.loop-line.self.layouts
-          (g.O.Write.contents c.args.writer.now) (g.O.Write.contents c.loop-line.writer) (g.O.Write.contents c.follow_line.new.writer) (string_bytes c.args.self.now.output) (string_bytes c.loop-line.self.output) (string_bytes c.follow_line.new.self.output)
+      goes_join g.W.Wire.facts c.runs_join.ensures.runs (g.O.Write.contents c.args.writer.now) (g.O.Write.contents c.loop-line.writer) (g.O.Write.contents c.follow_line.new.writer) (string_bytes c.args.self.now.output) (string_bytes c.loop-line.self.output) (string_bytes c.follow_line.new.self.output)
           c.args.self.now.number c.loop-line.self.number c.follow_line.new.self.number c.args.port.now.parts c.loop-line.port.parts c.follow_line.new.port.parts
-          so_far.0 calls (so_far.0 ++ calls) so_far.3 refl so_far.4 c.in_ok-follow_line.ensures.traced,
+          so_far.0 calls (so_far.0 ++ calls) refl so_far.3 c.in_ok-follow_line.ensures.traced,
     )
