@@ -28,9 +28,13 @@ impl<A: Handle> Model for ImageWriter<A> {
 
     ghost Value = { CellImages };
 
-    ghost view = { λ writer. record { cell = writer.pass.table_id; images = (cell_view writer.pass).seen } };
+    ghost view = { λ writer. record {
+      cell = writer.pass.table_id;
+      images = (cell_view writer.pass).seen;
+    } };
 
-    ghost invariant = { λ writer. (writer.pass.table_id ≡ (arc_value writer.cell).table.shared.table_id)
+    ghost invariant = { λ writer.
+        (writer.pass.table_id ≡ (arc_value writer.cell).table.shared.table_id)
         × ((cell_view writer.pass).writes ≡ true) };
 }
 
@@ -56,7 +60,10 @@ impl<A: Handle> Model for ImageSeat<A> {
 
     ghost Value = { CellImages };
 
-    ghost view = { λ seat. record { cell = seat.pass.table_id; images = (cell_view seat.pass).seen } };
+    ghost view = { λ seat. record {
+      cell = seat.pass.table_id;
+      images = (cell_view seat.pass).seen;
+    } };
 
     ghost invariant = { λ seat. seat.pass.table_id ≡ (arc_value seat.cell).table.shared.table_id };
 }

@@ -23,10 +23,12 @@ length-places_of (e ∷ es) = omega (arith, length-places_of es)
 
 pub events_of-places_of : (es : List Event) → events_of (places_of es) ≡ es
 events_of-places_of [] = refl
-events_of-places_of (e ∷ es) = λ i. record { qualifier = e.qualifier; code = div-add-mod e.code 256 i } ∷ events_of-places_of es i
+events_of-places_of (e ∷ es) = λ i. record
+    { qualifier = e.qualifier; code = div-add-mod e.code 256 i } ∷ events_of-places_of es i
 
 -- an octet of the places by its index
-pub places_of-at : (es : List Event) (k : ℕ) → get_or (places_of es) k 0 ≡ place_octet (slice_get es (k / 3)) (k % 3)
+pub places_of-at : (es : List Event) (k : ℕ)
+    → get_or (places_of es) k 0 ≡ place_octet (slice_get es (k / 3)) (k % 3)
 places_of-at [] k = refl
 places_of-at (e ∷ es) zero = refl
 places_of-at (e ∷ es) (suc zero) = refl
@@ -51,7 +53,8 @@ module _ (es : List Event) (h : IsEventList es) where
   address k lt =
       let below : k / 3 < length es = omega arith in
       let at : get_or (marked_places (status_code es)) (k / 3) 0 ≡ k / 3 + 1 =
-      ap (λ xs. get_or xs (k / 3) 0) places ∙ get_or-take (length es) six (k / 3) 0 below ∙ six-at (k / 3) (omega (arith, h.most)) in
+      ap (λ xs. get_or xs (k / 3) 0) places ∙ get_or-take (length es) six (k / 3) 0 below
+      ∙ six-at (k / 3) (omega (arith, h.most)) in
       omega (arith, at)
 
   readable : is_readable (event_octet es 0) ≡ true
@@ -60,14 +63,18 @@ module _ (es : List Event) (h : IsEventList es) where
 
   long : length (places_of es) ≡ places_size (event_octet es 0)
   unfolding event_octet
-  long = length-places_of es ∙ ap (λ n. 3 * n) (sym (ap length places ∙ length-take-six (length es) h.most))
+  long = length-places_of es ∙ ap (λ n. 3 * n)
+      (sym (ap length places ∙ length-take-six (length es) h.most))
 
-  there : (k : ℕ) → k < length (places_of es) → event_octet es (place_address (event_octet es 0) k) ≡ get_or (places_of es) k 0
+  there : (k : ℕ) → k < length (places_of es)
+      → event_octet es (place_address (event_octet es 0) k) ≡ get_or (places_of es) k 0
   unfolding event_octet
-  there k lt = ap (event_octet es) (address k (omega (arith, length-places_of es))) ∙ event_octet-suc es k
+  there k lt = ap (event_octet es) (address k (omega (arith, length-places_of es)))
+      ∙ event_octet-suc es k
 
   -- the octets at the first addresses are those that the reader has
-  had-reading : (i : ℕ) → i ≤ suc (3 * length es) → reading es i ≡ had (event_octet es) (places_of es) i
+  had-reading : (i : ℕ) → i ≤ suc (3 * length es)
+      → reading es i ≡ had (event_octet es) (places_of es) i
   had-reading zero le = refl
   had-reading (suc zero) le = refl
   had-reading (suc (suc k)) le =
@@ -81,22 +88,31 @@ module _ (es : List Event) (h : IsEventList es) where
   next_address-reading zero le = refl
   next_address-reading (suc k) le =
       ap next_address (had-reading (suc k) (omega arith))
-      ∙ next_address-had (event_octet es) (places_of es) readable long there k (omega (arith, length-places_of es))
+      ∙ next_address-had (event_octet es) (places_of es) readable long there k
+      (omega (arith, length-places_of es))
       ∙ address k (omega arith)
 
-  pub taken-more : (i : ℕ) → i < 3 * length es → taken_from (event_octet es) (reading es i) ≡ record { answer = Ok None; reader = reading es (i + 1) }
+  pub taken-more : (i : ℕ) → i < 3 * length es
+      → taken_from (event_octet es) (reading es i)
+      ≡ record { answer = Ok None; reader = reading es (i + 1) }
   taken-more i lt =
       ap (taken_from (event_octet es)) (had-reading i (omega arith))
-      ∙ had-more (event_octet es) (places_of es) readable long there i (omega (arith, length-places_of es))
-      ∙ ap (λ xs. record { answer = Ok None; reader = xs }) (sym (had-reading (suc i) (omega arith)) ∙ ap (reading es) (sym (add-one i)))
+      ∙ had-more (event_octet es) (places_of es) readable long there i
+      (omega (arith, length-places_of es))
+      ∙ ap (λ xs. record { answer = Ok None; reader = xs })
+      (sym (had-reading (suc i) (omega arith)) ∙ ap (reading es) (sym (add-one i)))
 
-  pub taken-last : taken_from (event_octet es) (reading es (3 * length es)) ≡ record { answer = Ok (Some es); reader = [] }
+  pub taken-last : taken_from (event_octet es) (reading es (3 * length es))
+      ≡ record { answer = Ok (Some es); reader = [] }
   taken-last =
       ap (taken_from (event_octet es)) (had-reading (3 * length es) (omega arith))
-      ∙ had-last (event_octet es) (places_of es) readable long there (3 * length es) (sym (length-places_of es))
+      ∙ had-last (event_octet es) (places_of es) readable long there (3 * length es)
+      (sym (length-places_of es))
       ∙ ap (λ xs. record { answer = Ok (Some xs); reader = [] }) (events_of-places_of es)
 
-  pub answers-frozen : answers (event_octet es) [] (suc (3 * length es)) ≡ replicate (3 * length es) (Ok None) ++ Ok (Some es) ∷ []
+  pub answers-frozen : answers (event_octet es) [] (suc (3 * length es))
+      ≡ replicate (3 * length es) (Ok None) ++ Ok (Some es) ∷ []
   answers-frozen =
-      answers-had (event_octet es) (places_of es) readable long there (3 * length es) 0 (omega (arith, length-places_of es))
+      answers-had (event_octet es) (places_of es) readable long there (3 * length es) 0
+      (omega (arith, length-places_of es))
       ∙ ap (λ xs. replicate (3 * length es) (Ok None) ++ Ok (Some xs) ∷ []) (events_of-places_of es)

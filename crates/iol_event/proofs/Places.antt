@@ -10,12 +10,15 @@ abbrev pub six : List ℕ
 six = 1 ∷ 2 ∷ 3 ∷ 4 ∷ 5 ∷ 6 ∷ []
 
 -- setting bit 7 above the bits of the places adds it
-pub bit_or-status : (count : ℕ) → count ≤ 6 → bit_or 128 (1 * 2 ^ count % 256 - 1) ≡ 128 + (2 ^ count - 1)
+pub bit_or-status : (count : ℕ) → count ≤ 6
+    → bit_or 128 (1 * 2 ^ count % 256 - 1) ≡ 128 + (2 ^ count - 1)
 bit_or-status count h =
-    eqb-true _ _ (agree_below_at (λ n. eqb (bit_or 128 (1 * 2 ^ n % 256 - 1)) (128 + (2 ^ n - 1))) (λ _. true) 7 count refl (omega arith))
+    eqb-true _ _ (agree_below_at (λ n. eqb (bit_or 128 (1 * 2 ^ n % 256 - 1))
+    (128 + (2 ^ n - 1))) (λ _. true) 7 count refl (omega arith))
 
 -- with the bits of the first places these are marked
-pub marked_places-first : (count : ℕ) → count ≤ 6 → marked_places (128 + (2 ^ count - 1)) ≡ take count six
+pub marked_places-first : (count : ℕ) → count ≤ 6
+    → marked_places (128 + (2 ^ count - 1)) ≡ take count six
 marked_places-first zero h = refl
 marked_places-first (suc zero) h = refl
 marked_places-first (suc (suc zero)) h = refl
@@ -26,7 +29,8 @@ marked_places-first (suc (suc (suc (suc (suc (suc zero)))))) h = refl
 marked_places-first (suc (suc (suc (suc (suc (suc (suc n))))))) h = absurd (omega arith)
 
 -- and it is one that can be read
-pub is_readable-first : (count : ℕ) → 1 ≤ count → count ≤ 6 → is_readable (128 + (2 ^ count - 1)) ≡ true
+pub is_readable-first : (count : ℕ) → 1 ≤ count → count ≤ 6
+    → is_readable (128 + (2 ^ count - 1)) ≡ true
 is_readable-first zero some h = absurd (omega arith)
 is_readable-first (suc zero) some h = refl
 is_readable-first (suc (suc zero)) some h = refl
@@ -38,15 +42,19 @@ is_readable-first (suc (suc (suc (suc (suc (suc (suc n))))))) some h = absurd (o
 
 -- a place by its index
 pub six-at : (index : ℕ) → index < 6 → get_or six index 0 ≡ index + 1
-six-at index h = eqb-true _ _ (agree_below_at (λ n. eqb (get_or six n 0) (n + 1)) (λ _. true) 6 index refl h)
+six-at index h = eqb-true _ _ (agree_below_at (λ n. eqb (get_or six n 0) (n + 1)) (λ _. true) 6
+    index refl h)
 
 pub length-take-six : (count : ℕ) → count ≤ 6 → length (take count six) ≡ count
-length-take-six count h = eqb-true _ _ (agree_below_at (λ n. eqb (length (take n six)) n) (λ _. true) 7 count refl (omega arith))
+length-take-six count h = eqb-true _ _
+    (agree_below_at (λ n. eqb (length (take n six)) n) (λ _. true) 7 count refl (omega arith))
 
 -- each marked place is one of the six
 pub marked_places-range : (status k : ℕ) → k < length (marked_places status)
     → (1 ≤ get_or (marked_places status) k 0) × (get_or (marked_places status) k 0 ≤ 6)
 marked_places-range status k h =
     let all : All (λ p. (1 ≤ p) × (p ≤ 6)) six =
-    All-from_get_or (λ p. (1 ≤ p) × (p ≤ 6)) six 0 (λ i lt. let e = six-at i lt in (omega (arith, e), omega (arith, e))) in
-    All-get_or (λ p. (1 ≤ p) × (p ≤ 6)) (marked_places status) k 0 h (All-filter (marks status) (λ p. (1 ≤ p) × (p ≤ 6)) six all)
+    All-from_get_or (λ p. (1 ≤ p) × (p ≤ 6)) six 0
+    (λ i lt. let e = six-at i lt in (omega (arith, e), omega (arith, e))) in
+    All-get_or (λ p. (1 ≤ p) × (p ≤ 6)) (marked_places status) k 0 h
+    (All-filter (marks status) (λ p. (1 ≤ p) × (p ≤ 6)) six all)

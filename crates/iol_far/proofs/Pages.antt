@@ -22,14 +22,16 @@ pre_plain : (pre : Option Shape) → IfSome pre IsPlain → IsPlain (unwrap_or p
 pre_plain None h = record { valid = startup_is; pd_in = refl; pd_out = refl }
 pre_plain (Some pre) h = h
 
-by_mode : (page : List ℕ) (mode : Mode) (asked : Result Layouts PageFault) → IfOk asked (IsAskedBy page) → IsLayout (layout_by mode asked)
+by_mode : (page : List ℕ) (mode : Mode) (asked : Result Layouts PageFault)
+    → IfOk asked (IsAskedBy page) → IsLayout (layout_by mode asked)
 by_mode page Startup asked h = startup_is
 by_mode page Preoperate (Ok layouts) h = (pre_plain layouts.pre h.layouts_are.pre).valid
 by_mode page Preoperate (Err fault) h = startup_is
 by_mode page Operate (Ok layouts) h = h.layouts_are.run
 by_mode page Operate (Err fault) h = startup_is
 
-pre_by : (page : List ℕ) (asked : Result Layouts PageFault) → IfOk asked (IsAskedBy page) → (layout_by Preoperate asked).pd_in ≡ 0
+pre_by : (page : List ℕ) (asked : Result Layouts PageFault) → IfOk asked (IsAskedBy page)
+    → (layout_by Preoperate asked).pd_in ≡ 0
 pre_by page asked given = grind (arith, common_steps)
 
 -- STARTUP and PREOPERATE have no process data in
@@ -41,7 +43,8 @@ module _ (asks : PagesAskForLayouts) where
   pub modes_have_layouts : ModesHaveLayouts
   unfolding layout_in
   modes_have_layouts page mode =
-      let valid : IsLayout (layout_in page mode) = by_mode page mode (layouts_of page) (asks page) in
+      let valid : IsLayout (layout_in page mode) =
+      by_mode page mode (layouts_of page) (asks page) in
       (valid, some_size (layout_in page mode).od valid.od)
 
   pub pre_has_no_input : (page : List ℕ) → (layout_in page Preoperate).pd_in ≡ 0

@@ -19,7 +19,8 @@ use Rattle.iol_far.specs.Regular.{RegularStays}
 use Rattle.iol_far.proofs.Eventful.{keeps_hear}
 
 module _ (memory : MemoryStaysValid) (modes : ModesHaveLayouts) where
-  memory_after : (m : Events) (confirms : Bool) → IsEventMemory m → IsEventMemory (events_after m confirms)
+  memory_after : (m : Events) (confirms : Bool) → IsEventMemory m
+      → IsEventMemory (events_after m confirms)
   memory_after m true h = memory.confirm m h
   memory_after m false h = memory.other m h
 
@@ -34,7 +35,8 @@ module _ (memory : MemoryStaysValid) (modes : ModesHaveLayouts) where
       (λ g mode k. record { page = k.page; sized = k.sized; input = k.input; memory = k.memory })
       far h
 
-  same_size : (far : Far) (image : List ℕ) → is_input far image ≡ true → length image ≡ input_size far
+  same_size : (far : Far) (image : List ℕ) → is_input far image ≡ true
+      → length image ≡ input_size far
   same_size far image e = grind (arith, nat_tests, common_steps)
 
   -- an input of the page's length is an image
@@ -45,15 +47,21 @@ module _ (memory : MemoryStaysValid) (modes : ModesHaveLayouts) where
       let size : length image ≡ input_size far = same_size far image e in
       record { some_octet = grind (arith, nat_tests, common_steps); fits = omega arith }
 
-  regular_carried : (far : Far) (answer : Answer) (state : IsduState) → IsRegular far → IsRegular (carried_by state far answer)
+  regular_carried : (far : Far) (answer : Answer) (state : IsduState) → IsRegular far
+      → IsRegular (carried_by state far answer)
   regular_carried far answer (Handed request) h =
-      elim (has_room far && fits request answer) as (λ b. IsRegular (if b then record far { isdu = Answered request answer None; carried = grown_by far.carried request answer } else far)) [
+      elim (has_room far && fits request answer) as
+      (λ b. IsRegular (if b then record far {
+        isdu = Answered request answer None;
+        carried = grown_by far.carried request answer;
+      } else far)) [
         | true ↦ record { page = h.page; sized = h.sized; input = h.input; memory = h.memory }
         | false ↦ h
       ]
   regular_carried far answer state h = h
 
-  regular_input : (far : Far) (image : List ℕ) → IsRegular far → (b : Bool) → is_input far image ≡ b → IsRegular (if b then record far { input = Some image } else far)
+  regular_input : (far : Far) (image : List ℕ) → IsRegular far → (b : Bool)
+      → is_input far image ≡ b → IsRegular (if b then record far { input = Some image } else far)
   regular_input far image h true e = record {
     page = h.page;
     sized = same_size far image e;
@@ -64,14 +72,26 @@ module _ (memory : MemoryStaysValid) (modes : ModesHaveLayouts) where
 
   regular_steps : (far : Far) (step : LocalStep) → IsRegular far → IsRegular (local far step)
   regular_steps far (Carry answer) h = regular_carried far answer far.isdu h
-  regular_steps far (Raise event) h = record { page = h.page; sized = h.sized; input = h.input; memory = memory.raise far.events event h.memory }
+  regular_steps far (Raise event) h =
+      record {
+        page = h.page;
+        sized = h.sized;
+        input = h.input;
+        memory = memory.raise far.events event h.memory;
+      }
   regular_steps far (Input image) h = regular_input far image h (is_input far image) refl
   regular_steps far NoInput h = record { page = h.page; sized = tt; input = tt; memory = h.memory }
-  regular_steps far Power h = record { page = h.page; sized = tt; input = tt; memory = memory.at_first }
+  regular_steps far Power h = record
+      { page = h.page; sized = tt; input = tt; memory = memory.at_first }
 
   pub regular_stays : RegularStays
   regular_stays = record {
     hears = regular_hears;
     steps = regular_steps;
-    wakes = λ far h. record { page = h.page; sized = h.sized; input = h.input; memory = memory.other far.events h.memory };
+    wakes = λ far h. record {
+      page = h.page;
+      sized = h.sized;
+      input = h.input;
+      memory = memory.other far.events h.memory;
+    };
   }

@@ -20,40 +20,53 @@ use Rattle.iol_far.specs.Laws.{IsSized, RepliesAreRead}
 use Rattle.iol_far.proofs.Pages.{startup_input, pre_has_no_input, modes_have_layouts}
 
 zeros_size : (size octet : ℕ) → 1 ≤ size → length (first_of_zeros size octet) ≡ size
-zeros_size size octet h = let k : length {A = ℕ} (replicate (size - 1) 0) ≡ size - 1 = length-replicate (size - 1) 0 in omega (arith, k)
+zeros_size size octet h = let k : length {A = ℕ} (replicate (size - 1) 0) ≡ size - 1 =
+    length-replicate (size - 1) 0 in omega (arith, k)
 
-isdu_size : SegmentsHaveSize → (size : ℕ) (state : IsduState) → 1 ≤ size → length (isdu_data size state) ≡ size
+isdu_size : SegmentsHaveSize → (size : ℕ) (state : IsduState) → 1 ≤ size
+    → length (isdu_data size state) ≡ size
 isdu_size given size state given2 = grind (arith, common_steps)
 
-data_size : SegmentsHaveSize → (far : Far) (size : ℕ) (c : Channel) (address : ℕ) → 1 ≤ size → length (data_of far size c address) ≡ size
+data_size : SegmentsHaveSize → (far : Far) (size : ℕ) (c : Channel) (address : ℕ) → 1 ≤ size
+    → length (data_of far size c address) ≡ size
 data_size given far size c address given2 = grind (arith, common_steps)
 
-image_size : (size : ℕ) (input : Option (List ℕ)) → IfSome input (λ image. length image ≡ size) → length (unwrap_or input (replicate size 0)) ≡ size
+image_size : (size : ℕ) (input : Option (List ℕ)) → IfSome input (λ image. length image ≡ size)
+    → length (unwrap_or input (replicate size 0)) ≡ size
 image_size size input given = grind (arith, common_steps)
 
-input_length : (size : ℕ) (input : Option (List ℕ)) → (size ≡ 0) ⊎ IfSome input (λ image. length image ≡ size) →
+input_length : (size : ℕ) (input : Option (List ℕ))
+    → (size ≡ 0) ⊎ IfSome input (λ image. length image ≡ size) →
     length (if size == 0 then [] else unwrap_or input (replicate size 0)) ≡ size
 input_length size input h = split (size == 0) refl h
   where
-    split : (b : Bool) → (size == 0) ≡ b → (size ≡ 0) ⊎ IfSome input (λ image. length image ≡ size) → length (if b then [] else unwrap_or input (replicate size 0)) ≡ size
+    split : (b : Bool) → (size == 0) ≡ b
+        → (size ≡ 0) ⊎ IfSome input (λ image. length image ≡ size)
+        → length (if b then [] else unwrap_or input (replicate size 0)) ≡ size
     split b given given2 = grind (arith, common_steps)
 
-in_mode : PagesAskForLayouts → (far : Far) (mode : Mode) → IsSized far → ((layout_in far.page mode).pd_in ≡ 0) ⊎ IfSome far.input (λ image. length image ≡ (layout_in far.page mode).pd_in)
+in_mode : PagesAskForLayouts → (far : Far) (mode : Mode) → IsSized far
+    → ((layout_in far.page mode).pd_in ≡ 0)
+    ⊎ IfSome far.input (λ image. length image ≡ (layout_in far.page mode).pd_in)
 in_mode asks far Startup sized = inl (startup_input far.page)
 in_mode asks far Preoperate sized = inl (pre_has_no_input asks far.page)
 in_mode asks far Operate sized = inr sized
 
-data_length : SegmentsHaveSize → (far : Far) (layout : Shape) (read : Bool) (c : Channel) (address : ℕ) → 1 ≤ layout.od →
+data_length : SegmentsHaveSize → (far : Far) (layout : Shape) (read : Bool) (c : Channel)
+    (address : ℕ) → 1 ≤ layout.od →
     length (if read then data_of far layout.od c address else []) ≡ (if read then layout.od else 0)
 data_length given far layout read c address given2 = grind (arith, common_steps)
 
 module _ (asks : PagesAskForLayouts) (segments : SegmentsHaveSize) where
-  parts : (far : Far) (m : MasterMsg) → IsSized far → HasReplyParts (layout_of far) m.mc.read (reply_to far (layout_of far) m)
+  parts : (far : Far) (m : MasterMsg) → IsSized far
+      → HasReplyParts (layout_of far) m.mc.read (reply_to far (layout_of far) m)
   parts far m sized = record {
-    od = data_length segments far (layout_of far) m.mc.read m.mc.channel m.mc.address (modes_have_layouts asks far.page far.mode).1;
+    od = data_length segments far (layout_of far) m.mc.read m.mc.channel m.mc.address
+        (modes_have_layouts asks far.page far.mode).1;
     input = input_length (layout_of far).pd_in far.input (in_mode asks far far.mode sized);
   }
 
   pub replies_are_read : ReplyIsReadBack → RepliesAreRead
   unfolding octets_of
-  replies_are_read reads far m sized = reads (layout_of far) m.mc.read (reply_to far (layout_of far) m) (parts far m sized)
+  replies_are_read reads far m sized =
+      reads (layout_of far) m.mc.read (reply_to far (layout_of far) m) (parts far m sized)

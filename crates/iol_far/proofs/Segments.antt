@@ -29,16 +29,20 @@ answer_fits r a h =
     let k = both (is_kind (is_read r) a) (nat_le (length (answer_body a)) 232) h in
     record {
       kind = kind_fits (is_read r) a k.0;
-      fits = (let e : nat_le (length (answer_body a)) 232 ≡ true = k.1 in let m : length (answer_body a) ≤ 232 = grind (arith, nat_tests, common_steps) in m);
+      fits = (let e : nat_le (length (answer_body a)) 232 ≡ true = k.1 in
+          let m : length (answer_body a) ≤ 232 = grind (arith, nat_tests, common_steps) in m);
     }
 
-found : (size : ℕ) → TextLaws size → (r : Request) → IsRequest r → request_of (request_text r) ≡ Some r
+found : (size : ℕ) → TextLaws size → (r : Request) → IsRequest r
+    → request_of (request_text r) ≡ Some r
 found size laws r h = ap request_of (sym (append-nil (request_text r))) ∙ laws.finds r [] h
 
 pub segment_laws : (size : ℕ) → TextLaws size → SegmentLaws size
 segment_laws size laws = record {
-  grows = λ r i last h more. ap (λ z. received_at z (joined size (request_text r) i) last) (laws.request_grows r i h more);
-  ends = λ r i last h all. ap (λ z. received_at z (joined size (request_text r) i) last) (laws.request_ends r i h all) ∙ ap (λ q. completed q last) (found size laws r h);
+  grows = λ r i last h more. ap (λ z. received_at z (joined size (request_text r) i) last)
+      (laws.request_grows r i h more);
+  ends = λ r i last h all. ap (λ z. received_at z (joined size (request_text r) i) last)
+      (laws.request_ends r i h all) ∙ ap (λ q. completed q last) (found size laws r h);
   fitting = answer_fits;
   answers = λ r a h. laws.busy (is_read r) a (answer_fits r a h);
 }

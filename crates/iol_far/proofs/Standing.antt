@@ -23,39 +23,52 @@ use Rattle.iol_far.specs.Level.{Progress, Quiet, Written, Busy, Had, Stands, Mov
 
 -- COUNT goes round
 count_new : (i : ℕ) → (suc i % 16 == suc (suc i) % 16) ≡ false
-count_new i = let e : suc i % 16 ≡ suc (suc i) % 16 → ⊥ = (λ (h : suc i % 16 ≡ suc (suc i) % 16). omega arith) in grind (arith, nat_tests, e)
+count_new i = let e : suc i % 16 ≡ suc (suc i) % 16
+    → ⊥ = (λ (h : suc i % 16 ≡ suc (suc i) % 16). omega arith) in grind (arith, nat_tests, e)
 
 count_next : (i : ℕ) → (suc (suc i) % 16 == (suc i % 16 + 1) % 16) ≡ true
-count_next i = let e : suc (suc i) % 16 ≡ (suc i % 16 + 1) % 16 = omega arith in grind (arith, nat_tests, e)
+count_next i = let e : suc (suc i) % 16 ≡ (suc i % 16 + 1) % 16 = omega arith in
+    grind (arith, nat_tests, e)
 
 module _ (size : ℕ) (laws : SegmentLaws size) (base : List Carried) where
   -- a COUNT write at the state before it
   wrote : (r : Request) (i : ℕ) → IsRequest r → suc i * size < length (request_text r) →
-      isdu_written (received (joined size (request_text r) i) (count_at i)) (Count (suc i % 16)) (segment size (request_text r) (suc i))
+      isdu_written (received (joined size (request_text r) i) (count_at i)) (Count (suc i % 16))
+      (segment size (request_text r) (suc i))
       ≡ received (joined size (request_text r) (suc i)) (count_at (suc i))
   wrote r i fits more = rw (laws.grows r i (count_at i) fits more) (counts i)
     where
-      counts : (i : ℕ) → isdu_written (Receiving (joined size (request_text r) i) (count_at i)) (Count (suc i % 16)) (segment size (request_text r) (suc i))
+      counts : (i : ℕ) → isdu_written (Receiving (joined size (request_text r) i) (count_at i))
+          (Count (suc i % 16)) (segment size (request_text r) (suc i))
           ≡ received (joined size (request_text r) (suc i)) (count_at (suc i))
       counts i = grind (arith, common_steps)
 
   -- a START read at the whole request
-  asked_whole : (r : Request) (i : ℕ) (s : IsduState) (carried : List Carried) → IsLast size (request_text r) i →
-      Stands size base (Written r i) s carried → Stands size base (asked r (isdu_data size (isdu_read size s Start))) (isdu_read size s Start) carried
+  asked_whole : (r : Request) (i : ℕ) (s : IsduState) (carried : List Carried)
+      → IsLast size (request_text r) i →
+      Stands size base (Written r i) s carried
+      → Stands size base (asked r (isdu_data size (isdu_read size s Start)))
+      (isdu_read size s Start) carried
   asked_whole r i s carried all h = rw (h.1, laws.ends r i (count_at i) h.0 all) (refl, h.2)
 
   pub asked_busy : (r : Request) (s : IsduState) (carried : List Carried) →
-      Stands size base (Busy r) s carried → Stands size base (asked r (isdu_data size (isdu_read size s Start))) (isdu_read size s Start) carried
+      Stands size base (Busy r) s carried
+      → Stands size base (asked r (isdu_data size (isdu_read size s Start)))
+      (isdu_read size s Start) carried
   asked_busy r (Handed q) carried h = h
-  asked_busy r (Answered q a None) carried h = rw (laws.answers q a h.1) (h.0, h.1, refl, rw h.0 refl, h.2)
+  asked_busy r (Answered q a None) carried h =
+      rw (laws.answers q a h.1) (h.0, h.1, refl, rw h.0 refl, h.2)
   asked_busy r Empty carried h = absurd h
   asked_busy r (Receiving t l) carried h = absurd h
   asked_busy r (Whole q l) carried h = absurd h
   asked_busy r (Answered q a (Some j)) carried h = absurd h
 
   pub asked_first : (r : Request) (t : List ℕ) (s : IsduState) (carried : List Carried) →
-      Stands size base (Had r 0 t) s carried → Stands size base (asked r (isdu_data size (isdu_read size s Start))) (isdu_read size s Start) carried
-  asked_first r t (Answered q a (Some j)) carried h = rw (laws.answers q a h.1) (h.0, h.1, refl, rw h.0 refl, h.4)
+      Stands size base (Had r 0 t) s carried
+      → Stands size base (asked r (isdu_data size (isdu_read size s Start)))
+      (isdu_read size s Start) carried
+  asked_first r t (Answered q a (Some j)) carried h =
+      rw (laws.answers q a h.1) (h.0, h.1, refl, rw h.0 refl, h.4)
   asked_first r t (Answered q a None) carried h = absurd h
   asked_first r t Empty carried h = absurd h
   asked_first r t (Receiving u l) carried h = absurd h
@@ -64,12 +77,16 @@ module _ (size : ℕ) (laws : SegmentLaws size) (base : List Carried) where
 
   next_sent : (q : Request) (a : Answer) (i : ℕ) → suc i * size < length (answer_text q a) →
       isdu_read size (Answered q a (Some i)) (Count (suc i % 16)) ≡ Answered q a (Some (suc i))
-  next_sent q a i more = let e : suc i % 16 ≡ i % 16 → ⊥ = (λ (k : suc i % 16 ≡ i % 16). omega arith) in grind (arith, nat_tests, common_steps, e)
+  next_sent q a i more = let e : suc i % 16 ≡ i % 16
+      → ⊥ = (λ (k : suc i % 16 ≡ i % 16). omega arith) in grind (arith, nat_tests, common_steps, e)
 
   -- the next COUNT read
   fetched : (r : Request) (i : ℕ) (t : List ℕ) (s : IsduState) (carried : List Carried) →
-      ((a : Answer) → IsTrue (fits r a) → t ≡ joined size (answer_text r a) i → suc i * size < length (answer_text r a)) → Stands size base (Had r i t) s carried →
-      Stands size base (Had r (suc i) (t ++ isdu_data size (isdu_read size s (Count (suc i % 16))))) (isdu_read size s (Count (suc i % 16))) carried
+      ((a : Answer) → IsTrue (fits r a) → t ≡ joined size (answer_text r a) i
+      → suc i * size < length (answer_text r a)) → Stands size base (Had r i t) s carried →
+      Stands size base (Had r (suc i)
+      (t ++ isdu_data size (isdu_read size s (Count (suc i % 16)))))
+      (isdu_read size s (Count (suc i % 16))) carried
   fetched r i t (Answered q a (Some j)) carried more h =
       let e : j ≡ i = h.2 in
       let fits : IsTrue (fits r a) = rw (← h.0) h.1 in
@@ -82,15 +99,20 @@ module _ (size : ℕ) (laws : SegmentLaws size) (base : List Carried) where
   fetched r i t (Handed q) carried more h = absurd h
 
   -- the first hearing of a message, at the progress before it, where there is ISDU
-  pub heard_first : (p : Progress) (what : Move) (c : Channel) (read : Bool) (f : Flow) (od : List ℕ) (s : IsduState) (carried : List Carried) →
+  pub heard_first : (p : Progress) (what : Move) (c : Channel) (read : Bool) (f : Flow)
+      (od : List ℕ) (s : IsduState) (carried : List Carried) →
       IsMove size what p c read f od → (what ≡ Leave → ⊥) → Stands size base p s carried →
-      Stands size base (after p what (isdu_data size (isdu_after true size s c read f od))) (isdu_after true size s c read f od) carried
+      Stands size base (after p what (isdu_data size (isdu_after true size s c read f od)))
+      (isdu_after true size s c read f od) carried
   heard_first Quiet (Begin r) Isdu false Start od Empty carried m n h = rw m.1 (m.0, refl, h)
-  heard_first Quiet (Begin r) Isdu false Start od (Answered q a l) carried m n h = rw m.1 (m.0, refl, h)
-  heard_first (Written r i) More Isdu false (Count c) od s carried m n h = rw (h.1, m.1, m.2, wrote r i h.0 m.0) (h.0, refl, h.2)
+  heard_first Quiet (Begin r) Isdu false Start od (Answered q a l) carried m n h =
+      rw m.1 (m.0, refl, h)
+  heard_first (Written r i) More Isdu false (Count c) od s carried m n h =
+      rw (h.1, m.1, m.2, wrote r i h.0 m.0) (h.0, refl, h.2)
   heard_first (Written r i) Ask Isdu true Start od s carried m n h = asked_whole r i s carried m h
   heard_first (Busy r) Ask Isdu true Start od s carried m n h = asked_busy r s carried h
-  heard_first (Had r i t) Next Isdu true (Count c) od s carried m n h = rw m.0 (fetched r i t s carried m.1 h)
+  heard_first (Had r i t) Next Isdu true (Count c) od s carried m n h =
+      rw m.0 (fetched r i t s carried m.1 h)
   heard_first p Leave c read f od s carried m n h = absurd (n refl)
   heard_first p Other Process read f od s carried m n h = h
   heard_first p Other Page read f od s carried m n h = h
@@ -101,15 +123,21 @@ module _ (size : ℕ) (laws : SegmentLaws size) (base : List Carried) where
   heard_first p what c read f od s carried m n h = absurd m
 
   -- a message of another channel leaves the state, whether there is ISDU or not
-  pub others : (known : Bool) (p : Progress) (c : Channel) (read : Bool) (f : Flow) (od : List ℕ) (s : IsduState) → IsMove size Other p c read f od → isdu_after known size s c read f od ≡ s
+  pub others : (known : Bool) (p : Progress) (c : Channel) (read : Bool) (f : Flow)
+      (od : List ℕ) (s : IsduState) → IsMove size Other p c read f od
+      → isdu_after known size s c read f od ≡ s
   others known p c read f od s given = grind (arith, common_steps)
 
-  -- IDLE and ABORT leave nothing of the request; the record stays as it is, whatever it was at the beginning of the request
-  pub left : (known : Bool) (p : Progress) (c : Channel) (read : Bool) (f : Flow) (od : List ℕ) (s : IsduState) → IsMove size Leave p c read f od → isdu_after known size s c read f od ≡ Empty
+  -- IDLE and ABORT leave nothing of the request; the record stays as it is, whatever it was at the
+  -- beginning of the request
+  pub left : (known : Bool) (p : Progress) (c : Channel) (read : Bool) (f : Flow) (od : List ℕ)
+      (s : IsduState) → IsMove size Leave p c read f od
+      → isdu_after known size s c read f od ≡ Empty
   left known p c read f od s given = grind (arith, common_steps)
 
   -- Local steps leave a far end that is awake at the same progress
-  pub stands_carried : (p : Progress) (far : Far) (a : Answer) (s : IsduState) → far.isdu ≡ s → Stands size base p s far.carried →
+  pub stands_carried : (p : Progress) (far : Far) (a : Answer) (s : IsduState) → far.isdu ≡ s
+      → Stands size base p s far.carried →
       Stands size base p (carried_by s far a).isdu (carried_by s far a).carried
   stands_carried p far a Empty e h = rw e h
   stands_carried p far a (Receiving t l) e h = rw e h
@@ -117,13 +145,20 @@ module _ (size : ℕ) (laws : SegmentLaws size) (base : List Carried) where
   stands_carried p far a (Answered q b l) e h = rw e h
   stands_carried p far a (Handed q) e h = split (has_room far && fits q a) refl
     where
-      done : (p : Progress) (q : Request) (a : Answer) (carried : List Carried) → IsTrue (fits q a) → Stands size base p (Handed q) carried → Stands size base p (Answered q a None) (grown_by carried q a)
+      done : (p : Progress) (q : Request) (a : Answer) (carried : List Carried)
+          → IsTrue (fits q a) → Stands size base p (Handed q) carried
+          → Stands size base p (Answered q a None) (grown_by carried q a)
       done (Busy r) q a carried fits h = (h.0, fits, rw (h.0, h.1) refl)
       done Quiet q a carried fits h = absurd h
-      done (Written r i) q a carried fits h = absurd (not_handed (joined size (request_text r) i) (count_at i) q (sym h.1))
+      done (Written r i) q a carried fits h =
+          absurd (not_handed (joined size (request_text r) i) (count_at i) q (sym h.1))
       done (Had r i t) q a carried fits h = absurd h
 
-      split : (b : Bool) → (has_room far && fits q a) ≡ b → Stands size base p (if b then record far { isdu = Answered q a None; carried = grown_by far.carried q a } else far).isdu
-          (if b then record far { isdu = Answered q a None; carried = grown_by far.carried q a } else far).carried
-      split true k = done p q a far.carried (let z : fits q a ≡ true = grind (arith, nat_tests, common_steps) in z) h
+      split : (b : Bool) → (has_room far && fits q a) ≡ b
+          → Stands size base p (if b then record far
+          { isdu = Answered q a None; carried = grown_by far.carried q a } else far).isdu
+          (if b then record far { isdu = Answered q a None; carried = grown_by far.carried q a }
+          else far).carried
+      split true k = done p q a far.carried
+          (let z : fits q a ≡ true = grind (arith, nat_tests, common_steps) in z) h
       split false k = rw e h

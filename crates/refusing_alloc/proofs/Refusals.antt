@@ -18,24 +18,45 @@ use denote.Triple.Spec.{triple_of}
 use Rattle.refusing_alloc.specs.contracts.Tally as TA
 use Rattle.refusing_alloc.specs.contracts.Tally.refuses as RF
 
-module _ {M : Type 1} {𝓤 : Ura M} (𝓛 : Logic 𝓤) (at_mem : Memory → SProp 𝓤) (run : Routine → Fun 𝓤) where
+module _ {M : Type 1} {𝓤 : Ura M} (𝓛 : Logic 𝓤) (at_mem : Memory → SProp 𝓤)
+    (run : Routine → Fun 𝓤) where
   abbrev pub Refuses : Contract 𝓤
   Refuses = triple_of 𝓛 RF.signature (RF.spec 𝓛 at_mem run)
 
   abbrev pub at_refuses : Lft → Share → ℕ × ℕ → (TA.the_row).Denot → Refuses.Ghost
-  at_refuses κ q c t = (((κ, tt), (q, tt), tt, (record { ref_ptr = c; now = t }, tt), (vptr c.0 c.1 ∷ [], tt)), tt)
+  at_refuses κ q c t = (
+    (
+      (κ, tt),
+      (q, tt),
+      tt,
+      (record { ref_ptr = c; now = t }, tt),
+      (vptr c.0 c.1 ∷ [], tt),
+    ),
+    tt,
+  )
 
-module _ {M : Type 1} {𝓤 : Ura M} (𝓛 : Logic 𝓤) (at_mem : Memory → SProp 𝓤) (run : Routine → Fun 𝓤) (κ : Lft) (q : Share) (c : ℕ × ℕ) (t : (TA.the_row).Denot) where
+module _ {M : Type 1} {𝓤 : Ura M} (𝓛 : Logic 𝓤) (at_mem : Memory → SProp 𝓤)
+    (run : Routine → Fun 𝓤) (κ : Lft) (q : Share) (c : ℕ × ℕ) (t : (TA.the_row).Denot) where
   open 𝓛 use {H, A}
 
-  pub Refuses-goes : ent 𝓤 (sep 𝓤 (sem 𝓛 (hidden_shr TA.the_row κ t c.0 c.1)) (A.lft κ q)) ((Refuses 𝓛 at_mem run).pre (at_refuses 𝓛 at_mem run κ q c t))
+  pub Refuses-goes : ent 𝓤 (sep 𝓤 (sem 𝓛 (hidden_shr TA.the_row κ t c.0 c.1)) (A.lft κ q))
+      ((Refuses 𝓛 at_mem run).pre (at_refuses 𝓛 at_mem run κ q c t))
   Refuses-goes =
-      qed 𝓛 (‵ (hidden_shr TA.the_row κ t c.0 c.1) ∷ ‵ (flft κ q) ∷ []) ∵ feq_i ! (List Val) (vptr c.0 c.1 ∷ []) (vptr c.0 c.1 ∷ []) refl $ fjoin ! $
-      nothing ! $ move ! (1 ∷ []) $ fjoin ! $ nothing ! $ move ! (2 ∷ []) $ join ! $ join ! $ nothing ! $ move ! (1 ∷ []) $ done !
+      qed 𝓛 (‵ (hidden_shr TA.the_row κ t c.0 c.1) ∷ ‵ (flft κ q) ∷ []) ∵ feq_i ! (List Val)
+      (vptr c.0 c.1 ∷ []) (vptr c.0 c.1 ∷ []) refl $ fjoin ! $
+      nothing ! $ move ! (1 ∷ []) $ fjoin ! $ nothing ! $ move ! (2 ∷ []) $ join ! $ join ! $
+      nothing ! $ move ! (1 ∷ []) $ done !
 
-  pub Refuses-gives : (v : Val) → ent 𝓤 ((Refuses 𝓛 at_mem run).post (at_refuses 𝓛 at_mem run κ q c t) v) (H.⇛ (ex 𝓤 (λ (y : Bool). guard 𝓤 (v ≡ vbool y) (A.lft κ q))))
+  pub Refuses-gives : (v : Val) → ent 𝓤
+      ((Refuses 𝓛 at_mem run).post (at_refuses 𝓛 at_mem run κ q c t) v)
+      (H.⇛ (ex 𝓤 (λ (y : Bool). guard 𝓤 (v ≡ vbool y) (A.lft κ q))))
   Refuses-gives v =
-      qed 𝓛 (types.Kit.raw ((Refuses 𝓛 at_mem run).post (at_refuses 𝓛 at_mem run κ q c t) v) ∷ []) ∵ updating ! $
-      use1 𝓛 (later (some (λ (y : Bool). ((‵ (flft κ q) ⊛ ‵ ftrue) ⊛ ‵ (bool.own_val y (v ∷ []))) ⊛ some (λ (ws : Unit {0} × Unit {0}). ‵ (fsep ftrue ftrue) ⊛ ‵ ftrue)))) (id⊢ 𝓤 _) $ await ! tt $ pick ! (λ y.
+      qed 𝓛 (types.Kit.raw ((Refuses 𝓛 at_mem run).post (at_refuses 𝓛 at_mem run κ q c t) v) ∷
+      []) ∵ updating ! $
+      use1 𝓛 (later (some (λ (y : Bool).
+      ((‵ (flft κ q) ⊛ ‵ ftrue) ⊛ ‵ (bool.own_val y (v ∷ []))) ⊛ some
+      (λ (ws : Unit {0} × Unit {0}). ‵ (fsep ftrue ftrue) ⊛ ‵ ftrue)))) (id⊢ 𝓤 _) $
+      await ! tt $ pick ! (λ y.
       split ! $ split ! $ move ! (1 ∷ []) $ feq_l ! (λ e. split ! $ at_once ! $
-      show ! (λ (y : Bool). guard 𝓤 (v ≡ vbool y) (A.lft κ q)) y $ check ! (ap only e) $ keep ! (0 ∷ []) $ done !))
+      show ! (λ (y : Bool). guard 𝓤 (v ≡ vbool y) (A.lft κ q)) y $ check ! (ap only e) $ keep !
+      (0 ∷ []) $ done !))

@@ -1,4 +1,5 @@
--- What the walks of this crate cite; and of a struct of one pointer its machine value and what its field owns, which is
+-- What the walks of this crate cite; and of a struct of one pointer its machine value and what its
+-- field owns, which is
 -- had for nothing. Assumes `Logic`.
 pub use Rattle.std.proofs.Common.{◌≡◌, List, [], ◌∷◌, ◌++◌, refl, sym, ap, ◌∙◌, subst, Bool, true, false}
 pub use lib.Dec.{T, lit<}
@@ -76,7 +77,13 @@ word_fits null_ptr = (tt, (record { fits = lit< tt }, tt))
 
 pub null_and_fits : (p : Ptr) → T ((has_ty ty_ptr (ptr_val p) && true) && true) × WT (null_and p)
 null_and_fits (block_ptr b o) = (tt, ((record { fits = lit< tt }, tt), ((tt, tt), tt)))
-null_and_fits null_ptr = (tt, ((record { fits = lit< tt }, tt), ((record { fits = lit< tt }, tt), tt)))
+null_and_fits null_ptr = (
+  tt,
+  (
+    (record { fits = lit< tt }, tt),
+    ((record { fits = lit< tt }, tt), tt),
+  ),
+)
 
 -- the struct of this name
 abbrev pub one_pointer : Sym → Shape
@@ -95,9 +102,11 @@ heap_laws = arg_laws (bare (layout global.the_row)) no global.the_row global_law
 abbrev pub undropped : Dict
 undropped = impl ("iolink_handle::Destruct++none::drop" ∷ []) (tcons (layout Heap) tnil) dnil
 
-module _ {M : Type 1} {𝓤 : Ura M} {𝓛 : Logic 𝓤} {K : Type 0} {Γ : List (Item 𝓤)} {G : Goal 𝓤 𝓛.H} where
+module _ {M : Type 1} {𝓤 : Ura M} {𝓛 : Logic 𝓤} {K : Type 0} {Γ : List (Item 𝓤)}
+    {G : Goal 𝓤 𝓛.H} where
   pub inside : K → (p : Ptr) → Step K 𝓛 (‵ (Inside.own_val (p, tt) (word p ∷ [])) ∷ Γ) G Γ G
-  inside t p = owned t Inside (Is Inside) (Struct-Makes 𝓛 (one_pointer []) (rawptr_pure, tt)) (p, tt) (word p ∷ [])
+  inside t p = owned t Inside (Is Inside) (Struct-Makes 𝓛 (one_pointer []) (rawptr_pure, tt))
+      (p, tt) (word p ∷ [])
       ((ptr_val p ∷ [], tt), (refl, (refl, tt)))
 
   -- a fact that holds
@@ -107,4 +116,5 @@ module _ {M : Type 1} {𝓤 : Ura M} {𝓛 : Logic 𝓤} {K : Type 0} {Γ : List
   -- a list of one more
   pub also : K → {i : Item 𝓤} (j : Item 𝓤) → ent 𝓤 (emp 𝓤) (mean 𝓛 j)
       → Step K 𝓛 ((i ⊛ j ⊛ ‵ ftrue) ∷ Γ) G ((i ⊛ ‵ ftrue) ∷ Γ) G
-  also t j h = step (λ s. split t $ use0 𝓛 j h $ move t (0 ∷ 2 ∷ []) $ join t $ move t (1 ∷ 0 ∷ []) $ join t $ s)
+  also t j h = step (λ s. split t $ use0 𝓛 j h $ move t (0 ∷ 2 ∷ []) $ join t $ move t
+      (1 ∷ 0 ∷ []) $ join t $ s)

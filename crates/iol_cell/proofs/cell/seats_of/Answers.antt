@@ -4,4 +4,7 @@ use Rattle.iol_cell.proofs.Rule.{splits}
 use Rattle.iol_cell.proofs.cell.seats_of.Goals as goal
 
 pub split_pass-pass-requires : goal.split_pass-pass-requires
-split_pass-pass-requires g c = (has_room _ _ g.met.A.Handle.is_small, (search rules, (search rules, splits _ _)))
+split_pass-pass-requires g c = (
+  has_room _ _ g.met.A.Handle.is_small,
+  (search rules, (search rules, splits _ _)),
+)

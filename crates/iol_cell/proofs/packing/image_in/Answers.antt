@@ -6,6 +6,10 @@ use Rattle.iol_cell.proofs.packing.image_in.Goals as goal
 pub returns : goal.returns
 returns c =
     let words = c.args.words.now in
-    let taken : c.truncate.new.self.items ≡ take (min (slice_index words 0) 32) (octets_of words) = rw (c.truncate.ensures.items, c.octets_in-octets.ensures) (search rules) in
+    let taken : c.truncate.new.self.items
+    ≡ take (min (slice_index words 0) 32) (octets_of words) =
+    rw (c.truncate.ensures.items, c.octets_in-octets.ensures) (search rules) in
     rw c.ok.ensures.value
-    (image_of_first c.of.result (slice_index words 0) (octets_of words) c.truncate.new.self.items (length-octets_of words) taken c.of.ensures.octets c.of.ensures.length.0 c.of.ensures.length.1)
+    (image_of_first c.of.result (slice_index words 0) (octets_of words)
+    c.truncate.new.self.items (length-octets_of words) taken c.of.ensures.octets
+    c.of.ensures.length.0 c.of.ensures.length.1)

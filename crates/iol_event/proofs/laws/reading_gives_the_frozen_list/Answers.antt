@@ -15,4 +15,5 @@ returns-clause-gives c = taken-last
 
 pub returns-clause-whole : goal.returns-clause-whole
 returns-clause-whole c =
-    λ frozen h. ap (answers (event_octet frozen) []) (add-one (3 * length frozen)) ∙ answers-frozen frozen h
+    λ frozen h. ap (answers (event_octet frozen) []) (add-one (3 * length frozen))
+    ∙ answers-frozen frozen h

@@ -6,4 +6,5 @@ use Rattle.iol_event.proofs.laws.reading_gives_the_marked_places.Goals as goal
 
 pub returns : goal.returns
 returns c =
-    λ device readable. ap (answers device []) (add-one (places_size (device 0))) ∙ answers-marked device readable
+    λ device readable. ap (answers device []) (add-one (places_size (device 0)))
+    ∙ answers-marked device readable

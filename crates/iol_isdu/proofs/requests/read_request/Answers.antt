@@ -7,4 +7,5 @@ returns-clause-only c = λ r b. ap Ok (c.request_into.ensures.only r b).1
 
 pub returns-in_err-request_into-clause-value : goal.returns-in_err-request_into-clause-value
 returns-in_err-request_into-clause-value c =
-    request_of-refused c.args.octets.now c.from_residual.result c.from_residual.ensures.0 (search rules)
+    request_of-refused c.args.octets.now c.from_residual.result c.from_residual.ensures.0
+    (search rules)

@@ -4,4 +4,5 @@ use Rattle.iol_mseq.proofs.reply.view_reply.Goals as goal
 
 pub returns-in-None-clause-only : goal.returns-in-None-clause-only
 returns-in-None-clause-only c =
-    λ r s. ap Ok (one_reply c.args.layout.now c.args.read c.args.octets.now _ r c.spelled_by.ensures.spelled s)
+    λ r s. ap Ok (one_reply c.args.layout.now c.args.read c.args.octets.now _ r
+    c.spelled_by.ensures.spelled s)

@@ -4,4 +4,7 @@ use Rattle.iol_cell.proofs.Rule.{reads}
 use Rattle.iol_cell.proofs.cell.ImageSeat.load.Goals as goal
 
 pub load_as-requires : goal.load_as-requires
-load_as-requires g c = (has_room _ _ g.met.A.Handle.is_small, (search rules, (search rules, reads _ _)))
+load_as-requires g c = (
+  has_room _ _ g.met.A.Handle.is_small,
+  (search rules, (search rules, reads _ _)),
+)

@@ -7,4 +7,5 @@ pub returns-clause-only : goal.returns-clause-only
 returns-clause-only c = λ mc e. same_from_octet _ mc (sym (e ∙ grind (arith, common_steps)))
 
 pub returns-clause-read : goal.returns-clause-read
-returns-clause-read c = same_from_octet _ _ (sym (control_octet-of c.args.octet (omega arith) ∙ grind (arith, common_steps)))
+returns-clause-read c = same_from_octet _ _
+    (sym (control_octet-of c.args.octet (omega arith) ∙ grind (arith, common_steps)))
