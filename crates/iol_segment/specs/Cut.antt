@@ -58,6 +58,11 @@ pub record IsBeingCut (text : List ℕ) (size given : ℕ) : Type 0 where
   pub begins : (given - 1) * size ≤ 237
   pub within : (given - 1) * size < length text
 
+-- once a segment was given, the head that is kept and the body are the text
+abbrev pub KeepsHead : ℕ → List ℕ → List ℕ → List ℕ → Type 0
+KeepsHead given head body text =
+    1 ≤ given → (head ++ body ≡ text) × (length head + length body ≤ 237)
+
 -- how many are given after one more call
 abbrev pub after_next : ℕ → List ℕ → ℕ → ℕ
 after_next size text i = if nat_lt (i * size) (length text) then i + 1 else i

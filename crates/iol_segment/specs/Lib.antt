@@ -1,5 +1,6 @@
 pub mod Fault
 pub mod Cut
+pub mod Lending
 pub mod Join
 pub mod SourceLaws
 pub mod TextLaws
