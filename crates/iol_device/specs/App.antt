@@ -3,7 +3,8 @@ use Rattle.std.specs.Prelude.{◌≡◌, List, [], ◌∷◌, Option, Some, None
 use Rattle.iol_isdu.specs.declared.values.Request.{Request}
 use Rattle.iol_isdu.specs.declared.values.Answer.{Answer}
 use Rattle.iol_far.specs.declared.carried.Carried.{Carried}
-use Rattle.iol_far.specs.Isdu.{fits}
+use Rattle.iol_far.specs.Isdu.{IsduState, Answered, fits}
+use Rattle.iol_far.specs.Level.{grown_by}
 use Rattle.iol_far.specs.Far.{Far}
 use Rattle.iol_far.specs.Local.{Carry, local, has_room}
 
@@ -11,6 +12,15 @@ use Rattle.iol_far.specs.Local.{Carry, local, has_room}
 -- answer, the application after it
 abbrev pub Gives : Type 0 → Type 1
 Gives P = P → Request → Answer → P → Type 0
+
+-- Carrying this request out, by what the application's calls give: the application before it, the
+-- record before it, the state, the record and the application then. That very answer, which fits,
+-- stands ready, and the record keeps it with the request
+abbrev pub Reacts : {P : Type 0} → Gives P → P → List Carried → IsduState → List Carried → P
+    → Request → Type 0
+Reacts gives before old state new after request =
+    (answer : Answer) × gives before request answer after × IsTrue (fits request answer)
+    × (state ≡ Answered request answer None) × (new ≡ grown_by old request answer)
 
 -- Carrying out this request, if any, at a far end with that application, by what its calls give.
 -- Where the record has room, the application carries it out, once, and it is that very answer,

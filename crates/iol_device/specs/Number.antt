@@ -23,11 +23,6 @@ is_new old new = not (is_some (handed old.isdu)) && is_some (handed new.isdu)
 abbrev pub number_after : ℕ → Far → Far → ℕ
 number_after number old new = if is_new old new then next_number number else number
 
--- the device with this far end
-abbrev pub with_far : {P : Type 0} → Running P → Far → Running P
-with_far device far =
-    record device { far = far; number = number_after device.number device.far far }
-
 -- the number of the request that is handed over
 abbrev pub handed_number : {P : Type 0} → Running P → Option ℕ
 handed_number device = option_map (λ request. device.number) (handed device.far.isdu)

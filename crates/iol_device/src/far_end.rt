@@ -5,7 +5,7 @@ use crate::app::App;
 use crate::commands::{Waiting, command_in, is_confirm, mode_asked};
 use crate::data::{copy_of, flow_of, image_of, message_in, message_of, size_of};
 use crate::fault::DeviceFault;
-use crate::isdu::{IsduSide, answer_of, is_kind_of};
+use crate::isdu::{IsduSide, is_kind_of};
 use crate::record::{Kept, Record};
 use iol_event::{Event, EventMemory};
 use iol_far::{Carried, Mode};
@@ -138,7 +138,7 @@ impl<R: Record> FarEnd<R> {
         let layout = self.layout_in(mode);
         self.mode = mode;
         self.waits = None;
-        self.isdu = IsduSide::new(size_of(&layout));
+        self.isdu.resize(size_of(&layout));
         self.valid = false;
     }
 
@@ -412,28 +412,9 @@ impl<R: Record> FarEnd<R> {
             (handed self.old.isdu) self.old app.old self.new app.new }
     {
         // Most calls find none.
-        if self.isdu.is_handed() {
-            self.carry_out(app);
+        if self.isdu.is_handed() && self.carried.has_room() {
+            self.isdu.react(app, &mut self.carried);
         }
-    }
-
-    /// The same, in a function of its own, whose locals are large.
-    ///
-    /// Rule DEV-15.
-    #[inline(never)]
-    fn carry_out<P: App>(&mut self, app: &mut P)
-        ensures { IsCarriedOut P.carry_out_gives
-            (handed self.old.isdu) self.old app.old self.new app.new }
-    {
-        let Some(request) = self.isdu.handed() else {
-            return;
-        };
-        if !self.carried.has_room() {
-            return;
-        }
-        let given = answer_of(app, request);
-        self.carried.push(request, &given);
-        self.isdu.answer(given);
     }
 
     /// A handed request has this answer, where it fits and the record has room.

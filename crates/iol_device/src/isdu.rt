@@ -1,43 +1,53 @@
 //! The request under way, and the answer to it (IEC 61131-9, 7.3.6).
-ghost use Rattle.std.specs.Prelude.{◌≡◌, ◌<◌, ◌≤◌, ◌+◌, ◌++◌, ◌%◌, true, false, is_some, None, Some, List, ℕ, IsTrue, IfSome, option_copied, length};
+ghost use Rattle.std.specs.Prelude.{◌≡◌, ◌<◌, ◌≤◌, ◌+◌, ◌++◌, ◌%◌, true, false, is_some, None, Some, List, ℕ, IsTrue, IfSome, IsSome, option_copied, length};
 ghost use Rattle.iol_segment.specs.Join.{is_whole};
 ghost use Rattle.iol_segment.specs.Cut.{flow_at};
 ghost use Rattle.iol_octets.specs.Flow.{IsFlow};
 ghost use Rattle.iol_octets.specs.declared.flow_control.Flow.{Flow};
 ghost use Rattle.iol_isdu.specs.Parse.{request_of};
 ghost use Rattle.iol_far.specs.Isdu.{Empty, Receiving, IsduState, isdu_written, isdu_read, isdu_data, completed, answer_text, answered, handed, fits};
-ghost use Rattle.iol_device.specs.Inside.{IsduValue, IsKept, IsReceiving, GoesOn, IsSent, state_of, joining_in, count_in, handed_over, sent_flow, is_sent, is_next};
+ghost use Rattle.iol_far.specs.Record.{takes_more};
+ghost use Rattle.iol_device.specs.App.{Reacts};
+ghost use Rattle.iol_device.specs.Inside.{IsduValue, IsKept, IsKeptAt, GoesOn, IsSent, state_of, count_in, sent_flow, is_sent, is_next};
 
 use crate::app::App;
+use crate::record::Record;
 use iol_isdu::{Answer, Place, Request};
 use iol_mseq::{Message, append_first, append_zeros};
 use iol_octets::Flow;
 use iol_segment::{Cutter, Joiner, Reaction, cut_is_whole};
 use std::marker::Model;
-use std::mem;
 
-/// What stands in a request's place while that moves from one stage to the next.
-const NOTHING: Request = Request::Read(Place { index: 0, sub: 0 });
+/// What stands in the place of a request and its answer while there are none.
+const NOTHING: Reaction = Reaction {
+    request: Request::Read(Place { index: 0, sub: 0 }),
+    answer: Answer::Written,
+};
 
 /// How far a request has come.
-#[derive(Drop)]
+#[derive(Clone, Copy, Debug, PartialEq, Eq)]
 enum Stage {
     Empty,
     /// Its text comes in segments.
-    Receiving(Joiner),
+    Receiving,
     /// Its text is complete, the last segment under this COUNT.
-    Whole(Request, Option<u8>),
+    Whole(Option<u8>),
     /// The application has it, or will have it.
-    Handed(Request),
+    Handed,
     /// Its answer goes out in segments.
-    Answered(Cutter<Reaction>),
+    Answered,
 }
 
-/// The ISDU of a device, in messages of one size of on-request data.
+/// The ISDU of a device, in messages of one size of on-request data. Text, request and answer
+/// have a place each, and stay there.
 #[derive(Drop)]
 pub(crate) struct IsduSide {
     size: u8,
     stage: Stage,
+    /// The text of a request, while that comes.
+    joiner: Joiner,
+    /// The request, from when its text is complete, and then the answer.
+    cutter: Cutter<Reaction>,
 }
 
 impl Model for IsduSide {
@@ -46,9 +56,9 @@ impl Model for IsduSide {
 
     ghost Value = { IsduValue };
 
-    ghost view = { λ s. record { size = s.size; state = state_of s.stage } };
+    ghost view = { λ s. record { size = s.size; state = state_of s.stage s.joiner s.cutter } };
 
-    ghost invariant = { λ s. (1 ≤ s.size) × (s.size ≤ 32) × IsKept s.size s.stage };
+    ghost invariant = { λ s. IsKept s.size s.stage s.joiner s.cutter };
 }
 
 impl IsduSide {
@@ -60,7 +70,19 @@ impl IsduSide {
         IsduSide {
             size,
             stage: Stage::Empty,
+            joiner: Joiner::requests(),
+            cutter: Cutter::new(NOTHING, size as usize),
         }
+    }
+
+    /// The request is dropped, and messages have this size from now on.
+    pub fn resize(&mut self, size: u8)
+        requires { (1 ≤ size) × (size ≤ 32) }
+        ensures { self.new ≡ record { size = size; state = Empty } }
+    {
+        self.size = size;
+        self.stage = Stage::Empty;
+        self.cutter.resize(size as usize);
     }
 
     /// The request is dropped.
@@ -79,7 +101,34 @@ impl IsduSide {
         ensures { self.new
             ≡ record self.old { state = isdu_written self.old.state flow octets.now } }
     {
-        write_to(&mut self.stage, self.size, flow, octets);
+        match flow {
+            Flow::Start => self.stage = take(&mut self.joiner, &mut self.cutter, flow, octets),
+            Flow::Count(count) => self.write_count(count, octets),
+            _ => self.clear(),
+        }
+    }
+
+    /// A write under COUNT.
+    ///
+    /// Rule DEV-11.
+    fn write_count(&mut self, count: u8, octets: &[u8])
+        ensures { self.new
+            ≡ record self.old {
+              state = isdu_written self.old.state (Flow.Count count) octets.now;
+            } }
+    {
+        match self.stage {
+            Stage::Receiving => {
+                let flow = Flow::Count(count);
+                self.stage = take(&mut self.joiner, &mut self.cutter, flow, octets);
+            }
+            Stage::Whole(last) => {
+                if last != Some(count) {
+                    self.stage = Stage::Empty;
+                }
+            }
+            _ => self.stage = Stage::Empty,
+        }
     }
 
     /// A read under this flow.
@@ -89,7 +138,49 @@ impl IsduSide {
         ensures { self.new
             ≡ record self.old { state = isdu_read self.old.size self.old.state flow } }
     {
-        read_from(&mut self.stage, self.size, flow);
+        match flow {
+            Flow::Start => self.read_start(),
+            Flow::Count(count) => self.read_count(count),
+            _ => self.clear(),
+        }
+    }
+
+    /// A read under START.
+    ///
+    /// Rules DEV-12, DEV-13.
+    fn read_start(&mut self)
+        ensures { self.new
+            ≡ record self.old { state = isdu_read self.old.size self.old.state Flow.Start } }
+    {
+        match self.stage {
+            Stage::Whole(_) => self.stage = Stage::Handed,
+            Stage::Handed => {}
+            Stage::Answered => {
+                self.cutter.restart();
+                self.cutter.advance();
+            }
+            _ => self.stage = Stage::Empty,
+        }
+    }
+
+    /// A read under COUNT.
+    ///
+    /// Rule DEV-13.
+    fn read_count(&mut self, count: u8)
+        ensures { self.new
+            ≡ record self.old {
+              state = isdu_read self.old.size self.old.state (Flow.Count count);
+            } }
+    {
+        if self.stage != Stage::Answered {
+            self.stage = Stage::Empty;
+            return;
+        }
+        let sent = sent_flow(&self.cutter);
+        if is_sent(sent, count) || (is_next(sent, count) && self.cutter.advance()) {
+            return;
+        }
+        self.stage = Stage::Empty;
     }
 
     /// Puts the on-request data of the reply to a read at the end.
@@ -102,10 +193,10 @@ impl IsduSide {
         ensures size { length (isdu_data self.now.size self.now.state) ≡ self.now.size }
     {
         cut_is_whole();
-        match &self.stage {
-            Stage::Handed(_) => append_first(octets, self.size, 1),
-            Stage::Answered(cutter) => {
-                if !cutter.append_again(octets) {
+        match self.stage {
+            Stage::Handed => append_first(octets, self.size, 1),
+            Stage::Answered => {
+                if !self.cutter.append_again(octets) {
                     append_zeros(octets, self.size);
                 }
             }
@@ -117,8 +208,8 @@ impl IsduSide {
     pub fn handed(&self) -> Option<&Request>
         ensures { option_copied result ≡ handed self.now.state }
     {
-        match &self.stage {
-            Stage::Handed(request) => Some(request),
+        match self.stage {
+            Stage::Handed => Some(&self.cutter.source().request),
             _ => None,
         }
     }
@@ -127,7 +218,25 @@ impl IsduSide {
     pub fn is_handed(&self) -> bool
         ensures { result ≡ is_some (handed self.now.state) }
     {
-        matches!(self.stage, Stage::Handed(_))
+        self.stage == Stage::Handed
+    }
+
+    /// The request that is handed over is carried out by the application, and the record keeps it
+    /// with the answer.
+    ///
+    /// Rule DEV-15.
+    pub fn react<P: App, R: Record>(&mut self, app: &mut P, carried: &mut R)
+        requires handed { IsSome (handed self.old.state) }
+        requires room { IsTrue (takes_more (R.room carried.old) (R.carried carried.old)) }
+        ensures size { self.new.size ≡ self.old.size }
+        ensures room { R.room carried.new ≡ R.room carried.old }
+        ensures reacts { IfSome (handed self.old.state) (Reacts P.carry_out_gives app.old
+            (R.carried carried.old) self.new.state (R.carried carried.new) app.new) }
+    {
+        let reaction = self.cutter.source_mut();
+        answer_into(app, reaction);
+        carried.push(&reaction.request, &reaction.answer);
+        self.stage = Stage::Answered;
     }
 
     /// The request that is handed over has this answer.
@@ -135,12 +244,10 @@ impl IsduSide {
         requires { IfSome (handed self.old.state) (λ request. IsTrue (fits request answer)) }
         ensures { self.new ≡ record self.old { state = answered self.old.state answer } }
     {
-        let Stage::Handed(request) = &mut self.stage else {
-            return;
-        };
-        let request = mem::replace(request, NOTHING);
-        let cutter = Cutter::new(Reaction { request, answer }, self.size as usize);
-        self.stage = Stage::Answered(cutter);
+        if self.stage == Stage::Handed {
+            self.cutter.source_mut().answer = answer;
+            self.stage = Stage::Answered;
+        }
     }
 }
 
@@ -161,153 +268,60 @@ pub(crate) fn is_kind_of(request: &Request, answer: &Answer) -> bool
     }
 }
 
-/// The application's answer, which fits the request.
-pub(crate) fn answer_of<P: App>(app: &mut P, request: &Request) -> Answer
-    ensures fits { IsTrue (fits request.now result) }
-    ensures gives { P.carry_out_gives app.old request.now result app.new }
+/// The application's answer, which fits the request, is put in place.
+fn answer_into<P: App>(app: &mut P, reaction: &mut Reaction)
+    ensures request { reaction.new.request ≡ reaction.old.request }
+    ensures fits { IsTrue (fits reaction.old.request reaction.new.answer) }
+    ensures gives { P.carry_out_gives app.old reaction.old.request reaction.new.answer app.new }
 {
-    let answer = app.carry_out(request);
+    app.carry_out_into(&reaction.request, &mut reaction.answer);
     // To the proof this says that the octets fit into one ISDU.
-    if let Answer::Read(octets) = &answer {
+    if let Answer::Read(octets) = &reaction.answer {
         let _ = octets.len();
     }
-    answer
 }
 
-/// No request is under way from now on. Where none is, nothing is written: most
-/// messages find it so.
-///
-/// Rule DEV-14.
-fn empty(stage: &mut Stage)
-    ensures { stage.new ≡ Stage.Empty }
-{
-    if !matches!(stage, Stage::Empty) {
-        *stage = Stage::Empty;
-    }
-}
-
-/// A write under this flow.
-fn write_to(stage: &mut Stage, size: u8, flow: Flow, octets: &[u8])
-    requires { IsKept size stage.old }
-    ensures state { state_of stage.new ≡ isdu_written (state_of stage.old) flow octets.now }
-    ensures kept { IsKept size stage.new }
-{
-    match flow {
-        Flow::Start => {
-            *stage = Stage::Receiving(Joiner::requests());
-            take_into(stage, size, flow, octets);
-        }
-        Flow::Count(count) => write_count(stage, size, count, octets),
-        _ => empty(stage),
-    }
-}
-
-/// A write under COUNT.
+/// One more segment of the request, and the stage then.
 ///
 /// Rule DEV-11.
-fn write_count(stage: &mut Stage, size: u8, count: u8, octets: &[u8])
-    requires { IsKept size stage.old }
-    ensures state { state_of stage.new
-        ≡ isdu_written (state_of stage.old) (Flow.Count count) octets.now }
-    ensures kept { IsKept size stage.new }
+fn take(joiner: &mut Joiner, cutter: &mut Cutter<Reaction>, flow: Flow, octets: &[u8]) -> Stage
+    requires kind { joiner.old.requests ≡ true }
+    requires goes_on { GoesOn flow joiner.old }
+    ensures state { state_of result joiner.new cutter.new
+        ≡ isdu_written (Receiving joiner.old.text joiner.old.count) flow octets.now }
+    ensures kind { joiner.new.requests ≡ true }
+    ensures size { cutter.new.size ≡ cutter.old.size }
+    ensures kept { IsKeptAt result joiner.new cutter.new }
 {
-    match stage {
-        Stage::Receiving(_) => take_into(stage, size, Flow::Count(count), octets),
-        Stage::Whole(_, last) => {
-            if *last != Some(count) {
-                *stage = Stage::Empty;
-            }
-        }
-        _ => empty(stage),
-    }
-}
-
-/// One more segment of the request.
-///
-/// Rule DEV-11.
-fn take_into(stage: &mut Stage, size: u8, flow: Flow, octets: &[u8])
-    requires receiving { IsReceiving stage.old }
-    requires goes_on { GoesOn flow (joining_in stage.old) }
-    ensures state { state_of stage.new
-        ≡ isdu_written
-        (Receiving (joining_in stage.old).text (joining_in stage.old).count) flow octets.now }
-    ensures kept { IsKept size stage.new }
-{
-    let Stage::Receiving(joiner) = stage else {
-        unreachable!()
-    };
     if joiner.take(flow, octets).is_err() {
-        *stage = Stage::Empty;
+        Stage::Empty
     } else if joiner.is_whole() {
-        complete(stage, size, flow);
+        complete(joiner, cutter, flow)
+    } else {
+        Stage::Receiving
     }
 }
 
-/// The text is whole: a request, the last of whose segments came under this flow.
+/// The text is whole: the request is put in place, the last of whose segments came under this
+/// flow.
 ///
 /// Rule DEV-11.
-fn complete(stage: &mut Stage, size: u8, flow: Flow)
-    requires receiving { IsReceiving stage.old }
-    requires whole { is_whole (joining_in stage.old).text ≡ true }
-    ensures state { state_of stage.new
-        ≡ completed (request_of (joining_in stage.old).text) (count_in flow) }
-    ensures kept { IsKept size stage.new }
+fn complete(joiner: &Joiner, cutter: &mut Cutter<Reaction>, flow: Flow) -> Stage
+    requires kind { joiner.now.requests ≡ true }
+    requires whole { is_whole joiner.now.text ≡ true }
+    ensures state { state_of result joiner.now cutter.new
+        ≡ completed (request_of joiner.now.text) (count_in flow) }
+    ensures size { cutter.new.size ≡ cutter.old.size }
+    ensures kept { IsKeptAt result joiner.now cutter.new }
 {
-    let Stage::Receiving(joiner) = &*stage else {
-        unreachable!()
-    };
-    let last = match flow {
+    let reaction = cutter.source_mut();
+    if joiner.request_into(&mut reaction.request).is_err() {
+        return Stage::Empty;
+    }
+    Stage::Whole(match flow {
         Flow::Count(count) => Some(count),
         _ => None,
-    };
-    match joiner.request() {
-        Ok(request) => *stage = Stage::Whole(request, last),
-        Err(_) => *stage = Stage::Empty,
-    }
-}
-
-/// A read under this flow.
-fn read_from(stage: &mut Stage, size: u8, flow: Flow)
-    requires { IsKept size stage.old }
-    ensures state { state_of stage.new ≡ isdu_read size (state_of stage.old) flow }
-    ensures kept { IsKept size stage.new }
-{
-    match flow {
-        Flow::Start => read_start(stage, size),
-        Flow::Count(count) => read_count(stage, size, count),
-        _ => empty(stage),
-    }
-}
-
-/// A read under START.
-///
-/// Rules DEV-12, DEV-13.
-fn read_start(stage: &mut Stage, size: u8)
-    requires { IsKept size stage.old }
-    ensures state { state_of stage.new ≡ isdu_read size (state_of stage.old) Flow.Start }
-    ensures kept { IsKept size stage.new }
-{
-    match stage {
-        Stage::Whole(_, _) => hand_over(stage),
-        Stage::Handed(_) => {}
-        Stage::Answered(cutter) => {
-            cutter.restart();
-            cutter.advance();
-        }
-        _ => empty(stage),
-    }
-}
-
-/// A whole request is handed over.
-///
-/// Rule DEV-12.
-fn hand_over(stage: &mut Stage)
-    ensures { stage.new ≡ handed_over stage.old }
-{
-    if let Stage::Whole(request, _) = stage {
-        let request = mem::replace(request, NOTHING);
-        *stage = Stage::Handed(request);
-    }
+    })
 }
 
 /// The flow of the last segment given.
@@ -319,25 +333,6 @@ fn sent_flow(cutter: &Cutter<Reaction>) -> Option<Flow>
     ensures valid { IfSome result IsFlow }
 {
     cutter.flow()
-}
-
-/// A read under COUNT.
-///
-/// Rule DEV-13.
-fn read_count(stage: &mut Stage, size: u8, count: u8)
-    requires { IsKept size stage.old }
-    ensures state { state_of stage.new ≡ isdu_read size (state_of stage.old) (Flow.Count count) }
-    ensures kept { IsKept size stage.new }
-{
-    let Stage::Answered(cutter) = stage else {
-        *stage = Stage::Empty;
-        return;
-    };
-    let sent = sent_flow(cutter);
-    if is_sent(sent, count) || (is_next(sent, count) && cutter.advance()) {
-        return;
-    }
-    *stage = Stage::Empty;
 }
 
 /// Whether the last segment given went under this COUNT.
