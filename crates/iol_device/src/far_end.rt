@@ -3,7 +3,7 @@ ghost use Rattle.std.specs.Prelude.{◌≡◌, ◌+◌, ◌-◌, ◌<◌, ◌≤
 
 use crate::app::App;
 use crate::commands::{Waiting, command_in, is_confirm, mode_asked};
-use crate::data::{copy_of, flow_of, image_of, message_in, message_of, size_of};
+use crate::data::{copy_of, flow_of, message_in, message_of, size_of, take_image};
 use crate::fault::DeviceFault;
 use crate::isdu::{IsduSide, is_kind_of};
 use crate::record::{Kept, Record};
@@ -305,7 +305,7 @@ impl<R: Record> FarEnd<R> {
             ≡ record self.old { out = far.out_after self.old.mode self.old.out out.now } }
     {
         if self.mode == Mode::Operate {
-            self.out = image_of(out);
+            take_image(&mut self.out, out);
         }
     }
 
