@@ -45,6 +45,11 @@ module _ {X : Type 0} (n : ℕ) (t : Ticket) where
   lookup-none [] none = refl
   lookup-none (w ∷ ws) none = grind (arith, common_steps, lookup-none ws)
 
+  -- so a new one comes behind the others
+  pub insert_entry-none : (x : X) (ws : List (Ticket × X)) → lookup (same_ticket t) ws ≡ None → insert_entry same_ticket ws t x ≡ ws ++ (t, x) ∷ []
+  insert_entry-none x [] none = refl
+  insert_entry-none x (w ∷ ws) none = grind (arith, common_steps, insert_entry-none x ws)
+
 -- what each call leaves, by the parts of a standing
 module _ (last : ℕ) (us ws : List (Ticket × Request)) (os : List (Ticket × Outcome)) where
   pub numbered-submit : (t : Ticket) (r : Request) (taken : Option (Ticket × Request)) → t.0 ≡ last + 1
@@ -164,3 +169,28 @@ unanswered last t us ws os (Some p) found h = lookup-none t.0 t os (grind (arith
 
 pub taken-unanswered : {last : ℕ} {s : Standing} (t : Ticket) → is_taken s t ≡ true → IsNumbered last s → lookup (same_ticket t) s.outcomes ≡ None
 taken-unanswered {last} {s} t found h = unanswered last t s.urgent s.waiting s.outcomes s.taken found h
+
+pub held-unanswered : {last : ℕ} {s : Standing} (p : Ticket × Request) → s.taken ≡ Some p → IsNumbered last s → lookup (same_ticket p.0) s.outcomes ≡ None
+held-unanswered {last} {s} p e h =
+    let k : IsNumbered last (standing s.urgent s.waiting (Some p) s.outcomes) = subst (λ taken. IsNumbered last (standing s.urgent s.waiting taken s.outcomes)) e h in
+    lookup-none p.0.0 p.0 s.outcomes (grind (arith, common_steps, k.once p.0.0))
+
+-- nor has one that waits
+found-once : (t : Ticket) (rs : List (Ticket × Request)) → is_among t rs ≡ true → 1 ≤ times_in t.0 rs
+found-once t [] found = absurd (cc)
+found-once t (w ∷ rs) found = grind (arith, common_steps, found-once t rs)
+
+pub waiting-unanswered : {last : ℕ} {s : Standing} (t : Ticket) → waits s t ≡ true → IsNumbered last s → lookup (same_ticket t) s.outcomes ≡ None
+waiting-unanswered {last} {s} t found h = lookup-none t.0 t s.outcomes (none (is_among t s.urgent) refl)
+  where
+    none : (b : Bool) → is_among t s.urgent ≡ b → times_in t.0 s.outcomes ≡ 0
+    none true e = grind (arith, common_steps, h.once t.0, found-once t s.urgent e)
+    none false e =
+        let waits_there : is_among t s.waiting ≡ true = subst (λ (b : Bool). (b || is_among t s.waiting) ≡ true) e found in
+        grind (arith, common_steps, h.once t.0, found-once t s.waiting waits_there)
+
+-- nor has the one that is next
+pub next-unanswered : {last : ℕ} {s : Standing} (p : Ticket × Request) → next_taken s ≡ Some p → IsNumbered last s → lookup (same_ticket p.0) s.outcomes ≡ None
+next-unanswered {last} {s} p head h =
+    let k = numbered-next last s.outcomes p s.taken s.urgent s.waiting head h in
+    lookup-none p.0.0 p.0 s.outcomes (grind (arith, common_steps, k.once p.0.0))

@@ -2,7 +2,6 @@
 use Rattle.std.specs.Prelude.{ℕ, ◌+◌, ◌-◌, ◌/◌, ◌≤◌, min, length}
 use Rattle.std.specs.Vec.{vec_capacity}
 use Rattle.std.specs.VecDeque.{deque_capacity}
-use Rattle.indexmap.specs.IndexMap.{spare}
 use Rattle.iol_book.specs.Replay.{Standing}
 use Rattle.iol_book.specs.BookModel.{BookState, BookMemory, BookValue, IsReplayed, owed, taken_count, waiting_count}
 use Rattle.iol_book.specs.Numbers.{IsNumbered}
@@ -13,14 +12,14 @@ abbrev pub unanswered : Standing → ℕ
 unanswered standing = waiting_count standing + taken_count standing
 
 module _ {A : Type 0} where
-  -- what the queues, the request that is taken and the map hold
+  -- what the queues, the request that is taken and the list of outcomes hold
   abbrev pub standing_of : Inside A → Standing
   standing_of fields =
       record {
         urgent = fields.urgent.items;
         waiting = fields.waiting.items;
         taken = fields.taken;
-        outcomes = fields.outcomes.entries;
+        outcomes = fields.outcomes.items;
       }
 
   -- the book without its memory
@@ -35,7 +34,9 @@ module _ {A : Type 0} where
 
   -- for how many submits the places for outcomes and for entries are there already
   abbrev pub room_of : Inside A → ℕ
-  room_of fields = min (spare fields.outcomes - unanswered (standing_of fields))
+  room_of fields = min
+      (vec_capacity fields.outcomes
+      - (length fields.outcomes.items + unanswered (standing_of fields)))
       ((vec_capacity fields.journal - (length fields.journal.items + owed (standing_of fields))) /
       4)
 
@@ -65,7 +66,8 @@ module _ {A : Type 0} where
     pub urgent_room : 64 ≤ deque_capacity fields.urgent
     pub queue_room : 64 ≤ deque_capacity fields.waiting
     -- each request with no outcome has a place for it
-    pub outcome_room : unanswered (standing_of fields) ≤ spare fields.outcomes
+    pub outcome_room : length fields.outcomes.items + unanswered (standing_of fields)
+        ≤ vec_capacity fields.outcomes
     -- each outstanding ticket has places for the entries that it will still get
     pub entry_room : length fields.journal.items + owed (standing_of fields)
         ≤ vec_capacity fields.journal
