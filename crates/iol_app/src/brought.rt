@@ -2,12 +2,13 @@
 ghost use Rattle.std.specs.Prelude.{◌≡◌, is_some, IsSome};
 ghost use Rattle.iol_mseq.specs.Texts.{master_text};
 ghost use Rattle.iol_far.specs.Octets.{octets_in};
+ghost use Rattle.iol_link.specs.Attempts.{attempt_in};
 ghost use Rattle.iol_mode.specs.Exchanges.{IsSending, tries_of, tries_in, text_out, layout_out};
 ghost use Rattle.iol_mode.specs.Stands.{text_in};
 ghost use Rattle.iol_app.specs.Asking.{reply_size};
 ghost use Rattle.iol_app.specs.Brought.{verdict_by, woken_by};
 
-use iol_link::{Attempt, Handler, Rate};
+use iol_link::{AttemptView, Handler, Rate};
 use iol_mode::{Operate, State};
 use iol_mseq::{Layout, Message};
 
@@ -104,9 +105,9 @@ impl Out {
     }
 
     /// What an exchange of it brought, whose attempt ended so.
-    pub(crate) fn brought(self, attempt: &Attempt, came: &Option<Message>) -> Brought
+    pub(crate) fn brought(self, attempt: &AttemptView<'_>, came: &Option<Message>) -> Brought
         ensures { result ≡ Brought.Exchanged self.tries
-            (verdict_by attempt.now self.reply (octets_in came.now)) }
+            (verdict_by (attempt_in attempt.now) self.reply (octets_in came.now)) }
     {
         Brought::Exchanged(self.tries, self.verdict(attempt, came))
     }
@@ -114,10 +115,10 @@ impl Out {
     /// What came back.
     ///
     /// Rule MSG-5.
-    fn verdict(self, attempt: &Attempt, came: &Option<Message>) -> Verdict
-        ensures { result ≡ verdict_by attempt.now self.reply (octets_in came.now) }
+    fn verdict(self, attempt: &AttemptView<'_>, came: &Option<Message>) -> Verdict
+        ensures { result ≡ verdict_by (attempt_in attempt.now) self.reply (octets_in came.now) }
     {
-        if let Attempt::Got(_) = attempt {
+        if let AttemptView::Got(_) = attempt {
             return Verdict::Good;
         }
         match came {

@@ -3,6 +3,7 @@ ghost use Rattle.std.specs.Prelude.{◌≡◌, None, Some, Bool, true, false, is
 ghost use Rattle.std.specs.Result.{result_err};
 ghost use Rattle.std.specs.Option.{option_copied, option_map};
 ghost use Rattle.iol_far.specs.Octets.{octets_in};
+ghost use Rattle.iol_link.specs.Attempts.{attempt_in};
 ghost use Rattle.iol_link.specs.WireFacts.{Wakes, Passes};
 ghost use Rattle.iol_mode.specs.States.{IsDown, OutcomeFits, outcome_with};
 ghost use Rattle.iol_mode.specs.Stands.{StateStands};
@@ -26,7 +27,7 @@ use crate::output::OutputFault;
 use crate::session::Session;
 use iol_image::Image;
 use iol_isdu::{Cause, Request};
-use iol_link::{Attempt, Rate, Wire};
+use iol_link::{AttemptView, Rate, Wire};
 use iol_mode::{Down, State, Why};
 use iol_mseq::{Layout, Message, encode_master};
 use iol_page::{CycleTime, Identity, Page};
@@ -444,12 +445,13 @@ fn goes_out(layout: Layout, octets: Message) -> Asked
 }
 
 /// Takes up the mode after an exchange, in OPERATE with the good reply that it brought.
-fn settled(state: &State, attempt: &Attempt, session: &mut Session, said: &mut Said)
+fn settled(state: &State, attempt: &AttemptView<'_>, session: &mut Session, said: &mut Said)
     requires idle { said.old ≡ Said.Idle }
-    requires fits { NextFits (outcome_with attempt.now state.now) session.old }
+    requires fits { NextFits (outcome_with (attempt_in attempt.now) state.now) session.old }
     ensures session { session.new
-        ≡ settled_session (outcome_with attempt.now state.now) session.old }
-    ensures said { IsSettledSaid (outcome_with attempt.now state.now) session.old said.new }
+        ≡ settled_session (outcome_with (attempt_in attempt.now) state.now) session.old }
+    ensures said { IsSettledSaid (outcome_with (attempt_in attempt.now) state.now) session.old
+        said.new }
     ensures request { request_in session.new.current
         ≡ request_after (request_in session.old.current) said.new }
 {
@@ -462,8 +464,8 @@ fn settled(state: &State, attempt: &Attempt, session: &mut Session, said: &mut S
         }
         State::Preoperate(_) => {}
         State::Operate(_) => match attempt {
-            Attempt::Got(first) => session.hear(first, said),
-            Attempt::Again | Attempt::Lost => session.quiet(said),
+            AttemptView::Got(first) => session.hear(first, said),
+            AttemptView::Again | AttemptView::Lost => session.quiet(said),
         },
     }
 }

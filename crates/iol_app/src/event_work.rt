@@ -5,7 +5,7 @@ ghost use Rattle.iol_app.specs.EventReading.{no_events, reader_of, events_after,
 
 use crate::session::Exchange;
 use iol_event::{EventList, EventReader};
-use iol_mseq::{Reply, first};
+use iol_mseq::{ReplyView, first};
 use std::mem::replace;
 
 /// How far the reading of events has come.
@@ -54,13 +54,13 @@ impl Events {
     /// Takes up a good reply, and answers the list that became whole with it.
     ///
     /// Rules EVT-7, EVT-8.
-    pub(crate) fn absorb(&mut self, exchange: Exchange, reply: &Reply) -> Option<EventList>
+    pub(crate) fn absorb(&mut self, exchange: Exchange, reply: &ReplyView<'_>) -> Option<EventList>
         ensures events { self.new ≡ events_after exchange reply.now self.old }
         ensures list { result ≡ list_read exchange reply.now.od.items self.old.reading }
     {
-        self.flag = reply.event;
+        self.flag = reply.event();
         match exchange {
-            Exchange::ReadEvent => self.take(first(&reply.od)),
+            Exchange::ReadEvent => self.take(first(reply.od())),
             Exchange::ConfirmEvents => {
                 self.reading = Reading::Resting;
                 None

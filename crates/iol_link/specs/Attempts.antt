@@ -6,6 +6,8 @@ use Rattle.iol_mseq.specs.declared.master.MasterMsg.{MasterMsg}
 use Rattle.iol_mseq.specs.declared.reply.Reply.{Reply}
 use Rattle.iol_link.specs.declared.handler.Attempt.{Attempt}
 use Rattle.iol_link.specs.declared.handler.Attempt.TheVariants.{Got, Again, Lost}
+use Rattle.iol_link.specs.declared.handler.AttemptView.{AttemptView}
+use Rattle.iol_link.specs.declared.handler.AttemptView.TheVariants as view
 
 pub record Sending : Type 0 where
   pub message : MasterMsg
@@ -22,6 +24,12 @@ good_reply layout message answer = option_and_then (reply_in layout message.mc.r
 abbrev pub attempt_of : ℕ → Option Reply → Attempt
 attempt_of tries (Some reply) = Got reply
 attempt_of tries None = if tries == 2 then Lost else Again
+
+-- the same, whose reply lies in what came
+abbrev pub attempt_in : AttemptView → Attempt
+attempt_in (view.Got reply) = Got reply
+attempt_in view.Again = Again
+attempt_in view.Lost = Lost
 
 -- after a good reply, and after a loss, the attempts count from 0
 -- LINK-3

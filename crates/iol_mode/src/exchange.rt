@@ -4,7 +4,7 @@ ghost use Rattle.std.specs.Prelude.{◌≡◌, ◌<◌, ◌↔◌, IsTrue, IsSom
 ghost use Rattle.iol_octets.specs.Checksum.{has_checksum};
 ghost use Rattle.iol_far.specs.Far.{Far};
 ghost use Rattle.iol_far.specs.Octets.{octets_in};
-ghost use Rattle.iol_link.specs.Attempts.{good_reply, attempt_of};
+ghost use Rattle.iol_link.specs.Attempts.{attempt_in, attempt_of, good_reply};
 ghost use Rattle.iol_mode.specs.Messages.{stays};
 ghost use Rattle.iol_mode.specs.States.{StateFits, Takes, IsDown, IsStartup, IsPreoperate, OutFits, outcome_with, state_of, waked, counted, left_by, any_device};
 ghost use Rattle.iol_mode.specs.Stands.{text_in};
@@ -15,7 +15,7 @@ use crate::configuration::Configuration;
 use crate::messages::copy_of;
 use crate::states::{Startup, State, operate_done, preoperate_done, startup_done, woken};
 use iol_far::{ends_stay_level, links_stay_level, texts_are_heard};
-use iol_link::{Attempt, Handler, Rate, exchanges_keep_ends_level};
+use iol_link::{AttemptView, Handler, Rate, exchanges_keep_ends_level};
 use iol_mseq::{Layout, MasterMsg, Message};
 use iol_page::pages_ask_for_layouts;
 
@@ -81,16 +81,22 @@ impl State {
     /// device counts where its page becomes whole.
     ///
     /// Rule LINK-2.
-    pub fn receives(&mut self, came: &Option<Message>, configuration: &Configuration) -> Attempt
+    pub fn receives<'a>(
+        &mut self,
+        came: &'a Option<Message>,
+        configuration: &Configuration,
+    ) -> AttemptView<'a>
         requires fits { StateFits self.old }
         requires sends { IsSending self.old }
-        ensures state { outcome_with result self.new ≡ judged configuration.now self.old (octets_in came.now) }
+        ensures state { outcome_with (attempt_in result) self.new
+            ≡ judged configuration.now self.old (octets_in came.now) }
         ensures fits { StateFits self.new }
         ensures few { AreFew self.old }
-        ensures attempt { result ≡ attempted self.old (octets_in came.now) }
+        ensures attempt { attempt_in result ≡ attempted self.old (octets_in came.now) }
 
         // over an honest wire
-        ensures gives { ExchangeGives self.old (octets_in came.now) (outcome_with result self.new) }
+        ensures gives { ExchangeGives self.old (octets_in came.now)
+            (outcome_with (attempt_in result) self.new) }
     {
         laws();
         received(self, came, configuration)
@@ -120,13 +126,18 @@ impl State {
     }
 }
 
-fn received(state: &mut State, came: &Option<Message>, configuration: &Configuration) -> Attempt
+fn received<'a>(
+    state: &mut State,
+    came: &'a Option<Message>,
+    configuration: &Configuration,
+) -> AttemptView<'a>
     requires fits { StateFits state.old }
     requires sends { IsSending state.old }
-    ensures state { outcome_with result state.new ≡ judged configuration.now state.old (octets_in came.now) }
+    ensures state { outcome_with (attempt_in result) state.new
+        ≡ judged configuration.now state.old (octets_in came.now) }
     ensures fits { StateFits state.new }
     ensures few { AreFew state.old }
-    ensures attempt { result ≡ attempted state.old (octets_in came.now) }
+    ensures attempt { attempt_in result ≡ attempted state.old (octets_in came.now) }
 {
     match state {
         State::Startup(_) => startup_receives(state, came, configuration),
@@ -162,49 +173,52 @@ fn put_out(state: &mut State, message: &MasterMsg)
 }
 
 /// What came back in STARTUP.
-fn startup_receives(
+fn startup_receives<'a>(
     state: &mut State,
-    came: &Option<Message>,
+    came: &'a Option<Message>,
     configuration: &Configuration,
-) -> Attempt
+) -> AttemptView<'a>
     requires { IsStartup state.old }
-    ensures state { outcome_with result state.new ≡ judged configuration.now state.old (octets_in came.now) }
+    ensures state { outcome_with (attempt_in result) state.new
+        ≡ judged configuration.now state.old (octets_in came.now) }
     ensures fits { StateFits state.new }
     ensures few { AreFew state.old }
-    ensures attempt { result ≡ attempted state.old (octets_in came.now) }
+    ensures attempt { attempt_in result ≡ attempted state.old (octets_in came.now) }
 {
     let State::Startup(Startup { sent, .. }) = state else {
         unreachable!()
     };
-    let attempt = sent.judge(&Layout::startup(), came);
+    let attempt = sent.judge_in_place(&Layout::startup(), came);
     startup_done(state, &attempt, configuration);
     attempt
 }
 
 /// What came back in PREOPERATE.
-fn preoperate_receives(state: &mut State, came: &Option<Message>) -> Attempt
+fn preoperate_receives<'a>(state: &mut State, came: &'a Option<Message>) -> AttemptView<'a>
     requires { IsPreoperate state.old }
-    ensures state { outcome_with result state.new ≡ judged any_device state.old (octets_in came.now) }
+    ensures state { outcome_with (attempt_in result) state.new
+        ≡ judged any_device state.old (octets_in came.now) }
     ensures fits { StateFits state.new }
     ensures few { AreFew state.old }
-    ensures attempt { result ≡ attempted state.old (octets_in came.now) }
+    ensures attempt { attempt_in result ≡ attempted state.old (octets_in came.now) }
 {
     let State::Preoperate(preoperate) = state else {
         unreachable!()
     };
-    let attempt = preoperate.sent.judge(&preoperate.pre, came);
+    let attempt = preoperate.sent.judge_in_place(&preoperate.pre, came);
     preoperate_done(state, &attempt);
     attempt
 }
 
 /// What came back in OPERATE.
-fn operate_receives(state: &mut State, came: &Option<Message>) -> Attempt
+fn operate_receives<'a>(state: &mut State, came: &'a Option<Message>) -> AttemptView<'a>
     requires fits { StateFits state.old }
     requires sends { IsOperateSending state.old }
-    ensures state { outcome_with result state.new ≡ judged any_device state.old (octets_in came.now) }
+    ensures state { outcome_with (attempt_in result) state.new
+        ≡ judged any_device state.old (octets_in came.now) }
     ensures fits { StateFits state.new }
     ensures few { AreFew state.old }
-    ensures attempt { result ≡ attempted state.old (octets_in came.now) }
+    ensures attempt { attempt_in result ≡ attempted state.old (octets_in came.now) }
 {
     let State::Operate(operate) = state else {
         unreachable!()
@@ -215,18 +229,22 @@ fn operate_receives(state: &mut State, came: &Option<Message>) -> Attempt
 }
 
 /// The message is out afterwards only where it is to be sent again.
-fn judge_out(out: &mut Option<Handler>, came: &Option<Message>, layout: &Layout) -> Attempt
+fn judge_out<'a>(
+    out: &mut Option<Handler>,
+    came: &'a Option<Message>,
+    layout: &Layout,
+) -> AttemptView<'a>
     requires { IsSome out.old }
     ensures { IfSome out.old (λ sent. (sent.tries < 3)
-        × (result
+        × (attempt_in result
         ≡ attempt_of sent.tries (good_reply layout.now sent.message (octets_in came.now)))
         × (out.new
-        ≡ left_by result
+        ≡ left_by (attempt_in result)
         (counted sent (good_reply layout.now sent.message (octets_in came.now))))) }
 {
     let Some(sent) = out else { unreachable!() };
-    let attempt = sent.judge(layout, came);
-    if !matches!(attempt, Attempt::Again) {
+    let attempt = sent.judge_in_place(layout, came);
+    if !matches!(attempt, AttemptView::Again) {
         *out = None;
     }
     attempt

@@ -75,7 +75,21 @@ fn exchanged<W: Wire>(state: &mut State, wire: &mut W) -> Attempt
     ensures few { AreFew state.old }
 {
     let came = pass(state, wire);
-    state.receives(&came, &Configuration::any())
+    receive(state, &came)
+}
+
+/// Takes what came back, as it is at a link that expects any device.
+fn receive(state: &mut State, came: &Option<Message>) -> Attempt
+    requires fits { StateFits state.old }
+    requires sends { IsSending state.old }
+    ensures state { outcome_with result state.new
+        ≡ judged any_device state.old (octets_in came.now) }
+    ensures fits { StateFits state.new }
+    ensures few { AreFew state.old }
+    ensures attempt { result ≡ attempted state.old (octets_in came.now) }
+    ensures gives { ExchangeGives state.old (octets_in came.now) (outcome_with result state.new) }
+{
+    state.receives(came, &Configuration::any()).copied()
 }
 
 /// The message that is out goes out.
