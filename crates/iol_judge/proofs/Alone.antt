@@ -1,0 +1,86 @@
+-- What the far end does by itself, and at a wake-up, leaves of what a state says.
+use Rattle.std.proofs.Common.{◌≡◌, ℕ, Bool, true, false, List, [], ◌∷◌, ◌++◌, refl, sym, ◌∙◌, ap, subst, ◌⊎◌, inl, inr}
+use Rattle.std.specs.Prelude.{Option, Some, None, IfSome, if◌then◌else◌, ◌&&◌}
+use Rattle.iol_isdu.specs.declared.values.Answer.{Answer}
+use Rattle.iol_isdu.specs.declared.values.Request.{Request}
+use Rattle.iol_far.specs.Isdu.{IsduState, Empty, Receiving, Whole, Handed, Answered, fits}
+use Rattle.iol_far.specs.Far.{Far}
+use Rattle.iol_far.specs.Level.{Link, link_of, grown_by}
+use Rattle.iol_far.specs.Local.{LocalStep, Carry, Raise, Input, NoInput, Power, local, locals, carried_by, has_room, is_input, woken}
+use Rattle.iol_judge.specs.State.{State, woken_state}
+use Rattle.iol_judge.specs.Admitted.{Admits, AdmitsOne, Agrees}
+
+-- the parts that a state and the page's octets speak of are the same
+pub record Alike (far new : Far) : Type 0 where
+  pub link : link_of new ≡ link_of far
+  pub cycle : new.cycle_time ≡ far.cycle_time
+  pub page : new.page ≡ far.page
+
+itself : (far : Far) → Alike far far
+itself far = record { link = refl; cycle = refl; page = refl }
+
+alike_if : (b : Bool) (far x y : Far) → Alike far x → Alike far y → Alike far (if b then x else y)
+alike_if true far x y l r = l
+alike_if false far x y l r = r
+
+carried_alike : (state : IsduState) (far : Far) (answer : Answer)
+    → Alike far (carried_by state far answer)
+carried_alike (Handed request) far answer =
+    alike_if (has_room far && fits request answer) far
+    (record far {
+      isdu = Answered request answer None;
+      carried = grown_by far.carried request answer;
+    })
+    far (record { link = refl; cycle = refl; page = refl }) (itself far)
+carried_alike Empty far answer = itself far
+carried_alike (Receiving text last) far answer = itself far
+carried_alike (Whole request last) far answer = itself far
+carried_alike (Answered request a last) far answer = itself far
+
+local_alike : (far : Far) (step : LocalStep) → Alike far (local far step)
+local_alike far (Carry answer) = carried_alike far.isdu far answer
+local_alike far (Raise event) = record { link = refl; cycle = refl; page = refl }
+local_alike far (Input image) =
+    alike_if (is_input far image) far (record far { input = Some image }) far
+    (record { link = refl; cycle = refl; page = refl }) (itself far)
+local_alike far NoInput = record { link = refl; cycle = refl; page = refl }
+local_alike far Power = record { link = refl; cycle = refl; page = refl }
+
+then_alike : (a b c : Far) → Alike a b → Alike b c → Alike a c
+then_alike a b c l r =
+    record { link = r.link ∙ l.link; cycle = r.cycle ∙ l.cycle; page = r.page ∙ l.page }
+
+pub locals_alike : (far : Far) (steps : List LocalStep) → Alike far (locals far steps)
+locals_alike far [] = itself far
+locals_alike far (step ∷ steps) =
+    then_alike far (local far step) (locals (local far step) steps)
+    (local_alike far step) (locals_alike (local far step) steps)
+
+pub cycle_kept : (known : Option ℕ) (a b : ℕ) → b ≡ a → IfSome known (λ octet. a ≡ octet)
+    → IfSome known (λ octet. b ≡ octet)
+cycle_kept None a b e h = tt
+cycle_kept (Some octet) a b e h = e ∙ h
+
+pub admits_alike : (state : State) (far new : Far) → Alike far new → Admits state far
+    → Admits state new
+admits_alike state far new same h = record {
+  link = same.link ∙ h.link;
+  cycle = cycle_kept state.cycle far.cycle_time new.cycle_time same.cycle h.cycle;
+}
+
+pub one_alike : (states : List State) (far new : Far) → Alike far new → AdmitsOne states far
+    → AdmitsOne states new
+one_alike [] far new same h = absurd h
+one_alike (state ∷ states) far new same h =
+    elim h [
+      | inl here ↦ inl (admits_alike state far new same here)
+      | inr there ↦ inr (one_alike states far new same there)
+    ]
+
+pub agrees_alike : (seen : List (Option ℕ)) (far new : Far) → Alike far new → Agrees seen far.page
+    → Agrees seen new.page
+agrees_alike seen far new same h = subst (λ (page : List ℕ). Agrees seen page) (sym same.page) h
+
+pub woken_admits : (state : State) (far : Far) → Admits state far
+    → Admits (woken_state state) (woken far)
+woken_admits state far h = record { link = refl; cycle = h.cycle }

@@ -1,0 +1,635 @@
+-- The law of the judge.
+use Rattle.std.proofs.Common.{◌≡◌, ◌⊎◌, inl, inr, ℕ, zero, suc, ◌+◌, ◌^◌, ◌-◌, min, Bool, true, false, List, [], ◌∷◌, length, map, refl, sym, ◌∙◌, ap, subst, get_or}
+use Rattle.std.specs.Prelude.{Option, Some, None, IfSome, Result, Ok, Err, slice_index, slice_index_or, if◌then◌else◌, option_map, ◌≢◌}
+use Rattle.iol_mseq.specs.Shape.{Shape}
+use Rattle.iol_mseq.specs.Replies.{reply_in}
+use Rattle.iol_mseq.specs.declared.master.MasterMsg.{MasterMsg}
+use Rattle.iol_mseq.specs.declared.reply.Reply.{Reply}
+use Rattle.iol_page.specs.Page.{PagesAskForLayouts}
+use Rattle.iol_page.specs.declared.page.Layouts.{Layouts}
+use Rattle.iol_event.specs.Memory.{Events, IsEventMemory}
+use Rattle.iol_far.specs.Codec.{message_in, octets_of}
+use Rattle.iol_far.specs.Far.{Far, Heard, layout_of, accepted, accepted_by, hear, heard_as, replied, worked, reply_to}
+use Rattle.iol_far.specs.Local.{LocalStep, local, locals, woken}
+use Rattle.iol_far.specs.Laws.{IsRegular, IsSized, MuchStays, RepliesAreRead}
+use Rattle.iol_far.specs.Regular.{RegularStays}
+use Rattle.iol_link.specs.Honest.{HonestExchange, HonestWake, Passage, OutLost, BackLost, Clean, IsUnread, IsAnswer, far_after}
+use Rattle.iol_judge.specs.declared.open.Open.{Open}
+use Rattle.iol_judge.specs.declared.reason.Reason.{Reason}
+use Rattle.iol_judge.specs.declared.taken.Explained.{Explained}
+use Rattle.iol_judge.specs.declared.taken.Explained.TheVariants.{By, Not}
+use Rattle.iol_judge.specs.declared.taken.Next.{Next}
+use Rattle.iol_judge.specs.declared.taken.Taken.{Taken}
+use Rattle.iol_judge.specs.declared.verdict.Verdict.{Verdict}
+use Rattle.iol_judge.specs.declared.verdict.Verdict.TheVariants.{Unjudged, Honest, NotHonest, CantSay}
+use Rattle.iol_judge.specs.declared.verdict.Wake.{Wake}
+use Rattle.iol_judge.specs.declared.verdict.Wake.TheVariants.{Answered, Unanswered}
+use Rattle.iol_judge.specs.Numbers.{later}
+use Rattle.iol_judge.specs.Seen.{nothing_seen, whole_page, layouts_seen}
+use Rattle.iol_judge.specs.State.{State, startup_state, woken_state}
+use Rattle.iol_judge.specs.Taking.{taken_by}
+use Rattle.iol_judge.specs.Replies.{is_readable, explained, learned}
+use Rattle.iol_judge.specs.Judged.{Judged, new_judge, added, added_taken, lost_with, lost_into, all_lost, next_states, explained_into, replied_taken, replied_into, all_replied, concluded_lost, concluded_with, concluded_replied, no_next, noted, unanswered, answered, counted, judged_by, exchanged, woken_with, woken_into, all_woken, woke_by, woke}
+use Rattle.iol_judge.specs.Judged as judging
+use Rattle.iol_judge.specs.Admitted.{Agrees, Admits, AdmitsOne, IsPossible, IsFair, Passing, Wakes, Passes, told, told_all, is_answered, IsHonest, IsHonestRun, NeverBlamed}
+use Rattle.iol_judge.proofs.Turns.{each_admits}
+use Rattle.iol_judge.proofs.Alone.{Alike, locals_alike, admits_alike, one_alike, agrees_alike, woken_admits}
+use Rattle.iol_judge.proofs.Sets.{added_keeps, added_admits}
+use Rattle.iol_judge.proofs.Layouts.{Knows, knows}
+use Rattle.iol_judge.proofs.Hearing.{Accepting, accepting, Fits, state_fits}
+use Rattle.iol_judge.proofs.Answering.{explains, learned_admits, noted_agrees}
+use Rattle.iol_judge.proofs.Reading.{readable_is_unaltered}
+
+-- What hearing does: nothing, or the message is worked
+
+record Works (far : Far) (sent : List ℕ) : Type 0 where
+  pub there : Far
+  pub message : MasterMsg
+  pub accepting : Accepting far there sent
+  pub spells : message_in (layout_of there) sent ≡ Some message
+  pub heard_is : hear far sent ≡ replied (worked there sent message) message
+
+Unheard : Far → List ℕ → Type 0
+Unheard far sent = ((hear far sent).far ≡ far) × ((hear far sent).reply ≡ None)
+
+hears : (far : Far) (sent : List ℕ) → Unheard far sent ⊎ Works far sent
+unfolding Unheard
+hears far sent = split far.awake refl
+  where
+    read : (there : Far) → Accepting far there sent → (message : Option MasterMsg)
+        → message_in (layout_of there) sent ≡ message
+        → (((hear far sent).far ≡ far) × ((hear far sent).reply ≡ None)) ⊎ Works far sent
+    read there accepting None e =
+        let none : accepted far sent ≡ None = accepting.accepts
+        ∙ ap (λ (m : Option MasterMsg). option_map {U = Far × MasterMsg} (λ n. (there, n)) m) e in
+        inl (
+          ap (λ (a : Option (Far × MasterMsg)). (heard_as far sent a).far) none,
+          ap (λ (a : Option (Far × MasterMsg)). (heard_as far sent a).reply) none,
+        )
+    read there accepting (Some message) e =
+        let some : accepted far sent ≡ Some (there, message) = accepting.accepts
+        ∙ ap (λ (m : Option MasterMsg). option_map {U = Far × MasterMsg} (λ n. (there, n)) m) e in
+        inr (record {
+          there = there;
+          message = message;
+          accepting = accepting;
+          spells = e;
+          heard_is = ap (λ (a : Option (Far × MasterMsg)). heard_as far sent a) some;
+        })
+
+    split : (b : Bool) → far.awake ≡ b
+        → (((hear far sent).far ≡ far) × ((hear far sent).reply ≡ None)) ⊎ Works far sent
+    split true e =
+        let found = accepting far sent e in
+        read found.0 found.1 (message_in (layout_of found.0) sent) refl
+    split false e =
+        let none : accepted far sent ≡ None =
+        ap (λ (b : Bool). if b then accepted_by far.waits far sent else None) e in
+        inl (
+          ap (λ (a : Option (Far × MasterMsg)). (heard_as far sent a).far) none,
+          ap (λ (a : Option (Far × MasterMsg)). (heard_as far sent a).reply) none,
+        )
+
+-- the message was lost, or worked without a reply that can be read
+Follows : Far → List ℕ → Far → Type 0
+Follows far sent new = (new ≡ far) ⊎ ((work : Works far sent) ×
+    (new ≡ worked work.there sent work.message))
+
+follows_heard : (far : Far) (sent : List ℕ) → Follows far sent (hear far sent).far
+unfolding Follows Unheard
+follows_heard far sent = elim (hears far sent) [
+  | inl none ↦ inl none.0
+  | inr work ↦ inr (work, ap (λ (h : Heard). h.far) work.heard_is)
+]
+
+-- Without a reply that can be read
+
+module _ (known : Result Layouts Open) (sent : List ℕ) (far new : Far)
+    (knows : Knows known far.page)
+    (follows : Follows far sent new) where
+  lost_keeps : (next : List State) (state : State) (more : List State)
+      → lost_into known sent next state ≡ Ok more → AdmitsOne next new → AdmitsOne more new
+  lost_keeps next state more h admits = outer (added next state) refl h
+    where
+      inner : (taken : Result (Option Taken) Open) (mid : List State) → AdmitsOne mid new
+          → added_taken taken mid ≡ Ok more → AdmitsOne more new
+      inner (Ok None) mid a h = let e : mid ≡ more = cc in subst
+          (λ (s : List State). AdmitsOne s new) e a
+      inner (Ok (Some found)) mid a h = added_keeps mid found.kept more new h a
+      inner (Err why) mid a h = absurd (cc)
+
+      outer : (r : Result (List State) Open) → added next state ≡ r
+          → lost_with (taken_by known state sent) r ≡ Ok more → AdmitsOne more new
+      outer (Ok mid) e h = inner (taken_by known state sent) mid
+          (added_keeps next state mid new e admits) h
+      outer (Err why) e h = absurd (cc)
+
+  -- as the state makes of the message what the device does
+  worked_in : (state : State) → Admits state far → (work : Works far sent)
+      → new ≡ worked work.there sent work.message → (found : Option Taken)
+      → taken_by known state sent ≡ Ok found → (mid more : List State)
+      → added_taken (Ok found) mid ≡ Ok more → AdmitsOne more new
+  unfolding Fits
+  worked_in state admits work is found e mid more h =
+      let fits : Fits work.there sent (Some work.message) found =
+      subst (λ (m : Option MasterMsg). Fits work.there sent m found) work.spells
+      (state_fits known far work.there sent state found knows work.accepting admits e) in
+      subst (λ (g : Far). AdmitsOne more g) (sym is) (split found fits h)
+    where
+      split : (found : Option Taken) → Fits work.there sent (Some work.message) found
+          → added_taken (Ok found) mid ≡ Ok more
+          → AdmitsOne more (worked work.there sent work.message)
+      split None fits h = absurd fits
+      split (Some taken) fits h = added_admits mid taken.kept more
+          (worked work.there sent work.message) h fits.2
+
+  lost_gains : (next : List State) (state : State) (more : List State)
+      → lost_into known sent next state ≡ Ok more → Admits state far → AdmitsOne more new
+  unfolding Follows
+  lost_gains next state more h admits = outer (added next state) refl h
+    where
+      stays : (mid : List State) → AdmitsOne mid far → new ≡ far
+          → (taken : Result (Option Taken) Open)
+          → added_taken taken mid ≡ Ok more → AdmitsOne more new
+      stays mid a is (Ok None) h =
+          let e : mid ≡ more = cc in
+          subst (λ (s : List State). AdmitsOne s new) e
+          (subst (λ (g : Far). AdmitsOne mid g) (sym is) a)
+      stays mid a is (Ok (Some found)) h =
+          added_keeps mid found.kept more new h (subst (λ (g : Far). AdmitsOne mid g) (sym is) a)
+      stays mid a is (Err why) h = absurd (cc)
+
+      works : (mid : List State) → (work : Works far sent) → new
+          ≡ worked work.there sent work.message
+          → (taken : Result (Option Taken) Open) → taken_by known state sent ≡ taken
+          → added_taken taken mid ≡ Ok more → AdmitsOne more new
+      works mid work is (Ok found) e h = worked_in state admits work is found e mid more h
+      works mid work is (Err why) e h = absurd (cc)
+
+      outer : (r : Result (List State) Open) → added next state ≡ r
+          → lost_with (taken_by known state sent) r ≡ Ok more → AdmitsOne more new
+      outer (Ok mid) e h = elim follows [
+        | inl is ↦ stays mid (added_admits next state mid far e admits) is
+            (taken_by known state sent) h
+        | inr work ↦ works mid work.0 work.1 (taken_by known state sent) refl h
+      ]
+      outer (Err why) e h = absurd (cc)
+
+  lost_admits : (states out : List State) → all_lost known sent [] states ≡ Ok out
+      → AdmitsOne states far → AdmitsOne out new
+  lost_admits states out h admits =
+      each_admits (lost_into known sent) far (λ (s : List State). AdmitsOne s new) lost_keeps
+      lost_gains states [] out h admits
+
+possible : (verdict : Verdict) (states : List State) (far : Far) → verdict ≡ Honest
+    → AdmitsOne states far → IsPossible verdict states far
+possible verdict states far e h = subst (λ (v : Verdict). IsPossible v states far) (sym e) h
+
+concluded_fair : (judged : Judged) (new : Far) (found : Result (List State) Open)
+    → judged.verdict ≡ Honest → Agrees judged.seen new.page
+    → ((out : List State) → found ≡ Ok out → AdmitsOne out new)
+    → IsFair (concluded_lost judged found) new
+concluded_fair judged new (Ok out) honest agrees admits =
+    record { page = agrees; state = possible judged.verdict out new honest (admits out refl) }
+concluded_fair judged new (Err why) honest agrees admits = record { page = agrees; state = tt }
+
+module _ (law : PagesAskForLayouts) (judged : Judged) (honest : judged.verdict ≡ Honest)
+    (far : Far) (agrees : Agrees judged.seen far.page) (admits : AdmitsOne judged.states far)
+    (sent : List ℕ) where
+  unanswered_fair : (new : Far) → Follows far sent new → new.page ≡ far.page
+      → IsFair (unanswered judged sent) new
+  unanswered_fair new follows page =
+      concluded_fair judged new (all_lost (layouts_seen judged.seen) sent [] judged.states) honest
+      (subst (λ (p : List ℕ). Agrees judged.seen p) (sym page) agrees)
+      (λ out e. lost_admits (layouts_seen judged.seen) sent far new
+      (knows law judged.seen far.page agrees) follows judged.states out e admits)
+
+-- With one
+
+module _ (law : PagesAskForLayouts) (reads : RepliesAreRead) (judged : Judged)
+    (honest : judged.verdict ≡ Honest) (far : Far) (memory : IsEventMemory far.events)
+    (agrees : Agrees judged.seen far.page) (admits : AdmitsOne judged.states far) (sent : List ℕ)
+    (work : Works far sent) (sized : IsSized (worked work.there sent work.message)) where
+  worked_far : Far
+  worked_far = worked work.there sent work.message
+
+  its_reply : List ℕ
+  its_reply = octets_of (reply_to (worked work.there sent work.message) (layout_of work.there)
+      work.message)
+
+  known : Result Layouts Open
+  known = layouts_seen judged.seen
+
+  AdmitsNext : Next → Type 0
+  AdmitsNext next = AdmitsOne next.states.items (worked work.there sent work.message)
+
+  next_admits : (next : Next) (found : Result (List State) Open) (more : Next)
+      → ((out : List State) → found ≡ Ok out → AdmitsOne out worked_far)
+      → next_states next found ≡ Ok more → AdmitsNext more
+  unfolding worked_far AdmitsNext
+  next_admits next (Ok out) more admits h =
+      let e : ◌≡◌ {A = Next} (record { states = record { items = out }; reason = next.reason }) more
+      = cc in
+      subst (λ (n : Next). AdmitsOne n.states.items (worked work.there sent work.message)) e
+      (admits out refl)
+  next_admits next (Err why) more admits h = absurd (cc)
+
+  replied_keeps : (next : Next) (state : State) (more : Next)
+      → replied_into (layouts_seen judged.seen) judged.seen sent its_reply next state ≡ Ok more
+      → AdmitsNext next → AdmitsNext more
+  unfolding AdmitsNext worked_far
+  replied_keeps next state more h a = outer (taken_by (layouts_seen judged.seen) state sent) h
+    where
+      inner : (by : Explained) → explained_into next by ≡ Ok more
+          → AdmitsOne more.states.items (worked work.there sent work.message)
+      inner (By found) h = next_admits next (added next.states.items found) more
+          (λ out e. added_keeps next.states.items found out (worked work.there sent work.message) e
+          a) h
+      inner (Not reason) h =
+          let e : ◌≡◌ {A = Next} (record next { reason = later next.reason reason }) more = cc in
+          subst (λ (n : Next). AdmitsOne n.states.items (worked work.there sent work.message)) e a
+
+      outer : (taken : Result (Option Taken) Open)
+          → replied_taken judged.seen its_reply next taken ≡ Ok more
+          → AdmitsOne more.states.items (worked work.there sent work.message)
+      outer (Ok found) h = inner (explained judged.seen found its_reply) h
+      outer (Err why) h = absurd (cc)
+
+  there_memory : IsEventMemory work.there.events
+  there_memory = subst IsEventMemory (sym work.accepting.events) memory
+
+  there_agrees : Agrees judged.seen work.there.page
+  there_agrees = subst (λ (p : List ℕ). Agrees judged.seen p) (sym work.accepting.page) agrees
+
+  replied_gains : (next : Next) (state : State) (more : Next)
+      → replied_into (layouts_seen judged.seen) judged.seen sent its_reply next state ≡ Ok more
+      → Admits state far → AdmitsNext more
+  unfolding AdmitsNext worked_far its_reply Fits
+  replied_gains next state more h a = outer (taken_by (layouts_seen judged.seen) state sent) refl h
+    where
+      inner : (found : Option Taken) → Fits work.there sent (Some work.message) found
+          → explained_into next (explained judged.seen found its_reply) ≡ Ok more
+          → AdmitsOne more.states.items (worked work.there sent work.message)
+      inner None fits h = absurd fits
+      inner (Some found) fits h =
+          let answer = reply_to (worked work.there sent work.message) (layout_of work.there)
+          work.message in
+          let by : explained judged.seen (Some found) its_reply
+          ≡ By (learned found.kept work.message.mc answer) =
+          explains judged.seen found work.there sent work.message its_reply there_memory
+          there_agrees
+          fits.0 fits.1 fits.2 (reads (worked work.there sent work.message) work.message sized) in
+          let state_after = learned found.kept work.message.mc answer in
+          let ok : next_states next (added next.states.items
+          (learned found.kept work.message.mc answer)) ≡ Ok more =
+          sym (ap (λ (x : Explained). explained_into next x) by) ∙ h in
+          next_admits next (added next.states.items (learned found.kept work.message.mc answer))
+          more
+          (λ out e. added_admits next.states.items (learned found.kept work.message.mc answer) out
+          (worked work.there sent work.message) e
+          (learned_admits found.kept (worked work.there sent work.message) (layout_of work.there)
+          work.message fits.2)) ok
+
+      outer : (taken : Result (Option Taken) Open) → taken_by (layouts_seen judged.seen) state sent
+          ≡ taken
+          → replied_taken judged.seen its_reply next taken ≡ Ok more
+          → AdmitsOne more.states.items (worked work.there sent work.message)
+      outer (Ok found) e h = inner found
+          (subst (λ (m : Option MasterMsg). Fits work.there sent m found) work.spells
+          (state_fits (layouts_seen judged.seen) far work.there sent state found
+          (knows law judged.seen far.page agrees) work.accepting a e)) h
+      outer (Err why) e h = absurd (cc)
+
+  concluded_next : (found : Result Next Open) → ((out : Next) → found ≡ Ok out → AdmitsNext out)
+      → IsFair (concluded_replied judged sent its_reply found) worked_far
+  unfolding AdmitsNext worked_far its_reply
+  concluded_next (Err why) admits = record { page = there_agrees; state = tt }
+  concluded_next (Ok out) admits = split out.states.items (admits out refl)
+    where
+      split : (states : List State) → AdmitsOne states (worked work.there sent work.message)
+          → IsFair (concluded_with judged sent its_reply out.reason states)
+          (worked work.there sent work.message)
+      split [] h = absurd h
+      split (state ∷ states) h = record {
+        page = noted_agrees judged.seen (worked work.there sent work.message) sent
+            (layout_of work.there) work.message
+            work.spells (layout_of work.there) there_agrees;
+        state = possible judged.verdict (state ∷ states) (worked work.there sent work.message)
+            honest h;
+      }
+
+  replied_fair : IsFair (judging.replied judged sent its_reply) worked_far
+  replied_fair = concluded_next
+      (all_replied (layouts_seen judged.seen) judged.seen sent its_reply no_next judged.states)
+      (λ out e. each_admits (replied_into (layouts_seen judged.seen) judged.seen sent its_reply) far
+      AdmitsNext
+      replied_keeps replied_gains judged.states no_next out e admits)
+
+-- An exchange
+
+regular_all : RegularStays → (far : Far) (steps : List LocalStep) → IsRegular far
+    → IsRegular (locals far steps)
+regular_all law far [] h = h
+regular_all law far (step ∷ steps) h = regular_all law (local far step) steps (law.steps far step h)
+
+-- whatever came, where the device answered nothing or the reply was lost
+lost_fair : (law : PagesAskForLayouts) (judged : Judged) → judged.verdict ≡ Honest → (far : Far)
+    → Agrees judged.seen far.page → AdmitsOne judged.states far → (sent : List ℕ) (new : Far)
+    → Follows far sent new → new.page ≡ far.page → (answer : Option (List ℕ))
+    → IsUnread sent answer → IsFair (answered judged sent answer) new
+lost_fair law judged honest far agrees admits sent new follows page None unread =
+    unanswered_fair law judged honest far agrees admits sent new follows page
+lost_fair law judged honest far agrees admits sent new follows page (Some reply) unread =
+    split (is_readable sent reply) refl
+  where
+    split : (b : Bool) → is_readable sent reply ≡ b
+        → IsFair (if b then judging.replied judged sent reply else unanswered judged sent) new
+    split true e = absurd (readable_is_unaltered sent reply unread e)
+    split false e = unanswered_fair law judged honest far agrees admits sent new follows page
+
+module _ (law : PagesAskForLayouts) (stays : RegularStays) (much : MuchStays)
+    (reads : RepliesAreRead) where
+  heard_page : (far : Far) (sent : List ℕ) → (hear far sent).far.page ≡ far.page
+  heard_page far sent = much.page_heard far sent
+
+  -- the unaltered reply of a device that worked the message
+  clean_works : (judged : Judged) → judged.verdict ≡ Honest → (far : Far) → IsRegular far
+      → Agrees judged.seen far.page → AdmitsOne judged.states far → (sent : List ℕ)
+      → (work : Works far sent)
+      → IsFair (answered judged sent (replied (worked work.there sent work.message)
+      work.message).reply)
+      (worked work.there sent work.message)
+  unfolding Follows worked_far its_reply
+  clean_works judged honest far regular agrees admits sent work = split
+      (is_readable sent (octets_of (reply_to (worked work.there sent work.message)
+      (layout_of work.there) work.message)))
+    where
+      new_regular : IsRegular (worked work.there sent work.message)
+      new_regular = subst (λ (h : Heard). IsRegular h.far) work.heard_is
+          (stays.hears far sent regular)
+
+      split : (b : Bool) → IsFair
+          (if b then judging.replied judged sent
+          (octets_of (reply_to (worked work.there sent work.message) (layout_of work.there)
+          work.message)) else unanswered judged sent)
+          (worked work.there sent work.message)
+      split true = replied_fair law reads judged honest far regular.memory agrees admits sent work
+          new_regular.sized
+      split false = unanswered_fair law judged honest far agrees admits sent
+          (worked work.there sent work.message)
+          (inr (work, refl)) work.accepting.page
+
+  clean_fair : (judged : Judged) → judged.verdict ≡ Honest → (far : Far) → IsRegular far
+      → Agrees judged.seen far.page → AdmitsOne judged.states far → (sent : List ℕ)
+      → IsFair (answered judged sent (hear far sent).reply) (hear far sent).far
+  unfolding Unheard Follows
+  clean_fair judged honest far regular agrees admits sent = split (hears far sent)
+    where
+      split : (((hear far sent).far ≡ far) × ((hear far sent).reply ≡ None)) ⊎ Works far sent
+          → IsFair (answered judged sent (hear far sent).reply) (hear far sent).far
+      split (inl none) =
+          let quiet : IsFair (answered judged sent None) far =
+          unanswered_fair law judged honest far agrees admits sent far (inl refl) refl in
+          let there : IsFair (answered judged sent None) (hear far sent).far =
+          subst (λ (g : Far). IsFair (answered judged sent None) g) (sym none.0) quiet in
+          subst (λ (r : Option (List ℕ)). IsFair (answered judged sent r) (hear far sent).far)
+          (sym none.1) there
+      split (inr work) =
+          subst (λ (h : Heard). IsFair (answered judged sent h.reply) h.far) (sym work.heard_is)
+          (clean_works judged honest far regular agrees admits sent work)
+
+  -- an exchange, once the device did what it does by itself
+  passed_fair : (judged : Judged) → judged.verdict ≡ Honest → (far : Far) → IsRegular far
+      → Agrees judged.seen far.page → AdmitsOne judged.states far → (sent : List ℕ)
+      → (answer : Option (List ℕ)) (new : Far) (passage : Passage)
+      → new ≡ far_after passage far sent → IsAnswer passage far sent answer
+      → IsFair (answered judged sent answer) new
+  unfolding Follows
+  passed_fair judged honest far regular agrees admits sent answer new OutLost is came =
+      lost_fair law judged honest far agrees admits sent new (inl is) (ap (λ (g : Far). g.page) is)
+      answer came
+  passed_fair judged honest far regular agrees admits sent answer new BackLost is came =
+      let fair : IsFair (answered judged sent answer) (hear far sent).far =
+      lost_fair law judged honest far agrees admits sent (hear far sent).far
+      (follows_heard far sent) (heard_page far sent) answer came in
+      subst (λ (g : Far). IsFair (answered judged sent answer) g) (sym is) fair
+  passed_fair judged honest far regular agrees admits sent answer new Clean is came =
+      let fair : IsFair (answered judged sent (hear far sent).reply) (hear far sent).far =
+      clean_fair judged honest far regular agrees admits sent in
+      let there : IsFair (answered judged sent (hear far sent).reply) new =
+      subst (λ (g : Far). IsFair (answered judged sent (hear far sent).reply) g) (sym is) fair in
+      subst (λ (r : Option (List ℕ)). IsFair (answered judged sent r) new) (sym came) there
+
+  page_of : (far : Far) (sent : List ℕ) (answer : Option (List ℕ)) (new : Far) (passage : Passage)
+      → new ≡ far_after passage far sent → new.page ≡ far.page
+  page_of far sent answer new OutLost is = ap (λ (g : Far). g.page) is
+  page_of far sent answer new BackLost is = ap (λ (g : Far). g.page) is ∙ heard_page far sent
+  page_of far sent answer new Clean is = ap (λ (g : Far). g.page) is ∙ heard_page far sent
+
+  exchange_fair : (judged : Judged) (far : Far) (silence : ℕ) (sent : List ℕ)
+      (answer : Option (List ℕ)) (new : Far) (silence_new : ℕ)
+      → HonestExchange far silence sent answer new silence_new → IsFair judged far
+      → IsFair (exchanged judged sent answer) new
+  exchange_fair judged far silence sent answer new silence_new h fair = split judged.verdict refl
+    where
+      ready : Far
+      ready = locals far h.steps
+
+      same : Alike far (locals far h.steps)
+      same = locals_alike far h.steps
+
+      page : new.page ≡ far.page
+      page = page_of (locals far h.steps) sent answer new h.passage h.far_is ∙ same.page
+
+      agrees : Agrees judged.seen new.page
+      agrees = subst (λ (p : List ℕ). Agrees judged.seen p) (sym page) fair.page
+
+      split : (verdict : Verdict) → judged.verdict ≡ verdict
+          → IsFair (judged_by verdict (counted judged) sent answer) new
+      split Unjudged e = record {
+        page = agrees;
+        state = subst (λ (v : Verdict). IsPossible v judged.states new) (sym e) tt;
+      }
+      split Honest e = passed_fair (counted judged) e (locals far h.steps)
+          (regular_all stays far h.steps h.regular)
+          (agrees_alike judged.seen far (locals far h.steps) same fair.page)
+          (one_alike judged.states far (locals far h.steps) same
+          (subst (λ (v : Verdict). IsPossible v judged.states far) e fair.state))
+          sent answer new h.passage h.far_is h.answer_is
+      split (NotHonest exchange reason) e =
+          absurd (subst (λ (v : Verdict). IsPossible v judged.states far) e fair.state)
+      split (CantSay exchange why) e = record {
+        page = agrees;
+        state = subst (λ (v : Verdict). IsPossible v judged.states new) (sym e) tt;
+      }
+
+-- A wake-up request
+
+module _ (wake : Wake) (far new : Far)
+    (follows : (new ≡ woken far) ⊎ ((wake ≡ Unanswered) × (new ≡ far))) where
+  woken_keeps : (next : List State) (state : State) (more : List State)
+      → woken_into wake next state ≡ Ok more → AdmitsOne next new → AdmitsOne more new
+  woken_keeps next state more h admits = split wake h
+    where
+      lost_too : (r : Result (List State) Open)
+          → ((mid : List State) → r ≡ Ok mid → AdmitsOne mid new)
+          → woken_with state r ≡ Ok more → AdmitsOne more new
+      lost_too (Ok mid) a h = added_keeps mid (woken_state state) more new h (a mid refl)
+      lost_too (Err why) a h = absurd (cc)
+
+      split : (w : Wake) → woken_into w next state ≡ Ok more → AdmitsOne more new
+      split Answered h = added_keeps next (woken_state state) more new h admits
+      split Unanswered h = lost_too (added next state)
+          (λ mid e. added_keeps next state mid new e admits) h
+
+  woken_gains : (next : List State) (state : State) (more : List State)
+      → woken_into wake next state ≡ Ok more → Admits state far → AdmitsOne more new
+  woken_gains next state more h admits = elim follows [
+    | inl is ↦ subst (λ (g : Far). AdmitsOne more g) (sym is) (took wake h)
+    | inr quiet ↦ subst (λ (g : Far). AdmitsOne more g) (sym quiet.1)
+        (stays (added next state) refl (subst (λ (w : Wake). woken_into w next state ≡ Ok more)
+        quiet.0 h))
+  ]
+    where
+      stays : (r : Result (List State) Open) → added next state ≡ r → woken_with state r ≡ Ok more
+          → AdmitsOne more far
+      stays (Ok mid) e h = added_keeps mid (woken_state state) more far h
+          (added_admits next state mid far e admits)
+      stays (Err why) e h = absurd (cc)
+
+      lost_too : (r : Result (List State) Open) → woken_with state r ≡ Ok more
+          → AdmitsOne more (woken far)
+      lost_too (Ok mid) h = added_admits mid (woken_state state) more (woken far) h
+          (woken_admits state far admits)
+      lost_too (Err why) h = absurd (cc)
+
+      took : (w : Wake) → woken_into w next state ≡ Ok more → AdmitsOne more (woken far)
+      took Answered h = added_admits next (woken_state state) more (woken far) h
+          (woken_admits state far admits)
+      took Unanswered h = lost_too (added next state) h
+
+  all_woken_admits : (states out : List State) → all_woken wake [] states ≡ Ok out
+      → AdmitsOne states far → AdmitsOne out new
+  all_woken_admits states out h admits =
+      each_admits (woken_into wake) far (λ (s : List State). AdmitsOne s new) woken_keeps
+      woken_gains states [] out h admits
+
+-- the wake took effect, or wasn't answered and was lost
+took_effect : (wake : Wake) (far new : Far) (wakes : Bool) → new
+    ≡ (if wakes then woken far else far)
+    → (is_answered wake ≡ true → wakes ≡ true)
+    → (new ≡ woken far) ⊎ ((wake ≡ Unanswered) × (new ≡ far))
+took_effect wake far new true is answers = inl is
+took_effect Unanswered far new false is answers = inr (refl, is)
+took_effect Answered far new false is answers = absurd (let no : false ≡ true = answers refl in cc)
+
+wake_page : (far new : Far) (wakes : Bool) → new ≡ (if wakes then woken far else far) → new.page
+    ≡ far.page
+wake_page far new true is = ap (λ (g : Far). g.page) is
+wake_page far new false is = ap (λ (g : Far). g.page) is
+
+wake_fair : (judged : Judged) (far : Far) (wake : Wake) (new : Far)
+    → HonestWake far (is_answered wake) new → IsFair judged far → IsFair (woke judged wake) new
+wake_fair judged far wake new h fair = split judged.verdict refl
+  where
+    same : Alike far (locals far h.steps)
+    same = locals_alike far h.steps
+
+    agrees : Agrees judged.seen new.page
+    agrees = subst (λ (p : List ℕ). Agrees judged.seen p)
+        (sym (wake_page (locals far h.steps) new h.wakes h.far_is ∙ same.page)) fair.page
+
+    follows : (new ≡ woken (locals far h.steps)) ⊎
+        ((wake ≡ Unanswered) × (new ≡ locals far h.steps))
+    follows = took_effect wake (locals far h.steps) new h.wakes h.far_is h.answered_is
+
+    first : (w : Wake) → ((new ≡ woken (locals far h.steps)) ⊎
+        ((w ≡ Unanswered) × (new ≡ locals far h.steps)))
+        → judged.verdict ≡ Unjudged → IsFair (woke_by Unjudged judged w) new
+    first Answered follows e = record {
+      page = agrees;
+      state = elim follows [
+        | inl is ↦ inl (subst (λ (g : Far). Admits (startup_state None) g) (sym is)
+            (record { link = refl; cycle = tt }))
+        | inr quiet ↦ absurd (let no : Answered ≡ Unanswered = quiet.0 in cc)
+      ];
+    }
+    first Unanswered follows e = record {
+      page = agrees;
+      state = subst (λ (v : Verdict). IsPossible v judged.states new) (sym e) tt;
+    }
+
+    split : (verdict : Verdict) → judged.verdict ≡ verdict
+        → IsFair (woke_by verdict judged wake) new
+    split Unjudged e = first wake follows e
+    split Honest e = concluded_fair judged new (all_woken wake [] judged.states) e agrees
+        (λ out f. all_woken_admits wake (locals far h.steps) new follows judged.states out f
+        (one_alike judged.states far (locals far h.steps) same
+        (subst (λ (v : Verdict). IsPossible v judged.states far) e fair.state)))
+    split (NotHonest exchange reason) e =
+        absurd (subst (λ (v : Verdict). IsPossible v judged.states far) e fair.state)
+    split (CantSay exchange why) e = record {
+      page = agrees;
+      state = subst (λ (v : Verdict). IsPossible v judged.states new) (sym e) tt;
+    }
+
+-- The page
+
+none_seen : (far : Far) → Agrees nothing_seen far.page
+none_seen far zero = tt
+none_seen far (suc zero) = tt
+none_seen far (suc (suc zero)) = tt
+none_seen far (suc (suc (suc zero))) = tt
+none_seen far (suc (suc (suc (suc zero)))) = tt
+none_seen far (suc (suc (suc (suc (suc zero))))) = tt
+none_seen far (suc (suc (suc (suc (suc (suc zero)))))) = tt
+none_seen far (suc (suc (suc (suc (suc (suc (suc zero))))))) = tt
+none_seen far (suc (suc (suc (suc (suc (suc (suc (suc zero)))))))) = tt
+none_seen far (suc (suc (suc (suc (suc (suc (suc (suc (suc zero))))))))) = tt
+none_seen far (suc (suc (suc (suc (suc (suc (suc (suc (suc (suc k)))))))))) = tt
+
+whole_agrees : (page : List ℕ) → Agrees (whole_page page) page
+whole_agrees page zero = refl
+whole_agrees page (suc zero) = refl
+whole_agrees page (suc (suc zero)) = refl
+whole_agrees page (suc (suc (suc zero))) = refl
+whole_agrees page (suc (suc (suc (suc zero)))) = refl
+whole_agrees page (suc (suc (suc (suc (suc zero))))) = refl
+whole_agrees page (suc (suc (suc (suc (suc (suc zero)))))) = refl
+whole_agrees page (suc (suc (suc (suc (suc (suc (suc zero))))))) = refl
+whole_agrees page (suc (suc (suc (suc (suc (suc (suc (suc zero)))))))) = refl
+whole_agrees page (suc (suc (suc (suc (suc (suc (suc (suc (suc zero))))))))) = refl
+whole_agrees page (suc (suc (suc (suc (suc (suc (suc (suc (suc (suc k)))))))))) = tt
+
+-- A capture
+
+module _ (law : PagesAskForLayouts) (stays : RegularStays) (much : MuchStays)
+    (reads : RepliesAreRead) where
+  told_fair : (judged : Judged) (far : Far) (silence : ℕ) (passing : Passing) (new : Far)
+      (silence_new : ℕ)
+      → IsHonest far silence passing new silence_new → IsFair judged far
+      → IsFair (told judged passing) new
+  told_fair judged far silence (Wakes wake) new silence_new h fair = wake_fair judged far wake new
+      h.0 fair
+  told_fair judged far silence (Passes sent answer) new silence_new h fair =
+      exchange_fair law stays much reads judged far silence sent answer new silence_new h fair
+
+  run_fair : (judged : Judged) (far : Far) → IsFair judged far
+      → (silence : ℕ) (capture : List Passing)
+      → IsHonestRun far silence capture → (exchange : ℕ) (reason : Reason)
+      → (told_all judged capture).verdict ≢ NotHonest exchange reason
+  run_fair judged far fair silence [] h exchange reason e =
+      subst (λ (v : Verdict). IsPossible v judged.states far) e fair.state
+  run_fair judged far fair silence (passing ∷ capture) h exchange reason e =
+      run_fair (told judged passing) h.0 (told_fair judged far silence passing h.0 h.1 h.2 fair) h.1
+      capture h.3
+      exchange reason e
+
+  pub never_blamed : NeverBlamed
+  never_blamed = record {
+    begins = λ far. record { page = none_seen far; state = tt };
+    pages = λ judged far fair. record { page = whole_agrees far.page; state = fair.state };
+    wakes = wake_fair;
+    exchanges = exchange_fair law stays much reads;
+    runs = run_fair;
+  }

@@ -1,0 +1,94 @@
+-- Which devices a kept state stands for, and the law of the judge.
+use Rattle.std.specs.Prelude.{◌≡◌, ◌≢◌, ◌⊎◌, ℕ, Bool, true, false, List, [], ◌∷◌, slice_index, slice_index_or, Option, Some, None, IfSome}
+use Rattle.iol_far.specs.Far.{Far}
+use Rattle.iol_far.specs.Level.{link_of}
+use Rattle.iol_link.specs.Honest.{HonestExchange, HonestWake}
+use Rattle.iol_judge.specs.declared.reason.Reason.{Reason}
+use Rattle.iol_judge.specs.declared.verdict.Verdict.{Verdict}
+use Rattle.iol_judge.specs.declared.verdict.Verdict.TheVariants.{Unjudged, Honest, NotHonest, CantSay}
+use Rattle.iol_judge.specs.declared.verdict.Wake.{Wake}
+use Rattle.iol_judge.specs.declared.verdict.Wake.TheVariants.{Answered, Unanswered}
+use Rattle.iol_judge.specs.Seen.{whole_page}
+use Rattle.iol_judge.specs.State.{State}
+use Rattle.iol_judge.specs.Judged.{Judged, new_judge, exchanged, woke}
+
+-- each octet that is known is the page's
+-- PAGE-1
+abbrev pub Agrees : List (Option ℕ) → List ℕ → Type 0
+Agrees seen page = (place : ℕ)
+    → IfSome (slice_index_or seen place None) (λ octet. slice_index page place ≡ octet)
+
+-- A state stands for each device in its mode, with its mode command waiting and its octet at page
+-- address 0x01. All else is free: whether it sleeps, its ISDU state, events, process data, record
+pub record Admits (state : State) (far : Far) : Type 0 where
+  pub link : link_of far ≡ state.link
+  pub cycle : IfSome state.cycle (λ octet. far.cycle_time ≡ octet)
+
+-- one of the states stands for it
+abbrev pub AdmitsOne : List State → Far → Type 0
+AdmitsOne [] far = ⊥
+AdmitsOne (state ∷ states) far = Admits state far ⊎ AdmitsOne states far
+
+-- a device is among those that a verdict leaves possible
+abbrev pub IsPossible : Verdict → List State → Far → Type 0
+IsPossible Unjudged states far = Unit {0}
+IsPossible Honest states far = AdmitsOne states far
+IsPossible (NotHonest exchange reason) states far = ⊥
+IsPossible (CantSay exchange why) states far = Unit {0}
+
+-- the judge says nothing against the device
+pub record IsFair (judged : Judged) (far : Far) : Type 0 where
+  pub page : Agrees judged.seen far.page
+  pub state : IsPossible judged.verdict judged.states far
+
+-- Captures
+
+abbrev pub is_answered : Wake → Bool
+is_answered Answered = true
+is_answered Unanswered = false
+
+-- what goes over a line
+pub data Passing : Type 0 where
+  Wakes : Wake → Passing
+  Passes : List ℕ → Option (List ℕ) → Passing
+
+abbrev pub told : Judged → Passing → Judged
+told judged (Wakes wake) = woke judged wake
+told judged (Passes sent answer) = exchanged judged sent answer
+
+-- the judge, told a whole capture
+abbrev pub told_all : Judged → List Passing → Judged
+told_all judged [] = judged
+told_all judged (passing ∷ capture) = told_all (told judged passing) capture
+
+-- a device brings this over a lossy line
+-- WIRE-1, WIRE-3
+abbrev pub IsHonest : Far → ℕ → Passing → Far → ℕ → Type 0
+IsHonest far silence (Wakes wake) far_new silence_new =
+    HonestWake far (is_answered wake) far_new × (silence_new ≡ silence)
+IsHonest far silence (Passes sent answer) far_new silence_new =
+    HonestExchange far silence sent answer far_new silence_new
+
+-- a device brings a whole capture over a lossy line
+abbrev pub IsHonestRun : Far → ℕ → List Passing → Type 0
+IsHonestRun far silence [] = Unit {0}
+IsHonestRun far silence (passing ∷ capture) = (far_new : Far) × (silence_new : ℕ)
+    × IsHonest far silence passing far_new silence_new × IsHonestRun far_new silence_new capture
+
+-- the law: whatever device brings a capture over a lossy line, it is never called not honest
+pub record NeverBlamed : Type 0 where
+  pub begins : (far : Far) → IsFair new_judge far
+  -- its page, where it is told
+  pub pages : (judged : Judged) (far : Far) → IsFair judged far
+      → IsFair (record judged { seen = whole_page far.page }) far
+  pub wakes : (judged : Judged) (far : Far) (wake : Wake) (far_new : Far)
+      → HonestWake far (is_answered wake) far_new → IsFair judged far
+      → IsFair (woke judged wake) far_new
+  pub exchanges : (judged : Judged) (far : Far) (silence : ℕ) (sent : List ℕ)
+      (answer : Option (List ℕ)) (far_new : Far) (silence_new : ℕ)
+      → HonestExchange far silence sent answer far_new silence_new → IsFair judged far
+      → IsFair (exchanged judged sent answer) far_new
+  pub runs : (judged : Judged) (far : Far) → IsFair judged far
+      → (silence : ℕ) (capture : List Passing) → IsHonestRun far silence capture
+      → (exchange : ℕ) (reason : Reason)
+      → (told_all judged capture).verdict ≢ NotHonest exchange reason

@@ -1,0 +1,195 @@
+-- The judge: the states of a device that a capture so far admits, and the verdict.
+use Rattle.std.specs.Prelude.{ℕ, ◌+◌, ◌-◌, ◌^◌, min, Bool, true, false, ◌||◌, ◌==◌, if◌then◌else◌, List, [], ◌∷◌, ◌++◌, length, slice_index, Option, Some, None, Result, Ok, Err}
+use Rattle.std.specs.List.{list_any}
+use Rattle.iol_octets.specs.Control.{control_of}
+use Rattle.iol_octets.specs.declared.control.Mc.{Mc}
+use Rattle.iol_octets.specs.declared.control.Channel.{Channel}
+use Rattle.iol_octets.specs.declared.control.Channel.TheVariants.{Page}
+use Rattle.iol_page.specs.declared.page.Layouts.{Layouts}
+use Rattle.iol_judge.specs.declared.taken.TheConstants.{MAX_STATES}
+use Rattle.iol_judge.specs.declared.taken.Taken.{Taken}
+use Rattle.iol_judge.specs.declared.taken.Next.{Next}
+use Rattle.iol_judge.specs.declared.open.Open.{Open}
+use Rattle.iol_judge.specs.declared.open.Open.TheVariants.{TooManyStates}
+use Rattle.iol_judge.specs.declared.reason.Reason.{Reason}
+use Rattle.iol_judge.specs.declared.reason.Reason.TheVariants.{NotTaken}
+use Rattle.iol_judge.specs.declared.taken.Explained.{Explained}
+use Rattle.iol_judge.specs.declared.taken.Explained.TheVariants.{By, Not}
+use Rattle.iol_judge.specs.declared.verdict.Verdict.{Verdict}
+use Rattle.iol_judge.specs.declared.verdict.Verdict.TheVariants.{Unjudged, Honest, NotHonest, CantSay}
+use Rattle.iol_judge.specs.declared.verdict.Wake.{Wake}
+use Rattle.iol_judge.specs.declared.verdict.Wake.TheVariants.{Answered, Unanswered}
+use Rattle.iol_judge.specs.Numbers.{later}
+use Rattle.iol_judge.specs.Seen.{nothing_seen, layouts_seen, page_noted}
+use Rattle.iol_judge.specs.State.{State, startup_state, woken_state, same_state}
+use Rattle.iol_judge.specs.Taking.{taken_by}
+use Rattle.iol_judge.specs.Replies.{is_readable, explained}
+
+pub record Judged : Type 0 where
+  -- what is known of the page, of whichever state
+  pub seen : List (Option ℕ)
+  -- one of these is the device's, while the verdict is `Honest`
+  pub states : List State
+  pub verdict : Verdict
+  -- how many exchanges there were
+  pub exchanges : ℕ
+
+abbrev pub new_judge : Judged
+new_judge = record { seen = nothing_seen; states = []; verdict = Unjudged; exchanges = 0 }
+
+-- Sets of states, each state once
+
+abbrev pub has_state : List State → State → Bool
+has_state states state = list_any (λ other. same_state other state) states
+
+abbrev pub added : List State → State → Result (List State) Open
+added states state =
+    if has_state states state then Ok states else
+    if length states == MAX_STATES then Err TooManyStates else Ok (states ++ state ∷ [])
+
+-- a step for each item in turn, until one fails
+abbrev pub each_in_turn : {S A : Type 0} → (A → S → Result A Open) → A → List S → Result A Open
+each_in_turn step next [] = Ok next
+each_in_turn step next (item ∷ items) =
+    elim (step next item) [ Ok more ↦ each_in_turn step more items | Err why ↦ Err why ]
+
+-- a call that gives nothing but its error, with what it wrote
+abbrev pub result_with : {U A : Type 0} → Result U Open → A → Result A Open
+result_with (Ok done) written = Ok written
+result_with (Err why) written = Err why
+
+-- Without a reply that can be read
+
+abbrev pub added_taken : Result (Option Taken) Open → List State → Result (List State) Open
+added_taken (Ok None) next = Ok next
+added_taken (Ok (Some taken)) next = added next taken.kept
+added_taken (Err why) next = Err why
+
+abbrev pub lost_with : Result (Option Taken) Open → Result (List State) Open
+    → Result (List State) Open
+lost_with taken (Ok next) = added_taken taken next
+lost_with taken (Err why) = Err why
+
+-- a state as it was, for the message may be lost, and with the message worked, for the reply may be
+-- WIRE-1
+abbrev pub lost_into : Result Layouts Open → List ℕ → List State → State
+    → Result (List State) Open
+lost_into known sent next state = lost_with (taken_by known state sent) (added next state)
+
+abbrev pub all_lost : Result Layouts Open → List ℕ → List State → List State
+    → Result (List State) Open
+all_lost known sent next states = each_in_turn (lost_into known sent) next states
+
+-- With one
+
+abbrev pub next_states : Next → Result (List State) Open → Result Next Open
+next_states next (Ok states) = Ok (record {
+  states = record { items = states };
+  reason = next.reason;
+})
+next_states next (Err why) = Err why
+
+abbrev pub explained_into : Next → Explained → Result Next Open
+explained_into next (By state) = next_states next (added next.states.items state)
+explained_into next (Not reason) = Ok (record next { reason = later next.reason reason })
+
+abbrev pub replied_taken : List (Option ℕ) → List ℕ → Next → Result (Option Taken) Open
+    → Result Next Open
+replied_taken seen reply next (Ok taken) = explained_into next (explained seen taken reply)
+replied_taken seen reply next (Err why) = Err why
+
+abbrev pub replied_into : Result Layouts Open → List (Option ℕ) → List ℕ → List ℕ → Next → State
+    → Result Next Open
+replied_into known seen sent reply next state =
+    replied_taken seen reply next (taken_by known state sent)
+
+-- each state that explains the reply
+-- WIRE-2
+abbrev pub all_replied : Result Layouts Open → List (Option ℕ) → List ℕ → List ℕ → Next
+    → List State → Result Next Open
+all_replied known seen sent reply next states =
+    each_in_turn (replied_into known seen sent reply) next states
+
+-- An exchange
+
+abbrev pub concluded_lost : Judged → Result (List State) Open → Judged
+concluded_lost judged (Ok states) = record judged { states = states }
+concluded_lost judged (Err why) = record judged { verdict = CantSay judged.exchanges why }
+
+-- the octet of a page that a reply brings
+abbrev pub noted_at : List (Option ℕ) → Bool → Channel → ℕ → ℕ → List (Option ℕ)
+noted_at seen true Page address octet = page_noted seen address octet
+noted_at seen read channel address octet = seen
+
+abbrev pub noted_by : List (Option ℕ) → Mc → List ℕ → List (Option ℕ)
+noted_by seen mc reply = noted_at seen mc.read mc.channel mc.address (slice_index reply 0)
+
+abbrev pub noted : List (Option ℕ) → List ℕ → List ℕ → List (Option ℕ)
+noted seen sent reply = noted_by seen (control_of (slice_index sent 0)) reply
+
+-- where no state is left, none explains the reply
+abbrev pub concluded_with : Judged → List ℕ → List ℕ → Reason → List State → Judged
+concluded_with judged sent reply reason [] =
+    record judged { verdict = NotHonest judged.exchanges reason }
+concluded_with judged sent reply reason (state ∷ states) =
+    record judged { seen = noted judged.seen sent reply; states = state ∷ states }
+
+abbrev pub concluded_replied : Judged → List ℕ → List ℕ → Result Next Open → Judged
+concluded_replied judged sent reply (Ok next) =
+    concluded_with judged sent reply next.reason next.states.items
+concluded_replied judged sent reply (Err why) =
+    record judged { verdict = CantSay judged.exchanges why }
+
+abbrev pub no_next : Next
+no_next = record { states = record { items = [] }; reason = NotTaken }
+
+abbrev pub unanswered : Judged → List ℕ → Judged
+unanswered judged sent =
+    concluded_lost judged (all_lost (layouts_seen judged.seen) sent [] judged.states)
+
+abbrev pub replied : Judged → List ℕ → List ℕ → Judged
+replied judged sent reply = concluded_replied judged sent reply
+    (all_replied (layouts_seen judged.seen) judged.seen sent reply no_next judged.states)
+
+abbrev pub answered : Judged → List ℕ → Option (List ℕ) → Judged
+answered judged sent None = unanswered judged sent
+answered judged sent (Some reply) =
+    if is_readable sent reply then replied judged sent reply else unanswered judged sent
+
+abbrev pub counted : Judged → Judged
+counted judged = record judged { exchanges = min (judged.exchanges + 1) (2 ^ 64 - 1) }
+
+abbrev pub judged_by : Verdict → Judged → List ℕ → Option (List ℕ) → Judged
+judged_by Honest judged sent answer = answered judged sent answer
+judged_by verdict judged sent answer = judged
+
+-- the judge, told an exchange
+-- WIRE-1, WIRE-2
+abbrev pub exchanged : Judged → List ℕ → Option (List ℕ) → Judged
+exchanged judged sent answer = judged_by judged.verdict (counted judged) sent answer
+
+-- A wake-up request
+
+abbrev pub woken_with : State → Result (List State) Open → Result (List State) Open
+woken_with state (Ok next) = added next (woken_state state)
+woken_with state (Err why) = Err why
+
+-- a state as woken, and where the request wasn't answered as it was too
+-- DEV-1, WIRE-3
+abbrev pub woken_into : Wake → List State → State → Result (List State) Open
+woken_into Answered next state = added next (woken_state state)
+woken_into Unanswered next state = woken_with state (added next state)
+
+abbrev pub all_woken : Wake → List State → List State → Result (List State) Open
+all_woken wake next states = each_in_turn (woken_into wake) next states
+
+abbrev pub woke_by : Verdict → Judged → Wake → Judged
+woke_by Unjudged judged Answered =
+    record judged { states = startup_state None ∷ []; verdict = Honest }
+woke_by Honest judged wake = concluded_lost judged (all_woken wake [] judged.states)
+woke_by verdict judged wake = judged
+
+-- the judge, told a wake-up request
+-- DEV-1, WIRE-3
+abbrev pub woke : Judged → Wake → Judged
+woke judged wake = woke_by judged.verdict judged wake

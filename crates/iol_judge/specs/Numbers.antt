@@ -1,0 +1,27 @@
+-- The number of each reason.
+use Rattle.std.specs.Prelude.{ℕ, nat_lt, if◌then◌else◌}
+use Rattle.iol_judge.specs.declared.reason.Reason.{Reason}
+use Rattle.iol_judge.specs.declared.reason.Reason.TheVariants.{NotTaken, ReplyLength, StatusWithoutData, InvalidNotZero, FlagAtConfirm, PageChanged, PageZero, CycleTime, ProcessNotZero, RestNotZero}
+use Rattle.iol_judge.specs.declared.open.Open.{Open}
+use Rattle.iol_judge.specs.declared.open.Open.TheVariants.{PageUnread, PageRefused, TooManyStates}
+
+abbrev pub reason_number : Reason → ℕ
+reason_number NotTaken = 1
+reason_number ReplyLength = 2
+reason_number StatusWithoutData = 3
+reason_number InvalidNotZero = 4
+reason_number FlagAtConfirm = 5
+reason_number PageChanged = 9
+reason_number PageZero = 10
+reason_number CycleTime = 11
+reason_number ProcessNotZero = 12
+reason_number RestNotZero = 13
+
+abbrev pub open_number : Open → ℕ
+open_number PageUnread = 1
+open_number PageRefused = 2
+open_number TooManyStates = 3
+
+-- of two reasons the one of the later look at a reply
+abbrev pub later : Reason → Reason → Reason
+later a b = if nat_lt (reason_number a) (reason_number b) then b else a

@@ -1,0 +1,127 @@
+-- Which replies a device in a kept state may have sent.
+use Rattle.std.specs.Prelude.{ℕ, ◌+◌, ◌-◌, min, Bool, true, false, not, ◌&&◌, ◌||◌, ◌==◌, nat_le, nat_lt, if◌then◌else◌, List, length, drop, slice_index, Option, Some, None, is_some, Result, Ok, Err}
+use Rattle.std.specs.List.{list_all}
+use Rattle.iol_octets.specs.declared.control.Channel.{Channel}
+use Rattle.iol_octets.specs.declared.control.Channel.TheVariants.{Process, Page, Diagnosis, Isdu}
+use Rattle.iol_octets.specs.declared.control.Mc.{Mc}
+use Rattle.iol_mseq.specs.Shape.{Shape, operate_shape}
+use Rattle.iol_mseq.specs.Master.{master_in}
+use Rattle.iol_mseq.specs.Replies.{reply_in}
+use Rattle.iol_mseq.specs.declared.fault.MseqFault.{MseqFault}
+use Rattle.iol_mseq.specs.declared.master.MasterMsg.{MasterMsg}
+use Rattle.iol_mseq.specs.declared.reply.Reply.{Reply}
+use Rattle.iol_far.specs.Far.{is_confirm}
+use Rattle.iol_judge.specs.declared.reason.Reason.{Reason}
+use Rattle.iol_judge.specs.declared.reason.Reason.TheVariants.{NotTaken, ReplyLength, StatusWithoutData, InvalidNotZero, FlagAtConfirm, PageChanged, PageZero, CycleTime, ProcessNotZero, RestNotZero}
+use Rattle.iol_judge.specs.declared.taken.Taken.{Taken}
+use Rattle.iol_judge.specs.declared.taken.Explained.{Explained}
+use Rattle.iol_judge.specs.declared.taken.Explained.TheVariants.{By, Not}
+use Rattle.iol_judge.specs.Seen.{octet_seen}
+use Rattle.iol_judge.specs.State.{State}
+
+-- Which can be read
+
+abbrev pub is_read_as : Shape → List ℕ → Option MasterMsg → Bool
+is_read_as layout reply None = false
+is_read_as layout reply (Some message) = is_some (reply_in layout message.mc.read reply)
+
+-- what was sent is a message in this layout, and the reply a good one to it
+abbrev pub is_read_in : Shape → List ℕ → List ℕ → Bool
+is_read_in layout sent reply = is_read_as layout reply (master_in layout sent)
+
+abbrev pub is_read_by : Result Shape MseqFault → List ℕ → List ℕ → Bool
+is_read_by (Ok layout) sent reply = is_read_in layout sent reply
+is_read_by (Err fault) sent reply = false
+
+-- in the layout of OPERATE with this code, which has so many octets of on-request data: the
+-- lengths of both say how many octets of process data there are
+abbrev pub is_read_with : ℕ → ℕ → List ℕ → List ℕ → Bool
+is_read_with code size sent reply =
+    let read = nat_le 128 (slice_index sent 0) in
+    is_read_by
+    (operate_shape code (min (length reply - (1 + (if read then size else 0))) 255)
+    (min (length sent - (2 + (if read then 0 else size))) 255))
+    sent reply
+
+-- the codes 4 to 7 with all lengths have every layout
+-- WIRE-2
+abbrev pub is_readable : List ℕ → List ℕ → Bool
+is_readable sent reply = is_read_with 4 1 sent reply || is_read_with 5 2 sent reply
+    || is_read_with 6 8 sent reply || is_read_with 7 32 sent reply
+
+-- Why a device can't have sent a reply
+
+abbrev pub are_zeros : List ℕ → Bool
+are_zeros octets = list_all (λ octet. octet == 0) octets
+
+-- which reason it is that a page address reads otherwise
+abbrev pub page_reason : ℕ → Reason
+page_reason address =
+    if address == 1 then CycleTime else
+    if nat_le 2 address && nat_le address 11 then PageChanged else PageZero
+
+-- what a page address reads as, where it is known
+-- PAGE-1, DEV-7
+abbrev pub octet_known : List (Option ℕ) → Option ℕ → ℕ → Option ℕ
+octet_known seen cycle address = if address == 1 then cycle else octet_seen seen address
+
+abbrev pub is_other : Option ℕ → ℕ → Bool
+is_other None octet = false
+is_other (Some known) octet = not (octet == known)
+
+-- DEV-7, MSG-6
+abbrev pub page_fault : List (Option ℕ) → Option ℕ → ℕ → List ℕ → Option Reason
+page_fault seen cycle address od =
+    if is_other (octet_known seen cycle address) (slice_index od 0)
+    then Some (page_reason address) else
+    if are_zeros (drop 1 od) then None else Some RestNotZero
+
+-- the on-request data of the reply to a read
+-- DEV-7, MSG-6
+abbrev pub data_fault : List (Option ℕ) → Option ℕ → Channel → ℕ → List ℕ → Option Reason
+data_fault seen cycle Process address od = if are_zeros od then None else Some ProcessNotZero
+data_fault seen cycle Page address od = page_fault seen cycle address od
+data_fault seen cycle Diagnosis address od =
+    if are_zeros (drop 1 od) then None else Some RestNotZero
+data_fault seen cycle Isdu address od = None
+
+-- DEV-8, EVT-2, DEV-7
+abbrev pub reply_fault : List (Option ℕ) → State → Shape → Mc → Reply → Option Reason
+reply_fault seen state layout mc reply =
+    if reply.invalid && (layout.pd_in == 0) then Some StatusWithoutData else
+    if reply.invalid && not (are_zeros reply.input.items) then Some InvalidNotZero else
+    if is_confirm mc.channel mc.read mc.address && reply.event
+    then Some FlagAtConfirm else
+    if mc.read
+    then data_fault seen state.cycle mc.channel mc.address reply.od.items
+    else None
+
+-- What a reply tells
+
+-- a read of page address 0x01
+abbrev pub is_cycle_read : Bool → Channel → ℕ → Bool
+is_cycle_read true Page address = address == 1
+is_cycle_read read channel address = false
+
+-- the state, once its reply to that message was had
+abbrev pub learned : State → Mc → Reply → State
+learned state mc reply =
+    if is_cycle_read mc.read mc.channel mc.address
+    then record state { cycle = Some (slice_index reply.od.items 0) }
+    else state
+
+abbrev pub explained_if : State → Mc → Reply → Option Reason → Explained
+explained_if state mc reply None = By (learned state mc reply)
+explained_if state mc reply (Some reason) = Not reason
+
+abbrev pub explained_by : List (Option ℕ) → State → Shape → MasterMsg → Option Reply → Explained
+explained_by seen state layout message None = Not ReplyLength
+explained_by seen state layout message (Some reply) =
+    explained_if state message.mc reply (reply_fault seen state layout message.mc reply)
+
+-- whether a state explains the reply that came, by what it makes of the message
+abbrev pub explained : List (Option ℕ) → Option Taken → List ℕ → Explained
+explained seen None reply = Not NotTaken
+explained seen (Some taken) reply =
+    explained_by seen taken.kept taken.layout taken.message
+    (reply_in taken.layout taken.message.mc.read reply)

@@ -1,0 +1,77 @@
+-- What a message makes of a kept state.
+use Rattle.std.specs.Prelude.{ℕ, Bool, true, false, ◌==◌, if◌then◌else◌, List, slice_index, Option, Some, None, is_some, unwrap_or, Result, Ok, Err}
+use Rattle.iol_octets.specs.declared.control.Channel.{Channel}
+use Rattle.iol_octets.specs.declared.control.Channel.TheVariants.{Page}
+use Rattle.iol_mseq.specs.Shape.{Shape, startup_shape}
+use Rattle.iol_mseq.specs.declared.master.MasterMsg.{MasterMsg}
+use Rattle.iol_page.specs.declared.page.Layouts.{Layouts}
+use Rattle.iol_far.specs.declared.mode.Mode.{Mode}
+use Rattle.iol_far.specs.declared.mode.Mode.TheVariants.{Startup, Preoperate, Operate}
+use Rattle.iol_far.specs.Codec.{message_in}
+use Rattle.iol_far.specs.Far.{command_in, mode_asked, waits_after}
+use Rattle.iol_far.specs.Level.{Link, taken}
+use Rattle.iol_judge.specs.declared.open.Open.{Open}
+use Rattle.iol_judge.specs.declared.taken.Taken.{Taken}
+use Rattle.iol_judge.specs.State.{State}
+
+-- the layout of a mode, where it is known
+-- DEV-2
+abbrev pub mode_layout : Result Layouts Open → Mode → Result Shape Open
+mode_layout known Startup = Ok startup_shape
+mode_layout (Ok layouts) Preoperate = Ok (unwrap_or layouts.pre startup_shape)
+mode_layout (Ok layouts) Operate = Ok layouts.run
+mode_layout (Err why) mode = Err why
+
+-- the mode asked for, where the device has it, and where that is known
+-- DEV-5
+abbrev pub mode_known : Result Layouts Open → Option Mode → Result (Option Mode) Open
+mode_known known None = Ok None
+mode_known known (Some Startup) = Ok (Some Startup)
+mode_known (Ok layouts) (Some Preoperate) =
+    Ok (if is_some layouts.pre then Some Preoperate else None)
+mode_known (Ok layouts) (Some Operate) = Ok (Some Operate)
+mode_known (Err why) (Some mode) = Err why
+
+-- the octet of page address 0x01 once a message was worked
+-- DEV-9
+abbrev pub cycle_after : Option ℕ → Channel → Bool → ℕ → ℕ → Option ℕ
+cycle_after old Page false address octet = if address == 1 then Some octet else old
+cycle_after old channel read address octet = old
+
+-- the state once the message was worked, by the link in which it was taken and the mode asked for
+-- DEV-3, DEV-9
+abbrev pub state_after : Link → Option ℕ → List ℕ → MasterMsg → Option Mode → State
+state_after link cycle octets message asked = record {
+  link = record { mode = link.mode; waits = waits_after link.mode link.waits octets asked };
+  cycle = cycle_after cycle message.mc.channel message.mc.read message.mc.address
+      (slice_index message.od.items 0);
+}
+
+abbrev pub taken_asked : Link → Option ℕ → List ℕ → Shape → MasterMsg → Result (Option Mode) Open
+    → Result (Option Taken) Open
+taken_asked link cycle octets layout message (Ok asked) = Ok (Some (record {
+  kept = state_after link cycle octets message asked;
+  layout = layout;
+  message = message;
+}))
+taken_asked link cycle octets layout message (Err why) = Err why
+
+abbrev pub taken_message : Result Layouts Open → Link → Option ℕ → List ℕ → Shape
+    → Option MasterMsg → Result (Option Taken) Open
+taken_message known link cycle octets layout None = Ok None
+taken_message known link cycle octets layout (Some message) =
+    taken_asked link cycle octets layout message
+    (mode_known known (mode_asked (command_in message)))
+
+abbrev pub taken_in : Result Layouts Open → Link → Option ℕ → List ℕ → Result Shape Open
+    → Result (Option Taken) Open
+taken_in known link cycle octets (Ok layout) =
+    taken_message known link cycle octets layout (message_in layout octets)
+taken_in known link cycle octets (Err why) = Err why
+
+-- what a state makes of octets, none where it doesn't take them; open where the page's layouts
+-- would have to be known
+-- DEV-2
+abbrev pub taken_by : Result Layouts Open → State → List ℕ → Result (Option Taken) Open
+taken_by known state octets = taken_in known (taken state.link octets) state.cycle octets
+    (mode_layout known (taken state.link octets).mode)

@@ -1,0 +1,19 @@
+//! The law of the judge, carried by a function that does nothing when it runs.
+ghost use Rattle.iol_judge.specs.Admitted.{NeverBlamed};
+
+use iol_far::{page_and_room_stay, parts_stay_regular, replies_are_read};
+use iol_page::pages_ask_for_layouts;
+
+/// Whatever device by the rules brings a capture over a line that loses messages and replies, or
+/// damages them so that it shows, it is never called not honest: in all of its states, whatever
+/// it does by itself between the exchanges, and at each wake-up request and power cycle.
+///
+/// Rules WIRE-1 to WIRE-3, WIRE-6.
+pub fn honest_lines_are_never_blamed()
+    ensures { NeverBlamed }
+{
+    pages_ask_for_layouts();
+    parts_stay_regular();
+    page_and_room_stay();
+    replies_are_read();
+}

@@ -1,0 +1,34 @@
+//! The judge of a line: could a device by the rules have brought this capture?
+//!
+//! A capture is what went over a line: wake-up requests, messages, and the replies to them. A
+//! [`Judge`] is told each in turn. It keeps all states of a device that the exchanges so far
+//! admit. Where none is left, no device by the rules could have brought the last reply over a
+//! lossy line, and the verdict says why.
+//!
+//! It judges the start-up, direct parameter page 1, modes and the layouts of replies. Events and
+//! ISDU transfers are free: whatever a reply brings of them is admitted.
+//!
+//! Definitions begin in `specs/State`, what is kept of a device, and `Taking`, what a message makes
+//! of it; then `Replies`, which replies it may have sent, and `Judged`, the judge. `Admitted` says
+//! which devices a kept state stands for, and the law: a capture that a device by the rules brings
+//! over a lossy line is never called not honest.
+#![tactic(auto)]
+
+mod judge;
+mod kept;
+mod laws;
+mod next;
+mod open;
+mod readable;
+mod reason;
+mod reply;
+mod seen;
+mod take;
+mod taken;
+mod verdict;
+
+pub use judge::Judge;
+pub use laws::honest_lines_are_never_blamed;
+pub use open::Open;
+pub use reason::Reason;
+pub use verdict::{Verdict, Wake};

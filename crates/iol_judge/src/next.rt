@@ -1,0 +1,145 @@
+//! The states that come of an exchange.
+ghost use Rattle.std.specs.Prelude.{◌≡◌, [], Ok, Err, ◌≤◌, ◌++◌, ◌∷◌, length, drop};
+ghost use Rattle.std.specs.Result.{result_err};
+ghost use Rattle.arrayvec.specs.ArrayVec.{array_vec_len};
+ghost use Rattle.iol_judge.specs.Judged.{added, has_state, all_lost, all_replied, lost_into, all_woken, replied_into, result_with, woken_into};
+
+use crate::kept::Kept;
+use crate::open::Open;
+use crate::reason::Reason;
+use crate::reply::explain;
+use crate::seen::{Known, Seen};
+use crate::taken::{Explained, MAX_STATES, Next, States};
+use crate::verdict::Wake;
+
+/// Puts a state to the others, once.
+pub(crate) fn add(states: &mut States, kept: Kept) -> Result<(), Open>
+    ensures { result_with result states.new.items ≡ added states.old.items kept }
+{
+    if has_state(states, &kept) {
+        return Ok(());
+    }
+    if states.len() == MAX_STATES {
+        return Err(Open::TooManyStates);
+    }
+    states.push(kept);
+    Ok(())
+}
+
+/// Whether a state is among the others.
+fn has_state(states: &[Kept], kept: &Kept) -> bool
+    ensures { result ≡ has_state states.now kept.now }
+{
+    states.iter().any(|other| other.is(kept))
+}
+
+/// The states after an exchange without a reply that can be read: each as it was, for the message
+/// may be lost, and with the message worked, for the reply may be.
+///
+/// Rule WIRE-1.
+pub(crate) fn lose(
+    states: &[Kept],
+    layouts: &Known,
+    sent: &[u8],
+    next: &mut States,
+) -> Result<(), Open>
+    ensures { result_with result next.new.items
+        ≡ all_lost layouts.now sent.now next.old.items states.now }
+{
+    for kept in states {
+        lose_one(kept, layouts, sent, next)?;
+    }
+    Ok(())
+}
+
+/// One of them.
+fn lose_one(kept: &Kept, layouts: &Known, sent: &[u8], next: &mut States) -> Result<(), Open>
+    ensures { result_with result next.new.items
+        ≡ lost_into layouts.now sent.now next.old.items kept.now }
+{
+    let unheard = kept.copy();
+    add(next, unheard)?;
+    match kept.take(layouts, sent)? {
+        Some(taken) => add(next, taken.kept),
+        None => Ok(()),
+    }
+}
+
+impl Next {
+    ghost use Rattle.iol_judge.specs.Judged.{no_next};
+
+    /// None yet.
+    pub fn none() -> Next
+        ensures { result ≡ no_next }
+    {
+        Next {
+            states: States::new(),
+            reason: Reason::NotTaken,
+        }
+    }
+}
+
+/// The states after a reply that can be read: each that explains it.
+///
+/// Rule WIRE-2.
+pub(crate) fn reply(
+    states: &[Kept],
+    layouts: &Known,
+    seen: &Seen,
+    sent: &[u8],
+    octets: &[u8],
+    next: &mut Next,
+) -> Result<(), Open>
+    ensures { result_with result next.new
+        ≡ all_replied layouts.now seen.now sent.now octets.now next.old states.now }
+{
+    for kept in states {
+        reply_one(kept, layouts, seen, sent, octets, next)?;
+    }
+    Ok(())
+}
+
+/// One of them.
+fn reply_one(
+    kept: &Kept,
+    layouts: &Known,
+    seen: &Seen,
+    sent: &[u8],
+    octets: &[u8],
+    next: &mut Next,
+) -> Result<(), Open>
+    ensures { result_with result next.new
+        ≡ replied_into layouts.now seen.now sent.now octets.now next.old kept.now }
+{
+    let taken = kept.take(layouts, sent)?;
+    match explain(seen, taken, octets) {
+        Explained::By(after) => add(&mut next.states, after),
+        Explained::Not(reason) => {
+            next.reason = next.reason.or_later(reason);
+            Ok(())
+        }
+    }
+}
+
+/// The states after a wake-up request: each as woken, and, where it wasn't answered, as it was
+/// too, for the request may be lost.
+///
+/// Rule WIRE-3.
+pub(crate) fn wake(states: &[Kept], wake: Wake, next: &mut States) -> Result<(), Open>
+    ensures { result_with result next.new.items ≡ all_woken wake next.old.items states.now }
+{
+    for kept in states {
+        wake_one(kept, wake, next)?;
+    }
+    Ok(())
+}
+
+/// One of them.
+fn wake_one(kept: &Kept, wake: Wake, next: &mut States) -> Result<(), Open>
+    ensures { result_with result next.new.items ≡ woken_into wake next.old.items kept.now }
+{
+    if wake == Wake::Unanswered {
+        add(next, kept.copy())?;
+    }
+    add(next, kept.woken())
+}

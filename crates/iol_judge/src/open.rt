@@ -1,0 +1,33 @@
+//! Why a judge can't say.
+ghost use Rattle.std.specs.Prelude.{◌≡◌};
+
+use thiserror::Error;
+
+/// Why nothing can be said of a capture from some exchange on.
+#[derive(Clone, Copy, Debug, PartialEq, Eq, Error)]
+pub enum Open {
+    /// 1: a mode was asked for before the page's octets 0x03 to 0x06 were known (PAGE-5).
+    #[error("PageUnread")]
+    PageUnread,
+    /// 2: the page's octets 0x03 to 0x06 ask for no layouts (PAGE-5).
+    #[error("PageRefused")]
+    PageRefused,
+    /// 3: more states of a device are possible than are kept.
+    #[error("TooManyStates")]
+    TooManyStates,
+}
+
+impl Open {
+    ghost use Rattle.iol_judge.specs.Numbers.{open_number};
+
+    /// The number of the reason.
+    pub fn code(&self) -> u8
+        ensures { result ≡ open_number self.now }
+    {
+        match self {
+            Open::PageUnread => 1,
+            Open::PageRefused => 2,
+            Open::TooManyStates => 3,
+        }
+    }
+}

@@ -1,0 +1,53 @@
+//! Which replies can be read.
+ghost use Rattle.std.specs.Prelude.{◌≡◌, nat_lt, ◌-◌, ◌≤◌, length, slice_index};
+ghost use Rattle.iol_judge.specs.Replies.{is_read_with, is_readable};
+
+use iol_mseq::{Layout, view_master, view_reply};
+
+/// Whether a reply can be read: there is a layout in which what was sent is a message, and this a
+/// good reply to it. One that can't be read was damaged on the line.
+///
+/// Rule WIRE-2.
+pub(crate) fn is_readable(sent: &[u8], reply: &[u8]) -> bool
+    ensures { result ≡ is_readable sent.now reply.now }
+{
+    is_read_with(4, 1, sent, reply)
+        || is_read_with(5, 2, sent, reply)
+        || is_read_with(6, 8, sent, reply)
+        || is_read_with(7, 32, sent, reply)
+}
+
+/// Whether a reply can be read in the layout of this code, which has so many octets of on-request
+/// data: the lengths of both say how many octets of process data there are.
+fn is_read_with(code: u8, size: usize, sent: &[u8], reply: &[u8]) -> bool
+    requires { size ≤ 32 }
+    ensures { result ≡ is_read_with code size sent.now reply.now }
+{
+    let read = first_octet(sent) >= 128;
+    let (written, answered) = if read { (0, size) } else { (size, 0) };
+    let pd_out = sent.len().saturating_sub(2 + written).min(255) as u8;
+    let pd_in = reply.len().saturating_sub(1 + answered).min(255) as u8;
+    match Layout::operate(code, pd_in, pd_out) {
+        Ok(layout) => is_read_in(&layout, sent, reply),
+        Err(_) => false,
+    }
+}
+
+/// Whether a reply can be read in this layout.
+fn is_read_in(layout: &Layout, sent: &[u8], reply: &[u8]) -> bool
+    ensures { result ≡ is_read_in layout.now sent.now reply.now }
+{
+    match view_master(layout, sent) {
+        Ok(message) => view_reply(layout, message.mc().read, reply).is_ok(),
+        Err(_) => false,
+    }
+}
+
+/// The first octet, 0 where there is none.
+pub(crate) fn first_octet(octets: &[u8]) -> u8
+    ensures { result ≡ slice_index octets.now 0 }
+{
+    octets.first().copied().unwrap_or(0)
+}
+
+ghost use Rattle.iol_judge.specs.Replies.{is_read_in};

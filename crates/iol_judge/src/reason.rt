@@ -1,0 +1,74 @@
+//! Why no device by the rules could have sent a reply.
+ghost use Rattle.std.specs.Prelude.{◌≡◌};
+
+use thiserror::Error;
+
+/// Why no device by the rules could have sent a reply.
+#[derive(Clone, Copy, Debug, PartialEq, Eq, Error)]
+pub enum Reason {
+    /// 1: the device doesn't take such a message in its mode, and answers nothing (DEV-2).
+    #[error("NotTaken")]
+    NotTaken,
+    /// 2: the reply hasn't the length that the layout of the device's mode gives (MSG-4).
+    #[error("ReplyLength")]
+    ReplyLength,
+    /// 3: the PD status is 1 in a layout without process data in (DEV-8).
+    #[error("StatusWithoutData")]
+    StatusWithoutData,
+    /// 4: the PD status is 1, and the process data in isn't all zeros (DEV-8).
+    #[error("InvalidNotZero")]
+    InvalidNotZero,
+    /// 5: the Event flag is 1 in the reply to the confirm of events (EVT-2).
+    #[error("FlagAtConfirm")]
+    FlagAtConfirm,
+    /// 9: an octet of the page isn't the one that was read before (PAGE-1).
+    #[error("PageChanged")]
+    PageChanged,
+    /// 10: a page address outside 0x01 to 0x0B doesn't read as 0 (PAGE-1).
+    #[error("PageZero")]
+    PageZero,
+    /// 11: page address 0x01 doesn't read as what was written there, or read before (DEV-9).
+    #[error("CycleTime")]
+    CycleTime,
+    /// 12: a read of the process channel doesn't bring zeros (DEV-7).
+    #[error("ProcessNotZero")]
+    ProcessNotZero,
+    /// 13: the octets behind the first, of a page or diagnosis read, aren't zeros (MSG-6).
+    #[error("RestNotZero")]
+    RestNotZero,
+}
+
+impl Reason {
+    ghost use Rattle.iol_judge.specs.Numbers.{reason_number};
+
+    /// The number of the reason.
+    pub fn code(&self) -> u8
+        ensures { result ≡ reason_number self.now }
+    {
+        match self {
+            Reason::NotTaken => 1,
+            Reason::ReplyLength => 2,
+            Reason::StatusWithoutData => 3,
+            Reason::InvalidNotZero => 4,
+            Reason::FlagAtConfirm => 5,
+            Reason::PageChanged => 9,
+            Reason::PageZero => 10,
+            Reason::CycleTime => 11,
+            Reason::ProcessNotZero => 12,
+            Reason::RestNotZero => 13,
+        }
+    }
+
+    /// Of two reasons the one that came of the later look at a reply.
+    pub(crate) fn or_later(self, other: Reason) -> Reason
+        ensures { result ≡ later self other }
+    {
+        if self.code() < other.code() {
+            other
+        } else {
+            self
+        }
+    }
+
+    ghost use Rattle.iol_judge.specs.Numbers.{later};
+}

@@ -1,0 +1,152 @@
+//! Which replies a device in a kept state may have sent.
+ghost use Rattle.std.specs.Prelude.{◌≡◌, ◌<◌, drop, option_map, if◌then◌else◌, true, IfNone};
+ghost use Rattle.iol_far.specs.Far.{is_confirm};
+ghost use Rattle.iol_judge.specs.Replies.{are_zeros, data_fault, explained, explained_by, is_cycle_read, is_other, learned, octet_known, page_fault, page_reason, reply_fault};
+
+use crate::kept::Kept;
+use crate::readable::first_octet;
+use crate::reason::Reason;
+use crate::seen::Seen;
+use crate::taken::{Explained, Taken};
+use iol_mseq::{Layout, MasterView, ReplyView, view_reply};
+use iol_octets::{Channel, Mc};
+
+/// Whether a state explains the reply that came, by what it makes of the message.
+pub(crate) fn explain(seen: &Seen, taken: Option<Taken<'_>>, reply: &[u8]) -> Explained
+    ensures { result ≡ explained seen.now taken.entry reply.now }
+{
+    match taken {
+        None => Explained::Not(Reason::NotTaken),
+        Some(taken) => explain_by(seen, taken.kept, &taken.layout, &taken.message, reply),
+    }
+}
+
+/// Whether the state once it worked the message, in this layout, explains the reply.
+fn explain_by(
+    seen: &Seen,
+    kept: Kept,
+    layout: &Layout,
+    message: &MasterView<'_>,
+    octets: &[u8],
+) -> Explained
+    ensures { result ≡ explained_by seen.now kept layout.now message.now
+        (reply_in layout.now message.now.mc.read octets.now) }
+{
+    let Ok(reply) = view_reply(layout, message.mc().read, octets) else {
+        return Explained::Not(Reason::ReplyLength);
+    };
+    match fault_of(seen, &kept, layout, message.mc(), &reply) {
+        Some(reason) => Explained::Not(reason),
+        None => Explained::By(learned(kept, message.mc(), &reply)),
+    }
+}
+
+ghost use Rattle.iol_mseq.specs.Replies.{reply_in};
+
+/// The state, once its reply was had.
+fn learned(kept: Kept, mc: Mc, reply: &ReplyView<'_>) -> Kept
+    ensures { result ≡ learned kept mc reply.now }
+{
+    let mut kept = kept;
+    if mc.read && mc.channel == Channel::Page && mc.address == 1 {
+        kept.cycle = Some(first_octet(reply.od()));
+    }
+    kept
+}
+
+/// Why the state can't have sent the reply, none where it can.
+///
+/// Rules DEV-7, DEV-8, EVT-2.
+fn fault_of(
+    seen: &Seen,
+    kept: &Kept,
+    layout: &Layout,
+    mc: Mc,
+    reply: &ReplyView<'_>,
+) -> Option<Reason>
+    ensures { result ≡ reply_fault seen.now kept.now layout.now mc reply.now }
+{
+    if reply.invalid() && layout.pd_in() == 0 {
+        return Some(Reason::StatusWithoutData);
+    }
+    if reply.invalid() && !are_zeros(reply.input()) {
+        return Some(Reason::InvalidNotZero);
+    }
+    if is_confirm(mc) && reply.event() {
+        return Some(Reason::FlagAtConfirm);
+    }
+    if !mc.read {
+        return None;
+    }
+    match mc.channel {
+        Channel::Process => zeros_or(reply.od(), Reason::ProcessNotZero),
+        Channel::Page => page_fault(seen, kept, mc.address, reply.od()),
+        Channel::Diagnosis => zeros_or(rest_of(reply.od()), Reason::RestNotZero),
+        Channel::Isdu => None,
+    }
+}
+
+/// Why these can't be the octets of a page address.
+///
+/// Rules PAGE-1, DEV-7, MSG-6.
+fn page_fault(seen: &Seen, kept: &Kept, address: u8, od: &[u8]) -> Option<Reason>
+    ensures { result ≡ page_fault seen.now kept.now.cycle address od.now }
+{
+    let known = if address == 1 {
+        kept.cycle
+    } else {
+        seen.octet(address)
+    };
+    match known {
+        Some(octet) if octet != first_octet(od) => Some(page_reason(address)),
+        _ => zeros_or(rest_of(od), Reason::RestNotZero),
+    }
+}
+
+/// Which reason it is that a page address reads otherwise.
+fn page_reason(address: u8) -> Reason
+    ensures { result ≡ page_reason address }
+{
+    match address {
+        0x01 => Reason::CycleTime,
+        0x02..=0x0B => Reason::PageChanged,
+        _ => Reason::PageZero,
+    }
+}
+
+/// The reason, where the octets aren't all zeros.
+fn zeros_or(octets: &[u8], reason: Reason) -> Option<Reason>
+    ensures { result ≡ (if are_zeros octets.now then None else Some reason) }
+{
+    if are_zeros(octets) {
+        None
+    } else {
+        Some(reason)
+    }
+}
+
+/// Whether all octets are zeros.
+fn are_zeros(octets: &[u8]) -> bool
+    ensures { result ≡ are_zeros octets.now }
+{
+    octets.iter().all(|octet| *octet == 0)
+}
+
+/// The octets behind the first.
+fn rest_of(octets: &[u8]) -> &[u8]
+    ensures { result.now ≡ drop 1 octets.now }
+{
+    match octets {
+        [_, rest @ ..] => rest,
+        [] => octets,
+    }
+}
+
+/// Whether a message is the confirm of events.
+///
+/// Rule EVT-2.
+fn is_confirm(mc: Mc) -> bool
+    ensures { result ≡ is_confirm mc.channel mc.read mc.address }
+{
+    mc.channel == Channel::Diagnosis && !mc.read && mc.address == 0
+}

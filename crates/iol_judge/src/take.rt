@@ -1,0 +1,162 @@
+//! What a message makes of a kept state.
+ghost use Rattle.std.specs.Prelude.{◌≡◌, ◌≤◌, length, slice_index, OnSome};
+ghost use Rattle.iol_far.specs.Codec.{message_in};
+ghost use Rattle.iol_far.specs.Far.{command_in, mode_asked, waits_after};
+ghost use Rattle.iol_far.specs.Level.{taken};
+ghost use Rattle.iol_judge.specs.Taking.{cycle_after, mode_known, mode_layout, taken_by};
+
+use crate::kept::{Kept, Waiting};
+use crate::open::Open;
+use crate::seen::Known;
+use crate::taken::Taken;
+use iol_far::Mode;
+use iol_mseq::{Layout, MasterView, Message, first, view_master};
+use iol_octets::Channel;
+use iol_page::MasterCommand;
+
+impl Kept {
+    /// The mode in whose layout it takes these octets, with the command that waits there.
+    ///
+    /// Rules DEV-3, DEV-4.
+    fn taking(&self, octets: &[u8]) -> (Mode, Option<Waiting>)
+        ensures mode { result.0 ≡ (taken self.now.link octets.now).mode }
+        ensures waits { result.1 ≡ (taken self.now.link octets.now).waits }
+    {
+        match &self.waits {
+            None => (self.mode, None),
+            Some(command) if octets == command.octets.as_slice() => {
+                (self.mode, Some(command.copy()))
+            }
+            Some(command) => (command.into, None),
+        }
+    }
+
+    /// What it makes of octets, none where it doesn't take them; open where the page's layouts
+    /// would have to be known.
+    ///
+    /// Rules DEV-2 to DEV-5, DEV-9.
+    pub fn take<'a>(&self, layouts: &Known, octets: &'a [u8]) -> Result<Option<Taken<'a>>, Open>
+        ensures { result ≡ taken_by layouts.now self.now octets.now }
+    {
+        let (mode, waits) = self.taking(octets);
+        let layout = layout_in(layouts, mode)?;
+        let Some(message) = message_in(&layout, octets) else {
+            return Ok(None);
+        };
+        let asked = known_mode(layouts, mode_asked(command_in(&message)))?;
+        let kept = Kept {
+            mode,
+            waits: waits_after(mode, waits, octets, asked),
+            cycle: cycle_after(self.cycle, &message),
+        };
+        Ok(Some(Taken {
+            kept,
+            layout,
+            message,
+        }))
+    }
+}
+
+/// The layout of a mode, where it is known.
+///
+/// Rule DEV-2.
+fn layout_in(layouts: &Known, mode: Mode) -> Result<Layout, Open>
+    ensures { result ≡ mode_layout layouts.now mode }
+{
+    match (mode, layouts) {
+        (Mode::Startup, _) => Ok(Layout::startup()),
+        (Mode::Preoperate, Ok(layouts)) => Ok(layouts.pre.unwrap_or(Layout::startup())),
+        (Mode::Operate, Ok(layouts)) => Ok(layouts.run),
+        (_, Err(why)) => Err(*why),
+    }
+}
+
+/// The message that octets are in a layout.
+///
+/// Rule DEV-2.
+#[tactic(auto, unfolding(iol_far::specs::Codec::message_in))]
+fn message_in<'a>(layout: &Layout, octets: &'a [u8]) -> Option<MasterView<'a>>
+    ensures value { result ≡ message_in layout.now octets.now }
+    ensures length { OnSome result (length octets.now ≤ 66) }
+{
+    let _ = layout.od();
+    view_master(layout, octets).ok()
+}
+
+/// The master command that a message is.
+///
+/// Rule DEV-5.
+fn command_in(message: &MasterView<'_>) -> Option<MasterCommand>
+    ensures { result ≡ command_in message.now }
+{
+    let mc = message.mc();
+    if !mc.read && mc.channel == Channel::Page && mc.address == 0 {
+        MasterCommand::from_octet(first(message.od()))
+    } else {
+        None
+    }
+}
+
+/// The mode that a command asks for.
+///
+/// Rule DEV-5.
+fn mode_asked(command: Option<MasterCommand>) -> Option<Mode>
+    ensures { result ≡ mode_asked command }
+{
+    match command {
+        Some(MasterCommand::DeviceStartup) => Some(Mode::Startup),
+        Some(MasterCommand::DevicePreoperate) => Some(Mode::Preoperate),
+        Some(MasterCommand::DeviceOperate) => Some(Mode::Operate),
+        _ => None,
+    }
+}
+
+/// The mode asked for, where the device has it.
+///
+/// Rule DEV-5.
+fn known_mode(layouts: &Known, asked: Option<Mode>) -> Result<Option<Mode>, Open>
+    ensures { result ≡ mode_known layouts.now asked }
+{
+    match (asked, layouts) {
+        (None | Some(Mode::Startup), _) => Ok(asked),
+        (Some(Mode::Preoperate), Ok(layouts)) if layouts.pre.is_none() => Ok(None),
+        (_, Ok(_)) => Ok(asked),
+        (_, Err(why)) => Err(*why),
+    }
+}
+
+/// The command that waits once one asked for this mode.
+///
+/// Rule DEV-3.
+fn waits_after(
+    mode: Mode,
+    waits: Option<Waiting>,
+    octets: &[u8],
+    asked: Option<Mode>,
+) -> Option<Waiting>
+    requires { length octets.now ≤ 66 }
+    ensures { result ≡ waits_after mode waits octets.now asked }
+{
+    match asked {
+        Some(into) if into != mode => Some(Waiting {
+            into,
+            octets: Message::try_from(octets).unwrap(),
+        }),
+        _ => waits,
+    }
+}
+
+/// The octet of page address 0x01 once a message was worked.
+///
+/// Rule DEV-9.
+fn cycle_after(old: Option<u8>, message: &MasterView<'_>) -> Option<u8>
+    ensures { result ≡ cycle_after old message.now.mc.channel message.now.mc.read
+        message.now.mc.address (slice_index message.now.od.items 0) }
+{
+    let mc = message.mc();
+    if mc.channel == Channel::Page && !mc.read && mc.address == 1 {
+        Some(first(message.od()))
+    } else {
+        old
+    }
+}

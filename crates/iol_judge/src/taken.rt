@@ -1,0 +1,37 @@
+//! What comes of a message, and of a reply.
+
+use crate::kept::Kept;
+use crate::reason::Reason;
+use arrayvec::ArrayVec;
+use iol_mseq::{Layout, MasterView};
+
+/// The most states that are kept.
+pub(crate) const MAX_STATES: usize = 64;
+
+/// The states of a device that the exchanges so far admit, each once.
+pub(crate) type States = ArrayVec<Kept, MAX_STATES>;
+
+/// What a state makes of a message that it takes.
+#[derive(Drop)]
+pub(crate) struct Taken<'a> {
+    pub kept: Kept,
+    pub layout: Layout,
+    pub message: MasterView<'a>,
+}
+
+/// Whether a state explains a reply.
+#[derive(Drop)]
+pub(crate) enum Explained {
+    /// It does, and this is the state afterwards.
+    By(Kept),
+    /// It doesn't.
+    Not(Reason),
+}
+
+/// The states after a reply, and why the others can't have sent it.
+#[derive(Drop)]
+pub(crate) struct Next {
+    pub states: States,
+    /// That of the state that explains most of the reply.
+    pub reason: Reason,
+}

@@ -1,0 +1,26 @@
+//! Verdicts.
+
+use crate::open::Open;
+use crate::reason::Reason;
+
+/// What can be said of a capture so far.
+///
+/// Exchanges are counted from 1, the first of the capture.
+#[derive(Clone, Copy, Debug, PartialEq, Eq)]
+pub enum Verdict {
+    /// No wake-up request was answered yet, so that nothing is judged.
+    Unjudged,
+    /// Each reply is one that a device by the rules may have sent.
+    Honest,
+    /// No device by the rules could have sent the reply of this exchange.
+    NotHonest(u64, Reason),
+    /// From this exchange on nothing can be said.
+    CantSay(u64, Open),
+}
+
+/// Whether a wake-up request was answered.
+#[derive(Clone, Copy, Debug, PartialEq, Eq)]
+pub enum Wake {
+    Answered,
+    Unanswered,
+}

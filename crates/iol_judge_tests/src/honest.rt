@@ -1,0 +1,191 @@
+//! Random captures that a device by the rules brings over a lossy line: none is called not honest.
+ghost use Rattle.std.specs.Prelude.{◌≡◌, ◌<◌, IsOk};
+ghost use Rattle.iol_page.specs.Page.{layouts_of};
+
+use iol_device::{App, Device, Unkept};
+use iol_event::Event;
+use iol_image::Image;
+use iol_isdu::{Answer, Request};
+use iol_judge::{Judge, Verdict, Wake, honest_lines_are_never_blamed};
+use iol_mseq::Message;
+use iol_octets::checksum6;
+use iol_page::Page;
+use iol_peers::{ONE_OCTET, PLAIN, PROCESS_DATA};
+use std::test::Fail;
+
+/// Refuses each request: index not available.
+#[derive(Clone, Copy)]
+struct Refuses;
+
+impl App for Refuses {
+    ghost carry_out_gives = { λ app request answer next. next ≡ app };
+
+    fn carry_out(&mut self, _request: &Request) -> Answer {
+        Answer::Refused(0x80, 0x11)
+    }
+}
+
+/// Numbers that look random, the same in each run.
+#[derive(Clone, Copy)]
+struct Random(u64);
+
+impl Random {
+    /// A number below a limit that is above 0.
+    fn below(&mut self, limit: u64) -> u64
+        requires { 0 < limit }
+        ensures { result < limit }
+    {
+        self.0 = self.0.wrapping_mul(6364136223846793005).wrapping_add(1442695040888963407);
+        (self.0 >> 33) % limit
+    }
+
+    fn octet(&mut self) -> u8 {
+        self.below(256) as u8
+    }
+}
+
+/// A device, the judge of its line, and chance.
+#[derive(Drop)]
+struct Line {
+    device: Device<Refuses, Unkept>,
+    judge: Judge,
+    random: Random,
+}
+
+/// The control octets that a master sends, the writes of page address 0x00 more often.
+const CONTROLS: [u8; 16] = [
+    0xA2, 0xA3, 0xA4, 0xA5, 0xA6, 0xA1, 0xAC, 0x21, 0x20, 0x20, 0x20, 0x20, 0x40, 0xC0, 0x80, 0xF1,
+];
+
+/// The commands that ask for a mode.
+const COMMANDS: [u8; 3] = [0x97, 0x99, 0x9A];
+
+impl Line {
+    /// Octets that are a message in some layout, and often in the device's.
+    fn message(&mut self) -> Message {
+        let control = CONTROLS[self.random.below(16) as usize];
+        let kind = self.random.below(3) as u8;
+        let mut sent = Message::new();
+        sent.push(control);
+        sent.push(kind << 6);
+        if kind == 2 {
+            sent.push(self.random.octet());
+        }
+        if control < 128 {
+            sent.push(COMMANDS[self.random.below(3) as usize]);
+            if kind == 1 {
+                sent.try_extend_from_slice(&[0; 7]).unwrap();
+            }
+        }
+        let sum = checksum6(&sent);
+        sent[1] |= sum;
+        sent
+    }
+
+    /// Something that the device does by itself.
+    fn step(&mut self) {
+        match self.random.below(24) {
+            0 => {
+                let _ = self.device.raise(Event { qualifier: 0x54, code: 0x1000 });
+            }
+            1 => self.device.clear_input(),
+            2 | 3 => {
+                if let Ok(image) = Image::new(&[self.random.octet(), 7]) {
+                    let _ = self.device.set_input(&image);
+                }
+            }
+            4 => self.device.power_cycle(),
+            5 => self.device.work(),
+            _ => {}
+        }
+    }
+
+    /// A wake-up request, which may be lost, and the answer of which may be.
+    fn wake(&mut self) {
+        match self.random.below(3) {
+            0 => self.judge.wake(Wake::Unanswered),
+            1 => {
+                self.device.wake();
+                self.judge.wake(Wake::Unanswered);
+            }
+            _ => {
+                self.device.wake();
+                self.judge.wake(Wake::Answered);
+            }
+        }
+    }
+
+    /// An exchange, of which the message may be lost, and the reply lost or damaged.
+    fn exchange(&mut self) {
+        let sent = self.message();
+        match self.random.below(6) {
+            0 => self.judge.exchange(&sent, None),
+            1 => {
+                self.device.hear(&sent);
+                self.judge.exchange(&sent, None);
+            }
+            2 => {
+                let reply = self.device.hear(&sent);
+                self.damaged(&sent, reply);
+            }
+            _ => match self.device.hear(&sent) {
+                Some(reply) => self.judge.exchange(&sent, Some(&reply)),
+                None => self.judge.exchange(&sent, None),
+            },
+        }
+    }
+
+    /// A reply with one bit flipped.
+    fn damaged(&mut self, sent: &[u8], reply: Option<Message>) {
+        match reply {
+            Some(mut octets) => {
+                if let Some(octet) = octets.first_mut() {
+                    *octet ^= 4;
+                }
+                self.judge.exchange(sent, Some(&octets));
+            }
+            None => self.judge.exchange(sent, None),
+        }
+    }
+
+    /// What the judge says of so many exchanges, with a wake-up request now and then.
+    fn run(&mut self, exchanges: u32) -> Verdict {
+        for _ in 0..exchanges {
+            self.step();
+            if self.random.below(8) == 0 {
+                self.wake();
+            }
+            self.exchange();
+        }
+        self.judge.verdict()
+    }
+}
+
+/// The line of a device of this page, which is told to the judge, right behind an answered
+/// wake-up request.
+fn line_of(page: &[u8; 10], seed: u64) -> Line
+    requires { IsOk (layouts_of page.now) }
+{
+    let mut device = Device::new(Refuses, Page::from_octets(page));
+    let mut judge = Judge::new();
+    judge.page(page);
+    device.wake();
+    judge.wake(Wake::Answered);
+    Line {
+        device,
+        judge,
+        random: Random(seed),
+    }
+}
+
+/// Each of many random captures of devices by the rules is honest.
+#[test]
+fn devices_by_the_rules_are_honest(rt: HostRuntime) -> Result<(), Fail> {
+    honest_lines_are_never_blamed();
+    for seed in 0..40 {
+        assert!(rt; line_of(&PLAIN, seed).run(500) == Verdict::Honest);
+        assert!(rt; line_of(&PROCESS_DATA, seed).run(500) == Verdict::Honest);
+        assert!(rt; line_of(&ONE_OCTET, seed).run(500) == Verdict::Honest);
+    }
+    Ok(())
+}

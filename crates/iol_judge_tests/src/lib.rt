@@ -1,0 +1,11 @@
+//! Tests of the judge: random captures that a device by the rules brings over a lossy line, and one
+//! lie for each reason.
+//!
+//! They stand here, and not beside the code that they call, since a crate with
+//! tests of its own is proved twice.
+#![tactic(auto)]
+
+#[cfg(test)]
+mod honest;
+#[cfg(test)]
+mod lies;

@@ -1,0 +1,135 @@
+//! One lie for each reason: each exchange before it is one that a device by the rules brings.
+
+use iol_judge::{Judge, Open, Reason, Verdict, Wake};
+use iol_peers::{Exchange, PLAIN, PROCESS_DATA};
+use std::test::Fail;
+
+/// What a judge says of these exchanges, right behind an answered wake-up request, where the
+/// page is told first.
+fn verdict_of(page: Option<&[u8; 10]>, exchanges: &[Exchange]) -> Verdict {
+    let mut judge = Judge::new();
+    if let Some(octets) = page {
+        judge.page(octets);
+    }
+    judge.wake(Wake::Answered);
+    for (sent, reply) in exchanges {
+        judge.exchange(sent, Some(*reply));
+    }
+    judge.verdict()
+}
+
+/// A message of PREOPERATE's layout, while the device is in STARTUP.
+const NOT_TAKEN: [Exchange; 1] = [(&[0xF1, 0x64], &[0, 0, 0, 0, 0, 0, 0, 0, 0x2D])];
+
+/// Two octets of on-request data, where the page says eight.
+const REPLY_LENGTH: [Exchange; 2] = [
+    (&[0x20, 0x36, 0x9A], &[0x2D]),
+    (&[0xF1, 0x64], &[0x00, 0x00, 0x2D]),
+];
+
+/// PD status 1 in STARTUP.
+const STATUS: [Exchange; 1] = [(&[0xA2, 0x00], &[0x17, 0x43])];
+
+/// PD status 1 with process data that isn't zero, behind one with zeros.
+const INVALID: [Exchange; 3] = [
+    (&[0x20, 0x06, 0x99], &[0x2D]),
+    (&[0xA2, 0xA7, 0x5A], &[0x17, 0x00, 0x00, 0x43]),
+    (&[0xA2, 0xA7, 0x5A], &[0x17, 0x12, 0x34, 0x54]),
+];
+
+/// The Event flag in the reply to a confirm.
+const FLAG: [Exchange; 1] = [(&[0x40, 0x35, 0x00], &[0x85])];
+
+/// Another MinCycleTime, with the same checksum.
+const CHANGED: [Exchange; 2] = [
+    (&[0xA2, 0x00], &[0x17, 0x1B]),
+    (&[0xA2, 0x00], &[0x18, 0x1B]),
+];
+
+/// An octet behind the page.
+const ZERO: [Exchange; 2] = [
+    (&[0xAC, 0x11], &[0x00, 0x2D]),
+    (&[0xAC, 0x11], &[0x01, 0x3C]),
+];
+
+/// Another cycle time than was written.
+const CYCLE: [Exchange; 3] = [
+    (&[0x21, 0x2E, 0x17], &[0x2D]),
+    (&[0xA1, 0x30], &[0x17, 0x1B]),
+    (&[0xA1, 0x30], &[0x18, 0x1B]),
+];
+
+/// A read of the process channel.
+const PROCESS: [Exchange; 2] = [
+    (&[0x80, 0x05], &[0x00, 0x2D]),
+    (&[0x80, 0x05], &[0x01, 0x3C]),
+];
+
+/// An octet behind the one that is meant, in PREOPERATE.
+const REST: [Exchange; 3] = [
+    (&[0x20, 0x36, 0x9A], &[0x2D]),
+    (&[0xA2, 0x58], &[0x17, 0, 0, 0, 0, 0, 0, 0, 0x1B]),
+    (&[0xA2, 0x58], &[0x17, 1, 0, 0, 0, 0, 0, 0, 0x0A]),
+];
+
+/// Each lie is found at its exchange, for its reason.
+#[test]
+fn lies_are_found(rt: HostRuntime) -> Result<(), Fail> {
+    assert!(rt; verdict_of(None, &NOT_TAKEN) == Verdict::NotHonest(1, Reason::NotTaken));
+    assert!(rt; verdict_of(Some(&PLAIN), &REPLY_LENGTH)
+        == Verdict::NotHonest(2, Reason::ReplyLength));
+    assert!(rt; verdict_of(None, &STATUS) == Verdict::NotHonest(1, Reason::StatusWithoutData));
+    assert!(rt; verdict_of(Some(&PROCESS_DATA), &INVALID)
+        == Verdict::NotHonest(3, Reason::InvalidNotZero));
+    assert!(rt; verdict_of(None, &FLAG) == Verdict::NotHonest(1, Reason::FlagAtConfirm));
+    assert!(rt; verdict_of(None, &CHANGED) == Verdict::NotHonest(2, Reason::PageChanged));
+    assert!(rt; verdict_of(None, &ZERO) == Verdict::NotHonest(2, Reason::PageZero));
+    assert!(rt; verdict_of(None, &CYCLE) == Verdict::NotHonest(3, Reason::CycleTime));
+    assert!(rt; verdict_of(None, &PROCESS) == Verdict::NotHonest(2, Reason::ProcessNotZero));
+    assert!(rt; verdict_of(Some(&PLAIN), &REST) == Verdict::NotHonest(3, Reason::RestNotZero));
+    Ok(())
+}
+
+/// A mode was asked for before the page was read.
+const UNREAD: [Exchange; 1] = [(&[0x20, 0x36, 0x9A], &[0x2D])];
+
+/// Nothing is said where the layouts aren't known, and nothing before a wake-up request.
+#[test]
+fn what_is_unknown_is_open(rt: HostRuntime) -> Result<(), Fail> {
+    assert!(rt; verdict_of(None, &UNREAD) == Verdict::CantSay(1, Open::PageUnread));
+    let mut refused = PLAIN;
+    refused[2] = 0x12;
+    assert!(rt; verdict_of(Some(&refused), &UNREAD) == Verdict::CantSay(1, Open::PageRefused));
+    let mut judge = Judge::new();
+    judge.wake(Wake::Unanswered);
+    judge.exchange(&[0xA2, 0x00], Some(&[0x17, 0x43]));
+    assert!(rt; judge.verdict() == Verdict::Unjudged);
+    Ok(())
+}
+
+/// A reply that no layout makes a good one is lost, and so is one that doesn't come.
+#[test]
+fn losses_are_honest(rt: HostRuntime) -> Result<(), Fail> {
+    let mut judge = Judge::new();
+    judge.page(&PLAIN);
+    judge.wake(Wake::Answered);
+    judge.exchange(&[0x20, 0x36, 0x9A], None);
+    judge.exchange(&[0x20, 0x36, 0x9A], Some(&[0x2C]));
+    judge.exchange(&[0xF1, 0x64], Some(&[0, 0, 0, 0, 0, 0, 0, 0, 0x2D]));
+    assert!(rt; judge.verdict() == Verdict::Honest);
+    // Once it is in PREOPERATE it doesn't take a message of STARTUP.
+    judge.exchange(&[0xA2, 0x00], Some(&[0x17, 0x1B]));
+    assert!(rt; judge.verdict() == Verdict::NotHonest(4, Reason::NotTaken));
+    assert!(rt; judge.verdict() != Verdict::CantSay(4, Open::TooManyStates));
+    Ok(())
+}
+
+/// The numbers and names are those of the documents.
+#[test]
+fn reasons_have_numbers(rt: HostRuntime) -> Result<(), Fail> {
+    assert!(rt; Reason::RestNotZero.code() == 13);
+    assert!(rt; Open::TooManyStates.code() == 3);
+    let name = format!(in rt.alloc(); "{}, {}", Reason::PageChanged, Open::PageUnread)?;
+    assert!(rt; name.as_str() == "PageChanged, PageUnread");
+    Ok(())
+}
