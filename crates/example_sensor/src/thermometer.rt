@@ -76,7 +76,8 @@ fn read(number: u16) -> Answer
 
 impl App for Thermometer<'_> {
     /// A read leaves the application as it was.
-    ghost carry_out_gives = { λ before request answer after. IsTrue (is_read request) → after ≡ before };
+    ghost carry_out_gives = { λ before request answer after. IsTrue (is_read request)
+        → after ≡ before };
 
     fn carry_out(&mut self, request: &Request) -> Answer {
         match request {

@@ -1,4 +1,5 @@
--- Hearing, by its three cases: not accepted, accepted in the present layout, accepted in the layout of the command that waits.
+-- Hearing, by its three cases: not accepted, accepted in the present layout, accepted in the
+-- layout of the command that waits.
 use Rattle.std.proofs.lemmas.Grind.{common_steps}
 use Rattle.std.proofs.Common.{arith, ◌≡◌, ℕ, true, List, subst}
 use Rattle.std.specs.Prelude.{Option, Some, None}
@@ -7,8 +8,11 @@ use Rattle.iol_far.specs.Codec.{layout_in, message_in}
 use Rattle.iol_far.specs.Far.{Far, WaitingCommand, accepted, moved}
 
 module _ (P : Option (Far × MasterMsg) → Type 0) (g : Far) (o : List ℕ) (none : P None)
-    (here : g.awake ≡ true → (m : MasterMsg) → message_in (layout_in g.page g.mode) o ≡ Some m → P (Some (g, m)))
-    (there : g.awake ≡ true → (command : WaitingCommand) → g.waits ≡ Some command → (m : MasterMsg) → message_in (layout_in g.page command.into) o ≡ Some m → P (Some (moved g command.into, m))) where
+    (here : g.awake ≡ true → (m : MasterMsg) → message_in (layout_in g.page g.mode) o ≡ Some m
+    → P (Some (g, m)))
+    (there : g.awake ≡ true → (command : WaitingCommand) → g.waits ≡ Some command
+    → (m : MasterMsg) → message_in (layout_in g.page command.into) o ≡ Some m
+    → P (Some (moved g command.into, m))) where
   -- only an awake far end accepts
   pub by_accepted : P (accepted g o)
   by_accepted = grind (arith, common_steps)

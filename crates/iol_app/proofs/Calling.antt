@@ -29,7 +29,8 @@ pub opens : (limit : ℕ) (far : Far) (silence : ℕ) (told : Bool) (due : Event
     → Stands (opened_core limit) (opened_ghost far told due) far silence
 opens limit far silence told due = grind (arith, common_steps)
 
-joined_want : (state : State) (t : SessionState) (image : Option (List ℕ)) → Joined state t → Joined state (wanting image t)
+joined_want : (state : State) (t : SessionState) (image : Option (List ℕ)) → Joined state t
+    → Joined state (wanting image t)
 joined_want state t image h = grind (arith, common_steps)
 
 pub wants : (c : Core) (g : Ghost) (far : Far) (silence : ℕ) (image : Option Image)
@@ -47,12 +48,29 @@ pub asks_else : (c : Core) (g : Ghost) (far : Far) (silence : ℕ) (k : Configur
 asks_else c g far silence k h = grind (arith, common_steps, joined_asks)
 
 -- a restart, in every mode
-request_opens : (state : State) (t : SessionState) (g : Ghost) (far : Far) → Joined state t → RequestStands state t.limit t.current t.exchange t.events g far → IsOpen far.isdu (request_in t.current) g.request.hidden
+request_opens : (state : State) (t : SessionState) (g : Ghost) (far : Far) → Joined state t
+    → RequestStands state t.limit t.current t.exchange t.events g far
+    → IsOpen far.isdu (request_in t.current) g.request.hidden
 request_opens state t g far j h = grind (arith, common_steps)
 
-session_is : (r : Option Request) (answer : Option Answer) (late : Option Request) (busy : ℕ) (asked : Bool) (carried : List Carried) (mode : Mode) (why : Option Why) →
-    session_through (restart_steps r) (record { job = job_of r answer busy asked; late = late; carried = carried; mode = mode; why = why })
-    ≡ record { job = None; late = (hidden_lost r (record { answer = answer; late = late })).late; carried = carried; mode = ModeDown; why = None }
+session_is : (r : Option Request) (answer : Option Answer) (late : Option Request) (busy : ℕ)
+    (asked : Bool) (carried : List Carried) (mode : Mode) (why : Option Why) →
+    session_through (restart_steps r)
+    (record {
+      job = job_of r answer busy asked;
+      late = late;
+      carried = carried;
+      mode = mode;
+      why = why;
+    })
+    ≡ record {
+      job = None;
+      late = (hidden_lost r
+          (record { answer = answer; late = late })).late;
+      carried = carried;
+      mode = ModeDown;
+      why = None;
+    }
 session_is r answer late busy asked carried mode why = grind (arith, common_steps)
 
 pub restarted_session : (c : Core) (g : Ghost) (far : Far)

@@ -48,14 +48,19 @@ use Rattle.iol_app.proofs.ReadingOn.{Took}
 use Rattle.iol_app.proofs.SmallFacts.{freed_quiet}
 
 -- a request's segment was written: busy replies are counted from here
-sent_busy : (cutter : Cutting Request) (b : Bool) (busy : ℕ) → busy ≡ 0 → BusyAt (sending (if b then Some (pair cutter.size (text_of cutter) cutter.given) else None)) busy
+sent_busy : (cutter : Cutting Request) (b : Bool) (busy : ℕ) → busy ≡ 0
+    → BusyAt (sending (if b then Some (pair cutter.size (text_of cutter) cutter.given) else
+    None)) busy
 sent_busy cutter b busy e = grind (arith, common_steps)
 
-first_quiet : (source : Request) (given : ℕ) → segment_move source given ≡ Leave → before_last source given ≡ Quiet
+first_quiet : (source : Request) (given : ℕ) → segment_move source given ≡ Leave
+    → before_last source given ≡ Quiet
 first_quiet source given e = grind (arith, common_steps)
 
-busy_waits : (limit busy : ℕ) (cancels : Bool) (abort : Option Cause) (counted : ℕ) → counted ≡ min busy 65535 → AbortAt limit abort busy cancels
-    → AbortAt limit (if one_more counted == limit then waiting abort BusyTooLong else abort) (busy + 1) cancels
+busy_waits : (limit busy : ℕ) (cancels : Bool) (abort : Option Cause) (counted : ℕ)
+    → counted ≡ min busy 65535 → AbortAt limit abort busy cancels
+    → AbortAt limit (if one_more counted == limit then waiting abort BusyTooLong else abort)
+    (busy + 1) cancels
 busy_waits limit busy cancels abort counted e k = grind (arith, common_steps)
 
 module _ (names : TextNamesAnswer) (taken : AnswersAreTakenUp)
@@ -71,30 +76,44 @@ module _ (names : TextNamesAnswer) (taken : AnswersAreTakenUp)
   abbrev at : Cutting Request → Cursor → Option Cause → Option Current
   at cutter p abort = Some (record { cutter = cutter; progress = p; abort = abort })
 
-  abbrev Had_by : (e : Exchange) (current : Option Current) → For e current → Option Current → Type 0
+  abbrev Had_by : (e : Exchange) (current : Option Current) → For e current → Option Current
+      → Type 0
   Had_by e current a next = Comes laws readers turn e current a next
 
   -- nothing is under way, and nothing comes
   idle : (a : For Idle None) → said ≡ quiet_said None → Had_by Idle None a None
-  idle a says = goes_on laws readers turn Idle None a (keeps laws readers turn Idle None a refl refl) None refl (λ k. refl) refl tt refl says
+  idle a says = goes_on laws readers turn Idle None a
+      (keeps laws readers turn Idle None a refl refl) None refl (λ k. refl) refl tt refl says
 
-  idle_first : (current : Current) (a : For Idle (Some current)) → Suits Idle (Some current) → said ≡ SaidBusy → Had_by Idle (Some current) a (Some current)
+  idle_first : (current : Current) (a : For Idle (Some current)) → Suits Idle (Some current)
+      → said ≡ SaidBusy → Had_by Idle (Some current) a (Some current)
   idle_first current a suits says =
       let quiet : progress_of (Some current) ≡ Quiet = unsent_quiet (Some current) suits in
-      goes_on laws readers turn Idle (Some current) a (keeps laws readers turn Idle (Some current) a refl refl) (Some current) refl (λ k. quiet) (sym quiet) a.stands.request.busy refl says
+      goes_on laws readers turn Idle (Some current) a
+      (keeps laws readers turn Idle (Some current) a refl refl) (Some current) refl
+      (λ k. quiet) (sym quiet) a.stands.request.busy refl says
 
   -- a segment of the request
-  segment : (cutter : Cutting Request) (flow : Flow) (piece : ArrayVec ℕ) (abort : Option Cause) (a : For NextMessage (at cutter (Cut flow piece) abort)) → said ≡ SaidBusy
+  segment : (cutter : Cutting Request) (flow : Flow) (piece : ArrayVec ℕ) (abort : Option Cause)
+      (a : For NextMessage (at cutter (Cut flow piece) abort)) → said ≡ SaidBusy
       → Had_by NextMessage (at cutter (Cut flow piece) abort) a (Some (sent_on cutter abort))
   segment cutter flow piece abort a says =
       let current = at cutter (Cut flow piece) abort in
-      goes_on laws readers turn NextMessage current a (keeps laws readers turn NextMessage current a refl refl) (Some (sent_on cutter abort)) refl (first_quiet cutter.source cutter.given)
-      (sym (sent_follows cutter abort flow piece od cutter.given refl a.valid.current.progress))
-      (sent_busy cutter (nat_lt (cutter.given * cutter.size) (length (text_of cutter))) g.request.busy a.stands.request.busy.0, a.stands.request.busy.1) refl says
+      goes_on laws readers turn NextMessage current a
+      (keeps laws readers turn NextMessage current a refl refl)
+      (Some (sent_on cutter abort)) refl (first_quiet cutter.source cutter.given)
+      (sym (sent_follows cutter abort flow piece od cutter.given refl a.valid.current.progress)) (
+        sent_busy cutter (nat_lt (cutter.given * cutter.size) (length (text_of cutter)))
+            g.request.busy a.stands.request.busy.0,
+        a.stands.request.busy.1,
+      ) refl says
 
   -- a START read answered busy
-  busy : (cutter : Cutting Request) (counted : ℕ) (abort : Option Cause) (a : For NextMessage (at cutter (Asking counted) abort)) → (slice_index od 0 == 1) ≡ true → said ≡ SaidBusy
-      → Had_by NextMessage (at cutter (Asking counted) abort) a (Some (waited cutter abort (one_more counted) t.limit))
+  busy : (cutter : Cutting Request) (counted : ℕ) (abort : Option Cause)
+      (a : For NextMessage (at cutter (Asking counted) abort)) → (slice_index od 0 == 1) ≡ true
+      → said ≡ SaidBusy
+      → Had_by NextMessage (at cutter (Asking counted) abort) a
+      (Some (waited cutter abort (one_more counted) t.limit))
   busy cutter counted abort a is says =
       let current = at cutter (Asking counted) abort in
       let reads = keeps laws readers turn NextMessage current a refl refl in
@@ -102,104 +121,170 @@ module _ (names : TextNamesAnswer) (taken : AnswersAreTakenUp)
       let there' = there laws readers turn in
       let h' = h laws readers turn NextMessage current a in
       let count : counted ≡ min g.request.busy 65535 = a.stands.request.busy.0 in
-      let follows : after (progress_of current) Ask od ≡ IsBusy cutter.source = asked_after cutter counted cutter.given od refl a.valid.current.progress ∙ rw is refl in
+      let follows : after (progress_of current) Ask od ≡ IsBusy cutter.source =
+      asked_after cutter counted cutter.given od refl a.valid.current.progress ∙ rw is refl in
       let level : IsBefore g.page layouts.run.od base operate_link (IsBusy cutter.source) there' =
-      subst (λ (p : Progress). IsBefore g.page layouts.run.od base operate_link p there') follows (before laws readers turn NextMessage current a) in
+      subst (λ (p : Progress). IsBefore g.page layouts.run.od base operate_link p there')
+      follows (before laws readers turn NextMessage current a) in
       let answer = (tied laws readers turn NextMessage current a).1 in
-      let sends : od ≡ isdu_data layouts.run.od there'.isdu = od_is laws readers turn NextMessage current a
-      ∙ asks_data layouts.run.od (progress_of current) w.message.mc.channel w.message.mc.read (flow_of w.message.mc.address) w.message.od.items w.message.mc.address there' a.stands.request.out.goes.move in
+      let sends : od ≡ isdu_data layouts.run.od there'.isdu =
+      od_is laws readers turn NextMessage current a
+      ∙ asks_data layouts.run.od (progress_of current) w.message.mc.channel w.message.mc.read
+      (flow_of w.message.mc.address) w.message.od.items w.message.mc.address there'
+      a.stands.request.out.goes.move in
       let none : h'.answer ≡ None = busy_unanswered base cutter.source h' there'.carried answer
-      (busy_base layouts.run.od base cutter.source there'.isdu there'.carried level.stands (subst (λ (d : List ℕ). (slice_index d 0 == 1) ≡ true) sends is)) in
+      (busy_base layouts.run.od base cutter.source there'.isdu there'.carried level.stands
+      (subst (λ (d : List ℕ). (slice_index d 0 == 1) ≡ true) sends is)) in
       record {
         reads = reads;
         kind = WasBusy;
         busy = g.request.busy + 1;
         brings = record {
-          session = busy_session (moment_of (core_out layouts w t NextMessage current) g n (Exchanged true)) (seen_in (core_out layouts w t NextMessage current) g) h' there'.carried cutter.source refl none;
+          session = busy_session (moment_of (core_out layouts w t NextMessage current) g n
+              (Exchanged true)) (seen_in (core_out layouts w t NextMessage current) g) h'
+              there'.carried cutter.source refl none;
           frozen = ((tt, (tt, tt)), reads.same refl);
           images = ((tt, ((refl, refl), tt)), refl);
           book = rw says refl;
           reports = rw says refl;
-          apart = calm_exchange cutter.source far steps Clean (master_text layouts.run w.message) g.request.hidden (Busy ∷ ShowImage ∷ []) none refl refl;
-          calm = λ k. absurd (subst (λ (p : Progress). IsMove layouts.run.od Ask p w.message.mc.channel w.message.mc.read (flow_of w.message.mc.address) w.message.od.items) (a.stands.fresh k).0 a.stands.request.out.goes.move);
+          apart = calm_exchange cutter.source far steps Clean
+              (master_text layouts.run w.message) g.request.hidden (Busy ∷ ShowImage ∷ []) none
+              refl refl;
+          calm = λ k. absurd (subst (λ (p : Progress). IsMove layouts.run.od Ask p
+              w.message.mc.channel w.message.mc.read (flow_of w.message.mc.address)
+              w.message.od.items) (a.stands.fresh k).0 a.stands.request.out.goes.move);
           once = refl;
           base = base;
-          level = subst (λ (p : Progress). IsBefore g.page layouts.run.od base operate_link p there') (sym (busy_follows cutter counted)) level;
+          level = subst (λ (p : Progress). IsBefore g.page layouts.run.od base operate_link p
+              there') (sym (busy_follows cutter counted)) level;
           answer = answer;
-          busy_is = (omega (arith, count), busy_waits t.limit g.request.busy g.request.asked abort counted count a.stands.request.busy.1);
+          busy_is = (
+            omega (arith, count),
+            busy_waits t.limit g.request.busy g.request.asked
+                abort counted count a.stands.request.busy.1,
+          );
           known = λ k. k;
         };
       }
 
   -- a segment of the answer: the request goes on, or has its answer
-  answered : (cutter : Cutting Request) (p : Cursor) (abort : Option Cause) (a : For NextMessage (at cutter p abort)) (i : ℕ) (octets : List ℕ) (x : Answer) → ReadsAnswer (move_at cutter p)
-      → after (progress_of (at cutter p abort)) (move_at cutter p) od ≡ IsHad cutter.source i octets → IsAnswerOf layouts.run.od (IsHad cutter.source i octets) x → said ≡ Answered x → Had_by NextMessage (at cutter p abort) a None
+  answered : (cutter : Cutting Request) (p : Cursor) (abort : Option Cause)
+      (a : For NextMessage (at cutter p abort)) (i : ℕ) (octets : List ℕ) (x : Answer)
+      → ReadsAnswer (move_at cutter p)
+      → after (progress_of (at cutter p abort)) (move_at cutter p) od
+      ≡ IsHad cutter.source i octets
+      → IsAnswerOf layouts.run.od (IsHad cutter.source i octets) x → said ≡ Answered x
+      → Had_by NextMessage (at cutter p abort) a None
   answered cutter p abort a i octets x asks had names_it says =
       let current = at cutter p abort in
       let reads = keeps laws readers turn NextMessage current a refl refl in
       let there' = there laws readers turn in
       let h' = h laws readers turn NextMessage current a in
       let level = before laws readers turn NextMessage current a in
-      let stands : FarStands layouts.run.od g.request.base (IsHad cutter.source i octets) there'.isdu there'.carried =
-      subst (λ (q : Progress). FarStands layouts.run.od g.request.base q there'.isdu there'.carried) had
-      (subst (λ (c : List Carried). FarStands layouts.run.od c (after (progress_of current) (move_at cutter p) od) there'.isdu there'.carried) (answers_base (move_at cutter p) g.request.base there'.carried asks) level.stands) in
-      let answer : h'.answer ≡ Some x = had_answer layouts.run.od g.request.base cutter.source i octets there'.isdu there'.carried h' x stands (tied laws readers turn NextMessage current a).1 names_it in
+      let stands : FarStands layouts.run.od g.request.base (IsHad cutter.source i octets)
+      there'.isdu there'.carried =
+      subst (λ (q : Progress). FarStands layouts.run.od g.request.base q there'.isdu
+      there'.carried) had
+      (subst (λ (c : List Carried). FarStands layouts.run.od c
+      (after (progress_of current) (move_at cutter p) od) there'.isdu there'.carried)
+      (answers_base (move_at cutter p) g.request.base there'.carried asks) level.stands) in
+      let answer : h'.answer ≡ Some x =
+      had_answer layouts.run.od g.request.base cutter.source i octets there'.isdu
+      there'.carried h' x stands (tied laws readers turn NextMessage current a).1
+      names_it in
       record {
         reads = reads;
         kind = WasAnswered x;
         busy = g.request.busy;
         brings = record {
-          session = answered_session (moment_of (core_out layouts w t NextMessage current) g n (Exchanged true)) (seen_in (core_out layouts w t NextMessage current) g) h' there'.carried cutter.source x refl answer;
+          session = answered_session (moment_of (core_out layouts w t NextMessage current) g n
+              (Exchanged true)) (seen_in (core_out layouts w t NextMessage current) g) h'
+              there'.carried cutter.source x refl answer;
           frozen = ((tt, (tt, tt)), reads.same refl);
           images = ((tt, ((refl, refl), tt)), refl);
           book = rw says refl;
           reports = rw says refl;
-          apart = exchange_before (Some cutter.source) far steps Clean (master_text layouts.run w.message) (Done x ∷ ShowImage ∷ []) refl refl refl;
+          apart = exchange_before (Some cutter.source) far steps Clean
+              (master_text layouts.run w.message) (Done x ∷ ShowImage ∷ []) refl refl refl;
           calm = λ k. refl;
           once = refl;
           base = there'.carried;
-          level = record { awake = level.awake; page_is = level.page_is; link_is = level.link_is; isdu = tt; stands = freed_quiet layouts.run.od g.request.base cutter.source i octets there'.isdu there'.carried stands };
+          level = record {
+            awake = level.awake;
+            page_is = level.page_is;
+            link_is = level.link_is;
+            isdu = tt;
+            stands = freed_quiet layouts.run.od g.request.base cutter.source i octets
+                there'.isdu there'.carried stands;
+          };
           answer = refl;
           busy_is = tt;
           known = λ k. absurd (let z : false ≡ true = k in cc);
         };
       }
 
-  answer_segment : (cutter : Cutting Request) (p : Cursor) (abort : Option Cause) (a : For NextMessage (at cutter p abort)) → IsReading p → ReadsAnswer (move_at cutter p)
-      → after (progress_of (at cutter p abort)) (move_at cutter p) od ≡ IsHad cutter.source (next_segment p) (octets_had p od)
-      → IsOutcomeSaid (is_read cutter.source) (replied_at p t.limit od (record { cutter = cutter; progress = p; abort = abort })) said
-      → Had_by NextMessage (at cutter p abort) a (going (replied_at p t.limit od (record { cutter = cutter; progress = p; abort = abort })))
+  answer_segment : (cutter : Cutting Request) (p : Cursor) (abort : Option Cause)
+      (a : For NextMessage (at cutter p abort)) → IsReading p → ReadsAnswer (move_at cutter p)
+      → after (progress_of (at cutter p abort)) (move_at cutter p) od
+      ≡ IsHad cutter.source (next_segment p) (octets_had p od)
+      → IsOutcomeSaid (is_read cutter.source)
+      (replied_at p t.limit od (record { cutter = cutter; progress = p; abort = abort })) said
+      → Had_by NextMessage (at cutter p abort) a
+      (going (replied_at p t.limit od
+      (record { cutter = cutter; progress = p; abort = abort })))
   answer_segment cutter p abort a reading asks had says =
       let current : Current = record { cutter = cutter; progress = p; abort = abort } in
       let size : cutter.size ≡ layouts.run.od = a.valid.size ∙ ap od_size a.stands.joined.told.0 in
-      let found = text laws readers turn NextMessage (Some current) a asks cutter.source (next_segment p) (octets_had p od) had in
+      let found = text laws readers turn NextMessage (Some current) a asks cutter.source
+      (next_segment p) (octets_had p od) had in
       by_outcome found.0 (replied_at p t.limit od current)
       (taken current t.limit od found.0 a.valid.current reading found.1
-      (found.2 ∙ ap (λ (k : ℕ). joined_octets k (answer_text cutter.source found.0) (next_segment p)) (sym size))
-      (subst (λ (k : ℕ). next_segment p * k < length (answer_text cutter.source found.0)) (sym size) found.3)) says
+      (found.2 ∙ ap (λ (k : ℕ). joined_octets k (answer_text cutter.source found.0)
+      (next_segment p)) (sym size))
+      (subst (λ (k : ℕ). next_segment p * k < length (answer_text cutter.source found.0))
+      (sym size) found.3)) says
     where
-      by_outcome : (x : Answer) (outcome : Outcome) → IsTakenUp (record { cutter = cutter; progress = p; abort = abort }) x (next_segment p) (octets_had p od) outcome → IsOutcomeSaid (is_read cutter.source) outcome said
+      by_outcome : (x : Answer) (outcome : Outcome)
+          → IsTakenUp (record { cutter = cutter; progress = p; abort = abort }) x
+          (next_segment p) (octets_had p od) outcome
+          → IsOutcomeSaid (is_read cutter.source) outcome said
           → Had_by NextMessage (at cutter p abort) a (going outcome)
       by_outcome x (GoesOn next) (joining, is, text_is) says =
           subst (λ (c : Current). Had_by NextMessage (at cutter p abort) a (Some c)) (sym is)
-          (goes_on laws readers turn NextMessage (at cutter p abort) a (keeps laws readers turn NextMessage (at cutter p abort) a refl refl) (at cutter (Receiving joining (next_segment p)) abort) refl (λ k. absurd (subst ReadsAnswer k asks))
-          (had ∙ ap (λ (xs : List ℕ). IsHad cutter.source (next_segment p) xs) (sym text_is)) (tt, a.stands.request.busy.1) refl says)
+          (goes_on laws readers turn NextMessage (at cutter p abort) a
+          (keeps laws readers turn NextMessage (at cutter p abort) a refl refl)
+          (at cutter (Receiving joining (next_segment p)) abort) refl
+          (λ k. absurd (subst ReadsAnswer k asks))
+          (had ∙ ap (λ (xs : List ℕ). IsHad cutter.source (next_segment p) xs) (sym text_is))
+          (tt, a.stands.request.busy.1) refl says)
       by_outcome x (HasText text_) up says =
-          answered cutter p abort a (next_segment p) (octets_had p od) x asks had (names layouts.run.od cutter.source (next_segment p) (octets_had p od) x up.1) (says.only x up.0)
+          answered cutter p abort a (next_segment p) (octets_had p od) x asks had
+          (names layouts.run.od cutter.source (next_segment p) (octets_had p od) x up.1)
+          (says.only x up.0)
 
-  start_read : (cutter : Cutting Request) (counted : ℕ) (abort : Option Cause) (a : For NextMessage (at cutter (Asking counted) abort)) → IsOutcomeSaid (is_read cutter.source) (asked cutter abort counted t.limit od) said
-      → Had_by NextMessage (at cutter (Asking counted) abort) a (going (asked cutter abort counted t.limit od))
+  start_read : (cutter : Cutting Request) (counted : ℕ) (abort : Option Cause)
+      (a : For NextMessage (at cutter (Asking counted) abort))
+      → IsOutcomeSaid (is_read cutter.source) (asked cutter abort counted t.limit od) said
+      → Had_by NextMessage (at cutter (Asking counted) abort) a
+      (going (asked cutter abort counted t.limit od))
   start_read cutter counted abort a says =
       ⊎_elim
       (λ (b : (slice_index od 0 == 1) ≡ true).
-      let outcome : asked cutter abort counted t.limit od ≡ GoesOn (waited cutter abort (one_more counted) t.limit) = rw b refl in
-      subst (λ (o : Outcome). Had_by NextMessage (at cutter (Asking counted) abort) a (going o)) (sym outcome)
-      (busy cutter counted abort a b (subst (λ (o : Outcome). IsOutcomeSaid (is_read cutter.source) o said) outcome says)))
-      (λ (f : (slice_index od 0 == 1) ≡ false). answer_segment cutter (Asking counted) abort a tt tt (asked_after cutter counted cutter.given od refl a.valid.current.progress ∙ rw f refl) says)
+      let outcome : asked cutter abort counted t.limit od
+      ≡ GoesOn (waited cutter abort (one_more counted) t.limit) = rw b refl in
+      subst (λ (o : Outcome). Had_by NextMessage (at cutter (Asking counted) abort) a (going o))
+      (sym outcome)
+      (busy cutter counted abort a b (subst
+      (λ (o : Outcome). IsOutcomeSaid (is_read cutter.source) o said) outcome says)))
+      (λ (f : (slice_index od 0 == 1) ≡ false). answer_segment cutter (Asking counted) abort a
+      tt tt (asked_after cutter counted cutter.given od refl a.valid.current.progress
+      ∙ rw f refl) says)
       (cases_Bool (slice_index od 0 == 1))
 
   -- an ABORT read: the request is cut off, answered or not
-  aborted : (cutter : Cutting Request) (p : Cursor) (cause : Cause) (a : For Abort (at cutter p (Some cause))) → said ≡ SaidCut cause → Had_by Abort (at cutter p (Some cause)) a None
+  aborted : (cutter : Cutting Request) (p : Cursor) (cause : Cause)
+      (a : For Abort (at cutter p (Some cause))) → said ≡ SaidCut cause
+      → Had_by Abort (at cutter p (Some cause)) a None
   aborted cutter p cause a says =
       let current = at cutter p (Some cause) in
       let reads = keeps laws readers turn Abort current a refl refl in
@@ -210,12 +295,15 @@ module _ (names : TextNamesAnswer) (taken : AnswersAreTakenUp)
         kind = WasAborted cause;
         busy = g.request.busy;
         brings = record {
-          session = aborted_session (moment_of (core_out layouts w t Abort current) g n (Exchanged true)) (seen_in (core_out layouts w t Abort current) g) h' there'.carried cutter.source cause refl a.stands.request.busy.1;
+          session = aborted_session (moment_of (core_out layouts w t Abort current) g n
+              (Exchanged true)) (seen_in (core_out layouts w t Abort current) g) h'
+              there'.carried cutter.source cause refl a.stands.request.busy.1;
           frozen = ((tt, (tt, tt)), reads.same refl);
           images = ((tt, ((refl, refl), tt)), refl);
           book = rw says refl;
           reports = rw says refl;
-          apart = exchange_before (Some cutter.source) far steps Clean (master_text layouts.run w.message) (Unknown cause ∷ ShowImage ∷ []) refl refl refl;
+          apart = exchange_before (Some cutter.source) far steps Clean
+              (master_text layouts.run w.message) (Unknown cause ∷ ShowImage ∷ []) refl refl refl;
           calm = λ k. refl;
           once = refl;
           base = there'.carried;
@@ -227,32 +315,57 @@ module _ (names : TextNamesAnswer) (taken : AnswersAreTakenUp)
       }
 
   -- every message of the request
-  request_message : (cutter : Cutting Request) (p : Cursor) (abort : Option Cause) (a : For NextMessage (at cutter p abort)) → IsOutcomeSaid (is_read cutter.source) (replied_at p t.limit od (record { cutter = cutter; progress = p; abort = abort })) said
-      → Had_by NextMessage (at cutter p abort) a (going (replied_at p t.limit od (record { cutter = cutter; progress = p; abort = abort })))
+  request_message : (cutter : Cutting Request) (p : Cursor) (abort : Option Cause)
+      (a : For NextMessage (at cutter p abort))
+      → IsOutcomeSaid (is_read cutter.source)
+      (replied_at p t.limit od (record
+      { cutter = cutter; progress = p; abort = abort })) said
+      → Had_by NextMessage (at cutter p abort) a
+      (going (replied_at p t.limit od
+      (record { cutter = cutter; progress = p; abort = abort })))
   request_message cutter (Cut flow piece) abort a says = segment cutter flow piece abort a says
   request_message cutter (Asking counted) abort a says = start_read cutter counted abort a says
-  request_message cutter (Receiving joining last) abort a says = answer_segment cutter (Receiving joining last) abort a tt tt refl says
+  request_message cutter (Receiving joining last) abort a says =
+      answer_segment cutter (Receiving joining last) abort a tt tt refl says
   request_message cutter Refused abort a says = absurd a.stands.request.busy.0
 
-  abort_message : (cutter : Cutting Request) (p : Cursor) (abort : Option Cause) (a : For Abort (at cutter p abort)) → IsTrue (is_some abort) → IfSome abort (λ cause. said ≡ SaidCut cause) → Had_by Abort (at cutter p abort) a None
+  abort_message : (cutter : Cutting Request) (p : Cursor) (abort : Option Cause)
+      (a : For Abort (at cutter p abort)) → IsTrue (is_some abort)
+      → IfSome abort (λ cause. said ≡ SaidCut cause) → Had_by Abort (at cutter p abort) a None
   abort_message cutter p None a some says = absurd (let z : false ≡ true = some in cc)
   abort_message cutter p (Some cause) a some says = aborted cutter p cause a says
 
   -- a message that says nothing of the request
-  other : (e : Exchange) (current : Option Current) (a : For e current) (reads : Reads laws readers turn e current a) → move_for e current ≡ Other → list_read e od t.events.reading ≡ None → said ≡ quiet_said (request_in current)
+  other : (e : Exchange) (current : Option Current) (a : For e current)
+      (reads : Reads laws readers turn e current a) → move_for e current ≡ Other
+      → list_read e od t.events.reading ≡ None → said ≡ quiet_said (request_in current)
       → Had_by e current a current
   other e current a reads is none says =
-      goes_on laws readers turn e current a reads current refl (λ k. absurd (let z : Path Move Other Leave = sym is ∙ k in cc)) (ap (λ (m : Move). after (progress_of current) m od) is) a.stands.request.busy none says
+      goes_on laws readers turn e current a reads current refl
+      (λ k. absurd (let z : Path Move Other Leave = sym is ∙ k in cc))
+      (ap (λ (m : Move). after (progress_of current) m od) is) a.stands.request.busy
+      none says
 
   -- the last octet of the events: the list is the frozen one
-  reported : (current : Option Current) (a : For ReadEvent current) (k : Took (taken_octet (reader_of t.events.reading) (slice_index od 0)) r.event (there laws readers turn).events) (l : List Event)
-      → list_read ReadEvent od t.events.reading ≡ Some l → said ≡ Reported l → Had_by ReadEvent current a current
+  reported : (current : Option Current) (a : For ReadEvent current)
+      (k : Took (taken_octet (reader_of t.events.reading) (slice_index od 0)) r.event
+      (there laws readers turn).events) (l : List Event)
+      → list_read ReadEvent od t.events.reading ≡ Some l → said ≡ Reported l
+      → Had_by ReadEvent current a current
   reported current a k l is says =
       let there' = there laws readers turn in
       let whole = k.whole l is in
-      let untold : told laws readers turn ≡ false = told_now laws readers turn ReadEvent current a ∙ undue (reading_in t.events g.events) (a.stands.request.out.reads refl) in
+      let untold : told laws readers turn ≡ false =
+      told_now laws readers turn ReadEvent current a
+      ∙ undue (reading_in t.events g.events) (a.stands.request.out.reads refl) in
       record {
-        reads = record { due = k.due; fit = k.fit; form = k.form; same = λ e. absurd (let z : Path (Option (List Event)) None (Some l) = sym e ∙ is in cc) };
+        reads = record {
+          due = k.due;
+          fit = k.fit;
+          form = k.form;
+          same = λ e. absurd (let z : Path (Option (List Event)) None (Some l) = sym e ∙ is in
+              cc);
+        };
         kind = WasReported l;
         busy = g.request.busy;
         brings = record {
@@ -261,7 +374,8 @@ module _ (names : TextNamesAnswer) (taken : AnswersAreTakenUp)
           images = ((tt, ((refl, refl), tt)), refl);
           book = rw says refl;
           reports = rw says refl;
-          apart = exchange_before (request_in current) far steps Clean (master_text layouts.run w.message) (Report l ∷ ShowImage ∷ []) refl refl refl;
+          apart = exchange_before (request_in current) far steps Clean
+              (master_text layouts.run w.message) (Report l ∷ ShowImage ∷ []) refl refl refl;
           calm = λ k. refl;
           once = refl;
           base = g.request.base;
@@ -272,29 +386,49 @@ module _ (names : TextNamesAnswer) (taken : AnswersAreTakenUp)
         };
       }
 
-  events_message : (current : Option Current) (a : For ReadEvent current) (list : Option (List Event)) → list_read ReadEvent od t.events.reading ≡ list → MatchOption list (said ≡ quiet_said (request_in current)) (λ l. said ≡ Reported l) → Had_by ReadEvent current a current
+  events_message : (current : Option Current) (a : For ReadEvent current)
+      (list : Option (List Event)) → list_read ReadEvent od t.events.reading ≡ list
+      → MatchOption list (said ≡ quiet_said (request_in current)) (λ l. said ≡ Reported l)
+      → Had_by ReadEvent current a current
   events_message current a list is says = by_list list is says
     where
-      k : Took (taken_octet (reader_of t.events.reading) (slice_index od 0)) r.event (there laws readers turn).events
-      k = took laws readers turn ReadEvent current a a.stands.joined.out_for.head (a.stands.request.out.reads refl)
+      k : Took (taken_octet (reader_of t.events.reading) (slice_index od 0)) r.event
+          (there laws readers turn).events
+      k = took laws readers turn ReadEvent current a a.stands.joined.out_for.head
+          (a.stands.request.out.reads refl)
 
-      by_list : (list : Option (List Event)) → list_read ReadEvent od t.events.reading ≡ list → MatchOption list (said ≡ quiet_said (request_in current)) (λ l. said ≡ Reported l) → Had_by ReadEvent current a current
+      by_list : (list : Option (List Event)) → list_read ReadEvent od t.events.reading ≡ list
+          → MatchOption list (said ≡ quiet_said (request_in current)) (λ l. said ≡ Reported l)
+          → Had_by ReadEvent current a current
       by_list None is says =
-          let same = ap (frozen_of (there laws readers turn).events.frozen) (told_now laws readers turn ReadEvent current a ∙ undue (reading_in t.events g.events) (a.stands.request.out.reads refl) ∙ sym (k.more is)) in
-          other ReadEvent current a (record { due = k.due; fit = k.fit; form = k.form; same = λ e. same }) refl is says
+          let same = ap (frozen_of (there laws readers turn).events.frozen)
+          (told_now laws readers turn ReadEvent current a
+          ∙ undue (reading_in t.events g.events) (a.stands.request.out.reads refl)
+          ∙ sym (k.more is)) in
+          other ReadEvent current a (record
+          { due = k.due; fit = k.fit; form = k.form; same = λ e. same }) refl is says
       by_list (Some l) is says = reported current a k l is says
 
   -- every message
-  pub message : (e : Exchange) (current : Option Current) (a : For e current) → IsTaken e od (core_out layouts w t e current).session said → Had_by e current a (current_after e t.limit od current)
+  pub message : (e : Exchange) (current : Option Current) (a : For e current)
+      → IsTaken e od (core_out layouts w t e current).session said
+      → Had_by e current a (current_after e t.limit od current)
   message NextMessage None a says = absurd (let z : false ≡ true = a.valid.out in cc)
   message NextMessage (Some c) a says = request_message c.cutter c.progress c.abort a says
   message Abort None a says = absurd (let z : false ≡ true = a.valid.out in cc)
   message Abort (Some c) a says = abort_message c.cutter c.progress c.abort a a.valid.out says
   message Idle None a says = idle a says
   message Idle (Some c) a says = idle_first c a a.valid.out says
-  message ReadEvent None a says = events_message None a (list_read ReadEvent od t.events.reading) refl says
-  message ReadEvent (Some c) a says = events_message (Some c) a (list_read ReadEvent od t.events.reading) refl says
-  message ConfirmEvents None a says = other ConfirmEvents None a (rests laws readers turn ConfirmEvents None a refl refl) refl refl says
-  message ConfirmEvents (Some c) a says = other ConfirmEvents (Some c) a (rests laws readers turn ConfirmEvents (Some c) a refl refl) refl refl says
+  message ReadEvent None a says = events_message None a
+      (list_read ReadEvent od t.events.reading) refl says
+  message ReadEvent (Some c) a says =
+      events_message (Some c) a (list_read ReadEvent od t.events.reading) refl says
+  message ConfirmEvents None a says =
+      other ConfirmEvents None a (rests laws readers turn ConfirmEvents None a refl refl) refl
+      refl says
+  message ConfirmEvents (Some c) a says =
+      other ConfirmEvents (Some c) a (rests laws readers turn ConfirmEvents (Some c) a refl
+      refl) refl refl says
   message e None a says = other e None a (keeps laws readers turn e None a refl refl) refl refl says
-  message e (Some c) a says = other e (Some c) a (keeps laws readers turn e (Some c) a refl refl) refl refl says
+  message e (Some c) a says = other e (Some c) a
+      (keeps laws readers turn e (Some c) a refl refl) refl refl says

@@ -43,27 +43,34 @@ all_own-append : (xs ys : List Step) → AllOwn xs → AllOwn ys → AllOwn (xs 
 all_own-append [] ys h k = k
 all_own-append (x ∷ xs) ys h k = (h.0, all_own-append xs ys h.1 k)
 
-own_all_step : (request : Option Request) (far : Far) (step : LocalStep) → AllOwn (own_step request far step)
+own_all_step : (request : Option Request) (far : Far) (step : LocalStep)
+    → AllOwn (own_step request far step)
 own_all_step request far step = grind (arith, common_steps)
 
-pub own_all : (request : Option Request) (steps : List LocalStep) (far : Far) → AllOwn (own_steps request far steps)
+pub own_all : (request : Option Request) (steps : List LocalStep) (far : Far)
+    → AllOwn (own_steps request far steps)
 own_all request [] far = tt
-own_all request (step ∷ steps) far = all_own-append (own_step request far step) (own_steps request (local far step) steps) (own_all_step request far step) (own_all request steps (local far step))
+own_all request (step ∷ steps) far =
+    all_own-append (own_step request far step) (own_steps request (local far step) steps)
+    (own_all_step request far step) (own_all request steps (local far step))
 
 release_own : (e : Events) → AllOwn (release_steps e)
 release_own e = grind (arith, common_steps)
 
 -- own steps clash with a busy reply alone
 
-plain_apart : (x : Step) → ((y : Step) → clash x y ≡ false) → (ys : List Step) → list_all (λ other. not (clash x other)) ys ≡ true
+plain_apart : (x : Step) → ((y : Step) → clash x y ≡ false) → (ys : List Step)
+    → list_all (λ other. not (clash x other)) ys ≡ true
 plain_apart x h [] = refl
 plain_apart x h (y ∷ ys) = rw (h y) (plain_apart x h ys)
 
-carry_apart : (a : Answer) (ys : List Step) → no_busy ys ≡ true → list_all (λ other. not (clash (Carry a) other)) ys ≡ true
+carry_apart : (a : Answer) (ys : List Step) → no_busy ys ≡ true
+    → list_all (λ other. not (clash (Carry a) other)) ys ≡ true
 carry_apart a [] h = refl
 carry_apart a (y ∷ ys) h = grind (arith, common_steps, carry_apart a ys)
 
-own_apart : (x : Step) (ys : List Step) → is_own x ≡ true → no_busy ys ≡ true → list_all (λ other. not (clash x other)) ys ≡ true
+own_apart : (x : Step) (ys : List Step) → is_own x ≡ true → no_busy ys ≡ true
+    → list_all (λ other. not (clash x other)) ys ≡ true
 own_apart (Carry a) ys own h = carry_apart a ys h
 own_apart (LateCarry a) ys own h = plain_apart (LateCarry a) (λ y. refl) ys
 own_apart (Freeze e) ys own h = plain_apart (Freeze e) (λ y. refl) ys
@@ -73,25 +80,31 @@ own_apart OutputOn ys own h = plain_apart OutputOn (λ y. refl) ys
 own_apart OutputOff ys own h = plain_apart OutputOff (λ y. refl) ys
 own_apart _ ys own h = absurd (let z : false ≡ true = own in cc)
 
-own_no_busy : (x : Step) (ys : List Step) → is_own x ≡ true → no_busy ys ≡ true → no_busy (x ∷ ys) ≡ true
+own_no_busy : (x : Step) (ys : List Step) → is_own x ≡ true → no_busy ys ≡ true
+    → no_busy (x ∷ ys) ≡ true
 own_no_busy x ys given given2 = grind (arith, common_steps)
 
 -- they are no business of the book, and no reports
 
-own_unbooked : (x : Step) (ys : List Step) → is_own x ≡ true → (filter is_for_book (x ∷ ys) ≡ filter is_for_book ys) × (filter is_report (x ∷ ys) ≡ filter is_report ys)
+own_unbooked : (x : Step) (ys : List Step) → is_own x ≡ true
+    → (filter is_for_book (x ∷ ys) ≡ filter is_for_book ys)
+    × (filter is_report (x ∷ ys) ≡ filter is_report ys)
 own_unbooked x ys given = grind (arith, common_steps)
 
 -- What is heard, with its one confirm at most
 
-confirm_apart : (ys : List Step) → no_confirm ys ≡ true → list_all (λ other. not (clash Confirm other)) ys ≡ true
+confirm_apart : (ys : List Step) → no_confirm ys ≡ true
+    → list_all (λ other. not (clash Confirm other)) ys ≡ true
 confirm_apart [] h = refl
 confirm_apart (y ∷ ys) h = grind (arith, common_steps, confirm_apart ys)
 
-pub make_apart : (ys : List Step) → no_make ys ≡ true → list_all (λ other. not (clash Make other)) ys ≡ true
+pub make_apart : (ys : List Step) → no_make ys ≡ true
+    → list_all (λ other. not (clash Make other)) ys ≡ true
 make_apart [] h = refl
 make_apart (y ∷ ys) h = grind (arith, common_steps, make_apart ys)
 
-own_no_make : (x : Step) (ys : List Step) → is_own x ≡ true → no_make ys ≡ true → no_make (x ∷ ys) ≡ true
+own_no_make : (x : Step) (ys : List Step) → is_own x ≡ true → no_make ys ≡ true
+    → no_make (x ∷ ys) ≡ true
 own_no_make x ys given given2 = grind (arith, common_steps)
 
 -- these steps may stand before those
@@ -103,7 +116,13 @@ pub record Before (xs ys : List Step) : Type 0 where
   pub reports : filter is_report (xs ++ ys) ≡ filter is_report ys
 
 before_none : (ys : List Step) → IsTrue (is_clash_free ys) → Before [] ys
-before_none ys free = record { busy = λ h. h; make = λ h. h; free = free; book = refl; reports = refl }
+before_none ys free = record {
+  busy = λ h. h;
+  make = λ h. h;
+  free = free;
+  book = refl;
+  reports = refl;
+}
 
 before_own : (x : Step) (xs ys : List Step) → is_own x ≡ true
     → list_all (λ other. not (clash x other)) (xs ++ ys) ≡ true → Before xs ys → Before (x ∷ xs) ys
@@ -115,7 +134,8 @@ before_own x xs ys own apart h = record {
   reports = (own_unbooked x (xs ++ ys) own).1 ∙ h.reports;
 }
 
-before_calm : (x : Step) (xs ys : List Step) → is_own x ≡ true → ((y : Step) → clash x y ≡ false) → Before xs ys → Before (x ∷ xs) ys
+before_calm : (x : Step) (xs ys : List Step) → is_own x ≡ true
+    → ((y : Step) → clash x y ≡ false) → Before xs ys → Before (x ∷ xs) ys
 before_calm x xs ys own calm h = before_own x xs ys own (plain_apart x calm (xs ++ ys)) h
 
 -- own steps stand before what stands before no busy reply
@@ -126,34 +146,59 @@ own_before (x ∷ xs) ys zs h calm k =
     let n = own_before xs ys zs h.1 calm k in
     before_own x (xs ++ ys) zs h.0 (own_apart x ((xs ++ ys) ++ zs) h.0 (n.busy calm)) n
 
-before_confirm : (xs ys : List Step) → no_confirm (xs ++ ys) ≡ true → Before xs ys → Before (Confirm ∷ xs) ys
-before_confirm xs ys once h = record { busy = h.busy; make = h.make; free = rw (confirm_apart (xs ++ ys) once) h.free; book = h.book; reports = h.reports }
+before_confirm : (xs ys : List Step) → no_confirm (xs ++ ys) ≡ true → Before xs ys
+    → Before (Confirm ∷ xs) ys
+before_confirm xs ys once h = record {
+  busy = h.busy;
+  make = h.make;
+  free = rw (confirm_apart (xs ++ ys) once) h.free;
+  book = h.book;
+  reports = h.reports;
+}
 
-output_before : (output : Option Image) (ys : List Step) → IsTrue (is_clash_free ys) → Before (output_steps output) ys
+output_before : (output : Option Image) (ys : List Step) → IsTrue (is_clash_free ys)
+    → Before (output_steps output) ys
 output_before None ys free = before_calm OutputOff [] ys refl (λ y. refl) (before_none ys free)
-output_before (Some image) ys free = before_calm OutputOn [] ys refl (λ y. refl) (before_none ys free)
+output_before (Some image) ys free =
+    before_calm OutputOn [] ys refl (λ y. refl) (before_none ys free)
 
-output_once : (output : Option Image) (ys : List Step) → no_confirm ys ≡ true → no_confirm (output_steps output ++ ys) ≡ true
+output_once : (output : Option Image) (ys : List Step) → no_confirm ys ≡ true
+    → no_confirm (output_steps output ++ ys) ≡ true
 output_once output ys given = grind (arith, common_steps)
 
-worked_before : (e : Events) (c : Bool) (output : Option Image) (ys : List Step) → no_confirm ys ≡ true → IsTrue (is_clash_free ys) → Before (event_steps e c ++ output_steps output) ys
+worked_before : (e : Events) (c : Bool) (output : Option Image) (ys : List Step)
+    → no_confirm ys ≡ true → IsTrue (is_clash_free ys)
+    → Before (event_steps e c ++ output_steps output) ys
 worked_before e true output ys once free =
-    elim (not e.held && not (is_empty e.frozen)) as (λ b. Before ((if b then Confirm ∷ [] else []) ++ output_steps output) ys)
-    [ true ↦ before_confirm (output_steps output) ys (output_once output ys once) (output_before output ys free) | false ↦ output_before output ys free ]
+    elim (not e.held && not (is_empty e.frozen)) as
+    (λ b. Before ((if b then Confirm ∷ [] else []) ++ output_steps output) ys) [
+      | true ↦ before_confirm (output_steps output) ys (output_once output ys once)
+          (output_before output ys free)
+      | false ↦ output_before output ys free
+    ]
 worked_before e false output ys once free =
-    elim (is_empty e.frozen && not (is_empty e.waiting)) as (λ b. Before ((if b then Freeze (take 6 e.waiting) ∷ [] else []) ++ output_steps output) ys)
-    [ true ↦ before_calm (Freeze (take 6 e.waiting)) (output_steps output) ys refl (λ y. refl) (output_before output ys free) | false ↦ output_before output ys free ]
+    elim (is_empty e.frozen && not (is_empty e.waiting)) as
+    (λ b. Before ((if b then Freeze (take 6 e.waiting) ∷ [] else []) ++ output_steps output) ys) [
+      | true ↦ before_calm (Freeze (take 6 e.waiting)) (output_steps output) ys refl (λ y. refl)
+          (output_before output ys free)
+      | false ↦ output_before output ys free
+    ]
 
-heard_before_as : (q : Option (Far × MasterMsg)) (o : List ℕ) (ys : List Step) → no_confirm ys ≡ true → IsTrue (is_clash_free ys) → Before (heard_steps_as q o) ys
+heard_before_as : (q : Option (Far × MasterMsg)) (o : List ℕ) (ys : List Step)
+    → no_confirm ys ≡ true → IsTrue (is_clash_free ys) → Before (heard_steps_as q o) ys
 heard_before_as None o ys once free = before_none ys free
-heard_before_as (Some (there, m)) o ys once free = worked_before there.events (confirms_by m.mc) (output_of (worked there o m)) ys once free
+heard_before_as (Some (there, m)) o ys once free =
+    worked_before there.events (confirms_by m.mc) (output_of (worked there o m)) ys once free
 
-passed_before : (passage : Passage) (far : Far) (o : List ℕ) (ys : List Step) → no_confirm ys ≡ true → IsTrue (is_clash_free ys) → Before (passed_steps passage far o) ys
+passed_before : (passage : Passage) (far : Far) (o : List ℕ) (ys : List Step)
+    → no_confirm ys ≡ true → IsTrue (is_clash_free ys) → Before (passed_steps passage far o) ys
 passed_before OutLost far o ys once free = before_none ys free
 passed_before other far o ys once free = heard_before_as (accepted far o) o ys once free
 
 -- an exchange before what it brought, where that is no busy reply
-pub exchange_before : (request : Option Request) (far : Far) (steps : List LocalStep) (passage : Passage) (o : List ℕ) (ys : List Step) → no_busy ys ≡ true → no_confirm ys ≡ true → IsTrue (is_clash_free ys) →
+pub exchange_before : (request : Option Request) (far : Far) (steps : List LocalStep)
+    (passage : Passage) (o : List ℕ) (ys : List Step) → no_busy ys ≡ true → no_confirm ys ≡ true
+    → IsTrue (is_clash_free ys) →
     Before (exchange_steps request far steps passage o) ys
 exchange_before request far steps passage o ys calm once free =
     own_before (own_steps request far steps) (passed_steps passage (locals far steps) o) ys
@@ -187,46 +232,68 @@ pub calm_before : (xs ys zs : List Step) → AllCalm xs → Before ys zs → Bef
 calm_before [] ys zs h k = k
 calm_before (x ∷ xs) ys zs h k = before_calm x (xs ++ ys) zs h.0 h.1 (calm_before xs ys zs h.2 k)
 
-answered_carry : (r : Request) (b : Answer) (s : IsduState) (far : Far) (a : Answer) (h : Hidden) → h.answer ≡ Some b → (c : Answer) × ((hidden_carry (Some r) s far a h).answer ≡ Some c)
+answered_carry : (r : Request) (b : Answer) (s : IsduState) (far : Far) (a : Answer)
+    (h : Hidden) → h.answer ≡ Some b
+    → (c : Answer) × ((hidden_carry (Some r) s far a h).answer ≡ Some c)
 answered_carry r b (Handed q) far a h e =
-    elim (has_room far && fits q a) as (λ t. (c : Answer) × ((if t then hidden_carried (Some r) a h else h).answer ≡ Some c)) [ true ↦ (a, refl) | false ↦ (b, e) ]
+    elim (has_room far && fits q a) as
+    (λ t. (c : Answer) × ((if t then hidden_carried (Some r) a h else h).answer ≡ Some c))
+    [ true ↦ (a, refl) | false ↦ (b, e) ]
 answered_carry r b state far a h e = (b, e)
 
-answered_step : (r : Request) (b : Answer) (far : Far) (step : LocalStep) (h : Hidden) → h.answer ≡ Some b → (c : Answer) × ((hidden_after (Some r) far step h).answer ≡ Some c)
+answered_step : (r : Request) (b : Answer) (far : Far) (step : LocalStep) (h : Hidden)
+    → h.answer ≡ Some b → (c : Answer) × ((hidden_after (Some r) far step h).answer ≡ Some c)
 answered_step r b far (OwnCarry a) h e = answered_carry r b far.isdu far a h e
 answered_step r b far other h e = (b, e)
 
-answered_stays : (r : Request) (steps : List LocalStep) (b : Answer) (far : Far) (h : Hidden) → h.answer ≡ Some b → (hidden_through (Some r) far steps h).answer ≡ None → ⊥
+answered_stays : (r : Request) (steps : List LocalStep) (b : Answer) (far : Far) (h : Hidden)
+    → h.answer ≡ Some b → (hidden_through (Some r) far steps h).answer ≡ None → ⊥
 answered_stays r [] b far h e n = let k : None ≡ Some b = sym n ∙ e in absurd (cc)
-answered_stays r (step ∷ steps) b far h e n = let k = answered_step r b far step h e in answered_stays r steps k.0 (local far step) (hidden_after (Some r) far step h) k.1 n
+answered_stays r (step ∷ steps) b far h e n = let k = answered_step r b far step h e in
+    answered_stays r steps k.0 (local far step) (hidden_after (Some r) far step h) k.1 n
 
-calm_carry : (r : Request) (s : IsduState) (far : Far) (a : Answer) (h : Hidden) → ((b : Answer) → (hidden_carry (Some r) s far a h).answer ≡ Some b → ⊥) → AllCalm (carry_steps (Some r) s far a)
+calm_carry : (r : Request) (s : IsduState) (far : Far) (a : Answer) (h : Hidden)
+    → ((b : Answer) → (hidden_carry (Some r) s far a h).answer ≡ Some b → ⊥)
+    → AllCalm (carry_steps (Some r) s far a)
 calm_carry r (Handed q) far a h n = split (has_room far && fits q a) n
   where
-    split : (t : Bool) → ((b : Answer) → (if t then hidden_carried (Some r) a h else h).answer ≡ Some b → ⊥) → AllCalm (if t then carry_step (Some r) a ∷ [] else [])
+    split : (t : Bool) → ((b : Answer)
+        → (if t then hidden_carried (Some r) a h else h).answer ≡ Some b → ⊥)
+        → AllCalm (if t then carry_step (Some r) a ∷ [] else [])
     split true n = absurd (n a refl)
     split false n = tt
 calm_carry r state far a h n = tt
 
-calm_step : (r : Request) (far : Far) (step : LocalStep) (h : Hidden) → ((b : Answer) → (hidden_after (Some r) far step h).answer ≡ Some b → ⊥) → AllCalm (own_step (Some r) far step)
+calm_step : (r : Request) (far : Far) (step : LocalStep) (h : Hidden)
+    → ((b : Answer) → (hidden_after (Some r) far step h).answer ≡ Some b → ⊥)
+    → AllCalm (own_step (Some r) far step)
 calm_step r far (OwnCarry a) h n = calm_carry r far.isdu far a h n
-calm_step r far (OwnRaise e) h n = elim (freezes_at_once far.events) as (λ b. AllCalm (if b then Freeze (e ∷ []) ∷ [] else [])) [ true ↦ (refl, (λ y. refl), tt) | false ↦ tt ]
+calm_step r far (OwnRaise e) h n =
+    elim (freezes_at_once far.events) as (λ b. AllCalm (if b then Freeze (e ∷ []) ∷ [] else []))
+    [ true ↦ (refl, (λ y. refl), tt) | false ↦ tt ]
 calm_step r far (OwnInput image) h n =
-    elim (is_input far image) as (λ b. AllCalm (if b then Input (Some image) ∷ [] else [])) [ true ↦ (refl, (λ y. refl), tt) | false ↦ tt ]
+    elim (is_input far image) as (λ b. AllCalm (if b then Input (Some image) ∷ [] else []))
+    [ true ↦ (refl, (λ y. refl), tt) | false ↦ tt ]
 calm_step r far other h n = (refl, (λ y. refl), tt)
 
-pub own_calm : (r : Request) (steps : List LocalStep) (far : Far) (h : Hidden) → (hidden_through (Some r) far steps h).answer ≡ None → AllCalm (own_steps (Some r) far steps)
+pub own_calm : (r : Request) (steps : List LocalStep) (far : Far) (h : Hidden)
+    → (hidden_through (Some r) far steps h).answer ≡ None → AllCalm (own_steps (Some r) far steps)
 own_calm r [] far h n = tt
 own_calm r (step ∷ steps) far h n =
     calm-append (own_step (Some r) far step) (own_steps (Some r) (local far step) steps)
-    (calm_step r far step h (λ b e. answered_stays r steps b (local far step) (hidden_after (Some r) far step h) e n))
+    (calm_step r far step h (λ b e. answered_stays r steps b (local far step)
+    (hidden_after (Some r) far step h) e n))
     (own_calm r steps (local far step) (hidden_after (Some r) far step h) n)
 
 -- an exchange before a busy reply
-pub calm_exchange : (r : Request) (far : Far) (steps : List LocalStep) (passage : Passage) (o : List ℕ) (h : Hidden) (ys : List Step) → (hidden_through (Some r) far steps h).answer ≡ None → no_confirm ys ≡ true → IsTrue (is_clash_free ys) →
+pub calm_exchange : (r : Request) (far : Far) (steps : List LocalStep) (passage : Passage)
+    (o : List ℕ) (h : Hidden) (ys : List Step)
+    → (hidden_through (Some r) far steps h).answer ≡ None → no_confirm ys ≡ true
+    → IsTrue (is_clash_free ys) →
     Before (exchange_steps (Some r) far steps passage o) ys
 calm_exchange r far steps passage o h ys n once free =
-    calm_before (own_steps (Some r) far steps) (passed_steps passage (locals far steps) o) ys (own_calm r steps far h n) (passed_before passage (locals far steps) o ys once free)
+    calm_before (own_steps (Some r) far steps) (passed_steps passage (locals far steps) o) ys
+    (own_calm r steps far h n) (passed_before passage (locals far steps) o ys once free)
 
 -- In the turn of a fresh request nothing stands that a busy reply or a taking would clash with
 

@@ -24,48 +24,69 @@ use Rattle.iol_app.specs.Seen.{NewSteps, BeginSteps, DenySteps, AbortSteps, Canc
 
 pub new_steps : (busy : ℕ) (new : Core) → new ≡ opened_core busy → NewSteps new
 unfolding NewSteps
-new_steps busy new e = λ far n told due. subst (λ (c : Core). Stands c (opened_ghost far told due) far n) (sym e) (opens busy far n told due)
+new_steps busy new e = λ far n told due. subst
+    (λ (c : Core). Stands c (opened_ghost far told due) far n) (sym e) (opens busy far n told due)
 
 -- in OPERATE with no request under way
-at_free : (P : Core → Type 0) (state : State) (session : SessionState) → mode_in state ≡ ModeOperate → session.current ≡ None
-    → ((s : Operate) → P (operate_core s session None)) → P (record { state = state; session = session })
-at_free P (AtOperate s) session mode free f = subst (λ (c : Option Current). P (operate_core s session c)) (sym free) (f s)
+at_free : (P : Core → Type 0) (state : State) (session : SessionState)
+    → mode_in state ≡ ModeOperate → session.current ≡ None
+    → ((s : Operate) → P (operate_core s session None))
+    → P (record { state = state; session = session })
+at_free P (AtOperate s) session mode free f =
+    subst (λ (c : Option Current). P (operate_core s session c)) (sym free) (f s)
 at_free P state session mode free f = absurd (let k : mode_in state ≡ ModeOperate = mode in cc)
 
 -- with a request under way, so in OPERATE
-at_request : (P : Core → Type 0) (state : State) (session : SessionState) → Joined state session → IsSome session.current
-    → ((s : Operate) (current : Current) → P (operate_core s session (Some current))) → P (record { state = state; session = session })
-at_request P (AtDown s) session joined some f = absurd (let k : false ≡ true = subst IsSome joined.0 some in cc)
+at_request : (P : Core → Type 0) (state : State) (session : SessionState) → Joined state session
+    → IsSome session.current
+    → ((s : Operate) (current : Current) → P (operate_core s session (Some current)))
+    → P (record { state = state; session = session })
+at_request P (AtDown s) session joined some f =
+    absurd (let k : false ≡ true = subst IsSome joined.0 some in cc)
 at_request P (AtOperate s) session joined some f = by_current session.current refl some
   where
-    by_current : (current : Option Current) → session.current ≡ current → IsSome current → P (operate_core s session session.current)
+    by_current : (current : Option Current) → session.current ≡ current → IsSome current
+        → P (operate_core s session session.current)
     by_current None e k = absurd (let n : false ≡ true = k in cc)
-    by_current (Some current) e k = subst (λ (c : Option Current). P (operate_core s session c)) (sym e) (f s current)
-at_request P state session joined some f = absurd (let k : false ≡ true = subst IsSome joined.0.0 some in cc)
+    by_current (Some current) e k = subst (λ (c : Option Current). P (operate_core s session c))
+        (sym e) (f s current)
+at_request P state session joined some f =
+    absurd (let k : false ≡ true = subst IsSome joined.0.0 some in cc)
 
-pub deny_steps : (old : Core) → mode_in old.state ≡ ModeOperate → old.session.current ≡ None → old.session.isdu ≡ Some false → DenySteps old
+pub deny_steps : (old : Core) → mode_in old.state ≡ ModeOperate → old.session.current ≡ None
+    → old.session.isdu ≡ Some false → DenySteps old
 unfolding DenySteps
 deny_steps old mode free none = λ g far n stands moment ticket page.
-    at_free (λ (c : Core). Stands c g far n → MaySession moment (Deny ticket) (session_in c g far)) old.state old.session mode free (λ s k. denies s old.session g far n moment ticket k none page) stands
+    at_free (λ (c : Core). Stands c g far n
+    → MaySession moment (Deny ticket) (session_in c g far)) old.state old.session mode free
+    (λ s k. denies s old.session g far n moment ticket k none page) stands
 
-pub begin_steps : (request : Request) (old new : Core) → mode_in old.state ≡ ModeOperate → old.session.current ≡ None → old.session.isdu ≡ Some true → OutSuits old.session.exchange old.session.current
+pub begin_steps : (request : Request) (old new : Core) → mode_in old.state ≡ ModeOperate
+    → old.session.current ≡ None → old.session.isdu ≡ Some true
+    → OutSuits old.session.exchange old.session.current
     → new ≡ record old { session = begun_in request old.session } → BeginSteps request old new
 unfolding BeginSteps
 begin_steps request old new mode free known suits e = λ g far n stands.
     subst (λ (k : Core). BeginGives old k g far n request) (sym e)
-    (at_free (λ (c : Core). Stands c g far n → BeginGives c (record c { session = begun_in request c.session }) g far n request) old.state old.session mode free
-    (λ s k. begin_gives s old.session g far n request k (subst (OutSuits old.session.exchange) free suits) known) stands)
+    (at_free (λ (c : Core). Stands c g far n
+    → BeginGives c (record c { session = begun_in request c.session }) g far n request)
+    old.state old.session mode free
+    (λ s k. begin_gives s old.session g far n request k
+    (subst (OutSuits old.session.exchange) free suits) known) stands)
 
 -- an abort leaves both ends standing
-module _ (old new : Core) (cause : Cause) (some : IsSome old.session.current) (e : new ≡ record old { session = aborted_in cause old.session }) where
+module _ (old new : Core) (cause : Cause) (some : IsSome old.session.current)
+    (e : new ≡ record old { session = aborted_in cause old.session }) where
   aborted_is : (k : Cause) → cause ≡ k → record old { session = aborted_in k old.session } ≡ new
-  aborted_is k same = subst (λ (x : Cause). record old { session = aborted_in x old.session } ≡ new) same (sym e)
+  aborted_is k same = subst (λ (x : Cause). record old { session = aborted_in x old.session }
+      ≡ new) same (sym e)
 
   pub abort_steps : AbortSteps cause old new
   unfolding AbortSteps
   abort_steps = λ g far n stands same low.
       subst (λ (k : Core). Stands k g far n) (aborted_is BusyTooLong same)
-      (at_request (λ (c : Core). Stands c g far n → Stands (record c { session = aborted_in BusyTooLong c.session }) g far n)
+      (at_request (λ (c : Core). Stands c g far n
+      → Stands (record c { session = aborted_in BusyTooLong c.session }) g far n)
       old.state old.session stands.joined some (λ s current k.
       aborts_by BusyTooLong g.request.asked s old.session current g far n k
       (waiting_at old.session.limit g.request.busy g.request.asked BusyTooLong current.abort
@@ -74,21 +95,29 @@ module _ (old new : Core) (cause : Cause) (some : IsSome old.session.current) (e
   pub cancel_steps : CancelSteps cause old new
   unfolding CancelSteps
   cancel_steps = λ g far n stands same.
-      subst (λ (k : Core). Stands k (asking_ghost true g) far n × (cancelling (session_in old g far) ≡ session_in k (asking_ghost true g) far))
+      subst (λ (k : Core). Stands k (asking_ghost true g) far n
+      × (cancelling (session_in old g far) ≡ session_in k (asking_ghost true g) far))
       (aborted_is Cancelled same) (
-        at_request (λ (c : Core). Stands c g far n → Stands (record c { session = aborted_in Cancelled c.session }) (asking_ghost true g) far n)
+        at_request (λ (c : Core). Stands c g far n
+            → Stands (record c { session = aborted_in Cancelled c.session })
+            (asking_ghost true g) far n)
             old.state old.session stands.joined some (λ s current k.
             aborts_by Cancelled true s old.session current g far n k
             (waiting_at old.session.limit g.request.busy true Cancelled current.abort
             (marked_at old.session.limit g.request.busy g.request.asked current.abort
             k.request.busy.1) refl)) stands,
-        at_request (λ (c : Core). cancelling (session_in c g far) ≡ session_in (record c { session = aborted_in Cancelled c.session }) (asking_ghost true g) far)
+        at_request (λ (c : Core). cancelling (session_in c g far)
+            ≡ session_in (record c { session = aborted_in Cancelled c.session })
+            (asking_ghost true g) far)
             old.state old.session stands.joined some (λ s current. refl),
       )
 
-pub want_steps : (wanted : Option Image) (old new : Core) → IfSome wanted IsImage → new ≡ wanting_core wanted old → WantSteps old new
+pub want_steps : (wanted : Option Image) (old new : Core) → IfSome wanted IsImage
+    → new ≡ wanting_core wanted old → WantSteps old new
 unfolding WantSteps
-want_steps wanted old new image e = λ g far n stands. subst (λ (c : Core). Stands c g far n) (sym e) (wants old g far n wanted image stands)
+want_steps wanted old new image e =
+    λ g far n stands. subst (λ (c : Core). Stands c g far n) (sym e)
+    (wants old g far n wanted image stands)
 
 pub ask_steps : (k : Configuration) (old new : Core)
     → new ≡ record old { session = record old.session { configuration = k } } → WantSteps old new
@@ -99,5 +128,7 @@ ask_steps k old new e = λ g far n stands.
 pub restart_steps_of : (old new : Core) → new ≡ restarted_core old → RestartSteps old new
 unfolding RestartSteps
 restart_steps_of old new e = λ g far n stands.
-    subst (λ (c : Core). Stands c (restarted_ghost old g) far n × (session_through (restart_steps (request_in old.session.current)) (session_in old g far) ≡ session_in c (restarted_ghost old g) far)) (sym e)
+    subst (λ (c : Core). Stands c (restarted_ghost old g) far n
+    × (session_through (restart_steps (request_in old.session.current))
+    (session_in old g far) ≡ session_in c (restarted_ghost old g) far)) (sym e)
     (restarts old g far n stands, restarted_session old g far)

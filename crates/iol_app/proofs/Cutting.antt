@@ -15,12 +15,14 @@ unfolding segment
 length-segment size text i = grind (arith, common_steps)
 
 -- the pair is that of segment i of the text
-pub record IsPair (size : ℕ) (text : List ℕ) (i : ℕ) (flow : Flow) (piece : ArrayVec ℕ) : Type 0 where
-  pub within : i * size < length text
-  pub flow_is : flow ≡ flow_at i
-  pub octets : piece.items ≡ segment size text i
+pub record IsPair (size : ℕ) (text : List ℕ) (i : ℕ) (flow : Flow) (piece : ArrayVec ℕ) : Type 0
+  where
+    pub within : i * size < length text
+    pub flow_is : flow ≡ flow_at i
+    pub octets : piece.items ≡ segment size text i
 
-pub is_pair : (size : ℕ) (text : List ℕ) (i : ℕ) (flow : Flow) (piece : ArrayVec ℕ) → pair_at size text i ≡ Some (flow, piece) → IsPair size text i flow piece
+pub is_pair : (size : ℕ) (text : List ℕ) (i : ℕ) (flow : Flow) (piece : ArrayVec ℕ)
+    → pair_at size text i ≡ Some (flow, piece) → IsPair size text i flow piece
 is_pair size text i flow piece e = grind (arith, common_steps)
 
 -- the text goes on behind the segments given
@@ -28,11 +30,13 @@ abbrev pub GoesOn : ℕ → List ℕ → ℕ → Type 0
 GoesOn size text zero = Unit {0}
 GoesOn size text (suc i) = i * size < length text
 
-pub given_goes_on : (size : ℕ) (text : List ℕ) (given : ℕ) (flow : Flow) (piece : ArrayVec ℕ) → last_given size text given ≡ Some (flow, piece) → GoesOn size text given
+pub given_goes_on : (size : ℕ) (text : List ℕ) (given : ℕ) (flow : Flow) (piece : ArrayVec ℕ)
+    → last_given size text given ≡ Some (flow, piece) → GoesOn size text given
 given_goes_on size text zero flow piece e = tt
 given_goes_on size text (suc i) flow piece e = (is_pair size text i flow piece e).within
 
 -- on to the next segment, or to asking
-pub sent_on_fits : (cutter : Cutting Request) (abort : Option Cause) → IsRequest cutter.source → 1 ≤ cutter.size → cutter.size ≤ 32 → 0 < length (text_of cutter)
+pub sent_on_fits : (cutter : Cutting Request) (abort : Option Cause) → IsRequest cutter.source
+    → 1 ≤ cutter.size → cutter.size ≤ 32 → 0 < length (text_of cutter)
     → GoesOn cutter.size (text_of cutter) cutter.given → IsCurrent (sent_on cutter abort)
 sent_on_fits cutter abort request some most text on = grind (arith, common_steps)

@@ -14,7 +14,9 @@ pub record IsDue (s : SessionState) (room : Bool) (exchange : Exchange) : Type 0
   pub suits : Suits exchange s.current
   pub output : output_for exchange ≡ output_due s.output.wanted s.output.told
   pub confirm : exchange ≡ ConfirmEvents → is_confirm_due s.events.reading ≡ true
-  pub reads : exchange ≡ ReadEvent → (is_under_way s.events.reading ≡ true) ⊎ ((is_resting s.events.reading ≡ true) × (s.events.flag ≡ true) × (room ≡ true))
+  pub reads : exchange ≡ ReadEvent
+      → (is_under_way s.events.reading ≡ true)
+      ⊎ ((is_resting s.events.reading ≡ true) × (s.events.flag ≡ true) × (room ≡ true))
 
 pub due_is : (s : SessionState) (room : Bool) → IsDue s room (due_of s room)
 due_is s room = grind (arith, common_steps)

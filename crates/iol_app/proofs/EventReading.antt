@@ -26,14 +26,18 @@ carried_events : (g : Far) (a : Answer) (s : IsduState) → (carried_by s g a).e
 carried_events g a s = grind (arith, common_steps)
 
 module _ (laws : ReaderLaws) where
-  memory_step : (far : Far) (step : LocalStep) → IsEventMemory far.events → IsEventMemory (local far step).events
+  memory_step : (far : Far) (step : LocalStep) → IsEventMemory far.events
+      → IsEventMemory (local far step).events
   memory_step far (OwnCarry a) h = subst IsEventMemory (sym (carried_events far a far.isdu)) h
   memory_step far (OwnRaise e) h = laws.memory.raise far.events e h
-  memory_step far (OwnInput image) h = elim (is_input far image) as (λ b. IsEventMemory (if b then record far { input = Some image } else far).events) [ true ↦ h | false ↦ h ]
+  memory_step far (OwnInput image) h =
+      elim (is_input far image) as (λ b. IsEventMemory
+      (if b then record far { input = Some image } else far).events) [ true ↦ h | false ↦ h ]
   memory_step far OwnNoInput h = h
   memory_step far OwnPower h = laws.memory.at_first
 
-  pub memory_locals : (steps : List LocalStep) (far : Far) → IsEventMemory far.events → IsEventMemory (locals far steps).events
+  pub memory_locals : (steps : List LocalStep) (far : Far) → IsEventMemory far.events
+      → IsEventMemory (locals far steps).events
   memory_locals [] far h = h
   memory_locals (step ∷ steps) far h = memory_locals steps (local far step) (memory_step far step h)
 
@@ -41,7 +45,8 @@ module _ (laws : ReaderLaws) where
   memory_worked m true h = laws.memory.confirm m h
   memory_worked m false h = laws.memory.other m h
 
-  pub memory_hear : (far : Far) (o : List ℕ) → IsEventMemory far.events → IsEventMemory (hear far o).far.events
+  pub memory_hear : (far : Far) (o : List ℕ) → IsEventMemory far.events
+      → IsEventMemory (hear far o).far.events
   memory_hear far o h = by_accepted (λ q. IsEventMemory (heard_as far o q).far.events) far o h
       (λ w m e. memory_worked far.events (confirms_by m.mc) h)
       (λ w c k m e. memory_worked far.events (confirms_by m.mc) h)
@@ -53,17 +58,22 @@ undue r given = grind (arith, common_steps)
 pub kept_due : (r : Reading) (event : Bool) → is_due (reading_kept r event) ≡ is_due r
 kept_due r event = grind (arith, common_steps)
 
-pub kept_fits : (r : Reading) (event : Bool) (m : Events) → event ≡ not (is_empty m.frozen) → m.held ≡ false → EventsFit r false m → EventsFit (reading_kept r event) false m
+pub kept_fits : (r : Reading) (event : Bool) (m : Events) → event ≡ not (is_empty m.frozen)
+    → m.held ≡ false → EventsFit r false m → EventsFit (reading_kept r event) false m
 kept_fits r event m is held fit = grind (arith, common_steps)
 
 -- what is heard and is no confirm ends the hold
 released_held : (m : Events) → (released m).held ≡ false
 released_held m = grind (arith, common_steps)
 
-pub ends_hold : (far : Far) (o reply : List ℕ) → octets_confirm o ≡ false → (hear far o).reply ≡ Some reply → (hear far o).far.events.held ≡ false
-ends_hold far o reply other = by_accepted P far o (λ r. absurd (let z : Path (Option (List ℕ)) None (Some reply) = r in cc))
-    (λ w m e r. rw (confirms_of (layout_in far.page far.mode) o m e, other) (released_held far.events))
-    (λ w c k m e r. rw (confirms_of (layout_in far.page c.into) o m e, other) (released_held far.events))
+pub ends_hold : (far : Far) (o reply : List ℕ) → octets_confirm o ≡ false
+    → (hear far o).reply ≡ Some reply → (hear far o).far.events.held ≡ false
+ends_hold far o reply other = by_accepted P far o
+    (λ r. absurd (let z : Path (Option (List ℕ)) None (Some reply) = r in cc))
+    (λ w m e r. rw (confirms_of (layout_in far.page far.mode) o m e, other)
+    (released_held far.events))
+    (λ w c k m e r. rw (confirms_of (layout_in far.page c.into) o m e, other)
+    (released_held far.events))
   where
     P : Option (Far × MasterMsg) → Type 0
     P q = (heard_as far o q).reply ≡ Some reply → (heard_as far o q).far.events.held ≡ false

@@ -50,12 +50,18 @@ use Rattle.iol_app.proofs.Telling.{told_layout}
 use Rattle.iol_app.specs.Core.{Core, Ghost, Stands, ReceiveGives, OperateRequest, RequestStands, EventsStand, OutputStands, CalmAt, ShownStands, core_out, reading_in, ordered_by, moment_of, seen_in, shown_in, images_in, after_exchange}
 
 -- what the far end's own part is, however far the message came
-pub record Passes (layouts : Layouts) (w : Sending) (t : SessionState) (g : Ghost) (far : Far) (steps : List LocalStep) (passage : Passage) (e : Exchange) (current : Option Current) : Type 0 where
-  pub opens : IsOpen (far_after passage (locals far steps) (master_text layouts.run w.message)).isdu (request_in current) (hidden_through (request_in current) far steps g.request.hidden)
-  pub outputs : OutputTold g.sent (output_for e ≡ None) t.output.told (far_after passage (locals far steps) (master_text layouts.run w.message))
+pub record Passes (layouts : Layouts) (w : Sending) (t : SessionState) (g : Ghost) (far : Far)
+    (steps : List LocalStep) (passage : Passage) (e : Exchange)
+    (current : Option Current) : Type 0 where
+  pub opens : IsOpen (far_after passage (locals far steps)
+      (master_text layouts.run w.message)).isdu (request_in current)
+      (hidden_through (request_in current) far steps g.request.hidden)
+  pub outputs : OutputTold g.sent (output_for e ≡ None) t.output.told
+      (far_after passage (locals far steps) (master_text layouts.run w.message))
   pub sends : OutputsSent g.sent (locals far steps) (master_text layouts.run w.message)
 
-module _ (laws : Laws) (layouts : Layouts) (w : Sending) (t : SessionState) (g : Ghost) (far : Far) (n : ℕ) (steps : List LocalStep) (passage : Passage) where
+module _ (laws : Laws) (layouts : Layouts) (w : Sending) (t : SessionState) (g : Ghost)
+    (far : Far) (n : ℕ) (steps : List LocalStep) (passage : Passage) where
   abbrev pub o : List ℕ
   o = master_text layouts.run w.message
 
@@ -68,7 +74,8 @@ module _ (laws : Laws) (layouts : Layouts) (w : Sending) (t : SessionState) (g :
   abbrev pub R : Reading
   R = reading_in t.events g.events
 
-  module _ (e : Exchange) (current : Option Current) (stands : Stands (core_out layouts w t e current) g far n) where
+  module _ (e : Exchange) (current : Option Current)
+      (stands : Stands (core_out layouts w t e current) g far n) where
     abbrev c : Core
     c = core_out layouts w t e current
 
@@ -81,7 +88,8 @@ module _ (laws : Laws) (layouts : Layouts) (w : Sending) (t : SessionState) (g :
     abbrev xs : List Step
     xs = exchange_steps request far steps passage o
 
-    abbrev up : OperateRequest (record { out = Some w; layouts = layouts }) t.limit current (Some e) R g far
+    abbrev up : OperateRequest (record { out = Some w; layouts = layouts }) t.limit current
+        (Some e) R g far
     up = stands.request
 
     -- the far end's part, that of the level by the request's own fields
@@ -94,58 +102,82 @@ module _ (laws : Laws) (layouts : Layouts) (w : Sending) (t : SessionState) (g :
     pub page' : passed.page ≡ g.page
     page' = page_after laws passage (locals far steps) o ∙ page_locals laws steps far ∙ stands.page
 
-    pub level_here : IsLevel g.page layouts.run.od g.request.base up.link (progress_of current) o w.tries (locals far steps)
-    level_here = level_locals laws g.page layouts.run.od some_od g.request.base up.link (progress_of current) o w.tries steps far up.level
+    pub level_here : IsLevel g.page layouts.run.od g.request.base up.link (progress_of current)
+        o w.tries (locals far steps)
+    level_here = level_locals laws g.page layouts.run.od some_od g.request.base up.link
+        (progress_of current) o w.tries steps far up.level
 
-    pub level' : IsLevel g.page layouts.run.od g.request.base up.link (progress_of current) o (suc w.tries) passed
-    level' = level_after laws g.page layouts.run.od some_od g.request.base up.link (progress_of current) o w.tries passage (locals far steps) level_here
+    pub level' : IsLevel g.page layouts.run.od g.request.base up.link (progress_of current) o
+        (suc w.tries) passed
+    level' = level_after laws g.page layouts.run.od some_od g.request.base up.link
+        (progress_of current) o w.tries passage (locals far steps) level_here
 
     tied_here : IsTied g.request.base request h (locals far steps).carried
-    tied_here = tied_locals g.request.base request steps far g.request.hidden up.opens (up.late, up.answer)
+    tied_here = tied_locals g.request.base request steps far g.request.hidden up.opens
+        (up.late, up.answer)
 
-    tied_by : (q : Passage) → IsTied g.request.base request h (far_after q (locals far steps) o).carried
+    tied_by : (q : Passage) → IsTied g.request.base request h
+        (far_after q (locals far steps) o).carried
     tied_by OutLost = tied_here
-    tied_by other = subst (IsTied g.request.base request h) (sym (hear_carried (locals far steps) o)) tied_here
+    tied_by other = subst (IsTied g.request.base request h)
+        (sym (hear_carried (locals far steps) o)) tied_here
 
     pub tied' : IsTied g.request.base request h passed.carried
     tied' = tied_by passage
 
     pub confirms : octets_confirm o ≡ confirms_events e
-    confirms = sym (confirms_of (layout_in g.page (taken up.link o).mode) o w.message up.out.goes.spells) ∙ exchange_confirms e t.events.reading current w.message stands.joined.out_for.head
+    confirms = sym (confirms_of (layout_in g.page (taken up.link o).mode) o w.message
+        up.out.goes.spells) ∙ exchange_confirms e t.events.reading current w.message
+        stands.joined.out_for.head
 
     due : octets_confirm o ≡ true → is_due R ≡ true
     due k = up.out.confirm (confirms_is e (sym confirms ∙ k))
 
     told_before : EventsTold R (octets_confirm o) far g.events.told
-    told_before = subst (λ (b : Bool). EventsTold R b far g.events.told) (sym confirms) stands.events
+    told_before = subst (λ (b : Bool). EventsTold R b far g.events.told) (sym confirms)
+        stands.events
 
     pub told' : EventsTold R (octets_confirm o) passed told
     told' = told_exchange laws.events o R due steps passage far g.events.told told_before
 
-    module _ (far' : Far) (n' : ℕ) (far_is : far' ≡ passed) (said : Said) (p : Passes layouts w t g far steps passage e current) where
+    module _ (far' : Far) (n' : ℕ) (far_is : far' ≡ passed) (said : Said)
+        (p : Passes layouts w t g far steps passage e current) where
       -- what an outcome has to bring
-      pub record Ends (call : WireCall) (next : Core) (after : Ghost) (ys : List Step) : Type 0 where
-        pub limit : next.session.limit ≡ t.limit
-        pub page : after.page ≡ g.page
-        pub configuration : next.session.configuration ≡ t.configuration
-        pub session : SessionRuns (moment_of c g n call) (seen_in c g) h passed.carried ys (seen_in next after) after.request.hidden passed.carried
-        pub frozen : FrozenRuns passed.events.frozen told ys passed.events.frozen after.events.told
-        pub images : ImagesRuns (moment_of c g n call) (images_of (shown_in t g.sent) passed) ys (images_in next after passed)
-        pub apart : Before xs ys
-        pub calm : IsTrue g.fresh → no_clash ys
-        pub spent : after.fresh ≡ false
-        pub once : no_make ys ≡ true
-        pub book : filter is_for_book ys ≡ book_said said
-        pub reports : filter is_report ys ≡ reports_said said
-        pub last : ImageIsLast (moment_of c g n call) (mode_in next.state) (images_in c g far) (images_in next after passed)
-        pub wanted : silence_by call n ≡ 0 → output_of passed ≡ ordered_by (told_by (output_for e) t.output.told) w.message.out.items
-        pub request_is : RequestStands next.state next.session.limit next.session.current next.session.exchange next.session.events after passed
-        pub events : EventsStand next.state next.session.exchange next.session.events after.events passed
-        pub output : OutputStands next.state next.session.exchange next.session.output.told after.sent passed
-        pub sent : SentSeen next.session.layout next.session.output.carried.items after.sent
-        pub shown : ShownStands next g.page
+      pub record Ends (call : WireCall) (next : Core) (after : Ghost) (ys : List Step) : Type 0
+        where
+          pub limit : next.session.limit ≡ t.limit
+          pub page : after.page ≡ g.page
+          pub configuration : next.session.configuration ≡ t.configuration
+          pub session : SessionRuns (moment_of c g n call) (seen_in c g) h passed.carried ys
+              (seen_in next after) after.request.hidden passed.carried
+          pub frozen : FrozenRuns passed.events.frozen told ys passed.events.frozen
+              after.events.told
+          pub images : ImagesRuns (moment_of c g n call) (images_of (shown_in t g.sent) passed) ys
+              (images_in next after passed)
+          pub apart : Before xs ys
+          pub calm : IsTrue g.fresh → no_clash ys
+          pub spent : after.fresh ≡ false
+          pub once : no_make ys ≡ true
+          pub book : filter is_for_book ys ≡ book_said said
+          pub reports : filter is_report ys ≡ reports_said said
+          pub last : ImageIsLast (moment_of c g n call) (mode_in next.state) (images_in c g far)
+              (images_in next after passed)
+          pub wanted : silence_by call n ≡ 0
+              → output_of passed ≡ ordered_by (told_by (output_for e) t.output.told)
+              w.message.out.items
+          pub request_is : RequestStands next.state next.session.limit next.session.current
+              next.session.exchange next.session.events after passed
+          pub events : EventsStand next.state next.session.exchange next.session.events
+              after.events passed
+          pub output : OutputStands next.state next.session.exchange next.session.output.told
+              after.sent passed
+          pub sent : SentSeen next.session.layout next.session.output.carried.items after.sent
+          pub shown : ShownStands next g.page
 
-      pub gives : (call : WireCall) (next : Core) (after : Ghost) (ys : List Step) → Ends call next after ys → CallFits ModeOperate call → n' ≡ silence_by call n → StateStands next.state n' far' → StateFits next.state → Joined next.state next.session → CalmAt next.state n'
+      pub gives : (call : WireCall) (next : Core) (after : Ghost) (ys : List Step)
+          → Ends call next after ys → CallFits ModeOperate call → n' ≡ silence_by call n
+          → StateStands next.state n' far' → StateFits next.state
+          → Joined next.state next.session → CalmAt next.state n'
           → ReceiveGives c g far n said next far' n'
       gives call next after ys b fits silent link state_fits joined calm =
           let m = moment_of c g n call in
@@ -162,10 +194,21 @@ module _ (laws : Laws) (layouts : Layouts) (w : Sending) (t : SessionState) (g :
               fresh = λ k. fresh_turn request far steps passage o ys (stands.fresh k).1 (b.calm k);
               said_book = b.apart.book ∙ b.book;
               said_reports = b.apart.reports ∙ b.reports;
-              session = session_runs-append m (seen_in c g) (seen_in c g) (seen_in next after) g.request.hidden h after.request.hidden far.carried passed.carried passed.carried xs ys (exchange_session m (seen_in c g) g.request.hidden far steps passage o up.opens) b.session;
-              frozen = frozen_runs-append far.events.frozen passed.events.frozen passed.events.frozen g.events.told told after.events.told xs ys
-                  (exchange_frozen request far steps passage o g.events.told (confirms_told laws.events o R due (locals far steps) (told_through far steps g.events.told) (told_locals laws.events R (octets_confirm o) steps far g.events.told told_before))) b.frozen;
-              images = images_runs-append m (images_in c g far) (images_of (shown_in t g.sent) passed) (images_in next after passed) xs ys (exchange_images m request (shown_in t g.sent) far steps passage o p.sends) b.images;
+              session = session_runs-append m (seen_in c g) (seen_in c g) (seen_in next after)
+                  g.request.hidden h after.request.hidden far.carried passed.carried
+                  passed.carried xs ys (exchange_session m (seen_in c g) g.request.hidden
+                  far steps passage o up.opens) b.session;
+              frozen = frozen_runs-append far.events.frozen passed.events.frozen
+                  passed.events.frozen g.events.told told after.events.told xs ys
+                  (exchange_frozen request far steps passage o g.events.told
+                  (confirms_told laws.events o R due (locals far steps)
+                  (told_through far steps g.events.told)
+                  (told_locals laws.events R (octets_confirm o) steps far
+                  g.events.told told_before))) b.frozen;
+              images = images_runs-append m (images_in c g far)
+                  (images_of (shown_in t g.sent) passed) (images_in next after passed) xs ys
+                  (exchange_images m request (shown_in t g.sent) far steps passage o
+                  p.sends) b.images;
               image_is_last = b.last;
               output_is_wanted = λ k. b.wanted k.2;
               stands = record {
@@ -187,9 +230,15 @@ module _ (laws : Laws) (layouts : Layouts) (w : Sending) (t : SessionState) (g :
       -- No good reply
 
       abbrev away : Ghost
-      away = record g { request = record g.request { hidden = h }; events = record g.events { told = told }; fresh = false }
+      away = record g {
+        request = record g.request { hidden = h };
+        events = record g.events { told = told };
+        fresh = false;
+      }
 
-      pub misses : said ≡ quiet_said request → Ends (Exchanged false) (core_out layouts (record { message = w.message; tries = w.tries + 1 }) t e current) away []
+      pub misses : said ≡ quiet_said request
+          → Ends (Exchanged false) (core_out layouts
+          (record { message = w.message; tries = w.tries + 1 }) t e current) away []
       misses says = record {
         limit = refl;
         page = refl;
@@ -210,8 +259,16 @@ module _ (laws : Laws) (layouts : Layouts) (w : Sending) (t : SessionState) (g :
           opens = p.opens;
           link = up.link;
           linked = up.linked;
-          level = subst (λ (k : ℕ). IsLevel g.page layouts.run.od g.request.base up.link (progress_of current) o k passed) (sym (add-one w.tries)) level';
-          out = record { mode = up.out.mode; goes = up.out.goes; confirm = up.out.confirm; reads = up.out.reads; carries = up.out.carries; tells = up.out.tells };
+          level = subst (λ (k : ℕ). IsLevel g.page layouts.run.od g.request.base up.link
+              (progress_of current) o k passed) (sym (add-one w.tries)) level';
+          out = record {
+            mode = up.out.mode;
+            goes = up.out.goes;
+            confirm = up.out.confirm;
+            reads = up.out.reads;
+            carries = up.out.carries;
+            tells = up.out.tells;
+          };
           answer = tied'.1;
           busy = up.busy;
           known = up.known;
@@ -219,17 +276,30 @@ module _ (laws : Laws) (layouts : Layouts) (w : Sending) (t : SessionState) (g :
         events = subst (λ (b : Bool). EventsTold R b passed told) confirms told';
         output = p.outputs;
         sent = stands.sent;
-        shown = record { image = λ k. absurd (k refl); wanted = stands.shown.wanted; lengths = stands.shown.lengths; isdu = stands.shown.isdu; present = stands.shown.present; no_form = stands.shown.no_form };
+        shown = record {
+          image = λ k. absurd (k refl);
+          wanted = stands.shown.wanted;
+          lengths = stands.shown.lengths;
+          isdu = stands.shown.isdu;
+          present = stands.shown.present;
+          no_form = stands.shown.no_form;
+        };
       }
 
-      pub loses : said ≡ lost_said request → 3 ≤ min 3 (n + 1) → Ends (Exchanged false) (after_exchange (InDown (record { why = Some Lost })) c.session) (record away { request = record g.request { hidden = hidden_lost request h } }) (lost_steps request)
+      pub loses : said ≡ lost_said request → 3 ≤ min 3 (n + 1)
+          → Ends (Exchanged false) (after_exchange (InDown (record { why = Some Lost }))
+          c.session) (record away {
+            request =
+                record g.request { hidden = hidden_lost request h };
+          }) (lost_steps request)
       loses says third =
           let f = fit request in
           record {
             limit = refl;
             page = refl;
             configuration = refl;
-            session = lost_session (moment_of c g n (Exchanged false)) (seen_in c g) h passed.carried (λ k. absurd (let z : ModeOperate ≡ ModeDown = k in cc)) third;
+            session = lost_session (moment_of c g n (Exchanged false)) (seen_in c g) h
+                passed.carried (λ k. absurd (let z : ModeOperate ≡ ModeDown = k in cc)) third;
             frozen = f.1;
             images = f.2;
             apart = f.0;
@@ -238,17 +308,52 @@ module _ (laws : Laws) (layouts : Layouts) (w : Sending) (t : SessionState) (g :
             once = f.6;
             book = rw says f.3;
             reports = rw says f.4;
-            last = ((λ k. absurd (more_silence n k.1)), (λ k. refl), (λ k l. absurd (let z : ModeDown ≡ ModeOperate = l in cc)));
+            last = (
+              (λ k. absurd (more_silence n k.1)),
+              (λ k. refl),
+              (λ k l. absurd (let z : ModeDown ≡ ModeOperate = l in cc)),
+            );
             wanted = λ k. absurd (more_silence n k);
             request_is = lost_opens passed.isdu request h p.opens;
             events = tt;
             output = tt;
             sent = stands.sent;
-            shown = record { image = λ k. refl; wanted = stands.shown.wanted; lengths = stands.shown.lengths; isdu = stands.shown.isdu; present = stands.shown.present; no_form = stands.shown.no_form };
+            shown = record {
+              image = λ k. refl;
+              wanted = stands.shown.wanted;
+              lengths = stands.shown.lengths;
+              isdu = stands.shown.isdu;
+              present = stands.shown.present;
+              no_form = stands.shown.no_form;
+            };
           }
         where
-          fit : (r : Option Request) → Before (exchange_steps request far steps passage o) (lost_steps r) × FrozenRuns passed.events.frozen told (lost_steps r) passed.events.frozen told
-              × ImagesRuns (moment_of c g n (Exchanged false)) (images_of (shown_in t g.sent) passed) (lost_steps r) (images_of (record (shown_in t g.sent) { image = None }) passed)
-              × (filter is_for_book (lost_steps r) ≡ book_said (lost_said r)) × (filter is_report (lost_steps r) ≡ reports_said (lost_said r)) × no_clash (lost_steps r) × (no_make (lost_steps r) ≡ true)
-          fit None = (exchange_before request far steps passage o (lost_steps None) refl refl refl, ((tt, (tt, tt)), refl), ((tt, (tt, tt)), refl), refl, refl, refl, refl)
-          fit (Some r) = (exchange_before request far steps passage o (lost_steps (Some r)) refl refl refl, ((tt, (tt, (tt, tt))), refl), ((tt, (tt, (tt, tt))), refl), refl, refl, refl, refl)
+          fit : (r : Option Request) → Before (exchange_steps request far steps passage o)
+              (lost_steps r) × FrozenRuns passed.events.frozen told (lost_steps r)
+              passed.events.frozen told
+              × ImagesRuns (moment_of c g n (Exchanged false))
+              (images_of (shown_in t g.sent) passed) (lost_steps r)
+              (images_of (record (shown_in t g.sent) { image = None }) passed)
+              × (filter is_for_book (lost_steps r) ≡ book_said (lost_said r))
+              × (filter is_report (lost_steps r) ≡ reports_said (lost_said r))
+              × no_clash (lost_steps r) × (no_make (lost_steps r) ≡ true)
+          fit None = (
+            exchange_before request far steps passage o (lost_steps None) refl refl
+                refl,
+            ((tt, (tt, tt)), refl),
+            ((tt, (tt, tt)), refl),
+            refl,
+            refl,
+            refl,
+            refl,
+          )
+          fit (Some r) = (
+            exchange_before request far steps passage o (lost_steps (Some r)) refl
+                refl refl,
+            ((tt, (tt, (tt, tt))), refl),
+            ((tt, (tt, (tt, tt))), refl),
+            refl,
+            refl,
+            refl,
+            refl,
+          )

@@ -34,7 +34,9 @@ use Rattle.iol_app.proofs.Replying.{accepts_reply}
 use Rattle.iol_app.specs.Ends.{OutputTold}
 
 -- which command makes an output valid, and where
-valid_by : (mode : device.Mode) (valid : Bool) (command : Option MasterCommand) → valid_after mode valid command ≡ true → (valid ≡ true) ⊎ ((command ≡ Some ProcessDataOutputOperate) × (mode ≡ FarOperate))
+valid_by : (mode : device.Mode) (valid : Bool) (command : Option MasterCommand)
+    → valid_after mode valid command ≡ true
+    → (valid ≡ true) ⊎ ((command ≡ Some ProcessDataOutputOperate) × (mode ≡ FarOperate))
 valid_by mode valid command given = grind (arith, common_steps)
 
 pub operates : (mode : Mode) → far_mode mode ≡ FarOperate → mode ≡ Operate
@@ -45,24 +47,32 @@ out_is : (mode : device.Mode) (old new : List ℕ) → mode ≡ FarOperate → o
 out_is mode old new given = grind (arith, common_steps)
 
 -- a command leaves the output as it tells
-told_mode : (mode : Mode) (command : Option MasterCommand) (v t : Bool) → (output_by mode command ≡ None → v ≡ t) → valid_after (far_mode mode) v command ≡ told_by (output_by mode command) t
+told_mode : (mode : Mode) (command : Option MasterCommand) (v t : Bool)
+    → (output_by mode command ≡ None → v ≡ t)
+    → valid_after (far_mode mode) v command ≡ told_by (output_by mode command) t
 told_mode mode command v t given = grind (arith, common_steps)
 
-waits_stay : (mode : device.Mode) (waits : Option WaitingCommand) (octets : List ℕ) (asked : Option device.Mode) → IfSome waits (λ c. is_mode mode c.into ≡ false) → IfSome (waits_after mode waits octets asked) (λ c. is_mode mode c.into ≡ false)
+waits_stay : (mode : device.Mode) (waits : Option WaitingCommand) (octets : List ℕ)
+    (asked : Option device.Mode) → IfSome waits (λ c. is_mode mode c.into ≡ false)
+    → IfSome (waits_after mode waits octets asked) (λ c. is_mode mode c.into ≡ false)
 waits_stay mode waits octets asked h = grind (arith, common_steps)
 
-has_items : (sent : Option Image) (items : List ℕ) → IsSome sent → IfSome sent (λ image. items ≡ image) → sent ≡ Some items
+has_items : (sent : Option Image) (items : List ℕ) → IsSome sent
+    → IfSome sent (λ image. items ≡ image) → sent ≡ Some items
 has_items sent items given given2 = grind (arith, common_steps)
 
 not_false : (b t : Bool) → b ≡ t → (b ≡ true → ⊥) → false ≡ t
 not_false b t given given2 = grind (arith, common_steps)
 
-spells_master : (l : Shape) (o : List ℕ) (m : MasterMsg) → message_in l o ≡ Some m → master_in l o ≡ Some m
+spells_master : (l : Shape) (o : List ℕ) (m : MasterMsg) → message_in l o ≡ Some m
+    → master_in l o ≡ Some m
 unfolding message_in
 spells_master l o m e = e
 
 -- a message that goes out, whatever it is for
-pub record Goes (page : List ℕ) (run : Shape) (link : Link) (progress : Progress) (o : List ℕ) (message : MasterMsg) (what : Move) (mode : Mode) (sent : Option Image) (told : Bool) : Type 0 where
+pub record Goes (page : List ℕ) (run : Shape) (link : Link) (progress : Progress) (o : List ℕ)
+    (message : MasterMsg) (what : Move) (mode : Mode) (sent : Option Image) (told : Bool) : Type
+    0 where
   pub sent_at : IsSent page run.od link progress o message what
   pub at_mode : (taken_link link o).mode ≡ far_mode mode
   pub layout : layout_in page (far_mode mode) ≡ run
@@ -70,7 +80,9 @@ pub record Goes (page : List ℕ) (run : Shape) (link : Link) (progress : Progre
   pub tells : output_by mode (command_in message) ≡ Some true → IsSome sent
   pub starting : mode ≢ Operate → told ≡ false
 
-module _ (laws : Laws) (page : List ℕ) (run : Shape) (base : List Carried) (link : Link) (progress : Progress) (o : List ℕ) (message : MasterMsg) (what : Move) (mode : Mode) (sent : Option Image) (told : Bool)
+module _ (laws : Laws) (page : List ℕ) (run : Shape) (base : List Carried) (link : Link)
+    (progress : Progress) (o : List ℕ) (message : MasterMsg) (what : Move) (mode : Mode)
+    (sent : Option Image) (told : Bool)
     (sending : Goes page run link progress o message what mode sent told) where
   abbrev command : Option Bool
   command = output_by mode (command_in message)
@@ -82,20 +94,29 @@ module _ (laws : Laws) (page : List ℕ) (run : Shape) (base : List Carried) (li
   some = subst (λ (l : Shape). 1 ≤ l.od) sending.layout (laws.layouts page (far_mode mode)).1
 
   spells : message_in run o ≡ Some message
-  spells = ap (λ (l : Shape). message_in l o) (sym sending.layout) ∙ ap (λ (x : device.Mode). message_in (layout_in page x) o) (sym sending.at_mode) ∙ sending.sent_at.spells
+  spells = ap (λ (l : Shape). message_in l o) (sym sending.layout)
+      ∙ ap (λ (x : device.Mode). message_in (layout_in page x) o) (sym sending.at_mode)
+      ∙ sending.sent_at.spells
 
   -- a reply to the message says how the far end stands
-  pub says_of : (most : ℕ) (far : Far) → IsLevel page run.od base link progress o most far → (reply : List ℕ) → (hear far o).reply ≡ Some reply
+  pub says_of : (most : ℕ) (far : Far) → IsLevel page run.od base link progress o most far
+      → (reply : List ℕ) → (hear far o).reply ≡ Some reply
       → ReplySays page run.od base link progress o message what (hear far o)
-  says_of most far level reply e = (laws.level run.od some).replies page base link progress o message what sending.sent_at most far level reply e
+  says_of most far level reply e =
+      (laws.level run.od some).replies page base link progress o message what sending.sent_at
+      most far level reply e
 
   -- whatever it accepts there is the message, in the layout of the mode
-  pub accepts_as : (most : ℕ) (far : Far) → far.page ≡ page → IsLevel page run.od base link progress o most far → (there : Far) (m : MasterMsg) → accepted far o ≡ Some (there, m)
+  pub accepts_as : (most : ℕ) (far : Far) → far.page ≡ page
+      → IsLevel page run.od base link progress o most far → (there : Far) (m : MasterMsg)
+      → accepted far o ≡ Some (there, m)
       → (m ≡ message) × (there.mode ≡ far_mode mode)
   accepts_as most far same level there m e =
       let r = accepts_reply far o there m e in
       let says = says_of most far level r.0 r.1 in
-      let there_mode : there.mode ≡ far_mode mode = sym (ap (λ (q : Option (Far × MasterMsg)). (heard_as far o q).far.mode) e) ∙ ap (λ (l : Link). l.mode) says.before.link_is ∙ sending.at_mode in (
+      let there_mode : there.mode ≡ far_mode mode =
+      sym (ap (λ (q : Option (Far × MasterMsg)). (heard_as far o q).far.mode) e)
+      ∙ ap (λ (l : Link). l.mode) says.before.link_is ∙ sending.at_mode in (
         again there m (accepted_as (λ q. IfSome q Spells) far o tt (λ a n f. here far n f)
             (λ a c q n f. here (moved far c.into) n f) there m e) there_mode,
         there_mode,
@@ -108,43 +129,61 @@ module _ (laws : Laws) (page : List ℕ) (run : Shape) (base : List Carried) (li
           → Spells (t, n)
       here t n f = subst (λ (x : List ℕ). message_in (layout_in x t.mode) o ≡ Some n) same f
 
-      again : (there : Far) (m : MasterMsg) → message_in (layout_in page there.mode) o ≡ Some m → there.mode ≡ far_mode mode → m ≡ message
+      again : (there : Far) (m : MasterMsg) → message_in (layout_in page there.mode) o ≡ Some m
+          → there.mode ≡ far_mode mode → m ≡ message
       again there m given given2 = grind (arith, common_steps)
 
-  module _ (from far : Far) (n silence tries : ℕ) (answer : Option (List ℕ)) (h : HonestExchange from n o answer far silence) (level : IsLevel page run.od base link progress o tries from) where
+  module _ (from far : Far) (n silence tries : ℕ) (answer : Option (List ℕ))
+      (h : HonestExchange from n o answer far silence)
+      (level : IsLevel page run.od base link progress o tries from) where
     pub level_now : IsLevel page run.od base link progress o tries (locals from h.steps)
     level_now = level_locals laws page run.od some base link progress o tries h.steps from level
 
     -- what the far end replies is read as that
     reads_reply : (reply : List ℕ) → (hear (locals from h.steps) o).reply ≡ Some reply →
-        reply_in run message.mc.read reply ≡ Some (reply_to (hear (locals from h.steps) o).far run message)
+        reply_in run message.mc.read reply
+        ≡ Some (reply_to (hear (locals from h.steps) o).far run message)
     reads_reply reply e =
         let g = (hear (locals from h.steps) o).far in
         let says = says_of tries (locals from h.steps) level_now reply e in
-        let g_mode : g.mode ≡ far_mode mode = ap (λ (l : Link). l.mode) says.before.link_is ∙ sending.at_mode in
-        let same : layout_of g ≡ run = ap (λ (x : List ℕ). layout_in x g.mode) says.before.page_is ∙ ap (layout_in page) g_mode ∙ sending.layout in
-        let sized : IsSized g = laws.sized.hears (locals from h.steps) o (sized_locals laws h.steps from h.regular.sized) in
-        let read : reply_in run message.mc.read (octets_of (reply_to g run message)) ≡ Some (reply_to g run message) =
-        subst (λ (l : Shape). reply_in l message.mc.read (octets_of (reply_to g l message)) ≡ Some (reply_to g l message)) same (laws.reads g message sized) in
+        let g_mode : g.mode ≡ far_mode mode = ap (λ (l : Link). l.mode) says.before.link_is
+        ∙ sending.at_mode in
+        let same : layout_of g ≡ run =
+        ap (λ (x : List ℕ). layout_in x g.mode) says.before.page_is
+        ∙ ap (layout_in page) g_mode ∙ sending.layout in
+        let sized : IsSized g = laws.sized.hears (locals from h.steps) o
+        (sized_locals laws h.steps from h.regular.sized) in
+        let read : reply_in run message.mc.read (octets_of (reply_to g run message))
+        ≡ Some (reply_to g run message) =
+        subst (λ (l : Shape). reply_in l message.mc.read (octets_of (reply_to g l message))
+        ≡ Some (reply_to g l message)) same (laws.reads g message sized) in
         let came : Path (Option (List ℕ)) (Some reply) (Some (octets_of (reply_to g run message))) =
-        sym e ∙ says.reply_is ∙ ap (λ (x : device.Mode). Some (octets_of (reply_to g (layout_in page x) message))) sending.at_mode ∙ ap (λ (l : Shape). Some (octets_of (reply_to g l message))) sending.layout in
+        sym e ∙ says.reply_is ∙ ap (λ (x : device.Mode). Some
+        (octets_of (reply_to g (layout_in page x) message))) sending.at_mode
+        ∙ ap (λ (l : Shape). Some (octets_of (reply_to g l message))) sending.layout in
         let octets : reply ≡ octets_of (reply_to g run message) = cc in
         ap (reply_in run message.mc.read) octets ∙ read
 
     unread : (a : Option (List ℕ)) → IsUnread o a → good_reply run message a ≡ None
     unread None k = refl
-    unread (Some octets) k = k run message (subst IsLayout sending.layout (laws.layouts page (far_mode mode)).0) (spells_master run o message spells)
+    unread (Some octets) k = k run message
+        (subst IsLayout sending.layout (laws.layouts page (far_mode mode)).0)
+        (spells_master run o message spells)
 
     -- without a good reply there is silence
     pub silent : good_reply run message answer ≡ None → silence ≡ min 3 (n + 1)
     silent none = h.silence_is ∙ by_passage h.passage h.answer_is
       where
-        by_reply : (r : Option (List ℕ)) → (hear (locals from h.steps) o).reply ≡ r → answer ≡ r → silence_after n r ≡ min 3 (n + 1)
+        by_reply : (r : Option (List ℕ)) → (hear (locals from h.steps) o).reply ≡ r → answer ≡ r
+            → silence_after n r ≡ min 3 (n + 1)
         by_reply None e a = refl
         by_reply (Some reply) e a =
-            let z : Path (Option Reply) None (Some (reply_to (hear (locals from h.steps) o).far run message)) = sym none ∙ ap (good_reply run message) a ∙ reads_reply reply e in absurd (cc)
+            let z : Path (Option Reply) None
+            (Some (reply_to (hear (locals from h.steps) o).far run message)) = sym none
+            ∙ ap (good_reply run message) a ∙ reads_reply reply e in absurd (cc)
 
-        by_passage : (p : Passage) → IsAnswer p (locals from h.steps) o answer → silence_after n (brought p (locals from h.steps) o) ≡ min 3 (n + 1)
+        by_passage : (p : Passage) → IsAnswer p (locals from h.steps) o answer
+            → silence_after n (brought p (locals from h.steps) o) ≡ min 3 (n + 1)
         by_passage Clean a = by_reply (hear (locals from h.steps) o).reply refl a
         by_passage other a = refl
 
@@ -160,50 +199,68 @@ module _ (laws : Laws) (page : List ℕ) (run : Shape) (base : List Carried) (li
     replied reply good = by_passage h.passage refl h.answer_is
       where
         bad : IsUnread o answer → IsReplied reply
-        bad k = let z : Path (Option Reply) None (Some reply) = sym (unread answer k) ∙ good in absurd (cc)
+        bad k = let z : Path (Option Reply) None (Some reply) = sym (unread answer k) ∙ good in
+            absurd (cc)
 
-        by_reply : h.passage ≡ Clean → (r : Option (List ℕ)) → (hear (locals from h.steps) o).reply ≡ r → answer ≡ r → IsReplied reply
-        by_reply is None e a = let z : Path (Option Reply) None (Some reply) = ap (good_reply run message) (sym a) ∙ good in absurd (cc)
+        by_reply : h.passage ≡ Clean → (r : Option (List ℕ))
+            → (hear (locals from h.steps) o).reply ≡ r → answer ≡ r → IsReplied reply
+        by_reply is None e a = let z : Path (Option Reply) None (Some reply) =
+            ap (good_reply run message) (sym a) ∙ good in absurd (cc)
         by_reply is (Some octets) e a = record {
           octets = octets;
           replies = e;
           far_is = h.far_is ∙ ap (λ (p : Passage). far_after p (locals from h.steps) o) is;
-          silence_is = h.silence_is ∙ ap (λ (p : Passage). silence_after n (brought p (locals from h.steps) o)) is ∙ ap (silence_after n) e;
+          silence_is = h.silence_is ∙ ap
+              (λ (p : Passage). silence_after n (brought p (locals from h.steps) o)) is
+              ∙ ap (silence_after n) e;
           reply_is =
-              let z : Path (Option Reply) (Some reply) (Some (reply_to (hear (locals from h.steps) o).far run message)) = sym good ∙ ap (good_reply run message) a ∙ reads_reply octets e in cc;
+              let z : Path (Option Reply) (Some reply)
+              (Some (reply_to (hear (locals from h.steps) o).far run message)) = sym good
+              ∙ ap (good_reply run message) a ∙ reads_reply octets e in cc;
         }
 
-        by_passage : (p : Passage) → h.passage ≡ p → IsAnswer p (locals from h.steps) o answer → IsReplied reply
+        by_passage : (p : Passage) → h.passage ≡ p → IsAnswer p (locals from h.steps) o answer
+            → IsReplied reply
         by_passage Clean is a = by_reply is (hear (locals from h.steps) o).reply refl a
         by_passage other is a = bad a
 
   -- where it is accepted the output is valid only as before
-  there_valid : (g : Far) → OutputsAt g → g.awake ≡ true → (there : Far) (m : MasterMsg) → accepted g o ≡ Some (there, m) → (there.valid ≡ true → (there.mode ≡ FarOperate) × IsSome sent)
+  there_valid : (g : Far) → OutputsAt g → g.awake ≡ true → (there : Far) (m : MasterMsg)
+      → accepted g o ≡ Some (there, m)
+      → (there.valid ≡ true → (there.mode ≡ FarOperate) × IsSome sent)
   there_valid g h awake =
       accepted_as (λ q. IfSome q (λ x. x.0.valid ≡ true → (x.0.mode ≡ FarOperate) × IsSome sent))
       g o tt (λ a m e. h.0 awake) (λ a c q m e v. absurd (let y : false ≡ true = v in cc))
 
   -- and as told
-  there_told : (g : Far) → OutputsAt g → g.awake ≡ true → (there : Far) (m : MasterMsg) → accepted g o ≡ Some (there, m) → there.mode ≡ far_mode mode → command ≡ None → there.valid ≡ told
+  there_told : (g : Far) → OutputsAt g → g.awake ≡ true → (there : Far) (m : MasterMsg)
+      → accepted g o ≡ Some (there, m) → there.mode ≡ far_mode mode → command ≡ None
+      → there.valid ≡ told
   there_told g h awake =
       accepted_as
       (λ q. IfSome q (λ x. x.0.mode ≡ far_mode mode → command ≡ None → x.0.valid ≡ told))
       g o tt (λ a m e md none. h.1 awake none) (λ a c q m e. by_mode mode refl c q)
     where
       elsewhere : (c : WaitingCommand) → g.waits ≡ Some c → is_mode g.mode c.into ≡ false
-      elsewhere c q = subst (λ (x : Option WaitingCommand). IfSome x (λ d. is_mode g.mode d.into ≡ false)) q h.2
+      elsewhere c q = subst (λ (x : Option WaitingCommand). IfSome x
+          (λ d. is_mode g.mode d.into ≡ false)) q h.2
 
-      by_mode : (x : Mode) → mode ≡ x → (c : WaitingCommand) → g.waits ≡ Some c → c.into ≡ far_mode mode → command ≡ None → false ≡ told
+      by_mode : (x : Mode) → mode ≡ x → (c : WaitingCommand) → g.waits ≡ Some c
+          → c.into ≡ far_mode mode → command ≡ None → false ≡ told
       by_mode Operate is c q md none = not_false g.valid told (h.1 awake none) (λ v.
           let op : g.mode ≡ FarOperate = (h.0 awake v).0 in
           let into : c.into ≡ FarOperate = md ∙ ap far_mode is in
-          let f : is_mode FarOperate FarOperate ≡ false = sym (ap (λ (x : device.Mode). is_mode x c.into) op ∙ ap (is_mode FarOperate) into) ∙ elsewhere c q in
+          let f : is_mode FarOperate FarOperate ≡ false =
+          sym (ap (λ (x : device.Mode). is_mode x c.into) op ∙ ap (is_mode FarOperate) into)
+          ∙ elsewhere c q in
           absurd (let z : true ≡ false = f in cc))
       by_mode other is c q md none =
           sym (sending.starting (λ op. let z : other ≡ Operate = sym is ∙ op in absurd (cc)))
 
   -- the output once the message is worked
-  module _ (most : ℕ) (g : Far) (same : g.page ≡ page) (level : IsLevel page run.od base link progress o most g) (h : OutputsAt g) (awake : g.awake ≡ true)
+  module _ (most : ℕ) (g : Far) (same : g.page ≡ page)
+      (level : IsLevel page run.od base link progress o most g) (h : OutputsAt g)
+      (awake : g.awake ≡ true)
       (there : Far) (m : MasterMsg) (e : accepted g o ≡ Some (there, m)) where
     is_message : (m ≡ message) × (there.mode ≡ far_mode mode)
     is_message = accepts_as most g same level there m e
@@ -211,29 +268,42 @@ module _ (laws : Laws) (page : List ℕ) (run : Shape) (base : List Carried) (li
     worked_valid : (worked there o m).valid ≡ true → (there.mode ≡ FarOperate) × IsSome sent
     worked_valid v = by_case (valid_by there.mode there.valid (command_in m) v)
       where
-        by_case : ((there.valid ≡ true) ⊎ ((command_in m ≡ Some ProcessDataOutputOperate) × (there.mode ≡ FarOperate))) → (there.mode ≡ FarOperate) × IsSome sent
+        by_case : ((there.valid ≡ true)
+            ⊎ ((command_in m ≡ Some ProcessDataOutputOperate) × (there.mode ≡ FarOperate)))
+            → (there.mode ≡ FarOperate) × IsSome sent
         by_case (inl k) = there_valid g h awake there m e k
         by_case (inr k) =
             let op : mode ≡ Operate = operates mode (sym is_message.1 ∙ k.1) in
-            let command : command_in message ≡ Some ProcessDataOutputOperate = ap command_in (sym is_message.0) ∙ k.0 in
-            (k.1, sending.tells (ap (λ (x : Mode). output_by x (command_in message)) op ∙ ap (output_by Operate) command))
+            let command : command_in message ≡ Some ProcessDataOutputOperate =
+            ap command_in (sym is_message.0) ∙ k.0 in (
+              k.1,
+              sending.tells (ap (λ (x : Mode). output_by x (command_in message)) op
+                  ∙ ap (output_by Operate) command),
+            )
 
     pub worked_as_told : (worked there o m).valid ≡ told_by (command) told
     worked_as_told =
         ap (λ (x : device.Mode). valid_after x there.valid (command_in m)) is_message.1
-        ∙ ap (λ (x : MasterMsg). valid_after (far_mode mode) there.valid (command_in x)) is_message.0
-        ∙ told_mode mode (command_in message) there.valid told (there_told g h awake there m e is_message.1)
+        ∙ ap (λ (x : MasterMsg). valid_after (far_mode mode) there.valid (command_in x))
+        is_message.0
+        ∙ told_mode mode (command_in message) there.valid told
+        (there_told g h awake there m e is_message.1)
 
     pub sent_output : IfSome (output_of (worked there o m)) (λ x. sent ≡ Some x)
-    sent_output = split (worked there o m).valid (nat_lt 0 (length (worked there o m).out)) worked_valid
+    sent_output = split (worked there o m).valid (nat_lt 0 (length (worked there o m).out))
+        worked_valid
       where
         items : there.mode ≡ FarOperate → IsSome sent → sent ≡ Some message.out.items
-        items op some = has_items sent message.out.items some (sending.carries (operates mode (sym is_message.1 ∙ op)))
+        items op some = has_items sent message.out.items some
+            (sending.carries (operates mode (sym is_message.1 ∙ op)))
 
-        split : (v n : Bool) → (v ≡ true → (there.mode ≡ FarOperate) × IsSome sent) → IfSome (if v && n then Some (worked there o m).out else None) (λ x. sent ≡ Some x)
+        split : (v n : Bool) → (v ≡ true → (there.mode ≡ FarOperate) × IsSome sent)
+            → IfSome (if v && n then Some (worked there o m).out else None) (λ x. sent ≡ Some x)
         split true true f =
             let k = f refl in
-            items k.0 k.1 ∙ ap (λ (x : List ℕ). Some x) (sym (out_is there.mode there.out m.out.items k.0 ∙ ap (λ (x : MasterMsg). x.out.items) is_message.0))
+            items k.0 k.1 ∙ ap (λ (x : List ℕ). Some x)
+            (sym (out_is there.mode there.out m.out.items k.0
+            ∙ ap (λ (x : MasterMsg). x.out.items) is_message.0))
         split true false f = tt
         split false n f = tt
 
@@ -247,51 +317,72 @@ module _ (laws : Laws) (page : List ℕ) (run : Shape) (base : List Carried) (li
     )
 
   -- only an awake far end accepts
-  pub accepts_awake : (g : Far) (there : Far) (m : MasterMsg) → accepted g o ≡ Some (there, m) → g.awake ≡ true
+  pub accepts_awake : (g : Far) (there : Far) (m : MasterMsg) → accepted g o ≡ Some (there, m)
+      → g.awake ≡ true
   accepts_awake g = grind (arith, common_steps)
 
-  pub outputs_sent : (most : ℕ) (g : Far) → g.page ≡ page → IsLevel page run.od base link progress o most g → OutputsAt g → OutputsSent sent g o
-  outputs_sent most g same level h there m e = sent_output most g same level h (accepts_awake g there m e) there m e
+  pub outputs_sent : (most : ℕ) (g : Far) → g.page ≡ page
+      → IsLevel page run.od base link progress o most g → OutputsAt g → OutputsSent sent g o
+  outputs_sent most g same level h there m e =
+      sent_output most g same level h (accepts_awake g there m e) there m e
 
-  pub outputs_hear : (most : ℕ) (g : Far) → g.page ≡ page → IsLevel page run.od base link progress o most g → OutputsAt g → OutputsAt (hear g o).far
+  pub outputs_hear : (most : ℕ) (g : Far) → g.page ≡ page
+      → IsLevel page run.od base link progress o most g → OutputsAt g → OutputsAt (hear g o).far
   outputs_hear most g same level h = split (accepted g o) refl
     where
       split : (q : Option (Far × MasterMsg)) → accepted g o ≡ q → OutputsAt (heard_as g o q).far
       split None e = h
-      split (Some (there, m)) e = worked_outputs most g same level h (accepts_awake g there m e) there m e
+      split (Some (there, m)) e = worked_outputs most g same level h (accepts_awake g there m e)
+          there m e
 
-  pub outputs_after : (passage : Passage) (most : ℕ) (g : Far) → g.page ≡ page → IsLevel page run.od base link progress o most g → OutputsAt g → OutputsAt (far_after passage g o)
+  pub outputs_after : (passage : Passage) (most : ℕ) (g : Far) → g.page ≡ page
+      → IsLevel page run.od base link progress o most g → OutputsAt g
+      → OutputsAt (far_after passage g o)
   outputs_after OutLost most g same level h = h
   outputs_after other most g same level h = outputs_hear most g same level h
 
   -- with a reply the output is as told then
-  pub replied_told : (most : ℕ) (g : Far) → g.page ≡ page → IsLevel page run.od base link progress o most g → OutputsAt g → (reply : List ℕ) → (hear g o).reply ≡ Some reply
+  pub replied_told : (most : ℕ) (g : Far) → g.page ≡ page
+      → IsLevel page run.od base link progress o most g → OutputsAt g → (reply : List ℕ)
+      → (hear g o).reply ≡ Some reply
       → (hear g o).far.valid ≡ told_by (command) told
   replied_told most g same level h reply = split (accepted g o) refl
     where
-      split : (q : Option (Far × MasterMsg)) → accepted g o ≡ q → (heard_as g o q).reply ≡ Some reply → (heard_as g o q).far.valid ≡ told_by (command) told
+      split : (q : Option (Far × MasterMsg)) → accepted g o ≡ q
+          → (heard_as g o q).reply ≡ Some reply
+          → (heard_as g o q).far.valid ≡ told_by (command) told
       split None e r = absurd (let z : Path (Option (List ℕ)) None (Some reply) = r in cc)
-      split (Some (there, m)) e r = worked_as_told most g same level h (accepts_awake g there m e) there m e
+      split (Some (there, m)) e r = worked_as_told most g same level h
+          (accepts_awake g there m e) there m e
 
   -- and in OPERATE it has the octets of the message
-  pub replied_out : (most : ℕ) (g : Far) → g.page ≡ page → IsLevel page run.od base link progress o most g → mode ≡ Operate → (reply : List ℕ) → (hear g o).reply ≡ Some reply
+  pub replied_out : (most : ℕ) (g : Far) → g.page ≡ page
+      → IsLevel page run.od base link progress o most g → mode ≡ Operate → (reply : List ℕ)
+      → (hear g o).reply ≡ Some reply
       → (hear g o).far.out ≡ message.out.items
   replied_out most g same level op reply = split (accepted g o) refl
     where
-      split : (q : Option (Far × MasterMsg)) → accepted g o ≡ q → (heard_as g o q).reply ≡ Some reply → (heard_as g o q).far.out ≡ message.out.items
+      split : (q : Option (Far × MasterMsg)) → accepted g o ≡ q
+          → (heard_as g o q).reply ≡ Some reply → (heard_as g o q).far.out ≡ message.out.items
       split None e r = absurd (let z : Path (Option (List ℕ)) None (Some reply) = r in cc)
       split (Some (there, m)) e r =
           let k = accepts_as most g same level there m e in
-          out_is there.mode there.out m.out.items (k.1 ∙ ap far_mode op) ∙ ap (λ (x : MasterMsg). x.out.items) k.0
+          out_is there.mode there.out m.out.items (k.1 ∙ ap far_mode op)
+          ∙ ap (λ (x : MasterMsg). x.out.items) k.0
 
   -- what it is handed is what may still be carried out
-  module _ (most : ℕ) (g : Far) (level : IsLevel page run.od base link progress o most g) (request : Option Request) (h : Hidden) (fits : ProgressFits progress request) (before : IsOpen g.isdu request h) (answer : AnswerFits base request h (hear g o).far.carried) where
-    opens_heard : (q : Option (Far × MasterMsg)) → accepted g o ≡ q → IsOpen (heard_as g o q).far.isdu request h
+  module _ (most : ℕ) (g : Far) (level : IsLevel page run.od base link progress o most g)
+      (request : Option Request) (h : Hidden) (fits : ProgressFits progress request)
+      (before : IsOpen g.isdu request h)
+      (answer : AnswerFits base request h (hear g o).far.carried) where
+    opens_heard : (q : Option (Far × MasterMsg)) → accepted g o ≡ q
+        → IsOpen (heard_as g o q).far.isdu request h
     opens_heard None k = before
     opens_heard (Some (there, m)) k =
         let r = accepts_reply g o there m k in
         subst (λ (q : Option (Far × MasterMsg)). IsOpen (heard_as g o q).far.isdu request h) k
-        (replied_opens page run.od base link progress o message what (hear g o) request h (says_of most g level r.0 r.1) fits answer)
+        (replied_opens page run.od base link progress o message what (hear g o) request h
+        (says_of most g level r.0 r.1) fits answer)
 
     pub opens_after : (passage : Passage) → IsOpen (far_after passage g o).isdu request h
     opens_after passage = grind (arith, common_steps, opens_heard)

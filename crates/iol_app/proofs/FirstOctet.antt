@@ -9,9 +9,11 @@ use Rattle.iol_far.specs.Codec.{message_in}
 use Rattle.iol_far.specs.Laws.{confirms as octets_confirm}
 use Rattle.iol_steps.specs.Bridge.{confirms_by}
 
-pub mc_of : (layout : Shape) (o : List ℕ) (m : MasterMsg) → message_in layout o ≡ Some m → m.mc ≡ control_of (slice_index o 0)
+pub mc_of : (layout : Shape) (o : List ℕ) (m : MasterMsg) → message_in layout o ≡ Some m
+    → m.mc ≡ control_of (slice_index o 0)
 unfolding message_in
 mc_of layout o m e = grind (arith, common_steps)
 
-pub confirms_of : (layout : Shape) (o : List ℕ) (m : MasterMsg) → message_in layout o ≡ Some m → confirms_by m.mc ≡ octets_confirm o
+pub confirms_of : (layout : Shape) (o : List ℕ) (m : MasterMsg) → message_in layout o ≡ Some m
+    → confirms_by m.mc ≡ octets_confirm o
 confirms_of layout o m e = ap confirms_by (mc_of layout o m e)

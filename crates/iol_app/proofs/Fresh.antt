@@ -1,4 +1,5 @@
--- In the turn of a request begun since the last one, no step clashes with its taking: nothing is handed yet.
+-- In the turn of a request begun since the last one, no step clashes with its taking: nothing is
+-- handed yet.
 use Rattle.std.proofs.Common.{◌≡◌, ℕ, List, [], ◌∷◌, ◌++◌, arith}
 use Rattle.std.proofs.lemmas.Grind.{common_steps}
 use Rattle.std.specs.Prelude.{Option, None, IsTrue}
@@ -13,15 +14,21 @@ use Rattle.iol_steps.specs.Bridge.{own_step, own_steps, exchange_steps}
 use Rattle.iol_steps.specs.Turn.{is_calm}
 use Rattle.iol_app.proofs.Clash.{AllCalm, calm-append, no_clash, no_clash-append, calm_passed}
 
-step_unhanded : (far : Far) (step : LocalStep) → handed far.isdu ≡ None → handed (local far step).isdu ≡ None
+step_unhanded : (far : Far) (step : LocalStep) → handed far.isdu ≡ None
+    → handed (local far step).isdu ≡ None
 step_unhanded far step given = grind (arith, common_steps)
 
-calm_own : (request : Option Request) (far : Far) (step : LocalStep) → handed far.isdu ≡ None → AllCalm (own_step request far step)
+calm_own : (request : Option Request) (far : Far) (step : LocalStep) → handed far.isdu ≡ None
+    → AllCalm (own_step request far step)
 calm_own request far step h = grind (arith, common_steps)
 
-calm_owns : (request : Option Request) (steps : List LocalStep) (far : Far) → handed far.isdu ≡ None → AllCalm (own_steps request far steps)
+calm_owns : (request : Option Request) (steps : List LocalStep) (far : Far)
+    → handed far.isdu ≡ None → AllCalm (own_steps request far steps)
 calm_owns request [] far h = tt
-calm_owns request (step ∷ steps) far h = calm-append (own_step request far step) (own_steps request (local far step) steps) (calm_own request far step h) (calm_owns request steps (local far step) (step_unhanded far step h))
+calm_owns request (step ∷ steps) far h =
+    calm-append (own_step request far step) (own_steps request (local far step) steps)
+    (calm_own request far step h) (calm_owns request steps (local far step)
+    (step_unhanded far step h))
 
 pub fresh_turn : (request : Option Request) (far : Far) (steps : List LocalStep)
     (passage : Passage) (o : List ℕ) (ys : List Step) → handed far.isdu ≡ None → no_clash ys

@@ -17,26 +17,46 @@ pub record Laws : Type 0 where
   pub events : (first : Event) (rest : List Event) → EventLaws first rest
   pub layouts : ModesHaveLayouts
 
-abbrev pub all_laws : ((size : ℕ) → 1 ≤ size → LevelLaws size) → MuchStays → RepliesAreRead → InputStaysSized → ((first : Event) (rest : List Event) → EventLaws first rest) → ModesHaveLayouts → Laws
-all_laws level much reads sized events layouts = record { level = level; much = much; reads = reads; sized = sized; events = events; layouts = layouts }
+abbrev pub all_laws : ((size : ℕ) → 1 ≤ size → LevelLaws size) → MuchStays → RepliesAreRead
+    → InputStaysSized → ((first : Event) (rest : List Event) → EventLaws first rest)
+    → ModesHaveLayouts → Laws
+all_laws level much reads sized events layouts =
+    record {
+      level = level;
+      much = much;
+      reads = reads;
+      sized = sized;
+      events = events;
+      layouts = layouts;
+    }
 
 module _ (laws : Laws) where
   pub page_locals : (steps : List LocalStep) (far : Far) → (locals far steps).page ≡ far.page
   page_locals [] far = refl
   page_locals (step ∷ steps) far = page_locals steps (local far step) ∙ laws.much.page_kept far step
 
-  pub page_after : (passage : Passage) (far : Far) (o : List ℕ) → (far_after passage far o).page ≡ far.page
+  pub page_after : (passage : Passage) (far : Far) (o : List ℕ)
+      → (far_after passage far o).page ≡ far.page
   page_after passage far o = grind (arith, common_steps)
 
   pub sized_locals : (steps : List LocalStep) (far : Far) → IsSized far → IsSized (locals far steps)
   sized_locals [] far h = h
-  sized_locals (step ∷ steps) far h = sized_locals steps (local far step) (laws.sized.steps far step h)
+  sized_locals (step ∷ steps) far h =
+      sized_locals steps (local far step) (laws.sized.steps far step h)
 
-  module _ (page : List ℕ) (size : ℕ) (has : 1 ≤ size) (base : List Carried) (link : Link) (p : Progress) (o : List ℕ) where
-    pub level_locals : (most : ℕ) (steps : List LocalStep) (far : Far) → IsLevel page size base link p o most far → IsLevel page size base link p o most (locals far steps)
+  module _ (page : List ℕ) (size : ℕ) (has : 1 ≤ size) (base : List Carried) (link : Link)
+      (p : Progress) (o : List ℕ) where
+    pub level_locals : (most : ℕ) (steps : List LocalStep) (far : Far)
+        → IsLevel page size base link p o most far
+        → IsLevel page size base link p o most (locals far steps)
     level_locals most [] far h = h
-    level_locals most (step ∷ steps) far h = level_locals most steps (local far step) (((laws.level size has).stays page base link p o).steps most far step h)
+    level_locals most (step ∷ steps) far h =
+        level_locals most steps (local far step)
+        (((laws.level size has).stays page base link p o).steps most far step h)
 
-    pub level_after : (most : ℕ) (passage : Passage) (far : Far) → IsLevel page size base link p o most far → IsLevel page size base link p o (suc most) (far_after passage far o)
-    level_after most OutLost far h = ((laws.level size has).stays page base link p o).loses most far h
+    pub level_after : (most : ℕ) (passage : Passage) (far : Far)
+        → IsLevel page size base link p o most far
+        → IsLevel page size base link p o (suc most) (far_after passage far o)
+    level_after most OutLost far h =
+        ((laws.level size has).stays page base link p o).loses most far h
     level_after most other far h = ((laws.level size has).stays page base link p o).hears most far h

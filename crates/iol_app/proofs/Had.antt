@@ -61,11 +61,14 @@ use Rattle.iol_app.proofs.ReadingOn.{Took, reads_next}
 use Rattle.iol_app.proofs.SmallFacts.{confirms_is, same_output, input_is, input_hear, input_locals, image_octets, HasOctets}
 use Rattle.iol_app.proofs.Exchanging.{Passes, gives, at, tied', confirms, told'}
 
-pub progress_fits : (current : Option Current) → ProgressFits (progress_of current) (request_in current)
+pub progress_fits : (current : Option Current)
+    → ProgressFits (progress_of current) (request_in current)
 progress_fits current = grind (arith, common_steps)
 
 -- a reading that is under way goes on
-kept_at : (reading : app.Reading) (flag event : Bool) (due : Event × List Event) → is_refused reading ≡ false → reading_kept (reading_at reading flag due) event ≡ reading_at reading event due
+kept_at : (reading : app.Reading) (flag event : Bool) (due : Event × List Event)
+    → is_refused reading ≡ false → reading_kept (reading_at reading flag due) event
+    ≡ reading_at reading event due
 kept_at other flag event due h = grind (arith, common_steps)
 
 -- one exchange that brought this reply, and what is said of it
@@ -109,7 +112,8 @@ module _ (laws : Laws) (readers : ReaderLaws) (turn : Good) where
     pub replies : (hear (locals far steps) o).reply ≡ Some octets
     pub far_is : far' ≡ there
     pub reply_is : r ≡ reply_to there layouts.run w.message
-    pub says : ReplySays g.page layouts.run.od g.request.base stands.request.link (progress_of current) o w.message (move_for e current) (hear (locals far steps) o)
+    pub says : ReplySays g.page layouts.run.od g.request.base stands.request.link
+        (progress_of current) o w.message (move_for e current) (hear (locals far steps) o)
     pub told_as : there.valid ≡ told_by (output_for e) t.output.told
     pub out_is : there.out ≡ w.message.out.items
     pub accepted : IsAccepted layouts g.page stands.request.link w.message
@@ -132,7 +136,8 @@ module _ (laws : Laws) (readers : ReaderLaws) (turn : Good) where
     abbrev m : Moment
     m = moment_of c g n (Exchanged true)
 
-    abbrev up : OperateRequest (record { out = Some w; layouts = layouts }) t.limit current (Some e) R g far
+    abbrev up : OperateRequest (record { out = Some w; layouts = layouts }) t.limit current
+        (Some e) R g far
     up = a.stands.request
 
     abbrev what : Move
@@ -141,30 +146,48 @@ module _ (laws : Laws) (readers : ReaderLaws) (turn : Good) where
     next_link : turned g.page up.link o w.message ≡ operate_link
     next_link = grind (arith, common_steps)
 
-    pub od_is : od ≡ (if w.message.mc.read then data_of there layouts.run.od w.message.mc.channel w.message.mc.address else [])
+    pub od_is : od ≡ (if w.message.mc.read then data_of there layouts.run.od
+        w.message.mc.channel w.message.mc.address else [])
     od_is = ap (λ (q : Reply). q.od.items) a.reply_is
 
-    pub before : IsBefore g.page layouts.run.od (base_after what g.request.base there.carried) operate_link (after (progress_of current) what od) there
+    pub before : IsBefore g.page layouts.run.od (base_after what g.request.base there.carried)
+        operate_link (after (progress_of current) what od) there
     before =
-        subst (λ (q : Progress). IsBefore g.page layouts.run.od (base_after what g.request.base there.carried) operate_link q there)
+        subst (λ (q : Progress). IsBefore g.page layouts.run.od
+        (base_after what g.request.base there.carried) operate_link q there)
         (sym (ap (after (progress_of current) what) od_is
-        ∙ data_after layouts.run.od what (progress_of current) w.message.mc.channel w.message.mc.read (flow_of w.message.mc.address) w.message.od.items w.message.mc.address there up.out.goes.move))
-        (subst (λ (l : Link). IsBefore g.page layouts.run.od (base_after what g.request.base there.carried) l (after (progress_of current) what (isdu_data layouts.run.od there.isdu)) there) next_link a.says.before)
+        ∙ data_after layouts.run.od what (progress_of current) w.message.mc.channel
+        w.message.mc.read (flow_of w.message.mc.address) w.message.od.items
+        w.message.mc.address there up.out.goes.move))
+        (subst (λ (l : Link). IsBefore g.page layouts.run.od
+        (base_after what g.request.base there.carried) l
+        (after (progress_of current) what (isdu_data layouts.run.od there.isdu)) there)
+        next_link a.says.before)
 
     pub tied : IsTied g.request.base request h there.carried
     tied = tied' laws layouts w t g far n steps Clean e current a.stands
 
     quiet_base : progress_of current ≡ Quiet → there.carried ≡ g.request.base
-    quiet_base quiet = subst (λ (q : Progress). IsGrown g.request.base q there.carried) quiet a.says.grown
+    quiet_base quiet = subst (λ (q : Progress). IsGrown g.request.base q there.carried) quiet
+        a.says.grown
 
     -- the segments of an answer, the last of which has octets of its text
-    pub text : ReadsAnswer what → (q : Request) (i : ℕ) (octets : List ℕ) → after (progress_of current) what od ≡ IsHad q i octets
-        → (answer : Answer) × IsTrue (fits q answer) × (octets ≡ joined layouts.run.od (answer_text q answer) i) × (i * layouts.run.od < length (answer_text q answer))
+    pub text : ReadsAnswer what → (q : Request) (i : ℕ) (octets : List ℕ)
+        → after (progress_of current) what od ≡ IsHad q i octets
+        → (answer : Answer) × IsTrue (fits q answer)
+        × (octets ≡ joined layouts.run.od (answer_text q answer) i)
+        × (i * layouts.run.od < length (answer_text q answer))
     text k q i octets is =
-        had_text layouts.run.od (base_after what g.request.base there.carried) q i octets there.isdu there.carried
-        (subst (λ (p : Progress). FarStands layouts.run.od (base_after what g.request.base there.carried) p there.isdu there.carried) is before.stands)
-        what (progress_of current) w.message.mc.channel w.message.mc.read (flow_of w.message.mc.address) w.message.od.items od k up.out.goes.move
-        (od_is ∙ answers_data layouts.run.od what (progress_of current) w.message.mc.channel w.message.mc.read (flow_of w.message.mc.address) w.message.od.items w.message.mc.address there k up.out.goes.move) is
+        had_text layouts.run.od (base_after what g.request.base there.carried) q i octets
+        there.isdu there.carried
+        (subst (λ (p : Progress). FarStands layouts.run.od
+        (base_after what g.request.base there.carried) p there.isdu there.carried) is
+        before.stands)
+        what (progress_of current) w.message.mc.channel w.message.mc.read
+        (flow_of w.message.mc.address) w.message.od.items od k up.out.goes.move
+        (od_is ∙ answers_data layouts.run.od what (progress_of current) w.message.mc.channel
+        w.message.mc.read (flow_of w.message.mc.address) w.message.od.items
+        w.message.mc.address there k up.out.goes.move) is
 
     -- The events
 
@@ -172,46 +195,65 @@ module _ (laws : Laws) (readers : ReaderLaws) (turn : Good) where
     event_is = ap (λ (q : Reply). q.event) a.reply_is
 
     pub told_now : told ≡ is_due R
-    told_now = (told' laws layouts w t g far n steps Clean e current a.stands).1 ∙ ap (λ (b : Bool). b && is_due R) a.says.before.awake
+    told_now = (told' laws layouts w t g far n steps Clean e current a.stands).1
+        ∙ ap (λ (b : Bool). b && is_due R) a.says.before.awake
 
     confirms_by : octets_confirm o ≡ confirms_events e
     confirms_by = confirms laws layouts w t g far n steps Clean e current a.stands
 
     pub fit_now : EventsFit R (confirms_events e) there.events
-    fit_now = subst (λ (b : Bool). EventsFit R b there.events) confirms_by ((told' laws layouts w t g far n steps Clean e current a.stands).0 a.says.before.awake)
+    fit_now = subst (λ (b : Bool). EventsFit R b there.events) confirms_by
+        ((told' laws layouts w t g far n steps Clean e current a.stands).0 a.says.before.awake)
 
     -- what it makes of the reading
     pub record Reads : Type 0 where
       pub due : Event × List Event
-      pub fit : EventsFit (reading_at (read_on e od t.events.reading) r.event due) false there.events
+      pub fit : EventsFit (reading_at (read_on e od t.events.reading) r.event due) false
+          there.events
       pub form : is_refused (read_on e od t.events.reading) ≡ false
-      pub same : list_read e od t.events.reading ≡ None → frozen_of there.events.frozen told ≡ frozen_of there.events.frozen (is_due (reading_at (read_on e od t.events.reading) r.event due))
+      pub same : list_read e od t.events.reading ≡ None
+          → frozen_of there.events.frozen told
+          ≡ frozen_of there.events.frozen
+          (is_due (reading_at (read_on e od t.events.reading) r.event due))
 
     pub keeps : confirms_events e ≡ false → read_on e od t.events.reading ≡ t.events.reading → Reads
     keeps other kept =
-        let held : there.events.held ≡ false = ends_hold (locals far steps) o a.octets (confirms_by ∙ other) a.replies in
-        let fit : EventsFit (reading_kept R r.event) false there.events = kept_fits R r.event there.events event_is held (subst (λ (b : Bool). EventsFit R b there.events) other fit_now) in
-        let is : reading_kept R r.event ≡ reading_at (read_on e od t.events.reading) r.event g.events.due =
-        kept_at t.events.reading t.events.flag r.event g.events.due a.stands.shown.no_form ∙ ap (λ (x : app.Reading). reading_at x r.event g.events.due) (sym kept) in
+        let held : there.events.held ≡ false =
+        ends_hold (locals far steps) o a.octets (confirms_by ∙ other) a.replies in
+        let fit : EventsFit (reading_kept R r.event) false there.events =
+        kept_fits R r.event there.events event_is held
+        (subst (λ (b : Bool). EventsFit R b there.events) other fit_now) in
+        let is : reading_kept R r.event
+        ≡ reading_at (read_on e od t.events.reading) r.event g.events.due =
+        kept_at t.events.reading t.events.flag r.event g.events.due a.stands.shown.no_form
+        ∙ ap (λ (x : app.Reading). reading_at x r.event g.events.due) (sym kept) in
         record {
           due = g.events.due;
           fit = subst (λ (x : Reading). EventsFit x false there.events) is fit;
           form = ap is_refused kept ∙ a.stands.shown.no_form;
-          same = λ k. ap (frozen_of there.events.frozen) (told_now ∙ sym (kept_due R r.event) ∙ ap is_due is);
+          same = λ k. ap (frozen_of there.events.frozen)
+              (told_now ∙ sym (kept_due R r.event) ∙ ap is_due is);
         }
 
     -- a confirm leaves nothing frozen
     cleared : confirms_events e ≡ true → there.events.frozen ≡ []
     cleared is = by_reading R (up.out.confirm (confirms_is e is)) fit_before
       where
-        before_heard : EventsTold R (confirms_events e) (locals far steps) (told_through far steps g.events.told)
-        before_heard = told_locals laws.events R (confirms_events e) steps far g.events.told a.stands.events
+        before_heard : EventsTold R (confirms_events e) (locals far steps)
+            (told_through far steps g.events.told)
+        before_heard = told_locals laws.events R (confirms_events e) steps far g.events.told
+            a.stands.events
 
         fit_before : (locals far steps).awake ≡ true → EventsFit R true (locals far steps).events
-        fit_before k = subst (λ (b : Bool). EventsFit R b (locals far steps).events) is (before_heard.0 k)
+        fit_before k = subst (λ (b : Bool). EventsFit R b (locals far steps).events) is
+            (before_heard.0 k)
 
-        by_reading : (x : Reading) → is_due x ≡ true → ((locals far steps).awake ≡ true → EventsFit x true (locals far steps).events) → there.events.frozen ≡ []
-        by_reading (Due first rest) d fit = ((laws.events first rest).clears (locals far steps) o a.octets (confirms_by ∙ is) fit a.replies).0
+        by_reading : (x : Reading) → is_due x ≡ true
+            → ((locals far steps).awake ≡ true → EventsFit x true (locals far steps).events)
+            → there.events.frozen ≡ []
+        by_reading (Due first rest) d fit =
+            ((laws.events first rest).clears (locals far steps) o a.octets (confirms_by ∙ is)
+            fit a.replies).0
         by_reading other d fit = absurd (let z : false ≡ true = d in cc)
 
     pub rests : confirms_events e ≡ true → read_on e od t.events.reading ≡ Resting → Reads
@@ -219,45 +261,74 @@ module _ (laws : Laws) (readers : ReaderLaws) (turn : Good) where
         let none : there.events.frozen ≡ [] = cleared is in
         record {
           due = g.events.due;
-          fit = subst (λ (x : app.Reading). EventsFit (reading_at x r.event g.events.due) false there.events) (sym rest) (unflagged r.event (event_is ∙ ap (λ (l : List Event). not (is_empty l)) none));
+          fit = subst (λ (x : app.Reading). EventsFit (reading_at x r.event g.events.due) false
+              there.events) (sym rest) (unflagged r.event
+              (event_is ∙ ap (λ (l : List Event). not (is_empty l)) none));
           form = ap is_refused rest;
-          same = λ k. ap (λ (l : List Event). frozen_of l told) none ∙ sym (ap (λ (l : List Event). frozen_of l (is_due (reading_at (read_on e od t.events.reading) r.event g.events.due))) none);
+          same = λ k. ap (λ (l : List Event). frozen_of l told) none
+              ∙ sym (ap (λ (l : List Event). frozen_of l
+              (is_due (reading_at (read_on e od t.events.reading) r.event g.events.due))) none);
         }
       where
-        unflagged : (event : Bool) → event ≡ false → EventsFit (reading_flagged event) false there.events
+        unflagged : (event : Bool) → event ≡ false
+            → EventsFit (reading_flagged event) false there.events
         unflagged false is = tt
         unflagged true is = absurd (let z : true ≡ false = is in cc)
 
     -- an octet of the list
-    pub took : (head_of w.message.mc ≡ read_of Diagnosis (next_address (reader_of t.events.reading))) → wants_octet R ≡ true → Took (taken_octet (reader_of t.events.reading) (slice_index od 0)) r.event there.events
+    pub took : (head_of w.message.mc
+        ≡ read_of Diagnosis (next_address (reader_of t.events.reading))) → wants_octet R ≡ true
+        → Took (taken_octet (reader_of t.events.reading) (slice_index od 0)) r.event
+        there.events
     took head wants =
-        subst (λ (k : ℕ). Took (taken_octet (reader_of t.events.reading) k) r.event there.events) (sym octet)
-        (reads_next readers r.event t.events.reading t.events.flag g.events.due (confirms_events e) there.events (memory_hear readers (locals far steps) o (memory_locals readers steps far regular.memory)) fit_now wants)
+        subst (λ (k : ℕ). Took (taken_octet (reader_of t.events.reading) k) r.event
+        there.events) (sym octet)
+        (reads_next readers r.event t.events.reading t.events.flag g.events.due
+        (confirms_events e) there.events
+        (memory_hear readers (locals far steps) o
+        (memory_locals readers steps far regular.memory)) fit_now wants)
       where
-        octet : slice_index od 0 ≡ event_octet there.events.frozen (next_address (reader_of t.events.reading))
-        octet = ap (λ (l : List ℕ). slice_index l 0) od_is ∙ ap (λ (x : Head). slice_index (if x.read then data_of there layouts.run.od x.channel x.address else []) 0) head
+        octet : slice_index od 0 ≡ event_octet there.events.frozen
+            (next_address (reader_of t.events.reading))
+        octet = ap (λ (l : List ℕ). slice_index l 0) od_is
+            ∙ ap (λ (x : Head). slice_index
+            (if x.read then data_of there layouts.run.od x.channel x.address else []) 0) head
 
     -- Process data
 
     image : image_in r ≡ there.input
     image =
         let same : layouts.run.pd_in ≡ input_size there =
-        ap (λ (l : Shape). l.pd_in) (sym (at laws layouts w t g far n steps Clean e current a.stands)) ∙ sym (ap (λ (p : List ℕ). (layout_in p FarOperate).pd_in) a.says.before.page_is) in
-        let sized : IsSized there = laws.sized.hears (locals far steps) o (sized_locals laws steps far regular.sized) in
-        let octets_in : HasOctets there.input = subst HasOctets (sym (input_hear (locals far steps) o)) (input_locals steps far (image_octets far.input regular.input)) in
+        ap (λ (l : Shape). l.pd_in) (sym
+        (at laws layouts w t g far n steps Clean e current a.stands))
+        ∙ sym (ap (λ (p : List ℕ). (layout_in p FarOperate).pd_in) a.says.before.page_is) in
+        let sized : IsSized there = laws.sized.hears (locals far steps) o
+        (sized_locals laws steps far regular.sized) in
+        let octets_in : HasOctets there.input =
+        subst HasOctets (sym (input_hear (locals far steps) o))
+        (input_locals steps far (image_octets far.input regular.input)) in
         ap (λ (k : ℕ). image_had k r) a.sized
-        ∙ input_is layouts.run.pd_in there.input r (subst (λ (k : ℕ). IfSome there.input (λ image. length image ≡ k)) (sym same) sized) octets_in
+        ∙ input_is layouts.run.pd_in there.input r
+        (subst (λ (k : ℕ). IfSome there.input (λ image. length image ≡ k)) (sym same) sized)
+        octets_in
         (ap (λ (q : Reply). q.input.items) a.reply_is) (ap (λ (q : Reply). q.invalid) a.reply_is)
 
-    ordered_now : output_of there ≡ (if told_by (output_for e) t.output.told && nat_lt 0 (length w.message.out.items) then Some w.message.out.items else None)
+    ordered_now : output_of there ≡ (if told_by (output_for e) t.output.told
+        && nat_lt 0 (length w.message.out.items) then Some w.message.out.items else None)
     ordered_now = grind (arith, common_steps)
 
     -- What one kind of message and reply has to bring
 
-    pub record Brings (reads : Reads) (kind : Brought) (next : Option Current) (busy : ℕ) : Type 0 where
-      pub session : SessionRuns m (seen_in c g) h there.carried (brought_steps kind request) (record (seen_in c g) { request = request_in next; busy = busy }) h there.carried
-      pub frozen : FrozenRuns there.events.frozen told (brought_steps kind request) there.events.frozen (is_due (reading_at (read_on e od t.events.reading) r.event reads.due))
-      pub images : ImagesRuns m (images_of (shown_in t g.sent) there) (brought_steps kind request) (images_of (record (shown_in t g.sent) { image = there.input }) there)
+    pub record Brings (reads : Reads) (kind : Brought) (next : Option Current) (busy : ℕ) : Type
+        0 where
+      pub session : SessionRuns m (seen_in c g) h there.carried (brought_steps kind request)
+          (record (seen_in c g) { request = request_in next; busy = busy }) h there.carried
+      pub frozen : FrozenRuns there.events.frozen told (brought_steps kind request)
+          there.events.frozen (is_due (reading_at (read_on e od t.events.reading) r.event
+          reads.due))
+      pub images : ImagesRuns m (images_of (shown_in t g.sent) there)
+          (brought_steps kind request) (images_of
+          (record (shown_in t g.sent) { image = there.input }) there)
       pub book : filter is_for_book (brought_steps kind request) ≡ book_said said
       pub reports : filter is_report (brought_steps kind request) ≡ reports_said said
       pub apart : Before xs (brought_steps kind request)
@@ -269,13 +340,32 @@ module _ (laws : Laws) (readers : ReaderLaws) (turn : Good) where
       pub busy_is : BusySeen t.limit next busy g.request.asked
       pub known : IsSome (request_in next) → IsSome request
 
-    pub had : (reads : Reads) (kind : Brought) (busy : ℕ) → Brings reads kind (current_after e t.limit od current) busy
-        → StateStands (state_of (InOperate (record { out = None; layouts = layouts }) (Some r))) n' far' → StateFits (state_of (InOperate (record { out = None; layouts = layouts }) (Some r)))
-        → Joined (state_of (InOperate (record { out = None; layouts = layouts }) (Some r))) (absorbed e r c.session)
-        → ReceiveGives c g far n said (after_exchange (InOperate (record { out = None; layouts = layouts }) (Some r)) c.session) far' n'
+    pub had : (reads : Reads) (kind : Brought) (busy : ℕ)
+        → Brings reads kind (current_after e t.limit od current) busy
+        → StateStands (state_of (InOperate (record { out = None; layouts = layouts }) (Some r)))
+        n' far' → StateFits (state_of
+        (InOperate (record { out = None; layouts = layouts }) (Some r)))
+        → Joined (state_of (InOperate (record { out = None; layouts = layouts }) (Some r)))
+        (absorbed e r c.session)
+        → ReceiveGives c g far n said (after_exchange
+        (InOperate (record { out = None; layouts = layouts }) (Some r)) c.session) far' n'
     had reads kind busy b link fits joined =
-        gives laws layouts w t g far n steps Clean e current a.stands far' n' a.far_is said a.passes (Exchanged true) (after_exchange (InOperate (record { out = None; layouts = layouts }) (Some r)) c.session)
-        (record g { request = record { hidden = h; busy = busy; asked = g.request.asked; base = b.base }; events = record { told = is_due (reading_at (read_on e od t.events.reading) r.event reads.due); due = reads.due }; fresh = false })
+        gives laws layouts w t g far n steps Clean e current a.stands far' n' a.far_is said
+        a.passes (Exchanged true) (after_exchange
+        (InOperate (record { out = None; layouts = layouts }) (Some r)) c.session)
+        (record g {
+          request = record {
+            hidden = h;
+            busy = busy;
+            asked = g.request.asked;
+            base = b.base;
+          };
+          events = record {
+            told = is_due (reading_at (read_on e od t.events.reading) r.event reads.due);
+            due = reads.due;
+          };
+          fresh = false;
+        })
         (brought_steps kind request)
         (record {
           limit = refl;
@@ -283,8 +373,15 @@ module _ (laws : Laws) (readers : ReaderLaws) (turn : Good) where
           configuration = refl;
           session = b.session;
           frozen = b.frozen;
-          images = subst (λ (q : Output). ImagesRuns m (images_of (shown_in t g.sent) there) (brought_steps kind request) (images_of (record (shown_in t g.sent) { image = image_in r; wanted = q.wanted }) there)) (sym (same_output e t.output))
-              (subst (λ (i : Option Image). ImagesRuns m (images_of (shown_in t g.sent) there) (brought_steps kind request) (images_of (record (shown_in t g.sent) { image = i }) there)) (sym image) b.images);
+          images = subst (λ (q : Output). ImagesRuns m (images_of (shown_in t g.sent) there)
+              (brought_steps kind request)
+              (images_of (record (shown_in t g.sent)
+              { image = image_in r; wanted = q.wanted }) there))
+              (sym (same_output e t.output))
+              (subst (λ (i : Option Image). ImagesRuns m (images_of (shown_in t g.sent) there)
+              (brought_steps kind request)
+              (images_of (record (shown_in t g.sent) { image = i }) there)) (sym image)
+              b.images);
           apart = b.apart;
           calm = b.calm;
           spent = refl;
@@ -295,7 +392,10 @@ module _ (laws : Laws) (readers : ReaderLaws) (turn : Good) where
           wanted = λ k. ordered_now;
           request_is = record {
             late = tied.0;
-            opens = stands_open layouts.run.od b.base (progress_of (current_after e t.limit od current)) there.isdu there.carried (request_in (current_after e t.limit od current)) h b.level.stands (progress_fits (current_after e t.limit od current)) b.answer;
+            opens = stands_open layouts.run.od b.base
+                (progress_of (current_after e t.limit od current)) there.isdu there.carried
+                (request_in (current_after e t.limit od current)) h b.level.stands
+                (progress_fits (current_after e t.limit od current)) b.answer;
             link = operate_link;
             linked = inr refl;
             level = b.level;
@@ -304,10 +404,29 @@ module _ (laws : Laws) (readers : ReaderLaws) (turn : Good) where
             busy = b.busy_is;
             known = λ k. up.known (b.known k);
           };
-          events = ((λ k. reads.fit), ap (λ (q : Bool). q && is_due (reading_at (read_on e od t.events.reading) r.event reads.due)) (sym a.says.before.awake));
-          output = (a.passes.outputs.0, (λ k l. a.told_as ∙ ap (λ (q : Output). q.told) (sym (same_output e t.output))), a.passes.outputs.2);
-          sent = subst (λ (q : Output). SentSeen t.layout q.carried.items g.sent) (sym (same_output e t.output)) a.stands.sent;
-          shown = record { image = λ k. absurd (k refl); wanted = subst (λ (q : Output). IfSome q.wanted IsImage) (sym (same_output e t.output)) a.stands.shown.wanted; lengths = a.stands.shown.lengths; isdu = a.stands.shown.isdu; present = a.stands.shown.present; no_form = reads.form };
+          events = (
+            (λ k. reads.fit),
+            ap
+                (λ (q : Bool). q && is_due (reading_at (read_on e od t.events.reading) r.event
+                reads.due)) (sym a.says.before.awake),
+          );
+          output = (
+            a.passes.outputs.0,
+            (λ k l. a.told_as
+                ∙ ap (λ (q : Output). q.told) (sym (same_output e t.output))),
+            a.passes.outputs.2,
+          );
+          sent = subst (λ (q : Output). SentSeen t.layout q.carried.items g.sent)
+              (sym (same_output e t.output)) a.stands.sent;
+          shown = record {
+            image = λ k. absurd (k refl);
+            wanted = subst (λ (q : Output). IfSome q.wanted IsImage)
+                (sym (same_output e t.output)) a.stands.shown.wanted;
+            lengths = a.stands.shown.lengths;
+            isdu = a.stands.shown.isdu;
+            present = a.stands.shown.present;
+            no_form = reads.form;
+          };
         })
         tt a.silent link fits joined a.silent
       where
@@ -323,14 +442,21 @@ module _ (laws : Laws) (readers : ReaderLaws) (turn : Good) where
       pub brings : Brings reads kind next busy
 
     -- a request goes on, or none is under way
-    pub goes_on : (reads : Reads) (next : Option Current) → request_in next ≡ request → (what ≡ Leave → progress_of current ≡ Quiet) → after (progress_of current) what od ≡ progress_of next → BusySeen t.limit next g.request.busy g.request.asked
+    pub goes_on : (reads : Reads) (next : Option Current) → request_in next ≡ request
+        → (what ≡ Leave → progress_of current ≡ Quiet)
+        → after (progress_of current) what od ≡ progress_of next
+        → BusySeen t.limit next g.request.busy g.request.asked
         → list_read e od t.events.reading ≡ None → said ≡ quiet_said request → Comes next
     goes_on reads next same leaves is busy none says = record {
       reads = reads;
       kind = Had;
       busy = g.request.busy;
       brings = record {
-        session = ((tt, tt), ap (λ (q : Option Request). session_of (record (seen_in c g) { request = q }) h there.carried) (sym same));
+        session = (
+          (tt, tt),
+          ap (λ (q : Option Request). session_of
+              (record (seen_in c g) { request = q }) h there.carried) (sym same),
+        );
         frozen = ((tt, tt), reads.same none);
         images = (((refl, refl), tt), refl);
         book = rw says (sym (quiet_book request).0);
@@ -339,8 +465,12 @@ module _ (laws : Laws) (readers : ReaderLaws) (turn : Good) where
         calm = λ k. refl;
         once = refl;
         base = base_after what g.request.base there.carried;
-        level = subst (λ (q : Progress). IsBefore g.page layouts.run.od (base_after what g.request.base there.carried) operate_link q there) is before;
-        answer = subst (λ (q : Option Request). AnswerFits (base_after what g.request.base there.carried) q h there.carried) (sym same) (answer_after what g.request.base there.carried request h (λ k. quiet_base (leaves k)) tied.1);
+        level = subst (λ (q : Progress). IsBefore g.page layouts.run.od
+            (base_after what g.request.base there.carried) operate_link q there) is before;
+        answer = subst (λ (q : Option Request). AnswerFits
+            (base_after what g.request.base there.carried) q h there.carried) (sym same)
+            (answer_after what g.request.base there.carried request h
+            (λ k. quiet_base (leaves k)) tied.1);
         busy_is = busy;
         known = subst (λ (q : Option Request). IsSome (request_in next) → IsSome q) same (λ k. k);
       };

@@ -1,4 +1,5 @@
--- The images: own steps, what is heard, and a wake are allowed there, and leave the far end's input and output.
+-- The images: own steps, what is heard, and a wake are allowed there, and leave the far end's
+-- input and output.
 use Rattle.std.proofs.lemmas.Grind.{common_steps}
 use Rattle.std.proofs.Common.{arith, ◌≡◌, ℕ, Bool, true, false, List, [], ◌∷◌, ◌++◌, refl, sym, ◌∙◌, ap, subst}
 use Rattle.std.specs.Prelude.{Option, Some, None, if◌then◌else◌, IfSome}
@@ -21,15 +22,18 @@ use Rattle.iol_app.proofs.OwnSession.{woken_if}
 abbrev pub ImagesRuns : Moment → Images → List Step → Images → Type 0
 ImagesRuns m i steps i' = MayImagesAll m steps i × (images_through m steps i ≡ i')
 
-may_images-append : (m : Moment) (xs ys : List Step) (i : Images) → MayImagesAll m xs i → MayImagesAll m ys (images_through m xs i) → MayImagesAll m (xs ++ ys) i
+may_images-append : (m : Moment) (xs ys : List Step) (i : Images) → MayImagesAll m xs i
+    → MayImagesAll m ys (images_through m xs i) → MayImagesAll m (xs ++ ys) i
 may_images-append m [] ys i h k = k
 may_images-append m (x ∷ xs) ys i h k = (h.0, may_images-append m xs ys _ h.1 k)
 
-images_through-append : (m : Moment) (xs ys : List Step) (i : Images) → images_through m (xs ++ ys) i ≡ images_through m ys (images_through m xs i)
+images_through-append : (m : Moment) (xs ys : List Step) (i : Images)
+    → images_through m (xs ++ ys) i ≡ images_through m ys (images_through m xs i)
 images_through-append m [] ys i = refl
 images_through-append m (x ∷ xs) ys i = images_through-append m xs ys _
 
-pub images_runs-append : (m : Moment) (i i1 i2 : Images) (xs ys : List Step) → ImagesRuns m i xs i1 → ImagesRuns m i1 ys i2 → ImagesRuns m i (xs ++ ys) i2
+pub images_runs-append : (m : Moment) (i i1 i2 : Images) (xs ys : List Step)
+    → ImagesRuns m i xs i1 → ImagesRuns m i1 ys i2 → ImagesRuns m i (xs ++ ys) i2
 images_runs-append m i i1 i2 xs ys a b = (
   may_images-append m xs ys i a.0 (subst (MayImagesAll m ys) (sym a.1) b.0),
   images_through-append m xs ys i ∙ ap (images_through m ys) a.1 ∙ b.1,
@@ -37,22 +41,34 @@ images_runs-append m i i1 i2 xs ys a b = (
 
 -- Own steps
 
-carry_images : (m : Moment) (request : Option Request) (s : Shown) (far : Far) (a : Answer) (state : IsduState) → ImagesRuns m (images_of s far) (carry_steps request state far a) (images_of s (carried_by state far a))
+carry_images : (m : Moment) (request : Option Request) (s : Shown) (far : Far) (a : Answer)
+    (state : IsduState) → ImagesRuns m (images_of s far) (carry_steps request state far a)
+    (images_of s (carried_by state far a))
 carry_images m request s far a state = grind (arith, common_steps)
 
-own_images_step : (m : Moment) (request : Option Request) (s : Shown) (far : Far) (step : LocalStep) → ImagesRuns m (images_of s far) (own_step request far step) (images_of s (local far step))
+own_images_step : (m : Moment) (request : Option Request) (s : Shown) (far : Far)
+    (step : LocalStep) → ImagesRuns m (images_of s far) (own_step request far step)
+    (images_of s (local far step))
 own_images_step m request s far (OwnCarry a) = carry_images m request s far a far.isdu
 own_images_step m request s far (OwnRaise e) =
-    elim (freezes_at_once far.events) as (λ b. ImagesRuns m (images_of s far) (if b then Freeze (e ∷ []) ∷ [] else []) (images_of s far)) [ true ↦ ((tt, tt), refl) | false ↦ (tt, refl) ]
+    elim (freezes_at_once far.events) as
+    (λ b. ImagesRuns m (images_of s far) (if b then Freeze (e ∷ []) ∷ [] else [])
+    (images_of s far)) [ true ↦ ((tt, tt), refl) | false ↦ (tt, refl) ]
 own_images_step m request s far (OwnInput image) =
     elim (is_input far image)
-    as (λ b. ImagesRuns m (images_of s far) (if b then Input (Some image) ∷ [] else []) (images_of s (if b then record far { input = Some image } else far))) [ true ↦ ((tt, tt), refl) | false ↦ (tt, refl) ]
+    as (λ b. ImagesRuns m (images_of s far) (if b then Input (Some image) ∷ [] else [])
+    (images_of s (if b then record far { input = Some image } else far)))
+    [ true ↦ ((tt, tt), refl) | false ↦ (tt, refl) ]
 own_images_step m request s far other = ((tt, tt), refl)
 
-pub own_images : (m : Moment) (request : Option Request) (s : Shown) (steps : List LocalStep) (far : Far) → ImagesRuns m (images_of s far) (own_steps request far steps) (images_of s (locals far steps))
+pub own_images : (m : Moment) (request : Option Request) (s : Shown) (steps : List LocalStep)
+    (far : Far) → ImagesRuns m (images_of s far) (own_steps request far steps)
+    (images_of s (locals far steps))
 own_images m request s [] far = (tt, refl)
 own_images m request s (step ∷ steps) far =
-    images_runs-append m (images_of s far) (images_of s (local far step)) (images_of s (locals (local far step) steps)) (own_step request far step) (own_steps request (local far step) steps)
+    images_runs-append m (images_of s far) (images_of s (local far step))
+    (images_of s (locals (local far step) steps)) (own_step request far step)
+    (own_steps request (local far step) steps)
     (own_images_step m request s far step) (own_images m request s steps (local far step))
 
 -- What is heard
@@ -64,38 +80,58 @@ release_images m i e = grind (arith, common_steps)
 abbrev pub OutputIsSent : Option Image → Far → List ℕ → MasterMsg → Type 0
 OutputIsSent sent there o msg = IfSome (output_of (worked there o msg)) (λ x. sent ≡ Some x)
 
-worked_images : (m : Moment) (s : Shown) (there : Far) (o : List ℕ) (msg : MasterMsg) (before : Images) → before.input ≡ there.input → OutputIsSent s.sent there o msg →
-    before ≡ record (images_of s there) { output = before.output } → ImagesRuns m before (worked_steps there o msg) (images_of s (worked there o msg))
+worked_images : (m : Moment) (s : Shown) (there : Far) (o : List ℕ) (msg : MasterMsg)
+    (before : Images) → before.input ≡ there.input → OutputIsSent s.sent there o msg →
+    before ≡ record (images_of s there) { output = before.output }
+    → ImagesRuns m before (worked_steps there o msg) (images_of s (worked there o msg))
 worked_images m s there o msg before input_is fits is = grind (arith, common_steps)
 
 -- whatever the far end accepts there, its output is then the image that the master sent
 abbrev pub OutputsSent : Option Image → Far → List ℕ → Type 0
-OutputsSent sent far o = (there : Far) (m : MasterMsg) → accepted far o ≡ Some (there, m) → OutputIsSent sent there o m
+OutputsSent sent far o = (there : Far) (m : MasterMsg) → accepted far o ≡ Some (there, m)
+    → OutputIsSent sent there o m
 
-pub heard_images : (m : Moment) (s : Shown) (far : Far) (o : List ℕ) → OutputsSent s.sent far o → ImagesRuns m (images_of s far) (heard_steps far o) (images_of s (hear far o).far)
+pub heard_images : (m : Moment) (s : Shown) (far : Far) (o : List ℕ) → OutputsSent s.sent far o
+    → ImagesRuns m (images_of s far) (heard_steps far o) (images_of s (hear far o).far)
 heard_images m s far o fits = by_accepted P far o (λ f. (tt, refl))
     (λ awake msg spells f. worked_images m s far o msg (images_of s far) refl (f far msg refl) refl)
-    (λ awake command w msg spells f. worked_images m s (moved far command.into) o msg (images_of s far) refl (f (moved far command.into) msg refl) refl) fits
+    (λ awake command w msg spells f. worked_images m s (moved far command.into) o msg
+    (images_of s far) refl (f (moved far command.into) msg refl) refl) fits
   where
     P : Option (Far × MasterMsg) → Type 0
-    P q = ((there : Far) (msg : MasterMsg) → q ≡ Some (there, msg) → OutputIsSent s.sent there o msg) → ImagesRuns m (images_of s far) (heard_steps_as q o) (images_of s (heard_as far o q).far)
+    P q = ((there : Far) (msg : MasterMsg) → q ≡ Some (there, msg)
+        → OutputIsSent s.sent there o msg)
+        → ImagesRuns m (images_of s far) (heard_steps_as q o)
+        (images_of s (heard_as far o q).far)
 
-pub passed_images : (m : Moment) (s : Shown) (passage : Passage) (far : Far) (o : List ℕ) → OutputsSent s.sent far o → ImagesRuns m (images_of s far) (passed_steps passage far o) (images_of s (far_after passage far o))
+pub passed_images : (m : Moment) (s : Shown) (passage : Passage) (far : Far) (o : List ℕ)
+    → OutputsSent s.sent far o → ImagesRuns m (images_of s far) (passed_steps passage far o)
+    (images_of s (far_after passage far o))
 passed_images m s OutLost far o fits = (tt, refl)
 passed_images m s other far o fits = heard_images m s far o fits
 
 -- the far end's part of an exchange
-pub exchange_images : (m : Moment) (request : Option Request) (s : Shown) (far : Far) (steps : List LocalStep) (passage : Passage) (o : List ℕ) → OutputsSent s.sent (locals far steps) o →
-    ImagesRuns m (images_of s far) (exchange_steps request far steps passage o) (images_of s (far_after passage (locals far steps) o))
+pub exchange_images : (m : Moment) (request : Option Request) (s : Shown) (far : Far)
+    (steps : List LocalStep) (passage : Passage) (o : List ℕ)
+    → OutputsSent s.sent (locals far steps) o →
+    ImagesRuns m (images_of s far) (exchange_steps request far steps passage o)
+    (images_of s (far_after passage (locals far steps) o))
 exchange_images m request s far steps passage o fits =
-    images_runs-append m (images_of s far) (images_of s (locals far steps)) (images_of s (far_after passage (locals far steps) o)) (own_steps request far steps) (passed_steps passage (locals far steps) o)
+    images_runs-append m (images_of s far) (images_of s (locals far steps))
+    (images_of s (far_after passage (locals far steps) o)) (own_steps request far steps)
+    (passed_steps passage (locals far steps) o)
     (own_images m request s steps far) (passed_images m s passage (locals far steps) o fits)
 
-woken_images : (m : Moment) (s : Shown) (wakes : Bool) (far : Far) → ImagesRuns m (images_of s far) (woken_steps wakes far) (images_of s (woken_if wakes far))
+woken_images : (m : Moment) (s : Shown) (wakes : Bool) (far : Far)
+    → ImagesRuns m (images_of s far) (woken_steps wakes far) (images_of s (woken_if wakes far))
 woken_images m s wakes far = grind (arith, common_steps, release_images, images_runs-append)
 
 -- the far end's part of a wake
-pub wake_images : (m : Moment) (s : Shown) (far : Far) (steps : List LocalStep) (wakes : Bool) → ImagesRuns m (images_of s far) (wake_steps far steps wakes) (images_of s (woken_if wakes (locals far steps)))
+pub wake_images : (m : Moment) (s : Shown) (far : Far) (steps : List LocalStep) (wakes : Bool)
+    → ImagesRuns m (images_of s far) (wake_steps far steps wakes)
+    (images_of s (woken_if wakes (locals far steps)))
 wake_images m s far steps wakes =
-    images_runs-append m (images_of s far) (images_of s (locals far steps)) (images_of s (woken_if wakes (locals far steps))) (own_steps None far steps) (woken_steps wakes (locals far steps))
+    images_runs-append m (images_of s far) (images_of s (locals far steps))
+    (images_of s (woken_if wakes (locals far steps))) (own_steps None far steps)
+    (woken_steps wakes (locals far steps))
     (own_images m None s steps far) (woken_images m s wakes (locals far steps))

@@ -20,45 +20,65 @@ open_before xs ys e = grind (arith, common_steps)
 total_low : (text : List ℕ) → HoldsLength text → 0 < length text
 total_low text e = grind (arith, common_steps)
 
-not_last : (size : ℕ) → TextLaws size → (text : List ℕ) → HoldsLength text → (i : ℕ) → i * size < length text → stage (joined_octets size text i) ≡ Open → suc i * size < length text
+not_last : (size : ℕ) → TextLaws size → (text : List ℕ) → HoldsLength text → (i : ℕ)
+    → i * size < length text → stage (joined_octets size text i) ≡ Open → suc i * size < length text
 not_last size laws text holds i low e = grind (arith, common_steps)
 
 -- the octets of a text's first segments that aren't whole are followed by another
-pub more_follow : (size : ℕ) → TextLaws size → (text : List ℕ) → HoldsLength text → (i : ℕ) → stage (joined_octets size text i) ≡ Open → suc i * size < length text
+pub more_follow : (size : ℕ) → TextLaws size → (text : List ℕ) → HoldsLength text → (i : ℕ)
+    → stage (joined_octets size text i) ≡ Open → suc i * size < length text
 more_follow size laws text holds zero e =
     let low = total_low text holds in
     let first : 0 * size < length text = omega (arith, low) in
     not_last size laws text holds 0 first e
 more_follow size laws text holds (suc i) e =
-    not_last size laws text holds (suc i) (more_follow size laws text holds i (open_before (joined_octets size text i) _ e)) e
+    not_last size laws text holds (suc i)
+    (more_follow size laws text holds i (open_before (joined_octets size text i) _ e)) e
 
 -- a joiner takes the next segment, whatever its octets
 pub taken_next : (size had : ℕ) (j : Joining) (od : List ℕ) → IsJoining size had j
-    → taken j (Count ((had + 1) % 16)) od ≡ staged false (Some (suc had % 16)) (j.text ++ od) (stage (j.text ++ od))
+    → taken j (Count ((had + 1) % 16)) od
+    ≡ staged false (Some (suc had % 16)) (j.text ++ od) (stage (j.text ++ od))
 taken_next size had j od h = grind (arith, common_steps)
 
 -- what becomes of a request goes on as one, of the same cut
 abbrev pub StaysCurrent : Cutting Request → Outcome → Type 0
-StaysCurrent cutter (GoesOn next) = IsCurrent next × (next.cutter.size ≡ cutter.size) × (next.cutter.source ≡ cutter.source)
+StaysCurrent cutter (GoesOn next) = IsCurrent next × (next.cutter.size ≡ cutter.size)
+    × (next.cutter.source ≡ cutter.source)
 StaysCurrent cutter (HasText text) = Unit {0}
 
 module _ (current : Current) (h : IsCurrent current) where
   pub refused_stays : StaysCurrent current.cutter (GoesOn (refused current.cutter current.abort))
-  refused_stays = (record { request = h.request; some = h.some; most = h.most; progress = refl }, refl, refl)
+  refused_stays = (
+    record {
+      request = h.request;
+      some = h.some;
+      most = h.most;
+      progress = refl;
+    },
+    refl,
+    refl,
+  )
 
-  finished_stays : (text : List ℕ) (fault : Option IsduFault) → StaysCurrent current.cutter (finished current.cutter current.abort text fault)
+  finished_stays : (text : List ℕ) (fault : Option IsduFault)
+      → StaysCurrent current.cutter (finished current.cutter current.abort text fault)
   finished_stays text fault = grind (arith, common_steps)
 
   -- a segment of this number was taken
-  pub joined_stays : (had : ℕ) (octets : List ℕ) (at : Stage) → stage octets ≡ at → length octets ≡ suc had * current.cutter.size
-      → StaysCurrent current.cutter (joined current.cutter current.abort had (staged false (count_at had) octets at).took (staged false (count_at had) octets at).joining)
+  pub joined_stays : (had : ℕ) (octets : List ℕ) (at : Stage) → stage octets ≡ at
+      → length octets ≡ suc had * current.cutter.size
+      → StaysCurrent current.cutter (joined current.cutter current.abort had
+      (staged false (count_at had) octets at).took
+      (staged false (count_at had) octets at).joining)
   joined_stays had octets at e size = grind (arith, common_steps, finished_stays, refused_stays)
 
   -- the reply to a COUNT read
-  pub received_stays : (j : Joining) (had : ℕ) (od : List ℕ) → IsJoining current.cutter.size had j → length od ≡ current.cutter.size
+  pub received_stays : (j : Joining) (had : ℕ) (od : List ℕ)
+      → IsJoining current.cutter.size had j → length od ≡ current.cutter.size
       → StaysCurrent current.cutter (received current.cutter current.abort j (had + 1) od)
   received_stays j had od joining size =
       let all = length-append j.text od in
       let before : length j.text ≡ suc had * current.cutter.size = joining.size_of in
       let long : length (j.text ++ od) ≡ suc (suc had) * current.cutter.size = omega arith in
-      rw (taken_next current.cutter.size had j od joining, add-one had) (joined_stays (suc had) (j.text ++ od) (stage (j.text ++ od)) refl long)
+      rw (taken_next current.cutter.size had j od joining, add-one had)
+      (joined_stays (suc had) (j.text ++ od) (stage (j.text ++ od)) refl long)

@@ -25,16 +25,21 @@ use Rattle.iol_app.proofs.OwnSession.{SessionRuns}
 abbrev pub freed : Seen → Seen
 freed seen = record seen { request = None }
 
-pub busy_session : (m : Moment) (seen : Seen) (h : Hidden) (c : List Carried) (r : Request) → seen.request ≡ Some r → h.answer ≡ None →
-    SessionRuns m seen h c (brought_steps WasBusy seen.request) (record seen { busy = seen.busy + 1 }) h c
+pub busy_session : (m : Moment) (seen : Seen) (h : Hidden) (c : List Carried) (r : Request)
+    → seen.request ≡ Some r → h.answer ≡ None →
+    SessionRuns m seen h c (brought_steps WasBusy seen.request)
+    (record seen { busy = seen.busy + 1 }) h c
 busy_session m seen h c r under none = rw (under, none) ((refl, (tt, tt)), refl)
 
-pub answered_session : (m : Moment) (seen : Seen) (h : Hidden) (c : List Carried) (r : Request) (a : Answer) → seen.request ≡ Some r → h.answer ≡ Some a →
+pub answered_session : (m : Moment) (seen : Seen) (h : Hidden) (c : List Carried) (r : Request)
+    (a : Answer) → seen.request ≡ Some r → h.answer ≡ Some a →
     SessionRuns m seen h c (brought_steps (WasAnswered a) seen.request) (freed seen) h c
 answered_session m seen h c r a under is = rw (under, is) ((refl, (tt, tt)), refl)
 
 -- whether it had an answer or not
-pub aborted_session : (m : Moment) (seen : Seen) (h : Hidden) (c : List Carried) (r : Request) (cause : Cause) → seen.request ≡ Some r → MayAbort m.terms.busy_limit seen.busy seen.asked cause →
+pub aborted_session : (m : Moment) (seen : Seen) (h : Hidden) (c : List Carried) (r : Request)
+    (cause : Cause) → seen.request ≡ Some r
+    → MayAbort m.terms.busy_limit seen.busy seen.asked cause →
     SessionRuns m seen h c (brought_steps (WasAborted cause) seen.request) (freed seen) h c
 aborted_session m seen h c r cause under may = grind (arith, common_steps)
 
@@ -42,28 +47,45 @@ aborted_session m seen h c r cause under may = grind (arith, common_steps)
 abbrev pub lost_seen : Seen → Seen
 lost_seen seen = record seen { request = None; mode = Down; why = Some Lost }
 
-lost_at : (m : Moment) (request : Option Request) (busy : ℕ) (asked : Bool) (mode : Mode) (why : Option Why) (answer : Option Answer) (late : Option Request) (c : List Carried) → (mode ≡ Down → ⊥) → 3 ≤ silence_left m →
-    let seen : Seen = record { request = request; busy = busy; asked = asked; mode = mode; why = why } in let h : Hidden = record { answer = answer; late = late } in
+lost_at : (m : Moment) (request : Option Request) (busy : ℕ) (asked : Bool) (mode : Mode)
+    (why : Option Why) (answer : Option Answer) (late : Option Request) (c : List Carried)
+    → (mode ≡ Down → ⊥) → 3 ≤ silence_left m →
+    let seen : Seen = record {
+      request = request;
+      busy = busy;
+      asked = asked;
+      mode = mode;
+      why = why;
+    } in let h : Hidden = record { answer = answer; late = late } in
     SessionRuns m seen h c (lost_steps request) (lost_seen seen) (hidden_lost request h) c
 lost_at m request busy asked mode why answer late c up least = grind (arith, common_steps)
 
-pub lost_session : (m : Moment) (seen : Seen) (h : Hidden) (c : List Carried) → (seen.mode ≡ Down → ⊥) → 3 ≤ silence_left m →
-    SessionRuns m seen h c (brought_steps Gone seen.request) (lost_seen seen) (hidden_lost seen.request h) c
-lost_session m seen h c up least = lost_at m seen.request seen.busy seen.asked seen.mode seen.why h.answer h.late c up least
+pub lost_session : (m : Moment) (seen : Seen) (h : Hidden) (c : List Carried)
+    → (seen.mode ≡ Down → ⊥) → 3 ≤ silence_left m →
+    SessionRuns m seen h c (brought_steps Gone seen.request) (lost_seen seen)
+    (hidden_lost seen.request h) c
+lost_session m seen h c up least =
+    lost_at m seen.request seen.busy seen.asked seen.mode seen.why h.answer h.late c up least
 
 -- and what the device is handed is still what it may carry out
-pub lost_opens : (state : IsduState) (request : Option Request) (h : Hidden) → IsOpen state request h → IsOpen state None (hidden_lost request h)
+pub lost_opens : (state : IsduState) (request : Option Request) (h : Hidden)
+    → IsOpen state request h → IsOpen state None (hidden_lost request h)
 lost_opens state request h opens = grind (arith, common_steps)
 
 -- What a good reply says of the answer
 
-pub busy_base : (size : ℕ) (base : List Carried) (r : Request) (s : IsduState) (c : List Carried) → FarStands size base (IsBusy r) s c → (slice_index (isdu_data size s) 0 == 1) ≡ true → c ≡ base
+pub busy_base : (size : ℕ) (base : List Carried) (r : Request) (s : IsduState)
+    (c : List Carried) → FarStands size base (IsBusy r) s c
+    → (slice_index (isdu_data size s) 0 == 1) ≡ true → c ≡ base
 busy_base size base r s c given given2 = grind (arith, common_steps)
 
-pub busy_unanswered : (base : List Carried) (r : Request) (h : Hidden) (c : List Carried) → AnswerFits base (Some r) h c → c ≡ base → h.answer ≡ None
+pub busy_unanswered : (base : List Carried) (r : Request) (h : Hidden) (c : List Carried)
+    → AnswerFits base (Some r) h c → c ≡ base → h.answer ≡ None
 busy_unanswered base r h c given given2 = grind (arith, common_steps)
 
-pub had_answer : (size : ℕ) (base : List Carried) (r : Request) (i : ℕ) (text : List ℕ) (s : IsduState) (c : List Carried) (h : Hidden) (x : Answer) →
+pub had_answer : (size : ℕ) (base : List Carried) (r : Request) (i : ℕ) (text : List ℕ)
+    (s : IsduState) (c : List Carried) (h : Hidden) (x : Answer) →
     FarStands size base (IsHad r i text) s c → AnswerFits base (Some r) h c →
-    ((a : Answer) → IsTrue (fits r a) → text ≡ joined size (answer_text r a) i → a ≡ x) → h.answer ≡ Some x
+    ((a : Answer) → IsTrue (fits r a) → text ≡ joined size (answer_text r a) i → a ≡ x)
+    → h.answer ≡ Some x
 had_answer size base r i text s c h x given given2 given3 = grind (arith, common_steps)

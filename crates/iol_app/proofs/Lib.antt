@@ -33,6 +33,7 @@ pub mod Reporting
 pub mod Ending
 pub mod SmallFacts
 pub mod Waking
+pub mod StartExchange
 pub mod Starting
 pub mod Calling
 pub mod FarSide

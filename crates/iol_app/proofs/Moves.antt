@@ -16,28 +16,40 @@ use Rattle.iol_steps.specs.Station.{AnswerFits}
 use Rattle.iol_steps.specs.Exchange.{ReadsAnswer}
 
 -- only reads on the ISDU channel bring the request on by what they bring
-pub data_after : (size : ℕ) (what : Move) (p : Progress) (channel : Channel) (read : Bool) (flow : Flow) (sent : List ℕ) (address : ℕ) (far : Far) → IsMove size what p channel read flow sent →
-    after p what (if read then data_of far size channel address else []) ≡ after p what (isdu_data size far.isdu)
+pub data_after : (size : ℕ) (what : Move) (p : Progress) (channel : Channel) (read : Bool)
+    (flow : Flow) (sent : List ℕ) (address : ℕ) (far : Far)
+    → IsMove size what p channel read flow sent →
+    after p what (if read then data_of far size channel address else [])
+    ≡ after p what (isdu_data size far.isdu)
 data_after size what p channel read flow sent address far given = grind (arith, common_steps)
 
 -- and brings what the device's ISDU sends
-pub asks_data : (size : ℕ) (p : Progress) (channel : Channel) (read : Bool) (flow : Flow) (sent : List ℕ) (address : ℕ) (far : Far) → IsMove size Ask p channel read flow sent →
+pub asks_data : (size : ℕ) (p : Progress) (channel : Channel) (read : Bool) (flow : Flow)
+    (sent : List ℕ) (address : ℕ) (far : Far) → IsMove size Ask p channel read flow sent →
     (if read then data_of far size channel address else []) ≡ isdu_data size far.isdu
 asks_data size p channel read flow sent address far given = grind (arith, common_steps)
 
-pub answers_data : (size : ℕ) (what : Move) (p : Progress) (channel : Channel) (read : Bool) (flow : Flow) (sent : List ℕ) (address : ℕ) (far : Far) → ReadsAnswer what → IsMove size what p channel read flow sent →
+pub answers_data : (size : ℕ) (what : Move) (p : Progress) (channel : Channel) (read : Bool)
+    (flow : Flow) (sent : List ℕ) (address : ℕ) (far : Far) → ReadsAnswer what
+    → IsMove size what p channel read flow sent →
     (if read then data_of far size channel address else []) ≡ isdu_data size far.isdu
-answers_data size what p channel read flow sent address far given given2 = grind (arith, common_steps)
+answers_data size what p channel read flow sent address far given given2 =
+    grind (arith, common_steps)
 
 -- a COUNT read wants a segment that each answer has whose text begins with the octets so far
-pub next_wants : (size : ℕ) (r : Request) (i : ℕ) (t : List ℕ) (channel : Channel) (read : Bool) (flow : Flow) (sent : List ℕ) (a : Answer) → IsMove size Next (IsHad r i t) channel read flow sent → IsTrue (fits r a) →
+pub next_wants : (size : ℕ) (r : Request) (i : ℕ) (t : List ℕ) (channel : Channel) (read : Bool)
+    (flow : Flow) (sent : List ℕ) (a : Answer)
+    → IsMove size Next (IsHad r i t) channel read flow sent → IsTrue (fits r a) →
     t ≡ joined size (answer_text r a) i → suc i * size < length (answer_text r a)
 next_wants size r i t channel read flow sent a given given2 given3 = grind (arith, common_steps)
 
 -- the base stays while the answer is read
-pub answers_base : (what : Move) (base carried : List Carried) → ReadsAnswer what → base_after what base carried ≡ base
+pub answers_base : (what : Move) (base carried : List Carried) → ReadsAnswer what
+    → base_after what base carried ≡ base
 answers_base what base carried given = grind (arith, common_steps)
 
 -- and the record is the base still, or again
-pub answer_after : (what : Move) (base carried : List Carried) (request : Option Request) (h : Hidden) → (what ≡ Leave → carried ≡ base) → AnswerFits base request h carried → AnswerFits (base_after what base carried) request h carried
+pub answer_after : (what : Move) (base carried : List Carried) (request : Option Request)
+    (h : Hidden) → (what ≡ Leave → carried ≡ base) → AnswerFits base request h carried
+    → AnswerFits (base_after what base carried) request h carried
 answer_after what base c request h leaves answer = grind (arith, common_steps)

@@ -1,4 +1,5 @@
--- Each new message is the move that the request's progress asks for, and a good reply brings the request on by it.
+-- Each new message is the move that the request's progress asks for, and a good reply brings the
+-- request on by it.
 use Rattle.std.proofs.lemmas.Grind.{common_steps}
 use Rattle.std.proofs.Common.{◌≡◌, ℕ, zero, suc, ◌%◌, ◌≤◌, true, false, [], refl, sym, ap, subst, ◌∙◌, arith, Option, Some, None, List}
 use Rattle.std.specs.Prelude.{nat_lt, ◌==◌, IfSome}
@@ -45,70 +46,100 @@ flow_at_next i = let other : (suc i == 0) ≡ false = grind (arith, nat_tests) i
 
 -- The request's messages
 
-segment_moves : (size : ℕ) (request : Request) (flow : Flow) (piece : ArrayVec ℕ) (given : ℕ) → IsRequest request → last_given size (request_text request) given ≡ Some (flow, piece)
-    → IsMove size (segment_move request given) (before_last request given) Isdu false (flow_of (flow_address flow)) piece.items
+segment_moves : (size : ℕ) (request : Request) (flow : Flow) (piece : ArrayVec ℕ) (given : ℕ)
+    → IsRequest request → last_given size (request_text request) given ≡ Some (flow, piece)
+    → IsMove size (segment_move request given) (before_last request given) Isdu false
+    (flow_of (flow_address flow)) piece.items
 unfolding flow_of
-segment_moves size request flow piece zero h e = absurd (let k : None ≡ Some (flow, piece) = e in cc)
+segment_moves size request flow piece zero h e =
+    absurd (let k : None ≡ Some (flow, piece) = e in cc)
 segment_moves size request flow piece (suc zero) h e =
     let is = is_pair size (request_text request) 0 flow piece e in
-    subst (λ (f : Flow). IsMove size (Begin request) Quiet Isdu false (flow_of (flow_address f)) piece.items) (sym is.flow_is) (h, is.octets)
+    subst (λ (f : Flow). IsMove size (Begin request) Quiet Isdu false (flow_of (flow_address f))
+    piece.items) (sym is.flow_is) (h, is.octets)
 segment_moves size request flow piece (suc (suc i)) h e =
     let is = is_pair size (request_text request) (suc i) flow piece e in
     let flow_is : flow ≡ Count (suc i % 16) = is.flow_is ∙ flow_at_next i in
-    subst (λ (f : Flow). IsMove size More (Written request i) Isdu false (flow_of (flow_address f)) piece.items) (sym flow_is)
-    (subst (λ (f : Flow). IsMove size More (Written request i) Isdu false f piece.items) (sym (flow_of_count (suc i))) (is.within, refl, is.octets))
+    subst (λ (f : Flow). IsMove size More (Written request i) Isdu false
+    (flow_of (flow_address f)) piece.items) (sym flow_is)
+    (subst (λ (f : Flow). IsMove size More (Written request i) Isdu false f piece.items)
+    (sym (flow_of_count (suc i))) (is.within, refl, is.octets))
 
-asking_moves : (cutter : Cutting Request) (busy : ℕ) (given : ℕ) → cutter.given ≡ given → IsAllGiven cutter.size (text_of cutter) given
+asking_moves : (cutter : Cutting Request) (busy : ℕ) (given : ℕ) → cutter.given ≡ given
+    → IsAllGiven cutter.size (text_of cutter) given
     → IsMove cutter.size Ask (asked_for cutter busy) Isdu true Start []
 asking_moves cutter busy given e h = grind (arith, common_steps)
 
-receiving_moves : AnswersFit → (size : ℕ) → TextLaws size → (request : Request) (joining : Joining) (had : ℕ) → IsJoining size had joining
+receiving_moves : AnswersFit → (size : ℕ) → TextLaws size
+    → (request : Request) (joining : Joining) (had : ℕ) → IsJoining size had joining
     → IsMove size Next (Had request had joining.text) Isdu true (Count (suc had % 16)) []
 receiving_moves fit size laws request joining had h = (
   refl,
-  λ answer fitting same. more_follow size laws (answer_text request answer) (laws.answers (is_read request) answer (fit request answer fitting)) had (ap stage (sym same) ∙ h.open_text),
+  λ answer fitting same. more_follow size laws (answer_text request answer)
+      (laws.answers (is_read request) answer (fit request answer fitting)) had
+      (ap stage (sym same) ∙ h.open_text),
 )
 
-progress_moves : AnswersFit → (laws : (size : ℕ) → 1 ≤ size → TextLaws size) (current : Current) (p : Cursor) → current.progress ≡ p → IsCurrent current
-    → IsMove current.cutter.size (move_at current.cutter p) (progress_at current.cutter p) (progress_head p).channel (progress_head p).read (flow_of (progress_head p).address) (progress_data p)
+progress_moves : AnswersFit → (laws : (size : ℕ) → 1 ≤ size → TextLaws size) (current : Current)
+    (p : Cursor) → current.progress ≡ p → IsCurrent current
+    → IsMove current.cutter.size (move_at current.cutter p) (progress_at current.cutter p)
+    (progress_head p).channel (progress_head p).read (flow_of (progress_head p).address)
+    (progress_data p)
 unfolding flow_of
 progress_moves fit laws current (Sending flow piece) e h =
-    segment_moves current.cutter.size current.cutter.source flow piece current.cutter.given h.request (subst (ProgressFits current.cutter current.abort) e h.progress)
+    segment_moves current.cutter.size current.cutter.source flow piece current.cutter.given
+    h.request (subst (ProgressFits current.cutter current.abort) e h.progress)
 progress_moves fit laws current (Asking busy) e h =
-    asking_moves current.cutter busy current.cutter.given refl (subst (ProgressFits current.cutter current.abort) e h.progress)
+    asking_moves current.cutter busy current.cutter.given refl
+    (subst (ProgressFits current.cutter current.abort) e h.progress)
 progress_moves fit laws current (Receiving joining had) e h =
-    let moves = receiving_moves fit current.cutter.size (laws current.cutter.size h.some) current.cutter.source joining had (subst (ProgressFits current.cutter current.abort) e h.progress) in
+    let moves = receiving_moves fit current.cutter.size (laws current.cutter.size h.some)
+    current.cutter.source joining had
+    (subst (ProgressFits current.cutter current.abort) e h.progress) in
     rw (add-one had, flow_of_count (suc had)) moves
 progress_moves fit laws current Refused e h = tt
 
-request_moves : AnswersFit → (laws : (size : ℕ) → 1 ≤ size → TextLaws size) (size : ℕ) (current : Option Current) → IfSome current IsCurrent → IfSome current (λ c. c.cutter.size ≡ size)
-    → IsMove size (request_move current) (progress_of current) (request_head current).channel (request_head current).read (flow_of (request_head current).address) (request_data current)
+request_moves : AnswersFit → (laws : (size : ℕ) → 1 ≤ size → TextLaws size) (size : ℕ)
+    (current : Option Current) → IfSome current IsCurrent
+    → IfSome current (λ c. c.cutter.size ≡ size)
+    → IsMove size (request_move current) (progress_of current) (request_head current).channel
+    (request_head current).read (flow_of (request_head current).address) (request_data current)
 unfolding flow_of
 request_moves fit laws size current h same = grind (arith, common_steps, progress_moves)
 
-messages_move : AnswersFit → (laws : (size : ℕ) → 1 ≤ size → TextLaws size) (exchange : Exchange) (size : ℕ) (reading : Reading) (current : Option Current) → IfSome current IsCurrent → IfSome current (λ c. c.cutter.size ≡ size)
-    → IsMoveOf size exchange current (head_for exchange reading current) (data_for exchange size current)
+messages_move : AnswersFit → (laws : (size : ℕ) → 1 ≤ size → TextLaws size)
+    (exchange : Exchange) (size : ℕ) (reading : Reading) (current : Option Current)
+    → IfSome current IsCurrent → IfSome current (λ c. c.cutter.size ≡ size)
+    → IsMoveOf size exchange current (head_for exchange reading current)
+    (data_for exchange size current)
 unfolding flow_of
-messages_move fit laws NextMessage size _ current h same = request_moves fit laws size current h same
+messages_move fit laws NextMessage size _ current h same =
+    request_moves fit laws size current h same
 messages_move fit laws other size _ current h same = tt
 
 pub messages_are_moves : AnswersFit → ((size : ℕ) → 1 ≤ size → TextLaws size) → MessagesAreMoves
 messages_are_moves fit laws s layout exchange h told =
-    messages_move fit laws exchange layout.od s.events.reading s.current h.current (subst (λ (l : Option Shape). IfSome s.current (λ c. c.cutter.size ≡ od_size l)) told h.size)
+    messages_move fit laws exchange layout.od s.events.reading s.current h.current
+    (subst (λ (l : Option Shape). IfSome s.current (λ c. c.cutter.size ≡ od_size l)) told
+    h.size)
 
 -- A segment of the request was written
 
-pub sent_follows : (cutter : Cutting Request) (abort : Option Cause) (flow : Flow) (piece : ArrayVec ℕ) (od : List ℕ) (given : ℕ) → cutter.given ≡ given
+pub sent_follows : (cutter : Cutting Request) (abort : Option Cause) (flow : Flow)
+    (piece : ArrayVec ℕ) (od : List ℕ) (given : ℕ) → cutter.given ≡ given
     → last_given cutter.size (text_of cutter) given ≡ Some (flow, piece)
-    → progress_of (Some (sent_on cutter abort)) ≡ after (before_last cutter.source given) (segment_move cutter.source given) od
+    → progress_of (Some (sent_on cutter abort))
+    ≡ after (before_last cutter.source given) (segment_move cutter.source given) od
 sent_follows cutter abort flow piece od given e h = grind (arith, common_steps)
 
 -- The reply to a START read
 
-pub busy_follows : (cutter : Cutting Request) (busy : ℕ) → asked_for cutter (one_more busy) ≡ Busy cutter.source
+pub busy_follows : (cutter : Cutting Request) (busy : ℕ)
+    → asked_for cutter (one_more busy) ≡ Busy cutter.source
 busy_follows cutter busy = grind (arith, common_steps)
 
-pub asked_after : (cutter : Cutting Request) (busy given : ℕ) (od : List ℕ) → cutter.given ≡ given → IsAllGiven cutter.size (text_of cutter) given
+pub asked_after : (cutter : Cutting Request) (busy given : ℕ) (od : List ℕ)
+    → cutter.given ≡ given → IsAllGiven cutter.size (text_of cutter) given
     → after (asked_for cutter busy) Ask od ≡ level_asked cutter.source od
 asked_after cutter busy given od e h = grind (arith, common_steps)
 

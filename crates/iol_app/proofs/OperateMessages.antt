@@ -24,39 +24,49 @@ use Rattle.iol_app.specs.Ends.{output_for}
 abbrev pub is_confirm_head : Head → Bool
 is_confirm_head head = is_confirm head.channel head.read head.address
 
-pub confirms_by_head : (exchange : Exchange) (reading : Reading) (current : Option Current) → is_confirm_head (head_for exchange reading current) ≡ confirms_events exchange
+pub confirms_by_head : (exchange : Exchange) (reading : Reading) (current : Option Current)
+    → is_confirm_head (head_for exchange reading current) ≡ confirms_events exchange
 confirms_by_head exchange reading current = grind (arith, common_steps)
 
 -- a confirm, a read of events
 
-pub exchange_confirms : (exchange : Exchange) (reading : Reading) (current : Option Current) (message : MasterMsg) → head_of message.mc ≡ head_for exchange reading current
+pub exchange_confirms : (exchange : Exchange) (reading : Reading) (current : Option Current)
+    (message : MasterMsg) → head_of message.mc ≡ head_for exchange reading current
     → confirms message ≡ confirms_events exchange
-exchange_confirms exchange reading current message e = ap is_confirm_head e ∙ confirms_by_head exchange reading current
+exchange_confirms exchange reading current message e = ap is_confirm_head e
+    ∙ confirms_by_head exchange reading current
 
 -- an output command
 
-pub exchange_command : (exchange : Exchange) (reading : Reading) (current : Option Current) (size : ℕ) (message : MasterMsg) → head_of message.mc ≡ head_for exchange reading current
-    → message.od.items ≡ data_for exchange size current → output_by Operate (command_in message) ≡ output_for exchange
+pub exchange_command : (exchange : Exchange) (reading : Reading) (current : Option Current)
+    (size : ℕ) (message : MasterMsg) → head_of message.mc ≡ head_for exchange reading current
+    → message.od.items ≡ data_for exchange size current
+    → output_by Operate (command_in message) ≡ output_for exchange
 exchange_command exchange reading current size message e d = grind (arith, common_steps)
 
 -- ProcessDataOutputOperate in OPERATE isn't DeviceOperate in PREOPERATE
 
-zeros_only : (xs : List ℕ) (value : ℕ) (ys : List ℕ) (n : ℕ) → xs ++ value ∷ ys ≡ replicate n 0 → value ≡ 0
+zeros_only : (xs : List ℕ) (value : ℕ) (ys : List ℕ) (n : ℕ) → xs ++ value ∷ ys ≡ replicate n 0
+    → value ≡ 0
 zeros_only [] value ys zero e = absurd (let k : value ∷ ys ≡ [] = e in cc)
 zeros_only [] value ys (suc n) e = let k : value ∷ ys ≡ 0 ∷ replicate n 0 = e in cc
 zeros_only (x ∷ xs) value ys zero e = absurd (let k : x ∷ (xs ++ value ∷ ys) ≡ [] = e in cc)
-zeros_only (x ∷ xs) value ys (suc n) e = zeros_only xs value ys n (let k : x ∷ (xs ++ value ∷ ys) ≡ 0 ∷ replicate n 0 = e in cc)
+zeros_only (x ∷ xs) value ys (suc n) e =
+    zeros_only xs value ys n (let k : x ∷ (xs ++ value ∷ ys) ≡ 0 ∷ replicate n 0 = e in cc)
 
 not_zero : (octet : ℕ) → octet ≡ 0x98 → octet ≡ 0 → ⊥
 not_zero octet e z = omega arith
 
-parts_differ : (out : List ℕ) (m n : ℕ) → 1 ≤ length out → out ++ first_of_zeros m (command_octet ProcessDataOutputOperate) ≡ first_of_zeros n (command_octet DeviceOperate) → ⊥
+parts_differ : (out : List ℕ) (m n : ℕ) → 1 ≤ length out
+    → out ++ first_of_zeros m (command_octet ProcessDataOutputOperate)
+    ≡ first_of_zeros n (command_octet DeviceOperate) → ⊥
 parts_differ [] m n low e = omega arith
 parts_differ (x ∷ xs) m n low e =
     let k : x ∷ (xs ++ 0x98 ∷ replicate (m - 1) 0) ≡ 0x99 ∷ replicate (n - 1) 0 = e in
     not_zero 0x98 refl (zeros_only xs 0x98 (replicate (m - 1) 0) (n - 1) cc)
 
-pub tell_differs : (run pre : Shape) (message : MasterMsg) (size : ℕ) → 1 ≤ length message.out.items → message.od.items ≡ data_for TellOutput size None
+pub tell_differs : (run pre : Shape) (message : MasterMsg) (size : ℕ)
+    → 1 ≤ length message.out.items → message.od.items ≡ data_for TellOutput size None
     → master_text run message ≡ master_text pre (command_message pre DeviceOperate) → ⊥
 tell_differs run pre message size low od e =
     parts_differ message.out.items size pre.od low
@@ -64,5 +74,7 @@ tell_differs run pre message size low od e =
 
 -- only output commands are of the page
 
-pub page_command : (exchange : Exchange) (reading : Reading) (current : Option Current) → (head_for exchange reading current).channel ≡ Page → (exchange ≡ TellOutput) ⊎ (exchange ≡ DropOutput)
+pub page_command : (exchange : Exchange) (reading : Reading) (current : Option Current)
+    → (head_for exchange reading current).channel ≡ Page
+    → (exchange ≡ TellOutput) ⊎ (exchange ≡ DropOutput)
 page_command exchange reading current e = grind (arith, common_steps)

@@ -1,4 +1,5 @@
--- The device's output over an exchange: valid in OPERATE alone once an image was sent, that image, and as told.
+-- The device's output over an exchange: valid in OPERATE alone once an image was sent, that image,
+-- and as told.
 use Rattle.std.proofs.lemmas.Grind.{common_steps}
 use Rattle.std.proofs.Common.{arith, Bool, List, [], ◌∷◌}
 use Rattle.std.specs.Prelude.{Option}
@@ -14,6 +15,8 @@ module _ (sent : Option Image) (known : Type 0) (told : Bool) where
   outputs_step : (far : Far) (step : LocalStep) → Outputs far → Outputs (local far step)
   outputs_step far step h = grind (arith, common_steps)
 
-  pub outputs_locals : (steps : List LocalStep) (far : Far) → Outputs far → Outputs (locals far steps)
+  pub outputs_locals : (steps : List LocalStep) (far : Far) → Outputs far
+      → Outputs (locals far steps)
   outputs_locals [] far h = h
-  outputs_locals (step ∷ steps) far h = outputs_locals steps (local far step) (outputs_step far step h)
+  outputs_locals (step ∷ steps) far h =
+      outputs_locals steps (local far step) (outputs_step far step h)

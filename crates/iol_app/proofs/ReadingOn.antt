@@ -20,37 +20,74 @@ pub record Took (t : Taken) (event : Bool) (m : Events) : Type 0 where
   pub due : Event × List Event
   pub fit : EventsFit (reading_at (reading_by t.answer t.reader) event due) false m
   pub form : is_refused (reading_by t.answer t.reader) ≡ false
-  pub more : list_by t.answer ≡ None → is_due (reading_at (reading_by t.answer t.reader) event due) ≡ false
-  pub whole : (l : List Event) → list_by t.answer ≡ Some l → (l ≡ due.0 ∷ due.1) × (m.frozen ≡ due.0 ∷ due.1) × (is_due (reading_at (reading_by t.answer t.reader) event due) ≡ true)
+  pub more : list_by t.answer ≡ None
+      → is_due (reading_at (reading_by t.answer t.reader) event due) ≡ false
+  pub whole : (l : List Event) → list_by t.answer ≡ Some l
+      → (l ≡ due.0 ∷ due.1) × (m.frozen ≡ due.0 ∷ due.1)
+      × (is_due (reading_at (reading_by t.answer t.reader) event due) ≡ true)
 
 module _ (laws : ReaderLaws) (event : Bool) where
-  read_on : (e : Event) (es : List Event) (i : ℕ) (m : Events) → IsEventList (e ∷ es) → i ≤ 3 * length (e ∷ es) → IsFrozen e es m → Took (taken_from (event_octet (e ∷ es)) (reading (e ∷ es) i)) event m
+  read_on : (e : Event) (es : List Event) (i : ℕ) (m : Events) → IsEventList (e ∷ es)
+      → i ≤ 3 * length (e ∷ es) → IsFrozen e es m
+      → Took (taken_from (event_octet (e ∷ es)) (reading (e ∷ es) i)) event m
   read_on e es i m list most frozen = by_test (nat_lt i (3 * length (e ∷ es))) refl
     where
       P : Taken → Type 0
       P t = Took t event m
 
-      by_test : (b : Bool) → nat_lt i (3 * length (e ∷ es)) ≡ b → P (taken_from (event_octet (e ∷ es)) (reading (e ∷ es) i))
+      by_test : (b : Bool) → nat_lt i (3 * length (e ∷ es)) ≡ b
+          → P (taken_from (event_octet (e ∷ es)) (reading (e ∷ es) i))
       by_test true t =
           let lt : i < 3 * length (e ∷ es) = grind (arith, nat_tests, common_steps) in
           subst P (sym (laws.waits (e ∷ es) list i lt))
-          (record { due = (e, es); fit = (e, es, frozen, (i + 1, omega arith, refl)); form = refl; more = λ k. refl; whole = λ l k. absurd (let z : Path (Option (List Event)) None (Some l) = k in cc) })
+          (record {
+            due = (e, es);
+            fit = (e, es, frozen, (i + 1, omega arith, refl));
+            form = refl;
+            more = λ k. refl;
+            whole = λ l k. absurd (let z : Path (Option (List Event)) None (Some l) = k in
+                cc);
+          })
       by_test false t =
           let is : i ≡ 3 * length (e ∷ es) = grind (arith, nat_tests, common_steps) in
           subst (λ (j : ℕ). P (taken_from (event_octet (e ∷ es)) (reading (e ∷ es) j))) (sym is)
           (subst P (sym (laws.gives (e ∷ es) list))
-          (record { due = (e, es); fit = frozen; form = refl; more = λ k. absurd (let z : Path (Option (List Event)) (Some (e ∷ es)) None = k in cc); whole = λ l k. ((let z : Path (Option (List Event)) (Some (e ∷ es)) (Some l) = k in cc), frozen.0, refl) }))
+          (record {
+            due = (e, es);
+            fit = frozen;
+            form = refl;
+            more = λ k. absurd (let z : Path (Option (List Event)) (Some (e ∷ es)) None = k in
+                cc);
+            whole = λ l k. (
+              (let z : Path (Option (List Event)) (Some (e ∷ es))
+                  (Some l) = k in cc),
+              frozen.0,
+              refl,
+            );
+          }))
 
-  frozen_list : (e : Event) (es : List Event) (m : Events) → IsEventMemory m → IsFrozen e es m → IsEventList (e ∷ es)
-  frozen_list e es m valid frozen = record { some = omega arith; most = subst (λ (l : List Event). length l ≤ 6) frozen.0 valid.frozen }
+  frozen_list : (e : Event) (es : List Event) (m : Events) → IsEventMemory m → IsFrozen e es m
+      → IsEventList (e ∷ es)
+  frozen_list e es m valid frozen =
+      record {
+        some = omega arith;
+        most =
+            subst (λ (l : List Event). length l ≤ 6) frozen.0 valid.frozen;
+      }
 
   -- the octet that the reading wants
-  pub reads_next : (r : Reading) (flag : Bool) (due : Event × List Event) (c : Bool) (m : Events) → IsEventMemory m → EventsFit (reading_at r flag due) c m → wants_octet (reading_at r flag due) ≡ true
+  pub reads_next : (r : Reading) (flag : Bool) (due : Event × List Event) (c : Bool)
+      (m : Events) → IsEventMemory m → EventsFit (reading_at r flag due) c m
+      → wants_octet (reading_at r flag due) ≡ true
       → Took (taken (reader_of r) (event_octet m.frozen (next_address (reader_of r)))) event m
   reads_next Resting true due c m valid fit wants =
-      subst (λ (l : List Event). Took (taken [] (event_octet l (next_address []))) event m) (sym fit.2.0) (read_on fit.0 fit.1 0 m (frozen_list fit.0 fit.1 m valid fit.2) (omega arith) fit.2)
+      subst (λ (l : List Event). Took (taken [] (event_octet l (next_address []))) event m)
+      (sym fit.2.0) (read_on fit.0 fit.1 0 m (frozen_list fit.0 fit.1 m valid fit.2)
+      (omega arith) fit.2)
   reads_next (UnderWay octets) flag due c m valid fit wants =
-      subst (λ (l : List Event). Took (taken octets (event_octet l (next_address octets))) event m) (sym fit.2.0)
-      (subst (λ (o : List ℕ). Took (taken o (event_octet (fit.0 ∷ fit.1) (next_address o))) event m) (sym fit.3.2)
+      subst (λ (l : List Event). Took (taken octets (event_octet l (next_address octets))) event
+      m) (sym fit.2.0)
+      (subst (λ (o : List ℕ). Took (taken o (event_octet (fit.0 ∷ fit.1) (next_address o)))
+      event m) (sym fit.3.2)
       (read_on fit.0 fit.1 fit.3.0 m (frozen_list fit.0 fit.1 m valid fit.2) fit.3.1 fit.2))
   reads_next other flag due c m valid fit wants = absurd (let z : false ≡ true = wants in cc)

@@ -45,15 +45,19 @@ use Rattle.iol_app.proofs.Exchanging.{Passes, gives, misses, loses, at, level_he
 use Rattle.iol_app.proofs.Had.{Good, Replied, progress_fits, had}
 use Rattle.iol_app.proofs.Cases.{message}
 
-module _ (laws : Laws) (layouts : Layouts) (w : Sending) (t : SessionState) (g : Ghost) (far : Far) (n : ℕ) (steps : List LocalStep) (e : Exchange) (current : Option Current)
+module _ (laws : Laws) (layouts : Layouts) (w : Sending) (t : SessionState) (g : Ghost)
+    (far : Far) (n : ℕ) (steps : List LocalStep) (e : Exchange) (current : Option Current)
     (stands : Stands (core_out layouts w t e current) g far n) where
   abbrev o : List ℕ
   o = master_text layouts.run w.message
 
   commands : output_by ModeOperate (command_in w.message) ≡ output_for e
-  commands = exchange_command e t.events.reading current layouts.run.od w.message stands.joined.out_for.head (stands.joined.out_for.octets ∙ ap (λ (l : Option Shape). data_for e (od_size l) current) stands.joined.told.0)
+  commands = exchange_command e t.events.reading current layouts.run.od w.message
+      stands.joined.out_for.head (stands.joined.out_for.octets
+      ∙ ap (λ (l : Option Shape). data_for e (od_size l) current) stands.joined.told.0)
 
-  going : Goes g.page layouts.run stands.request.link (progress_of current) o w.message (move_for e current) ModeOperate g.sent t.output.told
+  going : Goes g.page layouts.run stands.request.link (progress_of current) o w.message
+      (move_for e current) ModeOperate g.sent t.output.told
   going = record {
     sent_at = stands.request.out.goes;
     at_mode = stands.request.out.mode;
@@ -66,51 +70,105 @@ module _ (laws : Laws) (layouts : Layouts) (w : Sending) (t : SessionState) (g :
   page_here : (locals far steps).page ≡ g.page
   page_here = page_locals laws steps far ∙ stands.page
 
-  level : IsLevel g.page layouts.run.od g.request.base stands.request.link (progress_of current) o w.tries (locals far steps)
+  level : IsLevel g.page layouts.run.od g.request.base stands.request.link (progress_of current)
+      o w.tries (locals far steps)
   level = level_here laws layouts w t g far n steps Clean e current stands
 
-  outputs_here : OutputTold g.sent (output_by ModeOperate (command_in w.message) ≡ None) t.output.told (locals far steps)
-  outputs_here = outputs_locals g.sent (output_by ModeOperate (command_in w.message) ≡ None) t.output.told steps far (subst (λ (c : Option Bool). OutputTold g.sent (c ≡ None) t.output.told far) (sym commands) stands.output)
+  outputs_here : OutputTold g.sent (output_by ModeOperate (command_in w.message) ≡ None)
+      t.output.told (locals far steps)
+  outputs_here = outputs_locals g.sent (output_by ModeOperate (command_in w.message) ≡ None)
+      t.output.told steps far (subst (λ (c : Option Bool). OutputTold g.sent (c ≡ None)
+      t.output.told far) (sym commands) stands.output)
 
   passes : (passage : Passage) → Passes layouts w t g far steps passage e current
   passes passage = record {
-    opens = opens_after laws g.page layouts.run g.request.base stands.request.link (progress_of current) o w.message (move_for e current) ModeOperate g.sent t.output.told going w.tries (locals far steps) level (request_in current)
-        (hidden_through (request_in current) far steps g.request.hidden) (progress_fits current) (own_open (request_in current) g.request.hidden steps far stands.request.opens) (tied' laws layouts w t g far n steps Clean e current stands).1 passage;
-    outputs = subst (λ (c : Option Bool). OutputTold g.sent (c ≡ None) t.output.told (far_after passage (locals far steps) o)) commands
-        (outputs_after laws g.page layouts.run g.request.base stands.request.link (progress_of current) o w.message (move_for e current) ModeOperate g.sent t.output.told going passage w.tries (locals far steps) page_here level outputs_here);
-    sends = outputs_sent laws g.page layouts.run g.request.base stands.request.link (progress_of current) o w.message (move_for e current) ModeOperate g.sent t.output.told going w.tries (locals far steps) page_here level outputs_here;
+    opens = opens_after laws g.page layouts.run g.request.base stands.request.link
+        (progress_of current) o w.message (move_for e current) ModeOperate g.sent t.output.told
+        going w.tries (locals far steps) level (request_in current)
+        (hidden_through (request_in current) far steps g.request.hidden) (progress_fits current)
+        (own_open (request_in current) g.request.hidden steps far stands.request.opens)
+        (tied' laws layouts w t g far n steps Clean e current stands).1 passage;
+    outputs = subst (λ (c : Option Bool). OutputTold g.sent (c ≡ None) t.output.told
+        (far_after passage (locals far steps) o)) commands
+        (outputs_after laws g.page layouts.run g.request.base stands.request.link
+        (progress_of current) o w.message (move_for e current) ModeOperate g.sent
+        t.output.told going passage w.tries (locals far steps) page_here level
+        outputs_here);
+    sends = outputs_sent laws g.page layouts.run g.request.base stands.request.link
+        (progress_of current) o w.message (move_for e current) ModeOperate g.sent t.output.told
+        going w.tries (locals far steps) page_here level outputs_here;
   }
 
-module _ (names : TextNamesAnswer) (taken : AnswersAreTakenUp) (laws : Laws) (readers : ReaderLaws) where
-  module _ (layouts : Layouts) (w : Sending) (t : SessionState) (e : Exchange) (g : Ghost) (far far' : Far) (n n' : ℕ) (came : Option (List ℕ)) (said : Said) where
+module _ (names : TextNamesAnswer) (taken : AnswersAreTakenUp) (laws : Laws)
+    (readers : ReaderLaws) where
+  module _ (layouts : Layouts) (w : Sending) (t : SessionState) (e : Exchange) (g : Ghost)
+      (far far' : Far) (n n' : ℕ) (came : Option (List ℕ)) (said : Said) where
     abbrev c : Core
     c = core_out layouts w t e t.current
 
     abbrev after_by : Option Reply → Outcome
     after_by reply = operate_by (counted w reply) layouts (attempt_of w.tries reply)
 
-    module _ (stands : Stands c g far n) (valid : IsSession c.session) (x : HonestExchange far n (master_text layouts.run w.message) came far' n') (few : w.tries < 3)
-        (accepts : (link : Link) → IsOperating layouts link → IsAccepted layouts far.page link w.message) where
-      by_tries : (b : Bool) → (w.tries == 2) ≡ b → n' ≡ min 3 (n + 1) → let o : Outcome = operate_by (record { message = w.message; tries = if b then 0 else w.tries + 1 }) layouts (if b then WasLost else Again) in
-          IsMet o n' far' → OutcomeFits o → Joined (state_of o) (settled_session o c.session) → IsSettledSaid o c.session said → ReceiveGives c g far n said (after_exchange o c.session) far' n'
+    module _ (stands : Stands c g far n) (valid : IsSession c.session)
+        (x : HonestExchange far n (master_text layouts.run w.message) came far' n')
+        (few : w.tries < 3)
+        (accepts : (link : Link) → IsOperating layouts link
+        → IsAccepted layouts far.page link w.message) where
+      by_tries : (b : Bool) → (w.tries == 2) ≡ b → n' ≡ min 3 (n + 1)
+          → let o : Outcome = operate_by
+          (record { message = w.message; tries = if b then 0 else w.tries + 1 }) layouts
+          (if b then WasLost else Again) in
+          IsMet o n' far' → OutcomeFits o → Joined (state_of o) (settled_session o c.session)
+          → IsSettledSaid o c.session said
+          → ReceiveGives c g far n said (after_exchange o c.session) far' n'
       by_tries true two silence met fits joined says =
-          gives laws layouts w t g far n x.steps x.passage e t.current stands far' n' x.far_is said (passes laws layouts w t g far n x.steps e t.current stands x.passage) (Exchanged false) _ _ _
-          (loses laws layouts w t g far n x.steps x.passage e t.current stands far' n' x.far_is said (passes laws layouts w t g far n x.steps e t.current stands x.passage) says
-          (third_time w.tries n (grind (arith, nat_tests)) stands.link.tries)) tt silence met.stands fits joined tt
+          gives laws layouts w t g far n x.steps x.passage e t.current stands far' n' x.far_is
+          said (passes laws layouts w t g far n x.steps e t.current stands x.passage)
+          (Exchanged false) _ _ _
+          (loses laws layouts w t g far n x.steps x.passage e t.current stands far' n' x.far_is
+          said (passes laws layouts w t g far n x.steps e t.current stands x.passage) says
+          (third_time w.tries n (grind (arith, nat_tests)) stands.link.tries)) tt silence
+          met.stands fits joined tt
       by_tries false two silence met fits joined says =
-          gives laws layouts w t g far n x.steps x.passage e t.current stands far' n' x.far_is said (passes laws layouts w t g far n x.steps e t.current stands x.passage) (Exchanged false) _ _ _
-          (misses laws layouts w t g far n x.steps x.passage e t.current stands far' n' x.far_is said (passes laws layouts w t g far n x.steps e t.current stands x.passage) says) tt silence met.stands fits joined tt
+          gives laws layouts w t g far n x.steps x.passage e t.current stands far' n' x.far_is
+          said (passes laws layouts w t g far n x.steps e t.current stands x.passage)
+          (Exchanged false) _ _ _
+          (misses laws layouts w t g far n x.steps x.passage e t.current stands far' n' x.far_is
+          said (passes laws layouts w t g far n x.steps e t.current stands x.passage) says)
+          tt silence met.stands fits joined tt
 
-      by_reply : (reply : Option Reply) → good_reply layouts.run w.message came ≡ reply → IsMet (after_by reply) n' far' → OutcomeFits (after_by reply) → Joined (state_of (after_by reply)) (settled_session (after_by reply) c.session) → IsSettledSaid (after_by reply) c.session said
+      by_reply : (reply : Option Reply) → good_reply layouts.run w.message came ≡ reply
+          → IsMet (after_by reply) n' far' → OutcomeFits (after_by reply)
+          → Joined (state_of (after_by reply)) (settled_session (after_by reply) c.session)
+          → IsSettledSaid (after_by reply) c.session said
           → ReceiveGives c g far n said (after_exchange (after_by reply) c.session) far' n'
       by_reply None good met fits joined says =
           by_tries (w.tries == 2) refl
-          (silent laws g.page layouts.run g.request.base stands.request.link (progress_of t.current) (master_text layouts.run w.message) w.message (move_for e t.current) ModeOperate g.sent t.output.told (going laws layouts w t g far n x.steps e t.current stands)
+          (silent laws g.page layouts.run g.request.base stands.request.link
+          (progress_of t.current) (master_text layouts.run w.message) w.message
+          (move_for e t.current) ModeOperate g.sent t.output.told
+          (going laws layouts w t g far n x.steps e t.current stands)
           far far' n n' w.tries came x stands.request.level good) met fits joined says
       by_reply (Some r) good met fits joined says =
-          let is = replied laws g.page layouts.run g.request.base stands.request.link (progress_of t.current) (master_text layouts.run w.message) w.message (move_for e t.current) ModeOperate g.sent t.output.told (going laws layouts w t g far n x.steps e t.current stands)
+          let is = replied laws g.page layouts.run g.request.base stands.request.link
+          (progress_of t.current) (master_text layouts.run w.message) w.message
+          (move_for e t.current) ModeOperate g.sent t.output.told
+          (going laws layouts w t g far n x.steps e t.current stands)
           far far' n n' w.tries came x stands.request.level r good in
-          let turn : Good = record { layouts = layouts; w = w; t = t; g = g; far = far; far' = far'; n = n; n' = n'; steps = x.steps; regular = x.regular; r = r; said = said } in
+          let turn : Good = record {
+            layouts = layouts;
+            w = w;
+            t = t;
+            g = g;
+            far = far;
+            far' = far';
+            n = n;
+            n' = n';
+            steps = x.steps;
+            regular = x.regular;
+            r = r;
+            said = said;
+          } in
           let a : Replied laws readers turn e t.current = record {
             stands = stands;
             passes = passes laws layouts w t g far n x.steps e t.current stands Clean;
@@ -119,13 +177,32 @@ module _ (names : TextNamesAnswer) (taken : AnswersAreTakenUp) (laws : Laws) (re
             replies = is.replies;
             far_is = is.far_is;
             reply_is = is.reply_is;
-            says = says_of laws g.page layouts.run g.request.base stands.request.link (progress_of t.current) (master_text layouts.run w.message) w.message (move_for e t.current) ModeOperate g.sent t.output.told (going laws layouts w t g far n x.steps e t.current stands)
-                w.tries (locals far x.steps) (level laws layouts w t g far n x.steps e t.current stands) is.octets is.replies;
-            told_as = replied_told laws g.page layouts.run g.request.base stands.request.link (progress_of t.current) (master_text layouts.run w.message) w.message (move_for e t.current) ModeOperate g.sent t.output.told (going laws layouts w t g far n x.steps e t.current stands)
-                w.tries (locals far x.steps) (page_here laws layouts w t g far n x.steps e t.current stands) (level laws layouts w t g far n x.steps e t.current stands) (outputs_here laws layouts w t g far n x.steps e t.current stands) is.octets is.replies
-                ∙ ap (λ (k : Option Bool). told_by k t.output.told) (commands laws layouts w t g far n x.steps e t.current stands);
-            out_is = replied_out laws g.page layouts.run g.request.base stands.request.link (progress_of t.current) (master_text layouts.run w.message) w.message (move_for e t.current) ModeOperate g.sent t.output.told (going laws layouts w t g far n x.steps e t.current stands)
-                w.tries (locals far x.steps) (page_here laws layouts w t g far n x.steps e t.current stands) (level laws layouts w t g far n x.steps e t.current stands) refl is.octets is.replies;
+            says = says_of laws g.page layouts.run g.request.base stands.request.link
+                (progress_of t.current) (master_text layouts.run w.message) w.message
+                (move_for e t.current) ModeOperate g.sent t.output.told
+                (going laws layouts w t g far n x.steps e t.current stands)
+                w.tries (locals far x.steps)
+                (level laws layouts w t g far n x.steps e t.current stands) is.octets
+                is.replies;
+            told_as = replied_told laws g.page layouts.run g.request.base stands.request.link
+                (progress_of t.current) (master_text layouts.run w.message) w.message
+                (move_for e t.current) ModeOperate g.sent t.output.told
+                (going laws layouts w t g far n x.steps e t.current stands)
+                w.tries (locals far x.steps)
+                (page_here laws layouts w t g far n x.steps e t.current stands)
+                (level laws layouts w t g far n x.steps e t.current stands)
+                (outputs_here laws layouts w t g far n x.steps e t.current stands)
+                is.octets is.replies
+                ∙ ap (λ (k : Option Bool). told_by k t.output.told)
+                (commands laws layouts w t g far n x.steps e t.current stands);
+            out_is = replied_out laws g.page layouts.run g.request.base stands.request.link
+                (progress_of t.current) (master_text layouts.run w.message) w.message
+                (move_for e t.current) ModeOperate g.sent t.output.told
+                (going laws layouts w t g far n x.steps e t.current stands)
+                w.tries (locals far x.steps)
+                (page_here laws layouts w t g far n x.steps e t.current stands)
+                (level laws layouts w t g far n x.steps e t.current stands) refl
+                is.octets is.replies;
             accepted = subst (λ (p : List ℕ). IsAccepted layouts p stands.request.link w.message)
                 stands.page (accepts stands.request.link (operating layouts
                 (progress_of t.current) stands.request.link stands.request.linked));
@@ -135,10 +212,15 @@ module _ (names : TextNamesAnswer) (taken : AnswersAreTakenUp) (laws : Laws) (re
           let k = message names taken laws readers turn e t.current a says in
           had laws readers turn e t.current a k.reads k.kind k.busy k.brings met.stands fits joined
 
-pub receives : ((size : ℕ) → 1 ≤ size → LevelLaws size) → MuchStays → RepliesAreRead → InputStaysSized → ((first : Event) (rest : List Event) → EventLaws first rest) → ModesHaveLayouts → MemoryStaysValid → WaitsForAll → GivesFrozen
+pub receives : ((size : ℕ) → 1 ≤ size → LevelLaws size) → MuchStays → RepliesAreRead
+    → InputStaysSized → ((first : Event) (rest : List Event) → EventLaws first rest)
+    → ModesHaveLayouts → MemoryStaysValid → WaitsForAll → GivesFrozen
     → TextNamesAnswer → AnswersAreTakenUp → Receives
 receives level much reads sized events layouts memory waits gives names taken = record {
-  gives = λ run w t e g far far_new n n_new came said stands valid x few met fits accepts joined says.
-      by_reply names taken (all_laws level much reads sized events layouts) (record { memory = memory; waits = waits; gives = gives }) run w t e g far far_new n n_new came said stands valid x few accepts
+  gives = λ run w t e g far far_new n n_new came said stands valid x few met fits accepts joined
+      says.
+      by_reply names taken (all_laws level much reads sized events layouts)
+      (record { memory = memory; waits = waits; gives = gives }) run w t e g far far_new n
+      n_new came said stands valid x few accepts
       (good_reply run.run w.message came) refl met fits joined says;
 }

@@ -42,19 +42,27 @@ use Rattle.iol_app.specs.Core.{Core, Ghost, Stands, Sends, SendGives, core_out, 
 use Rattle.iol_app.proofs.SmallFacts.{operating, keeps_some, events_due, confirms_is, not_operate, begins_request, tells_wanted, drops_told, some_or, image_some, sent_made, same_carried}
 
 -- which readings a confirm and a read go out for
-confirm_due : (r : app.Reading) (flag : Bool) (due : Event × List Event) → is_confirm_due r ≡ true → is_due (reading_at r flag due) ≡ true
+confirm_due : (r : app.Reading) (flag : Bool) (due : Event × List Event)
+    → is_confirm_due r ≡ true → is_due (reading_at r flag due) ≡ true
 confirm_due r flag due k = grind (arith, common_steps)
 
-octet_due : (r : app.Reading) (flag room : Bool) (due : Event × List Event) → (is_under_way r ≡ true) ⊎ ((is_resting r ≡ true) × (flag ≡ true) × (room ≡ true)) → wants_octet (reading_at r flag due) ≡ true
+octet_due : (r : app.Reading) (flag room : Bool) (due : Event × List Event)
+    → (is_under_way r ≡ true) ⊎ ((is_resting r ≡ true) × (flag ≡ true) × (room ≡ true))
+    → wants_octet (reading_at r flag due) ≡ true
 octet_due r flag room due k = grind (arith, common_steps)
 
 -- what a message asks for is what is wanted, where the command that is due goes with it
-asks_wanted : (wanted : Option Image) (told : Bool) (carried : List ℕ) → IfSome wanted IsImage → ordered_by (told_by (output_due wanted told) told) (unwrap_or wanted carried) ≡ wanted
+asks_wanted : (wanted : Option Image) (told : Bool) (carried : List ℕ) → IfSome wanted IsImage
+    → ordered_by (told_by (output_due wanted told) told) (unwrap_or wanted carried) ≡ wanted
 asks_wanted wanted told carried h = grind (arith, common_steps)
 
-module _ (levels : (size : ℕ) → 1 ≤ size → LevelLaws size) (modes : ModesHaveLayouts) (moves : MessagesAreMoves)
-    (layouts : Layouts) (t : SessionState) (room : Bool) (m : MasterMsg) (g : Ghost) (far : Far) (n : ℕ)
-    (stands : Stands (free_core layouts t) g far n) (valid : IsSession t) (is : IsMessageFor (due_of t room) (sending (due_of t room) t) m) (carried : m.out.items ≡ carried_by t.output)
+module _ (levels : (size : ℕ) → 1 ≤ size → LevelLaws size) (modes : ModesHaveLayouts)
+    (moves : MessagesAreMoves)
+    (layouts : Layouts) (t : SessionState) (room : Bool) (m : MasterMsg) (g : Ghost) (far : Far)
+    (n : ℕ)
+    (stands : Stands (free_core layouts t) g far n) (valid : IsSession t)
+    (is : IsMessageFor (due_of t room) (sending (due_of t room) t) m)
+    (carried : m.out.items ≡ carried_by t.output)
     (accepts : (link : Link) → IsOperating layouts link → IsAccepted layouts far.page link m) where
   abbrev e : Exchange
   e = due_of t room
@@ -82,31 +90,44 @@ module _ (levels : (size : ℕ) → 1 ≤ size → LevelLaws size) (modes : Mode
   -- before the first good reply in OPERATE no output is told
   untold : link ≡ entering_link layouts → t.output.told ≡ false
   untold k =
-      let mode : far.mode ≡ entering_mode layouts.pre = ap (λ (l : Link). l.mode) (stands.request.level.link_is ∙ k) in
+      let mode : far.mode ≡ entering_mode layouts.pre =
+      ap (λ (l : Link). l.mode) (stands.request.level.link_is ∙ k) in
       ⊎_elim
-      (λ (v : far.valid ≡ true). absurd (not_operate layouts.pre (sym mode ∙ (stands.output.0 stands.request.level.awake v).0)))
+      (λ (v : far.valid ≡ true). absurd
+      (not_operate layouts.pre (sym mode ∙ (stands.output.0 stands.request.level.awake v).0)))
       (λ (f : far.valid ≡ false). sym (stands.output.1 stands.request.level.awake refl) ∙ f)
       (cases_Bool far.valid)
 
   -- so that no message is DeviceOperate's octets again
-  is_other : link ≡ entering_link layouts → m.mc.channel ≡ Page → o ≡ master_text (entering_layout layouts) (command_message (entering_layout layouts) DeviceOperate) → ⊥
+  is_other : link ≡ entering_link layouts → m.mc.channel ≡ Page
+      → o ≡ master_text (entering_layout layouts)
+      (command_message (entering_layout layouts) DeviceOperate) → ⊥
   is_other k page same =
       ⊎_elim
       (λ (tell : e ≡ TellOutput).
-      let some : IsSome t.output.wanted = tells_wanted t.output.wanted t.output.told (sym (ap output_for tell) ∙ due.output) in
-      tell_differs layouts.run (entering_layout layouts) m layouts.run.od (subst (λ (x : List ℕ). 1 ≤ length x) (sym carried) (image_some t.output.wanted t.output.carried.items some stands.shown.wanted))
+      let some : IsSome t.output.wanted =
+      tells_wanted t.output.wanted t.output.told (sym (ap output_for tell) ∙ due.output) in
+      tell_differs layouts.run (entering_layout layouts) m layouts.run.od
+      (subst (λ (x : List ℕ). 1 ≤ length x) (sym carried)
+      (image_some t.output.wanted t.output.carried.items some stands.shown.wanted))
       (od ∙ ap (λ (x : Exchange). data_for x layouts.run.od t.current) tell) same)
-      (λ (drop : e ≡ DropOutput). let z : true ≡ false = sym (drops_told t.output.wanted t.output.told (sym (ap output_for drop) ∙ due.output)) ∙ untold k in cc)
-      (page_command e t.events.reading t.current (sym (ap (λ (h : Head). h.channel) is.head) ∙ page))
+      (λ (drop : e ≡ DropOutput). let z : true ≡ false =
+      sym (drops_told t.output.wanted t.output.told (sym (ap output_for drop) ∙ due.output))
+      ∙ untold k in cc)
+      (page_command e t.events.reading t.current
+      (sym (ap (λ (h : Head). h.channel) is.head) ∙ page))
 
   mode : (taken link o).mode ≡ FarOperate
   mode = by_link stands.request.linked
     where
-      entry : link ≡ entering_link layouts → m.mc.channel ≡ Page → (taken (entering_link layouts) o).mode ≡ FarOperate
+      entry : link ≡ entering_link layouts → m.mc.channel ≡ Page
+          → (taken (entering_link layouts) o).mode ≡ FarOperate
       entry k page =
-          let command : List ℕ = master_text (entering_layout layouts) (command_message (entering_layout layouts) DeviceOperate) in
+          let command : List ℕ = master_text (entering_layout layouts)
+          (command_message (entering_layout layouts) DeviceOperate) in
           ⊎_elim
-          (λ (b : bytes_eq o command ≡ true). absurd (is_other k page ((bytes_eq-Decides o command).0 b)))
+          (λ (b : bytes_eq o command ≡ true). absurd
+          (is_other k page ((bytes_eq-Decides o command).0 b)))
           (λ (f : bytes_eq o command ≡ false). rw f refl)
           (cases_Bool (bytes_eq o command))
 
@@ -114,67 +135,102 @@ module _ (levels : (size : ℕ) → 1 ≤ size → LevelLaws size) (modes : Mode
       by_link (inr k) = ap (λ (l : Link). (taken l o).mode) k
       by_link (inl k) =
           ⊎_elim
-          (λ (j : (turned g.page link o m ≡ entering_link layouts) × (m.mc.channel ≡ Page)). ap (λ (l : Link). (taken l o).mode) k.0 ∙ entry k.0 j.1)
+          (λ (j : (turned g.page link o m ≡ entering_link layouts) × (m.mc.channel ≡ Page)). ap
+          (λ (l : Link). (taken l o).mode) k.0 ∙ entry k.0 j.1)
           (λ (j : turned g.page link o m ≡ operate_link). ap (λ (l : Link). l.mode) j)
           accepted.next
 
   there : layout_in g.page (taken link o).mode ≡ layouts.run
   there = ap (layout_in g.page) mode ∙ at
 
-  still : (l : Link) → OperateLink layouts (progress_of t.current) l → IfSome l.waits (λ command. progress_of t.current ≡ Quiet)
+  still : (l : Link) → OperateLink layouts (progress_of t.current) l
+      → IfSome l.waits (λ command. progress_of t.current ≡ Quiet)
   still l h1 = grind (arith, common_steps)
 
   abbrev IsMoved : Head → List ℕ → Type 0
-  IsMoved h d = IsMove layouts.run.od (move_for e t.current) (progress_of t.current) h.channel h.read (flow_of h.address) d
+  IsMoved h d = IsMove layouts.run.od (move_for e t.current) (progress_of t.current) h.channel
+      h.read (flow_of h.address) d
 
   may_begin : (what : Move) → move_for e t.current ≡ what → MayBegin g.page what
-  may_begin (Begin request) k = stands.request.known (ap (λ (r : Option Request). is_some r) (begins_request e t.current request k))
+  may_begin (Begin request) k = stands.request.known
+      (ap (λ (r : Option Request). is_some r) (begins_request e t.current request k))
   may_begin _ k = tt
 
   goes : IsSent g.page layouts.run.od link (progress_of t.current) o m (move_for e t.current)
   goes = record {
     spells = ap (λ (l : Shape). message_in l o) there ∙ accepted.out.spells;
     size_of = ap (λ (l : Shape). l.od) there;
-    move = subst (λ (h : Head). IsMoved h m.od.items) (sym is.head) (subst (λ (d : List ℕ). IsMoved (head_for e t.events.reading t.current) d) (sym od) (moves t layouts.run e valid stands.joined.told.0));
+    move = subst (λ (h : Head). IsMoved h m.od.items) (sym is.head)
+        (subst (λ (d : List ℕ). IsMoved (head_for e t.events.reading t.current) d) (sym od)
+        (moves t layouts.run e valid stands.joined.told.0));
     begins = may_begin (move_for e t.current) refl;
     quiet = still link stands.request.linked;
   }
 
   -- the image that it carries is the one sent
   sent : IfSome (image_or t.output.wanted g.sent) (λ image. image ≡ carried_by t.output)
-  sent = sent_made t.output.wanted g.sent t.output.carried.items (subst (λ (l : Option Shape). SentSeen l t.output.carried.items g.sent) stands.joined.told.0 stands.sent)
+  sent = sent_made t.output.wanted g.sent t.output.carried.items
+      (subst (λ (l : Option Shape). SentSeen l t.output.carried.items g.sent)
+      stands.joined.told.0 stands.sent)
 
-  pub sends : let next : Core = core_out layouts (unsent m) (sending e t) e t.current in StateStands next.state n far → StateFits next.state → SendGives (free_core layouts t) next g (made_ghost t g) far n
+  pub sends : let next : Core = core_out layouts (unsent m) (sending e t) e t.current in
+      StateStands next.state n far → StateFits next.state
+      → SendGives (free_core layouts t) next g (made_ghost t g) far n
   sends linked fits = record {
     stands = record {
       page = stands.page;
       fits = fits;
       link = linked;
-      joined = record { told = stands.joined.told; out_for = record { head = is.head; octets = is.octets } };
+      joined = record {
+        told = stands.joined.told;
+        out_for = record { head = is.head; octets = is.octets };
+      };
       calm = tt;
       fresh = stands.fresh;
-      sent = subst (λ (l : Option Shape). SentSeen l (carried_by t.output) (image_or t.output.wanted g.sent)) (sym stands.joined.told.0) sent;
+      sent = subst (λ (l : Option Shape). SentSeen l (carried_by t.output)
+          (image_or t.output.wanted g.sent)) (sym stands.joined.told.0) sent;
       request = record {
         late = stands.request.late;
         opens = stands.request.opens;
         link = link;
         linked = stands.request.linked;
-        level = ((levels layouts.run.od (subst (λ (l : Shape). 1 ≤ l.od) at (modes g.page FarOperate).1)).stays g.page g.request.base link (progress_of t.current) o).begins far stands.request.level;
+        level = ((levels layouts.run.od
+            (subst (λ (l : Shape). 1 ≤ l.od) at (modes g.page FarOperate).1)).stays g.page
+            g.request.base link (progress_of t.current) o).begins far stands.request.level;
         out = record {
           mode = mode;
           goes = goes;
           confirm = λ k. confirm_due t.events.reading t.events.flag g.events.due (due.confirm k);
           reads = λ k. octet_due t.events.reading t.events.flag room g.events.due (due.reads k);
-          carries = same_carried (image_or t.output.wanted g.sent) m.out.items (carried_by t.output) carried sent;
-          tells = λ k. some_or t.output.wanted g.sent (tells_wanted t.output.wanted t.output.told (sym k ∙ due.output));
+          carries = same_carried (image_or t.output.wanted g.sent) m.out.items
+              (carried_by t.output) carried sent;
+          tells = λ k. some_or t.output.wanted g.sent
+              (tells_wanted t.output.wanted t.output.told (sym k ∙ due.output));
         };
         answer = stands.request.answer;
         busy = stands.request.busy;
         known = stands.request.known;
       };
-      events = ((λ k. events_due (reading_in t.events g.events) (confirms_events e) far.events (λ c. confirm_due t.events.reading t.events.flag g.events.due (due.confirm (confirms_is e c))) (stands.events.0 k)), stands.events.1);
-      output = ((λ k v. let here = stands.output.0 k v in (here.0, keeps_some t.output.wanted g.sent here.1)), (λ k none. stands.output.1 k refl), stands.output.2);
-      shown = record { image = λ k. absurd (k refl); wanted = stands.shown.wanted; lengths = stands.shown.lengths; isdu = stands.shown.isdu; present = stands.shown.present; no_form = stands.shown.no_form };
+      events = (
+        (λ k. events_due (reading_in t.events g.events) (confirms_events e) far.events
+            (λ c. confirm_due t.events.reading t.events.flag g.events.due
+            (due.confirm (confirms_is e c))) (stands.events.0 k)),
+        stands.events.1,
+      );
+      output = (
+        (λ k v. let here = stands.output.0 k v in
+            (here.0, keeps_some t.output.wanted g.sent here.1)),
+        (λ k none. stands.output.1 k refl),
+        stands.output.2,
+      );
+      shown = record {
+        image = λ k. absurd (k refl);
+        wanted = stands.shown.wanted;
+        lengths = stands.shown.lengths;
+        isdu = stands.shown.isdu;
+        present = stands.shown.present;
+        no_form = stands.shown.no_form;
+      };
     };
     session = refl;
     frozen = refl;
@@ -184,8 +240,15 @@ module _ (levels : (size : ℕ) → 1 ≤ size → LevelLaws size) (modes : Mode
     terms = (refl, refl, refl);
     images = λ call. refl;
     wants = refl;
-    asks = ap (λ (c : Option Bool). ordered_by (told_by c t.output.told) m.out.items) due.output ∙ ap (ordered_by (told_by (output_due t.output.wanted t.output.told) t.output.told)) carried ∙ asks_wanted t.output.wanted t.output.told t.output.carried.items stands.shown.wanted;
+    asks = ap (λ (c : Option Bool). ordered_by (told_by c t.output.told) m.out.items) due.output
+        ∙ ap (ordered_by (told_by (output_due t.output.wanted t.output.told) t.output.told))
+        carried ∙ asks_wanted t.output.wanted t.output.told t.output.carried.items
+        stands.shown.wanted;
   }
 
-pub sends_all : ((size : ℕ) → 1 ≤ size → LevelLaws size) → ModesHaveLayouts → MessagesAreMoves → Sends
-sends_all levels modes moves = record { gives = λ run t room m g far n stands valid is carried linked fits accepts. sends levels modes moves run t room m g far n stands valid is carried accepts linked fits }
+pub sends_all : ((size : ℕ) → 1 ≤ size → LevelLaws size) → ModesHaveLayouts → MessagesAreMoves
+    → Sends
+sends_all levels modes moves = record {
+  gives = λ run t room m g far n stands valid is carried linked fits accepts. sends levels
+      modes moves run t room m g far n stands valid is carried accepts linked fits;
+}

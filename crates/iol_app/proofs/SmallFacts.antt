@@ -36,24 +36,30 @@ HasOctets input = IfSome input (λ image. 1 ≤ length image)
 pub image_octets : (input : Option Image) → IfSome input IsImage → HasOctets input
 image_octets input h = grind (arith, common_steps)
 
-pub input_is : (size : ℕ) (input : Option Image) (reply : Reply) → IfSome input (λ image. length image ≡ size) → HasOctets input
-    → reply.input.items ≡ (if size == 0 then [] else unwrap_or input (replicate size 0)) → reply.invalid ≡ (not (size == 0) && not (is_some input)) → image_had size reply ≡ input
+pub input_is : (size : ℕ) (input : Option Image) (reply : Reply)
+    → IfSome input (λ image. length image ≡ size) → HasOctets input
+    → reply.input.items ≡ (if size == 0 then [] else unwrap_or input (replicate size 0))
+    → reply.invalid ≡ (not (size == 0) && not (is_some input)) → image_had size reply ≡ input
 input_is size input reply sized octets items invalid = grind (arith, common_steps)
 
 input_step : (far : Far) (step : LocalStep) → HasOctets far.input → HasOctets (local far step).input
 input_step far step h = grind (arith, common_steps)
 
-pub input_locals : (steps : List LocalStep) (far : Far) → HasOctets far.input → HasOctets (locals far steps).input
+pub input_locals : (steps : List LocalStep) (far : Far) → HasOctets far.input
+    → HasOctets (locals far steps).input
 input_locals [] far h = h
 input_locals (step ∷ steps) far h = input_locals steps (local far step) (input_step far step h)
 
 pub input_hear : (far : Far) (o : List ℕ) → (hear far o).far.input ≡ far.input
-input_hear far o = by_accepted (λ q. (heard_as far o q).far.input ≡ far.input) far o refl (λ w m e. refl) (λ w c k m e. refl)
+input_hear far o = by_accepted (λ q. (heard_as far o q).far.input ≡ far.input) far o refl
+    (λ w m e. refl) (λ w c k m e. refl)
 
 pub not_operate : (p : Option Shape) → entering_mode p ≡ FarOperate → ⊥
 not_operate p e = grind (arith, common_steps)
 
-pub same_output : (exchange : Exchange) (output : Output) → output_after exchange output ≡ record output { told = told_by (output_for exchange) output.told }
+pub same_output : (exchange : Exchange) (output : Output)
+    → output_after exchange output ≡ record output
+    { told = told_by (output_for exchange) output.told }
 same_output exchange output = grind (arith, common_steps)
 
 pub confirms_is : (exchange : Exchange) → confirms_events exchange ≡ true → exchange ≡ ConfirmEvents
@@ -65,34 +71,44 @@ more_silence n e = grind (arith, nat_tests, common_steps)
 pub third_time : (tries silence : ℕ) → tries ≡ 2 → tries ≤ silence → 3 ≤ min 3 (silence + 1)
 third_time tries silence e few = grind (arith, nat_tests, common_steps)
 
-pub freed_quiet : (size : ℕ) (base : List Carried) (r : Request) (i : ℕ) (text : List ℕ) (state : IsduState) (c : List Carried) → FarStands size base (IsHad r i text) state c → FarStands size c Quiet state c
+pub freed_quiet : (size : ℕ) (base : List Carried) (r : Request) (i : ℕ) (text : List ℕ)
+    (state : IsduState) (c : List Carried) → FarStands size base (IsHad r i text) state c
+    → FarStands size c Quiet state c
 freed_quiet size base r i text state c h = grind (arith, common_steps)
 
-pub begins_request : (exchange : Exchange) (current : Option Current) (request : Request) → move_for exchange current ≡ Begin request → request_in current ≡ Some request
+pub begins_request : (exchange : Exchange) (current : Option Current) (request : Request)
+    → move_for exchange current ≡ Begin request → request_in current ≡ Some request
 begins_request exchange current request e = grind (arith, common_steps)
 
-pub tells_wanted : (wanted : Option Image) (told : Bool) → Some true ≡ output_due wanted told → IsSome wanted
+pub tells_wanted : (wanted : Option Image) (told : Bool) → Some true ≡ output_due wanted told
+    → IsSome wanted
 tells_wanted wanted told e = grind (arith, common_steps)
 
-pub drops_told : (wanted : Option Image) (told : Bool) → Some false ≡ output_due wanted told → told ≡ true
+pub drops_told : (wanted : Option Image) (told : Bool) → Some false ≡ output_due wanted told
+    → told ≡ true
 drops_told wanted told e = grind (arith, common_steps)
 
 pub some_or : (wanted sent : Option Image) → IsSome wanted → IsSome (image_or wanted sent)
 some_or wanted sent h = grind (arith, common_steps)
 
-pub image_some : (wanted : Option Image) (carried : List ℕ) → IsSome wanted → IfSome wanted IsImage → 1 ≤ length (unwrap_or wanted carried)
+pub image_some : (wanted : Option Image) (carried : List ℕ) → IsSome wanted
+    → IfSome wanted IsImage → 1 ≤ length (unwrap_or wanted carried)
 image_some wanted carried some h = grind (arith, common_steps)
 
-pub sent_made : (wanted sent : Option Image) (carried : List ℕ) → IfSome sent (λ image. image ≡ carried) → IfSome (image_or wanted sent) (λ image. image ≡ unwrap_or wanted carried)
+pub sent_made : (wanted sent : Option Image) (carried : List ℕ)
+    → IfSome sent (λ image. image ≡ carried)
+    → IfSome (image_or wanted sent) (λ image. image ≡ unwrap_or wanted carried)
 sent_made wanted sent carried h = grind (arith, common_steps)
 
-pub same_carried : (sent : Option Image) (octets carried : List ℕ) → octets ≡ carried → IfSome sent (λ image. image ≡ carried) → IfSome sent (λ image. octets ≡ image)
+pub same_carried : (sent : Option Image) (octets carried : List ℕ) → octets ≡ carried
+    → IfSome sent (λ image. image ≡ carried) → IfSome sent (λ image. octets ≡ image)
 same_carried sent octets carried e h = grind (arith, common_steps)
 
 pub keeps_some : (wanted sent : Option Image) → IsSome sent → IsSome (image_or wanted sent)
 keeps_some wanted sent h = grind (arith, common_steps)
 
-pub events_due : (r : Reading) (c : Bool) (m : Events) → (c ≡ true → is_due r ≡ true) → EventsFit r false m → EventsFit r c m
+pub events_due : (r : Reading) (c : Bool) (m : Events) → (c ≡ true → is_due r ≡ true)
+    → EventsFit r false m → EventsFit r c m
 events_due r c m due h = grind (arith, common_steps)
 
 pub operating : (layouts : Layouts) (progress : Progress) (link : Link)

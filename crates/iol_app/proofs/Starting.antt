@@ -1,34 +1,26 @@
 -- An exchange of a start-up, in both its modes.
-use Rattle.std.proofs.Common.{◌≡◌, ◌≢◌, inl, ℕ, ◌+◌, ◌≤◌, min, Bool, true, false, ◌==◌, ◌&&◌, List, [], ◌∷◌, ◌++◌, filter, length, refl, sym, ◌∙◌, ap, subst, arith}
+use Rattle.std.proofs.Common.{◌≡◌, ℕ, ◌+◌, ◌≤◌, min, Bool, true, false, ◌==◌, List, [], ◌∷◌, ◌++◌, length, refl, sym, ◌∙◌, ap, subst, arith}
 use Rattle.std.proofs.lemmas.Grind.{common_steps}
 use Rattle.std.proofs.lemmas.Bool.Decides.{nat_tests}
-use Rattle.std.specs.Prelude.{Option, Some, None, Result, Ok, Err, IfOk, IfSome, IsTrue, is_some, not, unwrap_or, slice_index, if◌then◌else◌}
-use Rattle.iol_octets.specs.declared.control.Channel.{Channel}
-use Rattle.iol_octets.specs.declared.control.Channel.TheVariants.{Page}
+use Rattle.std.specs.Prelude.{Option, Some, None, Result, Ok, Err, IfOk, is_some, not, slice_index, if◌then◌else◌}
 use Rattle.iol_mseq.specs.Shape.{Shape, startup_shape}
-use Rattle.iol_mseq.specs.Master.{HasMasterParts}
 use Rattle.iol_mseq.specs.Texts.{master_text}
 use Rattle.iol_mseq.specs.declared.reply.Reply.{Reply}
-use Rattle.iol_mseq.specs.declared.master.MasterMsg.{MasterMsg}
-use Rattle.iol_page.specs.Page.{layouts_of, is_old, is_present, knows_isdu, IsAskedBy, PagesAskForLayouts}
-use Rattle.iol_page.specs.Identity.{identity_of, is_expected, same_identity}
-use Rattle.iol_page.specs.declared.identity.Identity.{Identity}
+use Rattle.iol_page.specs.Page.{layouts_of, is_old, is_present, IsAskedBy, PagesAskForLayouts}
+use Rattle.iol_page.specs.Identity.{identity_of, is_expected}
 use Rattle.iol_page.specs.declared.page.Layouts.{Layouts}
 use Rattle.iol_mode.specs.declared.configuration.Configuration.{Configuration}
 use Rattle.iol_page.specs.declared.fault.PageFault.{PageFault}
 use Rattle.iol_page.specs.declared.fault.PageFault.TheVariants.{Revision, BadPdLength, UnsupportedCode}
-use Rattle.iol_page.specs.declared.master_command.MasterCommand.{MasterCommand}
 use Rattle.iol_event.specs.declared.event.Event.{Event}
 use Rattle.iol_event.specs.Memory.{is_empty}
-use Rattle.iol_far.specs.declared.mode.Mode.TheVariants.{Preoperate as FarPreoperate, Operate as FarOperate}
-use Rattle.iol_far.specs.Codec.{layout_in, message_in, flow_of}
-use Rattle.iol_far.specs.Far.{Far, WaitingCommand, command_in}
+use Rattle.iol_far.specs.Far.{Far}
 use Rattle.iol_far.specs.Linked.{TextsAreHeard}
 use Rattle.iol_far.specs.Local.{locals}
-use Rattle.iol_far.specs.Level.{Quiet, Other, Link, IsMove, IsBefore, IsLevel, taken}
-use Rattle.iol_far.specs.Laws.{RepliesAreRead, InputStaysSized, MuchStays, LevelLaws, EventLaws, ModesHaveLayouts, confirms as octets_confirm}
+use Rattle.iol_far.specs.Level.{Quiet, Other}
+use Rattle.iol_far.specs.Laws.{RepliesAreRead, InputStaysSized, MuchStays, LevelLaws, EventLaws, ModesHaveLayouts}
 use Rattle.iol_link.specs.Attempts.{good_reply}
-use Rattle.iol_link.specs.Honest.{HonestExchange, far_after}
+use Rattle.iol_link.specs.Honest.{HonestExchange}
 use Rattle.iol_link.specs.declared.handler.Attempt.TheVariants.{Again, Lost as WasLost}
 use Rattle.iol_mode.specs.declared.states.Startup.{Startup}
 use Rattle.iol_mode.specs.declared.states.Preoperate.{Preoperate}
@@ -36,408 +28,28 @@ use Rattle.iol_mode.specs.declared.states.Told.{Told}
 use Rattle.iol_mode.specs.declared.states.Step.{Step as PageStep}
 use Rattle.iol_mode.specs.declared.states.Step.TheVariants.{Read, Ident, Leave, Cycle, Enter}
 use Rattle.iol_mode.specs.declared.states.State.{State}
-use Rattle.iol_mode.specs.declared.states.State.TheVariants.{Down as AtDown, Startup as AtStartup, Preoperate as AtPreoperate, Operate as AtOperate}
-use Rattle.iol_image.specs.Image.{IsImage}
-use Rattle.iol_mode.specs.declared.why.Why.{Why}
+use Rattle.iol_mode.specs.declared.states.State.TheVariants.{Startup as AtStartup, Preoperate as AtPreoperate}
 use Rattle.iol_mode.specs.declared.why.Why.TheVariants.{Lost, WrongDevice}
 use Rattle.iol_mode.specs.Why.{why_of}
 use Rattle.iol_mode.specs.Next.{IsEntered, read_by}
-use Rattle.iol_mode.specs.Stands.{startup_link, preoperate_link, entering_link, StateStands, StepStands}
-use Rattle.iol_mode.specs.States.{Outcome, InDown, InOperate, OutcomeFits, StateFits, StepFits, state_of, is_starting, begun, step_behind, step_after, told_of, page_taken, taken_where, checked, startup_by, startup_turned, preoperate_by, preoperate_after, preoperate_turned}
+use Rattle.iol_mode.specs.Stands.{StepStands}
+use Rattle.iol_mode.specs.States.{Outcome, InDown, InOperate, OutcomeFits, StepFits, state_of, is_starting, begun, step_behind, step_after, told_of, page_taken, taken_where, checked, startup_by, startup_turned, preoperate_by, preoperate_after, preoperate_turned}
 use Rattle.iol_mode.specs.Turns.{IsRisen}
-use Rattle.iol_steps.specs.declared.mode.Mode.{Mode}
 use Rattle.iol_steps.specs.declared.mode.Mode.TheVariants.{Down as ModeDown, Startup as ModeStartup, Preoperate as ModePreoperate, Operate as ModeOperate}
 use Rattle.iol_steps.specs.declared.said.Said.TheVariants.{Idle}
-use Rattle.iol_steps.specs.Step.{Step, TellLength, Move as MoveTo, Exchanged, Moment, silence_by, output_length, CallFits, is_clash_free, is_for_book, is_report, woke_up, page_fault, fault_in}
-use Rattle.iol_steps.specs.Bridge.{Hidden, IsOpen, hidden_through, told_through, exchange_steps, told_exchanged}
-use Rattle.iol_steps.specs.Kinds.{Seen}
+use Rattle.iol_steps.specs.Step.{Step, Move as MoveTo, Exchanged, Moment, silence_by, page_fault, fault_in}
 use Rattle.iol_steps.specs.Session.{MayMove}
-use Rattle.iol_steps.specs.Images.{Images}
-use Rattle.iol_steps.specs.Station.{far_mode, output_by, images_of, session_of, is_due}
 use Rattle.iol_steps.specs.Station as steps
-use Rattle.iol_steps.specs.Exchange.{reading_flagged}
-use Rattle.iol_app.proofs.Given.{Laws, all_laws, page_locals, page_after as page_passed, level_locals}
-use Rattle.iol_app.proofs.OwnSession.{SessionRuns, session_runs-append, exchange_session, own_open}
-use Rattle.iol_app.proofs.FrozenPart.{FrozenRuns, ConfirmsTold, frozen_runs-append, exchange_frozen}
-use Rattle.iol_app.proofs.ImagesPart.{ImagesRuns, images_runs-append, exchange_images}
-use Rattle.iol_app.specs.Ends.{OutputTold, SentSeen, ShownSeen}
-use Rattle.iol_app.proofs.Outputs.{outputs_locals}
-use Rattle.iol_app.proofs.Clash.{no_busy, no_confirm, exchange_before}
-use Rattle.iol_app.proofs.OpenLevel.{IsTied, tied_locals, hear_carried}
-use Rattle.iol_app.proofs.EventReading.{kept_fits, ends_hold}
-use Rattle.iol_app.proofs.Told.{told_exchange}
-use Rattle.iol_app.proofs.FirstOctet.{confirms_of}
-use Rattle.iol_app.specs.declared.event_work.Reading.TheVariants.{Resting}
+use Rattle.iol_app.proofs.Given.{Laws, all_laws, page_locals, page_after as page_passed}
+use Rattle.iol_app.proofs.EventReading.{ends_hold}
 use Rattle.iol_app.specs.State.{SessionState, IsSession, told, entered}
-use Rattle.iol_app.specs.StationState.{StateFits as Joined, IsTold as IsToldBy, settled_session, mode_in, why_in, told_in}
-use Rattle.iol_app.proofs.StartMessages.{step_channel, sends_channel, preoperate_turns, page_confirms}
-use Rattle.iol_app.proofs.Telling.{startup_layout, told_layout, told_stays, told_told, told_shown}
-use Rattle.iol_app.specs.Core.{Core, Ghost, Stands, CallGives, Rises, RequestStands, EventsStand, OutputStands, OutputOff, CalmAt, ShownStands, moment_of, seen_in, shown_in, images_in, after_exchange}
+use Rattle.iol_app.specs.StationState.{StateFits as Joined, IsTold as IsToldBy, settled_session, told_in}
+use Rattle.iol_app.proofs.Telling.{told_stays}
+use Rattle.iol_app.specs.Core.{Ghost, Stands, CallGives, Rises, moment_of, after_exchange}
 use Rattle.iol_mode.specs.Exchanges.{text_out, judged}
-use Rattle.iol_app.proofs.FarSide.{Goes, silent, replied, IsReplied, outputs_sent, outputs_after, opens_after}
+use Rattle.iol_app.proofs.FarSide.{silent, replied, IsReplied}
 use Rattle.iol_app.proofs.SmallFacts.{third_time}
-
-data Start : Type 0 where
-  InStart : Startup → Start
-  InPre : Preoperate → Start
-
-abbrev state_at : Start → State
-state_at (InStart s) = AtStartup s
-state_at (InPre s) = AtPreoperate s
-
-abbrev mode_at : Start → Mode
-mode_at start = mode_in (state_at start)
-
--- whether a device is expected is a question of its identity
-same_expected : (expected : Option Identity) (a b : List ℕ) → identity_of a ≡ identity_of b
-    → is_expected expected a ≡ is_expected expected b
-same_expected None a b e = refl
-same_expected (Some identity) a b e = ap (same_identity identity) e
-
--- nothing is under way in it
-abbrev still : SessionState → SessionState
-still t = record t { current = None; exchange = None; output = record t.output { told = false }; events = record t.events { reading = Resting }; image = None }
-
-is_still : (t : SessionState) → t.current ≡ None → t.exchange ≡ None → t.image ≡ None → t.events.reading ≡ Resting → t.output.told ≡ false → t ≡ still t
-is_still t a b c d e = λ i. record { limit = t.limit; layout = t.layout; isdu = t.isdu; configuration = t.configuration; present = t.present; current = a i; exchange = b i; output = record t.output { told = e i }; events = record t.events { reading = d i }; image = c i }
-
-none_due : (b awake : Bool) → false ≡ (awake && is_due (reading_flagged b))
-none_due b awake = grind (arith, common_steps)
-
-none_rests : (awake : Bool) → false ≡ (awake && false)
-none_rests awake = grind (arith, common_steps)
-
-no_command : (mode : Mode) (command : Option MasterCommand) → mode ≢ ModeOperate → output_by mode command ≡ None
-no_command mode command below = grind (arith, common_steps)
-
-below : (start : Start) → mode_at start ≢ ModeOperate
-below start e = grind (arith, common_steps)
-
-waits_quiet : (waits : Option WaitingCommand) → IfSome waits (λ command. Quiet ≡ Quiet)
-waits_quiet waits = grind (arith, common_steps)
-
--- Its message, and the level of both ends
-
-record Message (start : Start) (n : ℕ) (far : Far) : Type 0 where
-  shape : Shape
-  message : MasterMsg
-  tries : ℕ
-  link : Link
-  text_is : text_out (state_at start) ≡ master_text shape message
-  page : message.mc.channel ≡ Page
-  parts : HasMasterParts shape message
-  mode : (taken link (master_text shape message)).mode ≡ far_mode (mode_at start)
-  layout : layout_in far.page (far_mode (mode_at start)) ≡ shape
-  level : IsLevel far.page shape.od far.carried link Quiet (master_text shape message) tries far
-
-abbrev message_of : (start : Start) (n : ℕ) (far : Far) → StateFits (state_at start) → StateStands (state_at start) n far → Message start n far
-message_of (InStart s) n far fits stands = record {
-  shape = startup_shape;
-  message = s.sent.message;
-  tries = s.sent.tries;
-  link = startup_link;
-  text_is = refl;
-  page = ap (λ (m : MasterMsg). m.mc.channel) fits.message_is ∙ step_channel s.step fits.step;
-  parts = fits.parts;
-  mode = refl;
-  layout = startup_layout far.page;
-  level = stands.level;
-}
-message_of (InPre s) n far fits stands = record {
-  shape = s.pre;
-  message = s.sent.message;
-  tries = s.sent.tries;
-  link = preoperate_link s.cycle_written;
-  text_is = refl;
-  page = sends_channel s.cycle_written s.pre s.sent.message fits.sends;
-  parts = fits.parts;
-  mode = (preoperate_turns far.page s.cycle_written s.pre s.layouts s.sent.message fits.layouts.pre_is fits.sends).mode_is;
-  layout = told_layout far.page FarPreoperate s.layouts stands.told ∙ ap (λ (p : Option Shape). unwrap_or p startup_shape) fits.layouts.pre_is;
-  level = stands.level;
-}
-
--- what both modes say of the rest
-record Rests (start : Start) (t : SessionState) (g : Ghost) (far : Far) : Type 0 where
-  late : g.request.hidden.late ≡ None
-  opens : IsOpen far.isdu None g.request.hidden
-  untold : g.events.told ≡ false
-  output : OutputOff t.output.told far
-  fresh : IsTrue g.fresh → ⊥
-
-rests_of : (start : Start) (t : SessionState) (g : Ghost) (far : Far) (n : ℕ) → Stands (record { state = state_at start; session = t }) g far n → Rests start t g far
-rests_of (InStart s) t g far n h = record { late = h.request.0; opens = h.request.1; untold = h.events.1; output = h.output; fresh = h.fresh }
-rests_of (InPre s) t g far n h = record { late = h.request.0; opens = h.request.1; untold = h.events.1; output = h.output; fresh = h.fresh }
-
-module _ (laws : Laws) (heard : TextsAreHeard) (start : Start) (session : SessionState) (g : Ghost) (far far' : Far) (n n' : ℕ) (came : Option (List ℕ))
-    (stands : Stands (record { state = state_at start; session = still session }) g far n) (rests : Rests start (still session) g far) (k : Message start n far)
-    (x : HonestExchange far n (master_text k.shape k.message) came far' n') where
-  abbrev c : Core
-  c = record { state = state_at start; session = still session }
-
-  abbrev o : List ℕ
-  o = master_text k.shape k.message
-
-  abbrev passed : Far
-  passed = far_after x.passage (locals far x.steps) o
-
-  abbrev h : Hidden
-  h = hidden_through None far x.steps g.request.hidden
-
-  abbrev xs : List Step
-  xs = exchange_steps None far x.steps x.passage o
-
-  abbrev after : Ghost
-  after = record g { request = record g.request { hidden = h; base = passed.carried }; events = record g.events { told = false }; fresh = false }
-
-  -- the far end's part
-
-  there : layout_in far.page (taken k.link o).mode ≡ k.shape
-  there = ap (layout_in far.page) k.mode ∙ k.layout
-
-  going : Goes far.page k.shape k.link Quiet o k.message Other (mode_at start) g.sent false
-  going = record {
-    sent_at = record {
-      spells = ap (λ (l : Shape). message_in l o) there ∙ heard k.shape k.message k.parts;
-      size_of = ap (λ (l : Shape). l.od) there;
-      move = subst (λ (a : Channel). IsMove k.shape.od Other Quiet a k.message.mc.read (flow_of k.message.mc.address) k.message.od.items) (sym k.page) tt;
-      begins = tt;
-      quiet = waits_quiet k.link.waits;
-    };
-    at_mode = k.mode;
-    layout = k.layout;
-    carries = λ e. absurd (below start e);
-    tells = λ e. absurd (let z : Path (Option Bool) None (Some true) = sym (no_command (mode_at start) (command_in k.message) (below start)) ∙ e in cc);
-    starting = λ e. refl;
-  }
-
-  page_here : (locals far x.steps).page ≡ far.page
-  page_here = page_locals laws x.steps far
-
-  level : IsLevel far.page k.shape.od far.carried k.link Quiet o k.tries (locals far x.steps)
-  level = level_locals laws far.page k.shape.od (subst (λ (l : Shape). 1 ≤ l.od) k.layout (laws.layouts far.page (far_mode (mode_at start))).1) far.carried k.link Quiet o k.tries x.steps far k.level
-
-  outputs_here : OutputTold g.sent (output_by (mode_at start) (command_in k.message) ≡ None) false (locals far x.steps)
-  outputs_here = outputs_locals g.sent (output_by (mode_at start) (command_in k.message) ≡ None) false x.steps far ((λ a v. absurd (let z : false ≡ true = sym (rests.output.off a) ∙ v in cc)), (λ a none. rests.output.off a), rests.output.waits)
-
-  outputs : OutputTold g.sent (output_by (mode_at start) (command_in k.message) ≡ None) false passed
-  outputs = outputs_after laws far.page k.shape far.carried k.link Quiet o k.message Other (mode_at start) g.sent false going x.passage k.tries (locals far x.steps) page_here level outputs_here
-
-  off : OutputOff false passed
-  off = record { untold = refl; off = λ a. outputs.1 a (no_command (mode_at start) (command_in k.message) (below start)); waits = outputs.2 }
-
-  tied : IsTied far.carried None h (locals far x.steps).carried
-  tied = tied_locals far.carried None x.steps far g.request.hidden rests.opens (rests.late, refl)
-
-  opens : IsOpen passed.isdu None h
-  opens = opens_after laws far.page k.shape far.carried k.link Quiet o k.message Other (mode_at start) g.sent false going k.tries (locals far x.steps) level None h tt (own_open None g.request.hidden x.steps far rests.opens)
-      (hear_carried (locals far x.steps) o ∙ tied.1) x.passage
-
-  unconfirmed : octets_confirm o ≡ false
-  unconfirmed = sym (confirms_of (layout_in far.page (taken k.link o).mode) o k.message going.sent_at.spells) ∙ page_confirms k.message k.page
-
-  confirms : ConfirmsTold o (locals far x.steps) (told_through far x.steps false)
-  confirms w e = absurd (let z : false ≡ true = sym unconfirmed ∙ e in cc)
-
-  told_is : told_exchanged far x.steps x.passage o false ≡ false
-  told_is = (told_exchange laws.events o steps.Resting (λ e. absurd (let z : false ≡ true = sym unconfirmed ∙ e in cc)) x.steps x.passage far false ((λ a. tt), none_rests far.awake)).1 ∙ sym (none_rests passed.awake)
-
-  -- how the new mode and the session stand
-  record Left (state : State) (u : SessionState) : Type 0 where
-    request : RequestStands state u.limit u.current u.exchange u.events after passed
-    events : EventsStand state u.exchange u.events after.events passed
-    output : OutputStands state u.exchange u.output.told g.sent passed
-    quiet : CalmAt state n'
-
-  -- steps that clash with none of the far end's, and of which nothing is said
-  abbrev IsPlain : List Step → Type 0
-  IsPlain ys = (no_busy ys ≡ true) × (no_confirm ys ≡ true) × IsTrue (is_clash_free ys)
-      × (filter is_for_book ys ≡ []) × (filter is_report ys ≡ [])
-
-  -- what an outcome has to bring
-  record Ends (answered : Bool) (next : Core) (ys : List Step) : Type 0 where
-    limit : next.session.limit ≡ session.limit
-    configuration : next.session.configuration ≡ session.configuration
-    session_runs : SessionRuns (moment_of c g n (Exchanged answered)) (seen_in c g) h passed.carried ys (seen_in next after) h passed.carried
-    frozen : FrozenRuns passed.events.frozen false ys passed.events.frozen false
-    images : ImagesRuns (moment_of c g n (Exchanged answered)) (images_of (shown_in (still session) g.sent) passed) ys (images_of (shown_in next.session g.sent) passed)
-    plain : IsPlain ys
-    left : Left next.state next.session
-    sent : SentSeen next.session.layout next.session.output.carried.items g.sent
-    image : next.session.image ≡ None
-    shown : ShownStands next g.page
-
-  not_woken : (start : Start) (ended : Mode) → woke_up (mode_at start) ended ≡ []
-  not_woken start ended = grind (arith, common_steps)
-
-  fits_call : (start : Start) (answered : Bool) → CallFits (mode_at start) (Exchanged answered)
-  fits_call start answered = grind (arith, common_steps)
-
-  gives : (answered : Bool) → n' ≡ silence_by (Exchanged answered) n → (outcome : Outcome) (u : SessionState) → settled_session outcome (still session) ≡ u → (ys : List Step) → Ends answered (record { state = state_of outcome; session = u }) ys
-      → IsRisen outcome n' far far' → OutcomeFits outcome → Joined (state_of outcome) (settled_session outcome (still session)) → CallGives c g far n Idle (after_exchange outcome (still session)) far' n'
-  gives answered silence outcome u same ys b risen fits joined =
-      let next : Core = record { state = state_of outcome; session = u } in
-      let m = moment_of c g n (Exchanged answered) in
-      let before = exchange_before None far x.steps x.passage o ys b.plain.0 b.plain.1 b.plain.2 in
-      let i' = images_of (shown_in (still session) g.sent) passed in
-      subst (λ (v : SessionState). CallGives c g far n Idle (record { state = state_of outcome; session = v }) far' n') (sym same) (subst (λ (f : Far). CallGives c g far n Idle next f n') (sym x.far_is) (record {
-        call = Exchanged answered;
-        steps = xs ++ ys;
-        after = after;
-        fits = fits_call start answered;
-        silent = silence;
-        terms = (b.limit, refl, b.configuration);
-        clash_free = before.free;
-        fresh = λ e. absurd (rests.fresh e);
-        said_book = before.book ∙ b.plain.3 ∙ rw (not_woken start (mode_in next.state)) refl;
-        said_reports = before.reports ∙ b.plain.4;
-        session = session_runs-append m (seen_in c g) (seen_in c g) (seen_in next after) g.request.hidden h h far.carried passed.carried passed.carried xs ys
-            (exchange_session m (seen_in c g) g.request.hidden far x.steps x.passage o rests.opens) b.session_runs;
-        frozen = subst (λ (t : Bool). FrozenRuns far.events.frozen t (xs ++ ys) passed.events.frozen false) (sym rests.untold)
-            (frozen_runs-append far.events.frozen passed.events.frozen passed.events.frozen false false false xs ys
-            (subst (λ (t : Bool). FrozenRuns far.events.frozen false xs passed.events.frozen t) told_is (exchange_frozen None far x.steps x.passage o false confirms)) b.frozen);
-        images = images_runs-append m (images_in c g far) i' (images_of (shown_in next.session g.sent) passed) xs ys
-            (exchange_images m None (shown_in (still session) g.sent) far x.steps x.passage o (outputs_sent laws far.page k.shape far.carried k.link Quiet o k.message Other (mode_at start) g.sent false going k.tries (locals far x.steps) page_here level outputs_here)) b.images;
-        image_is_last = ((λ e. absurd (below start e.0)), (λ e. b.image), (λ e f. b.image));
-        output_is_wanted = λ e. absurd (below start e.0);
-        stands = record {
-          page = page_passed laws x.passage (locals far x.steps) o ∙ page_here ∙ stands.page;
-          fits = fits;
-          link = subst (λ (f : Far). StateStands (state_of outcome) n' f) x.far_is risen.both.stands;
-          joined = subst (Joined (state_of outcome)) same joined;
-          calm = b.left.quiet;
-          fresh = λ e. absurd (let z : false ≡ true = e in cc);
-          sent = b.sent;
-          request = b.left.request;
-          events = b.left.events;
-          output = b.left.output;
-          shown = b.shown;
-        };
-      }))
-
-  -- The outcomes
-
-  kept : (next : Start) → Left (state_at next) (still session)
-  kept (InStart s) = record { request = (tied.0, opens); events = (refl, refl); output = off; quiet = tt }
-  kept (InPre s) = record { request = (tied.0, opens); events = (refl, refl); output = off; quiet = tt }
-
-  abbrev shown' : (state : State) (event : Bool)
-      → ShownStands (record { state = state; session = entered event (still session) }) g.page
-  shown' state event = record { image = λ e. refl; wanted = stands.shown.wanted; lengths = stands.shown.lengths; isdu = stands.shown.isdu; present = stands.shown.present; no_form = refl }
-
-  -- a start-up goes on in its mode
-  stays : (answered : Bool) (next : Start) → seen_in (record { state = state_at next; session = still session }) after ≡ seen_in c g → Ends answered (record { state = state_at next; session = still session }) []
-  stays answered next same = record {
-    limit = refl;
-    configuration = refl;
-    session_runs = (tt, ap (λ (e : Seen). session_of e h passed.carried) (sym same));
-    frozen = (tt, refl);
-    images = (tt, refl);
-    plain = (refl, refl, refl, refl, refl);
-    left = kept next;
-    sent = stands.sent;
-    image = refl;
-    shown = shown' (state_at next) session.events.flag;
-  }
-
-  -- its mode alone moves; what is told of events may change
-  moves : (answered event : Bool) (state : State)
-      → MayMove (moment_of c g n (Exchanged answered)) (mode_at start) (mode_in state)
-      (why_in state)
-      → Left state (entered event (still session))
-      → Ends answered (record { state = state; session = entered event (still session) })
-      (MoveTo (mode_in state) (why_in state) ∷ [])
-  moves answered event state may left = record {
-    limit = refl;
-    configuration = refl;
-    session_runs = ((may, tt), refl);
-    frozen = ((tt, tt), refl);
-    images = ((tt, tt), refl);
-    plain = (refl, refl, refl, refl, refl);
-    left = left;
-    sent = stands.sent;
-    image = refl;
-    shown = shown' state event;
-  }
-
-  -- it goes down, for a cause
-  falls : (answered : Bool) (why : Why) → MayMove (moment_of c g n (Exchanged answered)) (mode_at start) ModeDown (Some why)
-      → Ends answered (after_exchange (InDown (record { why = Some why })) (still session)) (MoveTo ModeDown (Some why) ∷ [])
-  falls answered why may =
-      moves answered session.events.flag (AtDown (record { why = Some why })) may
-      (record { request = opens; events = tt; output = tt; quiet = tt })
-
-  -- it comes to PREOPERATE
-  climbs : (s : Preoperate) → MayMove (moment_of c g n (Exchanged true)) (mode_at start) ModePreoperate None → Ends true (record { state = AtPreoperate s; session = still session }) (MoveTo ModePreoperate None ∷ [])
-  climbs s may = moves true session.events.flag (AtPreoperate s) may (kept (InPre s))
-
-  -- the page is whole, that of the device that is expected, and is told
-  tells : (s : Startup) (read : Told) → mode_at start ≡ ModeStartup
-      → seen_in (record { state = AtStartup s; session = still session }) after ≡ seen_in c g
-      → layouts_of g.page ≡ Ok read.layouts → read.layouts.isdu ≡ knows_isdu g.page
-      → read.page ≡ g.page → is_expected session.configuration.expected g.page ≡ true
-      → IsSession (still session)
-      → Ends true (record { state = AtStartup s; session = told read (still session) }) (TellLength ∷ [])
-  tells s read first same asked isdu page right valid =
-      let q = kept (InStart s) in
-      let layouts : Layouts = read.layouts in
-      let size : output_length g.page ≡ layouts.run.pd_out = ap (λ (l : Shape). l.pd_out) (told_layout g.page FarOperate layouts asked) in
-      let w : ShownSeen (told read (still session))
-      (record (shown_in (still session) g.sent) {
-        told = Some (output_length g.page);
-        isdu = Some (knows_isdu g.page);
-        page = Some g.page;
-      }) =
-      told_shown (still session) (shown_in (still session) g.sent) read g.page (knows_isdu g.page) (output_length g.page) valid
-      (record { image = refl; wanted = refl; sent = stands.sent; told = refl; isdu = refl; page = refl })
-      stands.shown.wanted stands.shown.lengths size (sym isdu) (sym page) in
-      record {
-        limit = refl;
-        configuration = refl;
-        session_runs = ((tt, tt), ap (λ (e : Seen). session_of e h passed.carried) (sym same));
-        frozen = ((tt, tt), refl);
-        images = (
-          ((first, right), tt),
-          λ i.
-              let y : Images = images_of (record (shown_in (still session) g.sent) {
-                wanted = w.wanted i;
-                told = w.told i;
-                isdu = w.isdu i;
-                page = w.page i;
-              }) passed in y,
-        );
-        plain = (refl, refl, refl, refl, refl);
-        left = record {
-          request = q.request;
-          events = q.events;
-          output = subst (λ (b : Bool). OutputOff b passed) (sym (told_told layouts.run.pd_out (still session).output)) off;
-          quiet = q.quiet;
-        };
-        sent = w.sent;
-        image = refl;
-        shown = record { image = λ e. refl; wanted = subst (λ (o : Option (List ℕ)). IfSome o IsImage) w.wanted stands.shown.wanted; lengths = sym size; isdu = isdu; present = page; no_form = refl };
-      }
-
-  -- it comes to OPERATE, with the Event flag of the reply
-  enters : (layouts : Layouts) (r : Reply) → MayMove (moment_of c g n (Exchanged true)) (mode_at start) ModeOperate None → passed.events.held ≡ false → r.event ≡ not (is_empty passed.events.frozen)
-      → IsEntered (record { out = None; layouts = layouts }) n' far' r → Ends true (record { state = AtOperate (record { out = None; layouts = layouts }); session = entered r.event (still session) }) (MoveTo ModeOperate None ∷ [])
-  enters layouts r may held event entered_is =
-      let at = subst (λ (f : Far). IsEntered (record { out = None; layouts = layouts }) n' f r) x.far_is entered_is in
-      moves true r.event (AtOperate (record { out = None; layouts = layouts })) may (record {
-        request = record {
-          late = tied.0;
-          opens = opens;
-          link = entering_link layouts;
-          linked = inl (refl, refl);
-          level = subst (λ (p : List ℕ). IsBefore p layouts.run.od passed.carried (entering_link layouts) Quiet passed) (page_passed laws x.passage (locals far x.steps) o ∙ page_here ∙ stands.page) (at.before layouts.run.od);
-          out = tt;
-          answer = refl;
-          busy = tt;
-          known = λ e. absurd (let z : false ≡ true = e in cc);
-        };
-        events = ((λ awake. kept_fits steps.Resting r.event passed.events event held tt), none_due r.event passed.awake);
-        output = ((λ a v. absurd (let z : false ≡ true = sym (off.off a) ∙ v in cc)), (λ a e. off.off a), off.waits);
-        quiet = at.silent;
-      })
+use Rattle.iol_app.proofs.StartExchange.{InStart, InPre, Start, InStart, InPre, state_at, mode_at, same_expected, still, is_still, Message, shape, message, tries, link, text_is, page, level, message_of, rests_of, c, o, after, there, going, level, unconfirmed, Ends, gives, stays, falls, climbs, tells, enters}
 
 -- what is known of every start-up
 record Known : Type 0 where
@@ -445,16 +57,21 @@ record Known : Type 0 where
   heard : TextsAreHeard
   asks : PagesAskForLayouts
 
-module _ (known : Known) (session : SessionState) (valid : IsSession (still session)) (g : Ghost) (far far' : Far) (n n' : ℕ) (came : Option (List ℕ)) where
+module _ (known : Known) (session : SessionState) (valid : IsSession (still session))
+    (g : Ghost) (far far' : Far) (n n' : ℕ) (came : Option (List ℕ)) where
   open known use {laws, heard, asks}
 
   abbrev CallGivesBy : State → Outcome → Type 0
-  CallGivesBy state outcome = CallGives (record { state = state; session = still session }) g far n Idle (after_exchange outcome (still session)) far' n'
+  CallGivesBy state outcome = CallGives (record { state = state; session = still session }) g
+      far n Idle (after_exchange outcome (still session)) far' n'
 
   asked_by : (layouts : Layouts) → layouts_of g.page ≡ Ok layouts → IsAskedBy g.page layouts
-  asked_by layouts e = subst (λ (q : Result Layouts PageFault). IfOk q (IsAskedBy g.page)) e (asks g.page)
+  asked_by layouts e = subst (λ (q : Result Layouts PageFault). IfOk q (IsAskedBy g.page)) e
+      (asks g.page)
 
-  module _ (start : Start) (stands : Stands (record { state = state_at start; session = still session }) g far n) (x : HonestExchange far n (text_out (state_at start)) came far' n') where
+  module _ (start : Start) (stands : Stands
+      (record { state = state_at start; session = still session }) g far n)
+      (x : HonestExchange far n (text_out (state_at start)) came far' n') where
     abbrev k : Message start n far
     k = message_of start n far stands.fits stands.link
 
@@ -462,79 +79,154 @@ module _ (known : Known) (session : SessionState) (valid : IsSession (still sess
     exchange = subst (λ (o : List ℕ). HonestExchange far n o came far' n') k.text_is x
 
     abbrev By : Bool → Outcome → SessionState → List Step → Type 0
-    By answered outcome u ys = Ends laws heard start session g far far' n n' came stands (rests_of start (still session) g far n stands) k exchange answered (record { state = state_of outcome; session = u }) ys
+    By answered outcome u ys = Ends laws heard start session g far far' n n' came stands
+        (rests_of start (still session) g far n stands) k exchange answered
+        (record { state = state_of outcome; session = u }) ys
 
-    by : (answered : Bool) → n' ≡ silence_by (Exchanged answered) n → (outcome : Outcome) (u : SessionState) → settled_session outcome (still session) ≡ u → (ys : List Step) → By answered outcome u ys
-        → IsRisen outcome n' far far' → OutcomeFits outcome → Joined (state_of outcome) (settled_session outcome (still session)) → CallGivesBy (state_at start) outcome
-    by = gives laws heard start session g far far' n n' came stands (rests_of start (still session) g far n stands) k exchange
+    by : (answered : Bool) → n' ≡ silence_by (Exchanged answered) n
+        → (outcome : Outcome) (u : SessionState) → settled_session outcome (still session) ≡ u
+        → (ys : List Step) → By answered outcome u ys
+        → IsRisen outcome n' far far' → OutcomeFits outcome
+        → Joined (state_of outcome) (settled_session outcome (still session))
+        → CallGivesBy (state_at start) outcome
+    by = gives laws heard start session g far far' n n' came stands
+        (rests_of start (still session) g far n stands) k exchange
 
     page_new : far'.page ≡ g.page
-    page_new = ap (λ (f : Far). f.page) exchange.far_is ∙ page_passed laws exchange.passage (locals far exchange.steps) (master_text k.shape k.message) ∙ page_locals laws exchange.steps far ∙ stands.page
+    page_new = ap (λ (f : Far). f.page) exchange.far_is
+        ∙ page_passed laws exchange.passage (locals far exchange.steps)
+        (master_text k.shape k.message) ∙ page_locals laws exchange.steps far ∙ stands.page
 
     abbrev Good : Reply → Type 0
-    Good r = IsReplied laws far.page k.shape far.carried k.link Quiet (master_text k.shape k.message) k.message Other (mode_at start) g.sent false
-        (going laws heard start session g far far' n n' came stands (rests_of start (still session) g far n stands) k exchange) far far' n n' k.tries came exchange k.level r
+    Good r = IsReplied laws far.page k.shape far.carried k.link Quiet
+        (master_text k.shape k.message) k.message Other (mode_at start) g.sent false
+        (going laws heard start session g far far' n n' came stands
+        (rests_of start (still session) g far n stands) k exchange) far far' n n' k.tries
+        came exchange k.level r
 
     -- after a good reply the hold has ended, and its flag is the memory's
-    enters_by : (layouts : Layouts) (r : Reply) → Good r → MayMove (moment_of (record { state = state_at start; session = still session }) g n (Exchanged true)) (mode_at start) ModeOperate None
-        → IsEntered (record { out = None; layouts = layouts }) n' far' r → By true (InOperate (record { out = None; layouts = layouts }) (Some r)) (entered r.event (still session)) (MoveTo ModeOperate None ∷ [])
+    enters_by : (layouts : Layouts) (r : Reply) → Good r
+        → MayMove (moment_of (record { state = state_at start; session = still session }) g n
+        (Exchanged true)) (mode_at start) ModeOperate None
+        → IsEntered (record { out = None; layouts = layouts }) n' far' r
+        → By true (InOperate (record { out = None; layouts = layouts }) (Some r))
+        (entered r.event (still session)) (MoveTo ModeOperate None ∷ [])
     enters_by layouts r good may entered_is =
         let same = sym good.far_is ∙ exchange.far_is in
-        enters laws heard start session g far far' n n' came stands (rests_of start (still session) g far n stands) k exchange layouts r may
-        (subst (λ (f : Far). f.events.held ≡ false) same (ends_hold (locals far exchange.steps) (master_text k.shape k.message) good.octets
-        (unconfirmed laws heard start session g far far' n n' came stands (rests_of start (still session) g far n stands) k exchange) good.replies))
-        (ap (λ (q : Reply). q.event) good.reply_is ∙ ap (λ (f : Far). not (is_empty f.events.frozen)) same) entered_is
+        enters laws heard start session g far far' n n' came stands
+        (rests_of start (still session) g far n stands) k exchange layouts r may
+        (subst (λ (f : Far). f.events.held ≡ false) same
+        (ends_hold (locals far exchange.steps) (master_text k.shape k.message) good.octets
+        (unconfirmed laws heard start session g far far' n n' came stands
+        (rests_of start (still session) g far n stands) k exchange) good.replies))
+        (ap (λ (q : Reply). q.event) good.reply_is
+        ∙ ap (λ (f : Far). not (is_empty f.events.frozen)) same) entered_is
 
     -- no good reply
     missed_by : good_reply k.shape k.message came ≡ None → n' ≡ min 3 (n + 1)
-    missed_by none = silent laws far.page k.shape far.carried k.link Quiet (master_text k.shape k.message) k.message Other (mode_at start) g.sent false
-        (going laws heard start session g far far' n n' came stands (rests_of start (still session) g far n stands) k exchange) far far' n n' k.tries came exchange k.level none
+    missed_by none = silent laws far.page k.shape far.carried k.link Quiet
+        (master_text k.shape k.message) k.message Other (mode_at start) g.sent false
+        (going laws heard start session g far far' n n' came stands
+        (rests_of start (still session) g far n stands) k exchange) far far' n n' k.tries
+        came exchange k.level none
 
     had_by : (r : Reply) → good_reply k.shape k.message came ≡ Some r → Good r
-    had_by r good = replied laws far.page k.shape far.carried k.link Quiet (master_text k.shape k.message) k.message Other (mode_at start) g.sent false
-        (going laws heard start session g far far' n n' came stands (rests_of start (still session) g far n stands) k exchange) far far' n n' k.tries came exchange k.level r good
+    had_by r good = replied laws far.page k.shape far.carried k.link Quiet
+        (master_text k.shape k.message) k.message Other (mode_at start) g.sent false
+        (going laws heard start session g far far' n n' came stands
+        (rests_of start (still session) g far n stands) k exchange) far far' n n' k.tries
+        came exchange k.level r good
 
   -- PREOPERATE
-  module _ (s : Preoperate) (stands : Stands (record { state = AtPreoperate s; session = still session }) g far n) (x : HonestExchange far n (text_out (AtPreoperate s)) came far' n') where
-    pre_tries : (b : Bool) → (s.sent.tries == 2) ≡ b → n' ≡ min 3 (n + 1) → let o : Outcome = preoperate_by (record { message = s.sent.message; tries = if b then 0 else s.sent.tries + 1 }) s.cycle_written s.pre s.layouts (if b then WasLost else Again) in
-        IsRisen o n' far far' → OutcomeFits o → Joined (state_of o) (settled_session o (still session)) → CallGivesBy (AtPreoperate s) o
-    pre_tries true two silence risen fits joined = by (InPre s) stands x false silence _ _ refl _ (falls laws heard (InPre s) session g far far' n n' came stands _ _ _ false Lost (third_time s.sent.tries n (grind (arith, nat_tests)) stands.link.tries)) risen fits joined
-    pre_tries false two silence risen fits joined = by (InPre s) stands x false silence _ _ refl _ (stays laws heard (InPre s) session g far far' n n' came stands _ _ _ false (InPre _) refl) risen fits joined
+  module _ (s : Preoperate) (stands : Stands
+      (record { state = AtPreoperate s; session = still session }) g far n)
+      (x : HonestExchange far n (text_out (AtPreoperate s)) came far' n') where
+    pre_tries : (b : Bool) → (s.sent.tries == 2) ≡ b → n' ≡ min 3 (n + 1)
+        → let o : Outcome = preoperate_by
+        (record { message = s.sent.message; tries = if b then 0 else s.sent.tries + 1 })
+        s.cycle_written s.pre s.layouts (if b then WasLost else Again) in
+        IsRisen o n' far far' → OutcomeFits o
+        → Joined (state_of o) (settled_session o (still session))
+        → CallGivesBy (AtPreoperate s) o
+    pre_tries true two silence risen fits joined =
+        by (InPre s) stands x false silence _ _ refl _
+        (falls laws heard (InPre s) session g far far' n n' came stands _ _ _ false Lost
+        (third_time s.sent.tries n (grind (arith, nat_tests)) stands.link.tries)) risen
+        fits joined
+    pre_tries false two silence risen fits joined =
+        by (InPre s) stands x false silence _ _ refl _
+        (stays laws heard (InPre s) session g far far' n n' came stands _ _ _ false
+        (InPre _) refl) risen fits joined
 
-    pre_written : (written : Bool) (r : Reply) → Good (InPre s) stands x r → IsRisen (preoperate_after written s.pre s.layouts r) n' far far' → OutcomeFits (preoperate_after written s.pre s.layouts r)
-        → Joined (state_of (preoperate_after written s.pre s.layouts r)) (settled_session (preoperate_after written s.pre s.layouts r) (still session)) → CallGivesBy (AtPreoperate s) (preoperate_after written s.pre s.layouts r)
-    pre_written true r good risen fits joined = by (InPre s) stands x true good.silence_is _ _ refl _ (enters_by (InPre s) stands x s.layouts r good tt risen.entered) risen fits joined
-    pre_written false r good risen fits joined = by (InPre s) stands x true good.silence_is _ _ refl _ (stays laws heard (InPre s) session g far far' n n' came stands _ _ _ true (InPre _) refl) risen fits joined
+    pre_written : (written : Bool) (r : Reply) → Good (InPre s) stands x r
+        → IsRisen (preoperate_after written s.pre s.layouts r) n' far far'
+        → OutcomeFits (preoperate_after written s.pre s.layouts r)
+        → Joined (state_of (preoperate_after written s.pre s.layouts r))
+        (settled_session (preoperate_after written s.pre s.layouts r) (still session))
+        → CallGivesBy (AtPreoperate s) (preoperate_after written s.pre s.layouts r)
+    pre_written true r good risen fits joined =
+        by (InPre s) stands x true good.silence_is _ _ refl _
+        (enters_by (InPre s) stands x s.layouts r good tt risen.entered) risen fits joined
+    pre_written false r good risen fits joined =
+        by (InPre s) stands x true good.silence_is _ _ refl _
+        (stays laws heard (InPre s) session g far far' n n' came stands _ _ _ true (InPre _)
+        refl) risen fits joined
 
-    pre_rises : (q : Option Reply) → good_reply s.pre s.sent.message came ≡ q → IsRisen (preoperate_turned s q) n' far far' → OutcomeFits (preoperate_turned s q) → Joined (state_of (preoperate_turned s q)) (settled_session (preoperate_turned s q) (still session))
+    pre_rises : (q : Option Reply) → good_reply s.pre s.sent.message came ≡ q
+        → IsRisen (preoperate_turned s q) n' far far' → OutcomeFits (preoperate_turned s q)
+        → Joined (state_of (preoperate_turned s q))
+        (settled_session (preoperate_turned s q) (still session))
         → CallGivesBy (AtPreoperate s) (preoperate_turned s q)
-    pre_rises None e risen fits joined = pre_tries (s.sent.tries == 2) refl (missed_by (InPre s) stands x e) risen fits joined
-    pre_rises (Some r) e risen fits joined = pre_written s.cycle_written r (had_by (InPre s) stands x r e) risen fits joined
+    pre_rises None e risen fits joined =
+        pre_tries (s.sent.tries == 2) refl (missed_by (InPre s) stands x e) risen fits joined
+    pre_rises (Some r) e risen fits joined =
+        pre_written s.cycle_written r (had_by (InPre s) stands x r e) risen fits joined
 
   -- STARTUP
-  module _ (s : Startup) (stands : Stands (record { state = AtStartup s; session = still session }) g far n) (x : HonestExchange far n (text_out (AtStartup s)) came far' n') where
+  module _ (s : Startup) (stands : Stands
+      (record { state = AtStartup s; session = still session }) g far n)
+      (x : HonestExchange far n (text_out (AtStartup s)) came far' n') where
     abbrev m : Moment
     m = moment_of (record { state = AtStartup s; session = still session }) g n (Exchanged true)
 
     asked_of : (layouts : Layouts) → layouts_of far.page ≡ Ok layouts → IsAskedBy g.page layouts
     asked_of layouts e = asked_by layouts (ap layouts_of (sym stands.page) ∙ e)
 
-    start_tries : (b : Bool) → (s.sent.tries == 2) ≡ b → n' ≡ min 3 (n + 1) → let o : Outcome = startup_by session.configuration (record { message = s.sent.message; tries = if b then 0 else s.sent.tries + 1 }) s.step (if b then WasLost else Again) in
-        IsRisen o n' far far' → OutcomeFits o → Joined (state_of o) (settled_session o (still session)) → CallGivesBy (AtStartup s) o
-    start_tries true two silence risen fits joined = by (InStart s) stands x false silence _ _ refl _ (falls laws heard (InStart s) session g far far' n n' came stands _ _ _ false Lost (third_time s.sent.tries n (grind (arith, nat_tests)) stands.link.tries)) risen fits joined
+    start_tries : (b : Bool) → (s.sent.tries == 2) ≡ b → n' ≡ min 3 (n + 1)
+        → let o : Outcome = startup_by session.configuration
+        (record { message = s.sent.message; tries = if b then 0 else s.sent.tries + 1 })
+        s.step (if b then WasLost else Again) in
+        IsRisen o n' far far' → OutcomeFits o
+        → Joined (state_of o) (settled_session o (still session)) → CallGivesBy (AtStartup s) o
+    start_tries true two silence risen fits joined =
+        by (InStart s) stands x false silence _ _ refl _
+        (falls laws heard (InStart s) session g far far' n n' came stands _ _ _ false Lost
+        (third_time s.sent.tries n (grind (arith, nat_tests)) stands.link.tries)) risen
+        fits joined
     start_tries false two silence risen fits joined =
-        by (InStart s) stands x false silence _ _ (told_stays (read_by s.step) (still session) valid stands.joined.1) _ (stays laws heard (InStart s) session g far far' n n' came stands _ _ _ false (InStart _) refl) risen fits joined
+        by (InStart s) stands x false silence _ _
+        (told_stays (read_by s.step) (still session) valid stands.joined.1) _
+        (stays laws heard (InStart s) session g far far' n n' came stands _ _ _ false
+        (InStart _) refl) risen fits joined
 
     module _ (r : Reply) (good : Good (InStart s) stands x r) where
-      goes : (step : PageStep) → told_in (read_by step) (still session) ≡ still session → IsRisen (begun step) n' far far' → OutcomeFits (begun step) → Joined (state_of (begun step)) (settled_session (begun step) (still session)) → CallGivesBy (AtStartup s) (begun step)
-      goes step same risen fits joined = by (InStart s) stands x true good.silence_is _ _ same _ (stays laws heard (InStart s) session g far far' n n' came stands _ _ _ true (InStart _) refl) risen fits joined
+      goes : (step : PageStep) → told_in (read_by step) (still session) ≡ still session
+          → IsRisen (begun step) n' far far' → OutcomeFits (begun step)
+          → Joined (state_of (begun step)) (settled_session (begun step) (still session))
+          → CallGivesBy (AtStartup s) (begun step)
+      goes step same risen fits joined =
+          by (InStart s) stands x true good.silence_is _ _ same _
+          (stays laws heard (InStart s) session g far far' n n' came stands _ _ _ true
+          (InStart _) refl) risen fits joined
 
-      may_fault : (fault : PageFault) → page_fault g.page ≡ Some (why_of fault) → MayMove m ModeStartup ModeDown (Some (why_of fault))
+      may_fault : (fault : PageFault) → page_fault g.page ≡ Some (why_of fault)
+          → MayMove m ModeStartup ModeDown (Some (why_of fault))
       may_fault (Revision octet) e = e
       may_fault BadPdLength e = e
       may_fault UnsupportedCode e = e
 
-      behind_session : (page : Told) (p : Option Shape) → told_in (read_by (step_behind page p)) (still session) ≡ told page (still session)
+      behind_session : (page : Told) (p : Option Shape)
+          → told_in (read_by (step_behind page p)) (still session) ≡ told page (still session)
       behind_session page p = grind (arith, common_steps)
 
       behind_told : (page : Told) (p : Option Shape) → StepStands (step_behind page p) far'
@@ -553,8 +245,11 @@ module _ (known : Known) (session : SessionState) (valid : IsSession (still sess
       by_taken : (asked : Result Layouts PageFault) (octets : List ℕ)
           → is_expected asks_now.expected octets ≡ true → Rising (page_taken asks_now asked octets)
       by_taken (Err fault) octets known risen fits joined =
-          let asked : layouts_of g.page ≡ Err fault = ap layouts_of (sym (page_new (InStart s) stands x)) ∙ risen.fault fault refl in
-          by (InStart s) stands x true good.silence_is _ _ refl _ (falls laws heard (InStart s) session g far far' n n' came stands _ _ _ true (why_of fault) (may_fault fault (ap fault_in asked))) risen fits joined
+          let asked : layouts_of g.page ≡ Err fault =
+          ap layouts_of (sym (page_new (InStart s) stands x)) ∙ risen.fault fault refl in
+          by (InStart s) stands x true good.silence_is _ _ refl _
+          (falls laws heard (InStart s) session g far far' n n' came stands _ _ _ true
+          (why_of fault) (may_fault fault (ap fault_in asked))) risen fits joined
       by_taken (Ok layouts) octets known risen fits joined =
           let read : Told = told_of asks_now layouts octets in
           let new : far'.page ≡ g.page = page_new (InStart s) stands x in
@@ -564,18 +259,21 @@ module _ (known : Known) (session : SessionState) (valid : IsSession (still sess
           let right : is_expected asks_now.expected g.page ≡ true =
           ap (is_expected asks_now.expected) (sym page) ∙ known in
           by (InStart s) stands x true good.silence_is _ _ (behind_session read layouts.pre) _
-          (tells laws heard (InStart s) session g far far' n n' came stands _ _ _ _ read refl refl asked (asked_by layouts asked).isdu page right valid) risen fits joined
+          (tells laws heard (InStart s) session g far far' n n' came stands _ _ _ _ read refl
+          refl asked (asked_by layouts asked).isdu page right valid) risen fits joined
 
       -- another device is there than the one that is expected
       by_wrong : (octets : List ℕ) → is_expected asks_now.expected octets ≡ false
           → Rising (InDown (record { why = Some (WrongDevice (identity_of octets)) }))
       by_wrong octets unknown risen fits joined =
           let found : identity_of g.page ≡ identity_of octets =
-          ap identity_of (sym (page_new (InStart s) stands x)) ∙ risen.device (identity_of octets) refl in
+          ap identity_of (sym (page_new (InStart s) stands x))
+          ∙ risen.device (identity_of octets) refl in
           let wrong : is_expected asks_now.expected g.page ≡ false =
           same_expected asks_now.expected g.page octets found ∙ unknown in
           by (InStart s) stands x true good.silence_is _ _ refl _
-          (falls laws heard (InStart s) session g far far' n n' came stands _ _ _ true (WrongDevice (identity_of octets)) (found, wrong)) risen fits joined
+          (falls laws heard (InStart s) session g far far' n n' came stands _ _ _ true
+          (WrongDevice (identity_of octets)) (found, wrong)) risen fits joined
 
       by_known : (b : Bool) (octets : List ℕ) → is_expected asks_now.expected octets ≡ b
           → Rising (taken_where b asks_now (layouts_of octets) octets)
@@ -583,54 +281,91 @@ module _ (known : Known) (session : SessionState) (valid : IsSession (still sess
       by_known false octets known = by_wrong octets known
 
       by_octets : (b : Bool) (octets : List ℕ)
-          → Rising (if b then checked asks_now (layouts_of octets) octets else begun (Read (record { items = octets })))
+          → Rising (if b then checked asks_now (layouts_of octets) octets else begun
+          (Read (record { items = octets })))
       by_octets true octets risen fits joined =
           by_known (is_expected asks_now.expected octets) octets refl risen fits joined
-      by_octets false octets risen fits joined = goes (Read (record { items = octets })) refl risen fits joined
+      by_octets false octets risen fits joined =
+          goes (Read (record { items = octets })) refl risen fits joined
 
       by_step : (step : PageStep) → StepFits step → StepStands step far
           → IsToldBy (read_by step) (still session) → Rising (step_after asks_now step r)
-      by_step (Read read) proper at before risen fits joined = by_octets (length (read.items ++ slice_index r.od.items 0 ∷ []) == 10) (read.items ++ slice_index r.od.items 0 ∷ []) risen fits joined
-      by_step (Ident page pre) proper at before risen fits joined = goes (Leave page pre) (told_stays (Some page) (still session) valid before) risen fits joined
-      by_step (Cycle page) proper at before risen fits joined = goes (Enter page) (told_stays (Some page) (still session) valid before) risen fits joined
+      by_step (Read read) proper at before risen fits joined =
+          by_octets (length (read.items ++ slice_index r.od.items 0 ∷ []) == 10)
+          (read.items ++ slice_index r.od.items 0 ∷ []) risen fits joined
+      by_step (Ident page pre) proper at before risen fits joined =
+          goes (Leave page pre) (told_stays (Some page) (still session) valid before) risen fits
+          joined
+      by_step (Cycle page) proper at before risen fits joined =
+          goes (Enter page) (told_stays (Some page) (still session) valid before) risen fits joined
       by_step (Leave page pre) proper at before risen fits joined =
           let q = asked_of page.layouts at.0 in
-          let present : is_present g.page ≡ true = q.present ∙ sym q.old ∙ ap (λ (p : Option Shape). is_some p) proper.pre_is in
-          by (InStart s) stands x true good.silence_is _ _ refl _ (climbs laws heard (InStart s) session g far far' n n' came stands _ _ _ _ present) risen fits joined
+          let present : is_present g.page ≡ true = q.present ∙ sym q.old
+          ∙ ap (λ (p : Option Shape). is_some p) proper.pre_is in
+          by (InStart s) stands x true good.silence_is _ _ refl _
+          (climbs laws heard (InStart s) session g far far' n n' came stands _ _ _ _
+          present) risen fits joined
       by_step (Enter page) proper at before risen fits joined =
           let q = asked_of page.layouts at.0 in
-          let none : not (is_old g.page) ≡ false = sym q.old ∙ ap (λ (p : Option Shape). is_some p) proper.old in
+          let none : not (is_old g.page) ≡ false = sym q.old
+          ∙ ap (λ (p : Option Shape). is_some p) proper.old in
           let old : is_old g.page ≡ true = grind (arith, common_steps, none) in
-          by (InStart s) stands x true good.silence_is _ _ refl _ (enters_by (InStart s) stands x page.layouts r good old risen.entered) risen fits joined
+          by (InStart s) stands x true good.silence_is _ _ refl _
+          (enters_by (InStart s) stands x page.layouts r good old risen.entered) risen fits
+          joined
 
     start_rises : (q : Option Reply) → good_reply startup_shape s.sent.message came ≡ q
         → let o : Outcome = startup_turned session.configuration s q in
         IsRisen o n' far far' → OutcomeFits o
         → Joined (state_of o) (settled_session o (still session)) → CallGivesBy (AtStartup s) o
-    start_rises None e risen fits joined = start_tries (s.sent.tries == 2) refl (missed_by (InStart s) stands x e) risen fits joined
-    start_rises (Some r) e risen fits joined = by_step r (had_by (InStart s) stands x r e) s.step stands.fits.step stands.link.step stands.joined.1 risen fits joined
+    start_rises None e risen fits joined =
+        start_tries (s.sent.tries == 2) refl (missed_by (InStart s) stands x e) risen fits joined
+    start_rises (Some r) e risen fits joined =
+        by_step r (had_by (InStart s) stands x r e) s.step stands.fits.step stands.link.step
+        stands.joined.1 risen fits joined
 
 -- in both
-rises_at : Known → (state : State) (t : SessionState) (g : Ghost) (far far' : Far) (n n' : ℕ) (came : Option (List ℕ)) → is_starting state ≡ true → Stands (record { state = state; session = t }) g far n → IsSession t → HonestExchange far n (text_out state) came far' n'
+rises_at : Known → (state : State) (t : SessionState) (g : Ghost) (far far' : Far) (n n' : ℕ)
+    (came : Option (List ℕ)) → is_starting state ≡ true
+    → Stands (record { state = state; session = t }) g far n → IsSession t
+    → HonestExchange far n (text_out state) came far' n'
     → let o : Outcome = judged t.configuration state came in
     IsRisen o n' far far' → OutcomeFits o → Joined (state_of o) (settled_session o t)
     → CallGives (record { state = state; session = t }) g far n Idle (after_exchange o t) far' n'
 rises_at known (AtStartup s) t g far far' n n' came up stands valid x risen fits joined =
-    let e : t ≡ still t = is_still t stands.joined.0.0 stands.joined.0.1 (stands.shown.image (λ k. absurd (let z : ModeStartup ≡ ModeOperate = k in cc))) stands.events.0 stands.output.untold in
-    let o : Outcome = startup_turned t.configuration s (good_reply startup_shape s.sent.message came) in
-    subst (λ (u : SessionState). CallGives (record { state = AtStartup s; session = u }) g far n Idle (after_exchange o u) far' n') (sym e)
-    (start_rises known t (subst IsSession e valid) g far far' n n' came s (subst (λ (u : SessionState). Stands (record { state = AtStartup s; session = u }) g far n) e stands) x (good_reply startup_shape s.sent.message came) refl risen fits
+    let e : t ≡ still t = is_still t stands.joined.0.0 stands.joined.0.1
+    (stands.shown.image (λ k. absurd (let z : ModeStartup ≡ ModeOperate = k in cc)))
+    stands.events.0 stands.output.untold in
+    let o : Outcome = startup_turned t.configuration s
+    (good_reply startup_shape s.sent.message came) in
+    subst (λ (u : SessionState). CallGives (record { state = AtStartup s; session = u }) g far n
+    Idle (after_exchange o u) far' n') (sym e)
+    (start_rises known t (subst IsSession e valid) g far far' n n' came s
+    (subst (λ (u : SessionState). Stands (record { state = AtStartup s; session = u }) g far
+    n) e stands) x (good_reply startup_shape s.sent.message came) refl risen fits
     (subst (λ (u : SessionState). Joined (state_of o) (settled_session o u)) e joined))
 rises_at known (AtPreoperate s) t g far far' n n' came up stands valid x risen fits joined =
-    let e : t ≡ still t = is_still t stands.joined.0.0 stands.joined.0.1 (stands.shown.image (λ k. absurd (let z : ModePreoperate ≡ ModeOperate = k in cc))) stands.events.0 stands.output.untold in
+    let e : t ≡ still t = is_still t stands.joined.0.0 stands.joined.0.1
+    (stands.shown.image (λ k. absurd (let z : ModePreoperate ≡ ModeOperate = k in cc)))
+    stands.events.0 stands.output.untold in
     let o : Outcome = preoperate_turned s (good_reply s.pre s.sent.message came) in
-    subst (λ (u : SessionState). CallGives (record { state = AtPreoperate s; session = u }) g far n Idle (after_exchange o u) far' n') (sym e)
-    (pre_rises known t (subst IsSession e valid) g far far' n n' came s (subst (λ (u : SessionState). Stands (record { state = AtPreoperate s; session = u }) g far n) e stands) x (good_reply s.pre s.sent.message came) refl risen fits
+    subst (λ (u : SessionState). CallGives (record { state = AtPreoperate s; session = u }) g
+    far n Idle (after_exchange o u) far' n') (sym e)
+    (pre_rises known t (subst IsSession e valid) g far far' n n' came s
+    (subst (λ (u : SessionState). Stands (record { state = AtPreoperate s; session = u }) g
+    far n) e stands) x (good_reply s.pre s.sent.message came) refl risen fits
     (subst (λ (u : SessionState). Joined (state_of o) (settled_session o u)) e joined))
-rises_at known state t g far far' n n' came up stands valid x risen fits joined = absurd (let z : false ≡ true = up in cc)
+rises_at known state t g far far' n n' came up stands valid x risen fits joined =
+    absurd (let z : false ≡ true = up in cc)
 
-pub rises : ((size : ℕ) → 1 ≤ size → LevelLaws size) → MuchStays → RepliesAreRead → InputStaysSized → ((first : Event) (rest : List Event) → EventLaws first rest) → ModesHaveLayouts → TextsAreHeard → PagesAskForLayouts → Rises
+pub rises : ((size : ℕ) → 1 ≤ size → LevelLaws size) → MuchStays → RepliesAreRead
+    → InputStaysSized → ((first : Event) (rest : List Event) → EventLaws first rest)
+    → ModesHaveLayouts → TextsAreHeard → PagesAskForLayouts → Rises
 rises levels much reads sized events layouts heard asks = record {
   gives = λ c g far far' n n' came up stands valid x risen fits joined.
-      rises_at (record { laws = all_laws levels much reads sized events layouts; heard = heard; asks = asks }) c.state c.session g far far' n n' came up stands valid x risen fits joined;
+      rises_at (record {
+        laws = all_laws levels much reads sized events layouts;
+        heard = heard;
+        asks = asks;
+      }) c.state c.session g far far' n n' came up stands valid x risen fits joined;
 }

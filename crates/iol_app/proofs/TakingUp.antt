@@ -34,7 +34,9 @@ record Fitting (cutter : Cutting Request) (answer : Answer) : Type 0 where
   pub accepted : answer_fault (is_read cutter.source) (answer_text cutter.source answer) ≡ None
   pub holds : HoldsLength (answer_text cutter.source answer)
 
-fitting : AnswersFit → ((size : ℕ) → 1 ≤ size → TextLaws size) → OneAnswerText → (cutter : Cutting Request) (answer : Answer) → 1 ≤ cutter.size → IsTrue (fits cutter.source answer) → Fitting cutter answer
+fitting : AnswersFit → ((size : ℕ) → 1 ≤ size → TextLaws size) → OneAnswerText
+    → (cutter : Cutting Request) (answer : Answer) → 1 ≤ cutter.size
+    → IsTrue (fits cutter.source answer) → Fitting cutter answer
 fitting fit_answers laws one cutter answer some h =
     let read = is_read cutter.source in
     let text = answer_text cutter.source answer in
@@ -51,31 +53,47 @@ fitting fit_answers laws one cutter answer some h =
     }
 
 -- octets that are whole begin with the whole text
-whole_by : (n : ℕ) (octets text : List ℕ) (b : Bool) → (if b then Complete (take n octets) else Open) ≡ Complete text → (rest : List ℕ) × (octets ≡ text ++ rest)
+whole_by : (n : ℕ) (octets text : List ℕ) (b : Bool)
+    → (if b then Complete (take n octets) else Open) ≡ Complete text
+    → (rest : List ℕ) × (octets ≡ text ++ rest)
 whole_by n octets text false e = absurd (let k : Open ≡ Complete text = e in cc)
 whole_by n octets text true e =
     let k : Complete (take n octets) ≡ Complete text = e in
-    let front : take n octets ≡ text = cc in
-    (drop n octets, sym (take-append-drop n octets) ∙ ap (λ (xs : List ℕ). xs ++ drop n octets) front)
+    let front : take n octets ≡ text = cc in (
+      drop n octets,
+      sym (take-append-drop n octets)
+          ∙ ap (λ (xs : List ℕ). xs ++ drop n octets) front,
+    )
 
-whole_front : (total : Result ℕ IsduFault) (octets text : List ℕ) → stage_by total octets ≡ Complete text → (rest : List ℕ) × (octets ≡ text ++ rest)
+whole_front : (total : Result ℕ IsduFault) (octets text : List ℕ)
+    → stage_by total octets ≡ Complete text → (rest : List ℕ) × (octets ≡ text ++ rest)
 whole_front (Ok n) octets text e = whole_by n octets text (nat_le n (length octets)) e
 whole_front (Err Truncated) octets text e = absurd (let k : Open ≡ Complete text = e in cc)
 whole_front (Err other) octets text e = absurd (let k : Wrong ≡ Complete text = e in cc)
 
 -- the segment of this number was joined
-joined_up : (current : Current) (answer : Answer) (had : ℕ) → Fitting current.cutter answer → had * current.cutter.size < length (answer_text current.cutter.source answer)
-    → (octets : List ℕ) → octets ≡ joined_octets current.cutter.size (answer_text current.cutter.source answer) had
-    → IsTakenUp current answer had octets (joined current.cutter current.abort had (staged false (count_at had) octets (stage octets)).took (staged false (count_at had) octets (stage octets)).joining)
+joined_up : (current : Current) (answer : Answer) (had : ℕ) → Fitting current.cutter answer
+    → had * current.cutter.size < length (answer_text current.cutter.source answer)
+    → (octets : List ℕ) → octets ≡ joined_octets current.cutter.size
+    (answer_text current.cutter.source answer) had
+    → IsTakenUp current answer had octets
+    (joined current.cutter current.abort had
+    (staged false (count_at had) octets (stage octets)).took
+    (staged false (count_at had) octets (stage octets)).joining)
 joined_up current answer had h low octets same =
     ⊎_elim
-    (λ (more : suc had * size < length text). by_stage Open (ap stage same ∙ h.laws.grows text had h.holds more) ((staged false (count_at had) octets Open).joining, refl, refl))
+    (λ (more : suc had * size < length text). by_stage Open
+    (ap stage same ∙ h.laws.grows text had h.holds more)
+    ((staged false (count_at had) octets Open).joining, refl, refl))
     (λ (all : length text ≤ suc had * size).
-    let whole : stage octets ≡ Complete text = ap stage same ∙ h.laws.ends text had h.holds (low, all) in
+    let whole : stage octets ≡ Complete text = ap stage same
+    ∙ h.laws.ends text had h.holds (low, all) in
     let front = whole_front (total_at octets) octets text whole in
-    let ends : BeginsWithAnswer (is_read current.cutter.source) octets answer = record { text = text; rest = front.0; spells = h.spells; whole = front.1 } in
+    let ends : BeginsWithAnswer (is_read current.cutter.source) octets answer =
+    record { text = text; rest = front.0; spells = h.spells; whole = front.1 } in
     by_stage (Complete text) whole
-    (subst (λ (fault : Option IsduFault). IsTakenUp current answer had octets (finished current.cutter current.abort text fault)) (sym h.accepted) (h.begins, ends)))
+    (subst (λ (fault : Option IsduFault). IsTakenUp current answer had octets
+    (finished current.cutter current.abort text fault)) (sym h.accepted) (h.begins, ends)))
     (cases_lt (suc had * size) (length text))
   where
     size : ℕ
@@ -85,22 +103,39 @@ joined_up current answer had h low octets same =
     text = answer_text current.cutter.source answer
 
     IsUp : Stage → Type 0
-    IsUp at = IsTakenUp current answer had octets (joined current.cutter current.abort had (staged false (count_at had) octets at).took (staged false (count_at had) octets at).joining)
+    IsUp at = IsTakenUp current answer had octets
+        (joined current.cutter current.abort had (staged false (count_at had) octets at).took
+        (staged false (count_at had) octets at).joining)
 
     by_stage : (at : Stage) → stage octets ≡ at → IsUp at → IsUp (stage octets)
     by_stage at e = subst IsUp (sym e)
 
-taken_up : (current : Current) (p : Cursor) (limit : ℕ) (od : List ℕ) (answer : Answer) → IsCurrent current → current.progress ≡ p → IsReading p → Fitting current.cutter answer
-    → octets_had p od ≡ joined_octets current.cutter.size (answer_text current.cutter.source answer) (next_segment p)
-    → next_segment p * current.cutter.size < length (answer_text current.cutter.source answer) → IsTakenUp current answer (next_segment p) (octets_had p od) (replied_at p limit od current)
+taken_up : (current : Current) (p : Cursor) (limit : ℕ) (od : List ℕ) (answer : Answer)
+    → IsCurrent current → current.progress ≡ p → IsReading p → Fitting current.cutter answer
+    → octets_had p od ≡ joined_octets current.cutter.size
+    (answer_text current.cutter.source answer) (next_segment p)
+    → next_segment p * current.cutter.size < length (answer_text current.cutter.source answer)
+    → IsTakenUp current answer (next_segment p) (octets_had p od)
+    (replied_at p limit od current)
 taken_up current (Asking busy) limit od answer c e reading h is low =
-    let not_busy : (slice_index od 0 == 1) ≡ false = ap (λ (xs : List ℕ). slice_index xs 0 == 1) is ∙ h.laws.busy (is_read current.cutter.source) answer h.valid in
-    let not_none : (slice_index od 0 == 0) ≡ false = ap (λ (xs : List ℕ). slice_index xs 0 == 0) is ∙ h.laws.silent (is_read current.cutter.source) answer h.valid in
+    let not_busy : (slice_index od 0 == 1) ≡ false =
+    ap (λ (xs : List ℕ). slice_index xs 0 == 1) is
+    ∙ h.laws.busy (is_read current.cutter.source) answer h.valid in
+    let not_none : (slice_index od 0 == 0) ≡ false =
+    ap (λ (xs : List ℕ). slice_index xs 0 == 0) is
+    ∙ h.laws.silent (is_read current.cutter.source) answer h.valid in
     rw (not_busy, not_none) (joined_up current answer 0 h low od is)
 taken_up current (Receiving joining had) limit od answer c e reading h is low =
-    rw (taken_next current.cutter.size had joining od (subst (ProgressFits current.cutter current.abort) e c.progress), add-one had) (joined_up current answer (suc had) h low (joining.text ++ od) is)
+    rw (
+      taken_next current.cutter.size had joining od
+          (subst (ProgressFits current.cutter current.abort) e c.progress),
+      add-one had,
+    )
+    (joined_up current answer (suc had) h low (joining.text ++ od) is)
 taken_up current other limit od answer c e reading h is low = absurd reading
 
-pub answers_are_taken_up : AnswersFit → ((size : ℕ) → 1 ≤ size → TextLaws size) → OneAnswerText → AnswersAreTakenUp
+pub answers_are_taken_up : AnswersFit → ((size : ℕ) → 1 ≤ size → TextLaws size) → OneAnswerText
+    → AnswersAreTakenUp
 answers_are_taken_up fit_answers laws one current limit od answer c reading fit is low =
-    taken_up current current.progress limit od answer c refl reading (fitting fit_answers laws one current.cutter answer c.some fit) is low
+    taken_up current current.progress limit od answer c refl reading
+    (fitting fit_answers laws one current.cutter answer c.some fit) is low

@@ -16,40 +16,75 @@ use Rattle.iol_segment.specs.Cut.{segment}
 use Rattle.iol_app.proofs.Moves.{next_wants}
 
 -- a START read brings the first segment
-first_begins : (size : ℕ) (q r : Request) (i : ℕ) (octets data_in : List ℕ) (a : Answer) → asked q data_in ≡ IsHad r i octets → i * size < length (answer_text r a)
+first_begins : (size : ℕ) (q r : Request) (i : ℕ) (octets data_in : List ℕ) (a : Answer)
+    → asked q data_in ≡ IsHad r i octets → i * size < length (answer_text r a)
 first_begins size q r i octets data_in a e = grind (arith, common_steps)
 
 -- a COUNT read the next one
-next_begins : (size : ℕ) (q : Request) (j : ℕ) (t : List ℕ) (r : Request) (i : ℕ) (octets data_in : List ℕ) (a : Answer) (channel : Channel) (read : Bool) (flow : Flow) (sent : List ℕ) → IsMove size Next (IsHad q j t) channel read flow sent →
-    IsHad q (suc j) (t ++ data_in) ≡ IsHad r i octets → IsTrue (fits r a) → octets ≡ joined size (answer_text r a) i → data_in ≡ segment size (answer_text r a) i → i * size < length (answer_text r a)
+next_begins : (size : ℕ) (q : Request) (j : ℕ) (t : List ℕ) (r : Request) (i : ℕ)
+    (octets data_in : List ℕ) (a : Answer) (channel : Channel) (read : Bool) (flow : Flow)
+    (sent : List ℕ) → IsMove size Next (IsHad q j t) channel read flow sent →
+    IsHad q (suc j) (t ++ data_in) ≡ IsHad r i octets → IsTrue (fits r a)
+    → octets ≡ joined size (answer_text r a) i → data_in ≡ segment size (answer_text r a) i
+    → i * size < length (answer_text r a)
 next_begins size q j t r i octets data_in a channel read flow sent move e fitting whole part =
     let z : Path Progress (IsHad q (suc j) (t ++ data_in)) (IsHad r i octets) = e in
     let same : q ≡ r = cc in
     let number : suc j ≡ i = cc in
     let all : t ++ data_in ≡ octets = cc in
-    let front : t ++ segment size (answer_text r a) (suc j) ≡ joined size (answer_text r a) j ++ segment size (answer_text r a) (suc j) =
-    ap (λ (n : ℕ). t ++ segment size (answer_text r a) n) number ∙ ap (λ (d : List ℕ). t ++ d) (sym part) ∙ all ∙ whole ∙ ap (joined size (answer_text r a)) (sym number) in
-    let so_far : t ≡ joined size (answer_text r a) j = append_cancel_right t (joined size (answer_text r a) j) (segment size (answer_text r a) (suc j)) front in
-    let move' : IsMove size Next (IsHad r j t) channel read flow sent = subst (λ (x : Request). IsMove size Next (IsHad x j t) channel read flow sent) same move in
-    subst (λ (n : ℕ). n * size < length (answer_text r a)) number (next_wants size r j t channel read flow sent a move' fitting so_far)
+    let front : t ++ segment size (answer_text r a) (suc j) ≡ joined size (answer_text r a) j
+    ++ segment size (answer_text r a) (suc j) =
+    ap (λ (n : ℕ). t ++ segment size (answer_text r a) n) number
+    ∙ ap (λ (d : List ℕ). t ++ d) (sym part) ∙ all ∙ whole
+    ∙ ap (joined size (answer_text r a)) (sym number) in
+    let so_far : t ≡ joined size (answer_text r a) j =
+    append_cancel_right t (joined size (answer_text r a) j)
+    (segment size (answer_text r a) (suc j)) front in
+    let move' : IsMove size Next (IsHad r j t) channel read flow sent =
+    subst (λ (x : Request). IsMove size Next (IsHad x j t) channel read flow sent) same move in
+    subst (λ (n : ℕ). n * size < length (answer_text r a)) number
+    (next_wants size r j t channel read flow sent a move' fitting so_far)
 
-begins : (size : ℕ) (what : Move) (p : Progress) (channel : Channel) (read : Bool) (flow : Flow) (sent data_in : List ℕ) (r : Request) (i : ℕ) (octets : List ℕ) (a : Answer) → ReadsAnswer what → IsMove size what p channel read flow sent →
-    after p what data_in ≡ IsHad r i octets → IsTrue (fits r a) → octets ≡ joined size (answer_text r a) i → data_in ≡ segment size (answer_text r a) i → i * size < length (answer_text r a)
-begins size Ask (Written q j) channel read flow sent data_in r i octets a k move e fitting whole part = first_begins size q r i octets data_in a e
-begins size Ask (IsBusy q) channel read flow sent data_in r i octets a k move e fitting whole part = first_begins size q r i octets data_in a e
-begins size Next (IsHad q j t) channel read flow sent data_in r i octets a k move e fitting whole part = next_begins size q j t r i octets data_in a channel read flow sent move e fitting whole part
-begins size Ask p channel read flow sent data_in r i octets a k move e fitting whole part = absurd move
-begins size Next p channel read flow sent data_in r i octets a k move e fitting whole part = absurd move
-begins size what p channel read flow sent data_in r i octets a k move e fitting whole part = absurd k
+begins : (size : ℕ) (what : Move) (p : Progress) (channel : Channel) (read : Bool) (flow : Flow)
+    (sent data_in : List ℕ) (r : Request) (i : ℕ) (octets : List ℕ) (a : Answer)
+    → ReadsAnswer what → IsMove size what p channel read flow sent →
+    after p what data_in ≡ IsHad r i octets → IsTrue (fits r a)
+    → octets ≡ joined size (answer_text r a) i → data_in ≡ segment size (answer_text r a) i
+    → i * size < length (answer_text r a)
+begins size Ask (Written q j) channel read flow sent data_in r i octets a k move e fitting whole
+    part = first_begins size q r i octets data_in a e
+begins size Ask (IsBusy q) channel read flow sent data_in r i octets a k move e fitting whole
+    part = first_begins size q r i octets data_in a e
+begins size Next (IsHad q j t) channel read flow sent data_in r i octets a k move e fitting
+    whole part = next_begins size q j t r i octets data_in a channel read flow sent move e
+    fitting whole part
+begins size Ask p channel read flow sent data_in r i octets a k move e fitting whole part =
+    absurd move
+begins size Next p channel read flow sent data_in r i octets a k move e fitting whole part =
+    absurd move
+begins size what p channel read flow sent data_in r i octets a k move e fitting whole part =
+    absurd k
 
 -- they are the segments of an answer to the request, the last of which has octets of its text
-pub had_text : (size : ℕ) (base : List Carried) (r : Request) (i : ℕ) (octets : List ℕ) (s : IsduState) (c : List Carried) → FarStands size base (IsHad r i octets) s c →
-    (what : Move) (p : Progress) (channel : Channel) (read : Bool) (flow : Flow) (sent data_in : List ℕ) → ReadsAnswer what → IsMove size what p channel read flow sent → data_in ≡ isdu_data size s → after p what data_in ≡ IsHad r i octets →
-    (a : Answer) × IsTrue (fits r a) × (octets ≡ joined size (answer_text r a) i) × (i * size < length (answer_text r a))
-had_text size base r i octets (Answered q a (Some j)) c h what p channel read flow sent data_in k move part e =
+pub had_text : (size : ℕ) (base : List Carried) (r : Request) (i : ℕ) (octets : List ℕ)
+    (s : IsduState) (c : List Carried) → FarStands size base (IsHad r i octets) s c →
+    (what : Move) (p : Progress) (channel : Channel) (read : Bool) (flow : Flow)
+    (sent data_in : List ℕ) → ReadsAnswer what → IsMove size what p channel read flow sent
+    → data_in ≡ isdu_data size s → after p what data_in ≡ IsHad r i octets →
+    (a : Answer) × IsTrue (fits r a) × (octets ≡ joined size (answer_text r a) i)
+    × (i * size < length (answer_text r a))
+had_text size base r i octets (Answered q a (Some j)) c h what p channel read flow sent data_in
+    k move part e =
     let fitting : IsTrue (fits r a) = subst (λ (x : Request). IsTrue (fits x a)) h.0 h.1 in
     let whole : octets ≡ joined size (answer_text r a) i = h.3 in
     let last : data_in ≡ segment size (answer_text r a) i =
-    part ∙ ap (λ (n : ℕ). segment size (answer_text q a) n) h.2 ∙ ap (λ (x : Request). segment size (answer_text x a) i) h.0 in
-    (a, fitting, whole, begins size what p channel read flow sent data_in r i octets a k move e fitting whole last)
-had_text size base r i octets state c h what p channel read flow sent data_in k move part e = absurd h
+    part ∙ ap (λ (n : ℕ). segment size (answer_text q a) n) h.2
+    ∙ ap (λ (x : Request). segment size (answer_text x a) i) h.0 in (
+      a,
+      fitting,
+      whole,
+      begins size what p channel read flow sent data_in r i octets a k move e
+          fitting whole last,
+    )
+had_text size base r i octets state c h what p channel read flow sent data_in k move part e =
+    absurd h

@@ -1,4 +1,5 @@
--- Outside down the frozen list is told exactly while the far end is awake and the confirm due or out.
+-- Outside down the frozen list is told exactly while the far end is awake and the confirm due or
+-- out.
 use Rattle.std.proofs.Common.{◌≡◌, ℕ, Bool, true, false, ◌&&◌, List, [], ◌∷◌, refl, sym, ◌∙◌, ap, arith}
 use Rattle.std.proofs.lemmas.Grind.{common_steps}
 use Rattle.iol_event.specs.declared.event.Event.{Event}
@@ -17,47 +18,73 @@ use Rattle.iol_app.proofs.FirstOctet.{confirms_of}
 use Rattle.iol_app.proofs.FrozenPart.{ConfirmsTold}
 
 pub heard_awake : (far : Far) (o : List ℕ) → (hear far o).far.awake ≡ far.awake
-heard_awake far o = by_accepted (λ q. (heard_as far o q).far.awake ≡ far.awake) far o refl (λ w m e. refl) (λ w command k m e. refl)
+heard_awake far o = by_accepted (λ q. (heard_as far o q).far.awake ≡ far.awake) far o refl
+    (λ w m e. refl) (λ w command k m e. refl)
 
-worked_told : (reading : Reading) (c : Bool) (m : Events) (awake t : Bool) → (awake ≡ true → EventsFit reading c m) → awake ≡ true → t ≡ (awake && is_due reading) → told_worked m c t ≡ t
+worked_told : (reading : Reading) (c : Bool) (m : Events) (awake t : Bool)
+    → (awake ≡ true → EventsFit reading c m) → awake ≡ true → t ≡ (awake && is_due reading)
+    → told_worked m c t ≡ t
 worked_told reading c m awake t given given2 given3 = grind (arith, common_steps)
 
 module _ (laws : (first : Event) (rest : List Event) → EventLaws first rest) where
-  told_step : (reading : Reading) (c : Bool) (far : Far) (step : LocalStep) (t : Bool) → EventsTold reading c far t → EventsTold reading c (local far step) (told_after far step t)
+  told_step : (reading : Reading) (c : Bool) (far : Far) (step : LocalStep) (t : Bool)
+      → EventsTold reading c far t → EventsTold reading c (local far step) (told_after far step t)
   told_step reading c far step t h = grind (arith, common_steps)
 
-  pub told_locals : (reading : Reading) (c : Bool) (steps : List LocalStep) (far : Far) (t : Bool) → EventsTold reading c far t → EventsTold reading c (locals far steps) (told_through far steps t)
+  pub told_locals : (reading : Reading) (c : Bool) (steps : List LocalStep) (far : Far)
+      (t : Bool) → EventsTold reading c far t
+      → EventsTold reading c (locals far steps) (told_through far steps t)
   told_locals r c [] far t h = h
-  told_locals r c (step ∷ steps) far t h = told_locals r c steps (local far step) (told_after far step t) (told_step r c far step t h)
+  told_locals r c (step ∷ steps) far t h =
+      told_locals r c steps (local far step) (told_after far step t) (told_step r c far step t h)
 
   -- hearing the message that is out
-  fit_hear : (reading : Reading) (c : Bool) (far : Far) (o : List ℕ) → octets_confirm o ≡ c → (c ≡ true → is_due reading ≡ true) → (far.awake ≡ true → EventsFit reading c far.events) → far.awake ≡ true → EventsFit reading c (hear far o).far.events
+  fit_hear : (reading : Reading) (c : Bool) (far : Far) (o : List ℕ) → octets_confirm o ≡ c
+      → (c ≡ true → is_due reading ≡ true) → (far.awake ≡ true → EventsFit reading c far.events)
+      → far.awake ≡ true → EventsFit reading c (hear far o).far.events
   fit_hear Resting c far o is due h w = tt
   fit_hear Flagged true far o is due h w = absurd (let k : false ≡ true = due refl in cc)
-  fit_hear Flagged false far o is due h w = let k = h w in (k.0, k.1, (laws k.0 k.1).frozen_hears far o is (λ a. k.2) (heard_awake far o ∙ w))
+  fit_hear Flagged false far o is due h w = let k = h w in
+      (k.0, k.1, (laws k.0 k.1).frozen_hears far o is (λ a. k.2) (heard_awake far o ∙ w))
   fit_hear (Under octets) true far o is due h w = absurd (let k : false ≡ true = due refl in cc)
-  fit_hear (Under octets) false far o is due h w = let k = h w in (k.0, k.1, (laws k.0 k.1).frozen_hears far o is (λ a. k.2) (heard_awake far o ∙ w), k.3)
-  fit_hear (Due x xs) false far o is due h w = (laws x xs).frozen_hears far o is h (heard_awake far o ∙ w)
-  fit_hear (Due x xs) true far o is due h w = (laws x xs).confirming_hears far o is h (heard_awake far o ∙ w)
+  fit_hear (Under octets) false far o is due h w = let k = h w in
+      (k.0, k.1, (laws k.0 k.1).frozen_hears far o is (λ a. k.2) (heard_awake far o ∙ w), k.3)
+  fit_hear (Due x xs) false far o is due h w =
+      (laws x xs).frozen_hears far o is h (heard_awake far o ∙ w)
+  fit_hear (Due x xs) true far o is due h w =
+      (laws x xs).confirming_hears far o is h (heard_awake far o ∙ w)
 
-  module _ (o : List ℕ) (reading : Reading) (due : octets_confirm o ≡ true → is_due reading ≡ true) where
-    pub told_hear : (far : Far) (t : Bool) → EventsTold reading (octets_confirm o) far t → EventsTold reading (octets_confirm o) (hear far o).far (told_heard far o t)
+  module _ (o : List ℕ) (reading : Reading)
+      (due : octets_confirm o ≡ true → is_due reading ≡ true) where
+    pub told_hear : (far : Far) (t : Bool) → EventsTold reading (octets_confirm o) far t
+        → EventsTold reading (octets_confirm o) (hear far o).far (told_heard far o t)
     told_hear far t h = (
       (λ w. fit_hear reading (octets_confirm o) far o refl due h.0 (sym (heard_awake far o) ∙ w)),
-      by_accepted (λ q. told_heard_as q t ≡ ((heard_as far o q).far.awake && is_due reading)) far o h.1
-          (λ w m spells. rw (confirms_of (layout_in far.page far.mode) o m spells) (worked_told reading (octets_confirm o) far.events far.awake t h.0 w h.1 ∙ h.1))
-          (λ w command k m spells. rw (confirms_of (layout_in far.page command.into) o m spells) (worked_told reading (octets_confirm o) far.events far.awake t h.0 w h.1 ∙ h.1)),
+      by_accepted (λ q. told_heard_as q t ≡ ((heard_as far o q).far.awake && is_due reading))
+          far o h.1
+          (λ w m spells. rw (confirms_of (layout_in far.page far.mode) o m spells)
+          (worked_told reading (octets_confirm o) far.events far.awake t h.0 w h.1 ∙ h.1))
+          (λ w command k m spells. rw (confirms_of (layout_in far.page command.into) o m spells)
+          (worked_told reading (octets_confirm o) far.events far.awake t h.0 w h.1 ∙ h.1)),
     )
 
-    told_pass : (passage : Passage) (far : Far) (t : Bool) → EventsTold reading (octets_confirm o) far t → EventsTold reading (octets_confirm o) (far_after passage far o) (told_passed passage far o t)
+    told_pass : (passage : Passage) (far : Far) (t : Bool)
+        → EventsTold reading (octets_confirm o) far t
+        → EventsTold reading (octets_confirm o) (far_after passage far o)
+        (told_passed passage far o t)
     told_pass OutLost far t h = h
     told_pass other far t h = told_hear far t h
 
     -- an exchange keeps it
-    pub told_exchange : (steps : List LocalStep) (passage : Passage) (far : Far) (t : Bool) → EventsTold reading (octets_confirm o) far t →
-        EventsTold reading (octets_confirm o) (far_after passage (locals far steps) o) (told_exchanged far steps passage o t)
-    told_exchange steps passage far t h = told_pass passage (locals far steps) (told_through far steps t) (told_locals reading (octets_confirm o) steps far t h)
+    pub told_exchange : (steps : List LocalStep) (passage : Passage) (far : Far) (t : Bool)
+        → EventsTold reading (octets_confirm o) far t →
+        EventsTold reading (octets_confirm o) (far_after passage (locals far steps) o)
+        (told_exchanged far steps passage o t)
+    told_exchange steps passage far t h =
+        told_pass passage (locals far steps) (told_through far steps t)
+        (told_locals reading (octets_confirm o) steps far t h)
 
     -- a confirm that is accepted finds its list told
-    pub confirms_told : (far : Far) (t : Bool) → EventsTold reading (octets_confirm o) far t → ConfirmsTold o far t
+    pub confirms_told : (far : Far) (t : Bool) → EventsTold reading (octets_confirm o) far t
+        → ConfirmsTold o far t
     confirms_told far t h w c = h.1 ∙ ap (λ (b : Bool). b && is_due reading) w ∙ due c

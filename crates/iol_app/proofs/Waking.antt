@@ -31,7 +31,9 @@ use Rattle.iol_app.specs.Core.{Core, Ghost, Stands, CallGives, Wakes, moment_of,
 untold_of : (f : List Event) (t : Bool) → untold (frozen_of f t) ≡ frozen_of f false
 untold_of f t = grind (arith, common_steps)
 
-module _ (laws : Laws) (s : Down) (t : SessionState) (g : Ghost) (far : Far) (silence : ℕ) (stands : Stands (record { state = AtDown s; session = t }) g far silence) (steps : List LocalStep) where
+module _ (laws : Laws) (s : Down) (t : SessionState) (g : Ghost) (far : Far) (silence : ℕ)
+    (stands : Stands (record { state = AtDown s; session = t }) g far silence)
+    (steps : List LocalStep) where
   abbrev c : Core
   c = record { state = AtDown s; session = t }
 
@@ -47,7 +49,9 @@ module _ (laws : Laws) (s : Down) (t : SessionState) (g : Ghost) (far : Far) (si
   page_now : (locals far steps).page ≡ g.page
   page_now = page_locals laws steps far ∙ stands.page
 
-  answers : StateStands (state_of (waked true)) silence (woken (locals far steps)) → StateFits (state_of (waked true)) → CallGives c g far silence Idle (after_wake true t) (woken (locals far steps)) silence
+  answers : StateStands (state_of (waked true)) silence (woken (locals far steps))
+      → StateFits (state_of (waked true))
+      → CallGives c g far silence Idle (after_wake true t) (woken (locals far steps)) silence
   answers link fits =
       let m = moment_of c g silence (Woke true) in
       let xs = wake_steps far steps true in
@@ -55,7 +59,12 @@ module _ (laws : Laws) (s : Down) (t : SessionState) (g : Ghost) (far : Far) (si
       let h = hidden_through None far steps g.request.hidden in
       let far' = woken (locals far steps) in
       let i' = images_of (shown_in t g.sent) far' in
-      let after : Ghost = record g { request = record g.request { hidden = record h { late = None } }; events = record g.events { told = false }; fresh = false } in
+      let after : Ghost = record g {
+        request =
+            record g.request { hidden = record h { late = None } };
+        events = record g.events { told = false };
+        fresh = false;
+      } in
       record {
         call = Woke true;
         steps = xs ++ Reset ∷ [];
@@ -67,12 +76,23 @@ module _ (laws : Laws) (s : Down) (t : SessionState) (g : Ghost) (far : Far) (si
         fresh = λ k. absurd (stands.fresh k);
         said_book = before.book;
         said_reports = before.reports;
-        session = session_runs-append m (seen_in c g) (seen_in c g) (seen_in (after_wake true t) after) g.request.hidden h after.request.hidden far.carried far'.carried far'.carried xs (Reset ∷ [])
-            (wake_session m (seen_in c g) g.request.hidden far steps true free opens) (((refl, refl), tt), rw free refl);
-        frozen = frozen_runs-append far.events.frozen far'.events.frozen far'.events.frozen g.events.told (told_wake far steps true g.events.told) false xs (Reset ∷ [])
-            (wake_frozen far steps true g.events.told) ((tt, tt), untold_of far'.events.frozen (told_wake far steps true g.events.told));
-        images = images_runs-append m (images_in c g far) i' (images_in (after_wake true t) after far') xs (Reset ∷ []) (wake_images m (shown_in t g.sent) far steps true) ((tt, tt), refl);
-        image_is_last = ((λ k. absurd (below k.0)), (λ k. stands.shown.image below), (λ k e. absurd (let z : ModeStartup ≡ ModeOperate = e in cc)));
+        session = session_runs-append m (seen_in c g) (seen_in c g)
+            (seen_in (after_wake true t) after) g.request.hidden h after.request.hidden
+            far.carried far'.carried far'.carried xs (Reset ∷ [])
+            (wake_session m (seen_in c g) g.request.hidden far steps true free opens)
+            (((refl, refl), tt), rw free refl);
+        frozen = frozen_runs-append far.events.frozen far'.events.frozen far'.events.frozen
+            g.events.told (told_wake far steps true g.events.told) false xs (Reset ∷ [])
+            (wake_frozen far steps true g.events.told)
+            ((tt, tt), untold_of far'.events.frozen (told_wake far steps true g.events.told));
+        images = images_runs-append m (images_in c g far) i'
+            (images_in (after_wake true t) after far') xs (Reset ∷ [])
+            (wake_images m (shown_in t g.sent) far steps true) ((tt, tt), refl);
+        image_is_last = (
+          (λ k. absurd (below k.0)),
+          (λ k. stands.shown.image below),
+          (λ k e. absurd (let z : ModeStartup ≡ ModeOperate = e in cc)),
+        );
         output_is_wanted = λ k. absurd (below k.0);
         stands = record {
           page = page_now;
@@ -85,18 +105,27 @@ module _ (laws : Laws) (s : Down) (t : SessionState) (g : Ghost) (far : Far) (si
           request = (refl, tt);
           events = (refl, refl);
           output = record { untold = refl; off = λ a. refl; waits = tt };
-          shown = record { image = λ e. stands.shown.image below; wanted = stands.shown.wanted; lengths = stands.shown.lengths; isdu = stands.shown.isdu; present = tt; no_form = refl };
+          shown = record {
+            image = λ e. stands.shown.image below;
+            wanted = stands.shown.wanted;
+            lengths = stands.shown.lengths;
+            isdu = stands.shown.isdu;
+            present = tt;
+            no_form = refl;
+          };
         };
       }
 
-  opens_woken : (wakes : Bool) → IsOpen (woken_if wakes (locals far steps)).isdu None (hidden_through None far steps g.request.hidden)
+  opens_woken : (wakes : Bool) → IsOpen (woken_if wakes (locals far steps)).isdu None
+      (hidden_through None far steps g.request.hidden)
   opens_woken wakes = grind (arith, common_steps, own_open)
 
   page_woken : (wakes : Bool) → (woken_if wakes (locals far steps)).page ≡ g.page
   page_woken true = page_now
   page_woken false = page_now
 
-  fails : (wakes : Bool) → CallGives c g far silence Idle (after_wake false t) (woken_if wakes (locals far steps)) silence
+  fails : (wakes : Bool) → CallGives c g far silence Idle (after_wake false t)
+      (woken_if wakes (locals far steps)) silence
   fails wakes =
       let m = moment_of c g silence (Woke false) in
       let xs = wake_steps far steps wakes in
@@ -107,7 +136,11 @@ module _ (laws : Laws) (s : Down) (t : SessionState) (g : Ghost) (far : Far) (si
       let told = told_wake far steps wakes g.events.told in
       let i' = images_of (shown_in t g.sent) far' in
       let gone : t.image ≡ None = stands.shown.image below in
-      let after : Ghost = record g { request = record g.request { hidden = h }; events = record g.events { told = told }; fresh = false } in
+      let after : Ghost = record g {
+        request = record g.request { hidden = h };
+        events = record g.events { told = told };
+        fresh = false;
+      } in
       record {
         call = Woke false;
         steps = xs ++ ys;
@@ -119,11 +152,22 @@ module _ (laws : Laws) (s : Down) (t : SessionState) (g : Ghost) (far : Far) (si
         fresh = λ k. absurd (stands.fresh k);
         said_book = before.book;
         said_reports = before.reports;
-        session = session_runs-append m (seen_in c g) (seen_in c g) (seen_in (after_wake false t) after) g.request.hidden h h far.carried far'.carried far'.carried xs ys
-            (wake_session m (seen_in c g) g.request.hidden far steps wakes free opens) ((refl, tt), rw free refl);
-        frozen = frozen_runs-append far.events.frozen far'.events.frozen far'.events.frozen g.events.told told told xs ys (wake_frozen far steps wakes g.events.told) ((tt, tt), refl);
-        images = images_runs-append m (images_in c g far) i' (images_in (after_wake false t) after far') xs ys (wake_images m (shown_in t g.sent) far steps wakes) ((tt, tt), rw gone refl);
-        image_is_last = ((λ k. absurd (below k.0)), (λ k. refl), (λ k e. absurd (let z : ModeDown ≡ ModeOperate = e in cc)));
+        session = session_runs-append m (seen_in c g) (seen_in c g)
+            (seen_in (after_wake false t) after) g.request.hidden h h far.carried far'.carried
+            far'.carried xs ys
+            (wake_session m (seen_in c g) g.request.hidden far steps wakes free opens)
+            ((refl, tt), rw free refl);
+        frozen = frozen_runs-append far.events.frozen far'.events.frozen far'.events.frozen
+            g.events.told told told xs ys (wake_frozen far steps wakes g.events.told)
+            ((tt, tt), refl);
+        images = images_runs-append m (images_in c g far) i'
+            (images_in (after_wake false t) after far') xs ys
+            (wake_images m (shown_in t g.sent) far steps wakes) ((tt, tt), rw gone refl);
+        image_is_last = (
+          (λ k. absurd (below k.0)),
+          (λ k. refl),
+          (λ k e. absurd (let z : ModeDown ≡ ModeOperate = e in cc)),
+        );
         output_is_wanted = λ k. absurd (below k.0);
         stands = record {
           page = page_woken wakes;
@@ -136,26 +180,55 @@ module _ (laws : Laws) (s : Down) (t : SessionState) (g : Ghost) (far : Far) (si
           request = opens_woken wakes;
           events = tt;
           output = tt;
-          shown = record { image = λ e. refl; wanted = stands.shown.wanted; lengths = stands.shown.lengths; isdu = stands.shown.isdu; present = stands.shown.present; no_form = stands.shown.no_form };
+          shown = record {
+            image = λ e. refl;
+            wanted = stands.shown.wanted;
+            lengths = stands.shown.lengths;
+            isdu = stands.shown.isdu;
+            present = stands.shown.present;
+            no_form = stands.shown.no_form;
+          };
         };
       }
 
 -- from the wire's own words
-pub wakes : ((size : ℕ) → 1 ≤ size → LevelLaws size) → MuchStays → RepliesAreRead → InputStaysSized → ((first : Event) (rest : List Event) → EventLaws first rest) → ModesHaveLayouts → Wakes
-wakes level much reads sized events layouts = record { gives = λ c g far far_new silence answered stands down w link fits. at c.state c.session g far far_new silence answered stands down w link fits }
+pub wakes : ((size : ℕ) → 1 ≤ size → LevelLaws size) → MuchStays → RepliesAreRead
+    → InputStaysSized → ((first : Event) (rest : List Event) → EventLaws first rest)
+    → ModesHaveLayouts → Wakes
+wakes level much reads sized events layouts =
+    record {
+      gives = λ c g far far_new silence answered stands down w link fits. at c.state
+          c.session g far far_new silence answered stands down w link fits;
+    }
   where
-    by_answer : (s : Down) (t : SessionState) (g : Ghost) (far far_new : Far) (silence : ℕ) (answered : Bool) → Stands (record { state = AtDown s; session = t }) g far silence → (w : HonestWake far answered far_new)
-        → StateStands (state_of (waked answered)) silence far_new → StateFits (state_of (waked answered)) → CallGives (record { state = AtDown s; session = t }) g far silence Idle (after_wake answered t) far_new silence
+    by_answer : (s : Down) (t : SessionState) (g : Ghost) (far far_new : Far) (silence : ℕ)
+        (answered : Bool) → Stands (record { state = AtDown s; session = t }) g far silence
+        → (w : HonestWake far answered far_new)
+        → StateStands (state_of (waked answered)) silence far_new
+        → StateFits (state_of (waked answered))
+        → CallGives (record { state = AtDown s; session = t }) g far silence Idle
+        (after_wake answered t) far_new silence
     by_answer s t g far far_new silence true stands w link fits =
         let laws : Laws = all_laws level much reads sized events layouts in
-        let k : far_new ≡ woken (locals far w.steps) = w.far_is ∙ ap (λ (b : Bool). woken_if b (locals far w.steps)) (w.answered_is refl) in
-        subst (λ (f : Far). CallGives (record { state = AtDown s; session = t }) g far silence Idle (after_wake true t) f silence) (sym k)
-        (answers laws s t g far silence stands w.steps (subst (StateStands (state_of (waked true)) silence) k link) fits)
+        let k : far_new ≡ woken (locals far w.steps) = w.far_is
+        ∙ ap (λ (b : Bool). woken_if b (locals far w.steps)) (w.answered_is refl) in
+        subst (λ (f : Far). CallGives (record { state = AtDown s; session = t }) g far silence
+        Idle (after_wake true t) f silence) (sym k)
+        (answers laws s t g far silence stands w.steps
+        (subst (StateStands (state_of (waked true)) silence) k link) fits)
     by_answer s t g far far_new silence false stands w link fits =
         let laws : Laws = all_laws level much reads sized events layouts in
-        subst (λ (f : Far). CallGives (record { state = AtDown s; session = t }) g far silence Idle (after_wake false t) f silence) (sym w.far_is) (fails laws s t g far silence stands w.steps w.wakes)
+        subst (λ (f : Far). CallGives (record { state = AtDown s; session = t }) g far silence
+        Idle (after_wake false t) f silence) (sym w.far_is)
+        (fails laws s t g far silence stands w.steps w.wakes)
 
-    at : (state : State) (t : SessionState) (g : Ghost) (far far_new : Far) (silence : ℕ) (answered : Bool) → Stands (record { state = state; session = t }) g far silence → IsDown state → (w : HonestWake far answered far_new)
-        → StateStands (state_of (waked answered)) silence far_new → StateFits (state_of (waked answered)) → CallGives (record { state = state; session = t }) g far silence Idle (after_wake answered t) far_new silence
-    at (AtDown s) t g far far_new silence answered stands down w link fits = by_answer s t g far far_new silence answered stands w link fits
+    at : (state : State) (t : SessionState) (g : Ghost) (far far_new : Far) (silence : ℕ)
+        (answered : Bool) → Stands (record { state = state; session = t }) g far silence
+        → IsDown state → (w : HonestWake far answered far_new)
+        → StateStands (state_of (waked answered)) silence far_new
+        → StateFits (state_of (waked answered))
+        → CallGives (record { state = state; session = t }) g far silence Idle
+        (after_wake answered t) far_new silence
+    at (AtDown s) t g far far_new silence answered stands down w link fits =
+        by_answer s t g far far_new silence answered stands w link fits
     at other t g far far_new silence answered stands down w link fits = absurd down

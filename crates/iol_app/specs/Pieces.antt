@@ -36,7 +36,8 @@ IsAskedOut (Exchange out) state =
 -- a new message for what is due is out from now on
 pub record NewOut (layouts : Layouts) (t : SessionState) (room : Bool) (new : Core) : Type 0 where
   pub message : MasterMsg
-  pub is : new ≡ core_out layouts (unsent message) (sending (due_of t room) t) (due_of t room) t.current
+  pub is : new ≡ core_out layouts (unsent message) (sending (due_of t room) t) (due_of t room)
+      t.current
   pub due : IsMessageFor (due_of t room) (sending (due_of t room) t) message
   pub parts : HasMasterParts layouts.run message
   pub carries : message.out.items ≡ carried_by t.output

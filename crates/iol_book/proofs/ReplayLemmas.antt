@@ -3,7 +3,8 @@ use Rattle.std.proofs.Common.{◌≡◌, List, [], ◌∷◌, ◌++◌, refl}
 use Rattle.iol_book.specs.declared.entries.Entry.{Entry}
 use Rattle.iol_book.specs.Replay.{Standing, nothing, step, replay_from, replay}
 
-pub replay_from-push : (s : Standing) (es : List Entry) (e : Entry) → replay_from s (es ++ e ∷ []) ≡ step (replay_from s es) e
+pub replay_from-push : (s : Standing) (es : List Entry) (e : Entry)
+    → replay_from s (es ++ e ∷ []) ≡ step (replay_from s es) e
 replay_from-push s [] e = refl
 replay_from-push s (x ∷ es) e = replay_from-push (step s x) es e
 

@@ -7,9 +7,11 @@ use Rattle.iol_book.specs.declared.entries.Ticket.{Ticket}
 use Rattle.iol_book.specs.declared.book.Book.TheInside.{Inside}
 use Rattle.iol_book.specs.BookInside.{IsSound}
 
-pub sound-same_queues : {A : Type 0} (fields : Inside A) (urgent waiting : VecDeque (Ticket × Request) A)
+pub sound-same_queues : {A : Type 0} (fields : Inside A)
+    (urgent waiting : VecDeque (Ticket × Request) A)
     → urgent.items ≡ fields.urgent.items → waiting.items ≡ fields.waiting.items
-    → deque_capacity urgent ≡ deque_capacity fields.urgent → deque_capacity waiting ≡ deque_capacity fields.waiting
+    → deque_capacity urgent ≡ deque_capacity fields.urgent
+    → deque_capacity waiting ≡ deque_capacity fields.waiting
     → IsSound fields → IsSound (record fields { urgent = urgent; waiting = waiting })
 sound-same_queues fields urgent waiting us ws urgent_room waiting_room sound = record {
   replayed = rw (us, ws) sound.replayed;

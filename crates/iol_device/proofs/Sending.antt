@@ -8,4 +8,5 @@ use Rattle.iol_device.specs.Inside.{sent_flow}
 -- what was sent last has a flow
 pub sent_flow_valid : (given : ℕ) → IfSome (sent_flow given) IsFlow
 sent_flow_valid zero = tt
-sent_flow_valid (suc i) = elim (i == 0) as (λ b. IsFlow (if b then Start else Count (i % 16))) [ true ↦ tt | false ↦ omega arith ]
+sent_flow_valid (suc i) = elim (i == 0) as (λ b. IsFlow (if b then Start else Count (i % 16)))
+    [ true ↦ tt | false ↦ omega arith ]

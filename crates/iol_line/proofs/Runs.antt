@@ -15,44 +15,69 @@ use Rattle.iol_port.specs.CorePort.{CoreDoes, CoreOpens, CoreKeeps, SendDoes, Re
 use Rattle.iol_line.specs.Standing.{Standing}
 use Rattle.iol_line.specs.Honestly.{HonestPort, IsRun, BeganWell, Keeps, Exchanges, line_at}
 
-Pieces-snoc : (a b c : PortState) (ps : List Piece) (rs : List Answered) (p : Piece) (r : Answered) → Pieces a ps rs b → PieceOf b p r c → Pieces a (ps ++ p ∷ []) (rs ++ r ∷ []) c
+Pieces-snoc : (a b c : PortState) (ps : List Piece) (rs : List Answered) (p : Piece)
+    (r : Answered) → Pieces a ps rs b → PieceOf b p r c → Pieces a (ps ++ p ∷ []) (rs ++ r ∷ []) c
 Pieces-snoc a b c [] [] p r is step = (c, subst (λ (x : PortState). PieceOf x p r c) is step, refl)
-Pieces-snoc a b c (q ∷ ps) (s ∷ rs) p r (mid, first, rest) step = (mid, first, Pieces-snoc mid b c ps rs p r rest step)
+Pieces-snoc a b c (q ∷ ps) (s ∷ rs) p r (mid, first, rest) step =
+    (mid, first, Pieces-snoc mid b c ps rs p r rest step)
 Pieces-snoc a b c _ _ p r is step = absurd is
 
 -- by whatever piece this port makes of the abstract one
-goes_on : (p : HonestPort) (next : Parts (Unit {0})) (after : Standing) (piece : Piece) (reply : Answered) → IsRun p
-    → ((a : PortState) → StandsFor (line_at p.at) p.parts a → (b : PortState) × PieceOf a piece reply b × StandsFor (line_at after) next b)
+goes_on : (p : HonestPort) (next : Parts (Unit {0})) (after : Standing) (piece : Piece)
+    (reply : Answered) → IsRun p
+    → ((a : PortState) → StandsFor (line_at p.at) p.parts a
+    → (b : PortState) × PieceOf a piece reply b × StandsFor (line_at after) next b)
     → IsRun (record p { parts = next; at = after })
 unfolding IsRun
 goes_on p next after piece reply is does well =
     let (pieces, replies, b, run, stands) = is well in
-    let (c, step, stands_c) = does b stands in
-    (pieces ++ piece ∷ [], replies ++ reply ∷ [], c, Pieces-snoc _ b c pieces replies piece reply run step, stands_c)
+    let (c, step, stands_c) = does b stands in (
+      pieces ++ piece ∷ [],
+      replies ++ reply ∷ [],
+      c,
+      Pieces-snoc _ b c pieces replies piece
+          reply run step,
+      stands_c,
+    )
 
-pub called : (p : HonestPort) (next : Parts (Unit {0})) (c : Call) (reply : Answered) → IsRun p → CoreDoes p.parts c reply next → IsRun (record p { parts = next })
+pub called : (p : HonestPort) (next : Parts (Unit {0})) (c : Call) (reply : Answered) → IsRun p
+    → CoreDoes p.parts c reply next → IsRun (record p { parts = next })
 unfolding Follows
-called p next c reply is does = goes_on p next p.at (Whole c) reply is (does p.at.far p.at.silence).follows
+called p next c reply is does = goes_on p next p.at (Whole c) reply is
+    (does p.at.far p.at.silence).follows
 
-pub sent : (p : HonestPort) (next : Parts (Unit {0})) → IsRun p → SendDoes p.parts next → IsRun (record p { parts = next })
+pub sent : (p : HonestPort) (next : Parts (Unit {0})) → IsRun p → SendDoes p.parts next
+    → IsRun (record p { parts = next })
 unfolding SendDoes
 sent p next is does = goes_on p next p.at Send answered.Nothing is (does p.at.far p.at.silence)
 
-pub received : (p : HonestPort) (next : Parts (Unit {0})) (came : Option (List ℕ)) (after : Standing) → IsRun p → ReceiveDoes p.parts came next → Exchanges p came after
+pub received : (p : HonestPort) (next : Parts (Unit {0})) (came : Option (List ℕ))
+    (after : Standing) → IsRun p → ReceiveDoes p.parts came next → Exchanges p came after
     → IsRun (record p { parts = next; at = after })
 unfolding ReceiveDoes
 received p next came after is does premise =
-    goes_on p next after Receive answered.Nothing is (does p.at.far after.far p.at.silence after.silence premise)
+    goes_on p next after Receive answered.Nothing is
+    (does p.at.far after.far p.at.silence after.silence premise)
 
-pub woken : (p : HonestPort) (next : Parts (Unit {0})) (answered : Bool) (after : Far) → IsRun p → WakeDoes p.parts answered next → HonestWake p.at.far answered after
+pub woken : (p : HonestPort) (next : Parts (Unit {0})) (answered : Bool) (after : Far) → IsRun p
+    → WakeDoes p.parts answered next → HonestWake p.at.far answered after
     → IsRun (record p { parts = next; at = record p.at { far = after } })
 unfolding WakeDoes
 woken p next came after is does premise =
-    goes_on p next (record p.at { far = after }) Receive answered.Nothing is (does p.at.far after p.at.silence premise)
+    goes_on p next (record p.at { far = after }) Receive answered.Nothing is
+    (does p.at.far after p.at.silence premise)
 
-pub began : (p : Parts (Unit {0})) (limits : Limits) (from : Standing) → CoreOpens limits p → IsRun (record { parts = p; at = from; limits = limits; from = from })
+pub began : (p : Parts (Unit {0})) (limits : Limits) (from : Standing) → CoreOpens limits p
+    → IsRun (record { parts = p; at = from; limits = limits; from = from })
 unfolding IsRun
-began p limits from opens well = ([], [], opened limits from.far from.silence, refl, opens from.far from.silence well)
+began p limits from opens well = (
+  [],
+  [],
+  opened limits from.far from.silence,
+  refl,
+  opens
+      from.far from.silence well,
+)
 
 -- of each run of the one that was opened the record fits the journal
 pub record_kept : OpensSound → PiecesSound → (p : HonestPort) → CoreKeeps p.parts → IsRun p
@@ -60,5 +85,6 @@ pub record_kept : OpensSound → PiecesSound → (p : HonestPort) → CoreKeeps 
 unfolding IsRun
 record_kept opens stay p keeps is well =
     let (pieces, replies, b, run, stands) = is well in
-    let first : IsSound (opened p.limits p.from.far p.from.silence) = opens p.limits p.from.far p.from.silence in
+    let first : IsSound (opened p.limits p.from.far p.from.silence) =
+    opens p.limits p.from.far p.from.silence in
     keeps p.at.far p.at.silence b stands (stay _ b pieces replies run first)

@@ -115,4 +115,5 @@ module _ {W : Type 0} (facts : WireFacts W) where
 
   -- the wire was called as often as turns were made, which are so many at most
   abbrev pub IsServed : ℕ → W → W → Type 0
-  IsServed turns old new = (calls : List Asked) × AreCalls facts calls old new × (length calls ≤ turns)
+  IsServed turns old new = (calls : List Asked) × AreCalls facts calls old new
+      × (length calls ≤ turns)

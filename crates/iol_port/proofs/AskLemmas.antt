@@ -16,9 +16,12 @@ use Rattle.iol_app.specs.Brought.{brought_facts}
 
 module _ {W : Type 0} where
   -- a wake had success where the mode says so
-  pub book_told : (old mid new : StationState W) (next : Option Request) (room woke : Bool) (began ended : Mode) (said : Said) (b : BookState)
-      → mid ≡ prepared next old room → began ≡ mode_of mid.link → ended ≡ mode_of new.link → woke ≡ (is_down began && not (is_down ended))
-      → book_through (cond woke (Reset ∷ []) [] ++ book_said said) b ≡ book_through (woke_up (mode_of old.link) (mode_of new.link) ++ book_said said) b
+  pub book_told : (old mid new : StationState W) (next : Option Request) (room woke : Bool)
+      (began ended : Mode) (said : Said) (b : BookState)
+      → mid ≡ prepared next old room → began ≡ mode_of mid.link → ended ≡ mode_of new.link
+      → woke ≡ (is_down began && not (is_down ended))
+      → book_through (cond woke (Reset ∷ []) [] ++ book_said said) b
+      ≡ book_through (woke_up (mode_of old.link) (mode_of new.link) ++ book_said said) b
   book_told old mid new next room woke began ended said b begun from to is =
       grind (arith, common_steps)
 

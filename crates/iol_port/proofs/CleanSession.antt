@@ -38,7 +38,8 @@ use Rattle.iol_port.proofs.CleanHearing.{HeardWell, heard_well}
 
 -- What is due
 
-request_due : (s : SessionState) (room : Bool) (c : Current) → IsCalm s → s.current ≡ Some c → c.abort ≡ None → due_of s room ≡ NextMessage
+request_due : (s : SessionState) (room : Bool) (c : Current) → IsCalm s → s.current ≡ Some c
+    → c.abort ≡ None → due_of s room ≡ NextMessage
 request_due s room c calm is abort = grind (arith, common_steps)
 
 -- a session that would send IDLE 1 is calm, without a request
@@ -50,15 +51,24 @@ pub ready_any : (s : SessionState) (room : Bool) → is_ready s true ≡ true �
 ready_any s room e = grind (arith, common_steps)
 
 -- and a calm session without a request would send it
-pub calm_ready : (s : SessionState) (room : Bool) → IsCalm s → s.current ≡ None → is_ready s room ≡ true
+pub calm_ready : (s : SessionState) (room : Bool) → IsCalm s → s.current ≡ None
+    → is_ready s room ≡ true
 calm_ready s room calm free = grind (arith, common_steps)
 
 -- and with a request begun it is calm too
-pub begun_calm : (s : SessionState) (current : Option Current) → IsCalm s → IsCalm (record s { current = current })
-begun_calm s current h = record { exchange = h.exchange; output = h.output; reading = h.reading; confirm = h.confirm; flag = h.flag }
+pub begun_calm : (s : SessionState) (current : Option Current) → IsCalm s
+    → IsCalm (record s { current = current })
+begun_calm s current h = record {
+  exchange = h.exchange;
+  output = h.output;
+  reading = h.reading;
+  confirm = h.confirm;
+  flag = h.flag;
+}
 
 -- after the good reply to the request's message, without the Event flag
-absorbed_calm : (s : SessionState) (reply : Reply) → IsCalm s → reply.event ≡ false → IsCalm (absorbed NextMessage reply (sending NextMessage s))
+absorbed_calm : (s : SessionState) (reply : Reply) → IsCalm s → reply.event ≡ false
+    → IsCalm (absorbed NextMessage reply (sending NextMessage s))
 absorbed_calm s reply h e = grind (arith, common_steps)
 
 -- The request's messages are of the ISDU channel
@@ -78,21 +88,45 @@ pub record SameBut (far ready : Far) : Type 0 where
   pub grows : (more : List Carried) × (ready.carried ≡ far.carried ++ more)
 
 same_far : (far : Far) → SameBut far far
-same_far far = record { awake = refl; events = refl; page = refl; link_is = refl; room = refl; sized = λ h. h; grows = ([], sym (append-nil far.carried)) }
+same_far far = record {
+  awake = refl;
+  events = refl;
+  page = refl;
+  link_is = refl;
+  room = refl;
+  sized = λ h. h;
+  grows = ([], sym (append-nil far.carried));
+}
 
-pub same_carried : (far : Far) (answer : Answer) (state : IsduState) → SameBut far (carried_by state far answer)
+pub same_carried : (far : Far) (answer : Answer) (state : IsduState)
+    → SameBut far (carried_by state far answer)
 same_carried far answer (Handed request) = by (has_room far && fits request answer)
   where
-    by : (b : Bool) → SameBut far (if b then record far { isdu = Answered request answer None; carried = far.carried ++ record { request = request; answer = answer } ∷ [] } else far)
-    by true = record { awake = refl; events = refl; page = refl; link_is = refl; room = refl; sized = λ h. h; grows = (record { request = request; answer = answer } ∷ [], refl) }
+    by : (b : Bool) → SameBut far (if b
+        then record far {
+          isdu = Answered request answer None;
+          carried = far.carried ++ record { request = request; answer = answer } ∷ [];
+        } else far)
+    by true = record {
+      awake = refl;
+      events = refl;
+      page = refl;
+      link_is = refl;
+      room = refl;
+      sized = λ h. h;
+      grows = (record { request = request; answer = answer } ∷ [], refl);
+    }
     by false = same_far far
 same_carried far answer _ = same_far far
 
-pub work_same : (far ready : Far) (request : Option Request) → IsWorkedOff request far ready → SameBut far ready
+pub work_same : (far ready : Far) (request : Option Request) → IsWorkedOff request far ready
+    → SameBut far ready
 work_same far ready None e = rw e (same_far far)
 work_same far ready (Some request) h = by_room (has_room far) h
   where
-    by_room : (b : Bool) → MatchBool b ((answer : Answer) × IsTrue (fits request answer) × (ready ≡ local far (Carry answer))) (ready ≡ far) → SameBut far ready
+    by_room : (b : Bool) → MatchBool b
+        ((answer : Answer) × IsTrue (fits request answer) × (ready ≡ local far (Carry answer)))
+        (ready ≡ far) → SameBut far ready
     by_room true h = rw h.2 (same_carried far h.0 far.isdu)
     by_room false h = rw h (same_far far)
 
@@ -102,7 +136,8 @@ module _ {W : Type 0} (facts : WireFacts W) where
   open facts use {far}
 
   -- What a turn gives that sends a message of the request
-  pub record Turned (layouts : Layouts) (old : StationState W) (wire : W) (c : Current) (said : Said) (new : StationState W) : Type 0 where
+  pub record Turned (layouts : Layouts) (old : StationState W) (wire : W) (c : Current)
+      (said : Said) (new : StationState W) : Type 0 where
     pub next : W
     pub stood : Stood facts layouts operate_link new next
     pub message : MasterMsg
@@ -114,51 +149,76 @@ module _ {W : Type 0} (facts : WireFacts W) where
     pub answer : Option (List ℕ)
     pub reply : Reply
     pub heard_as : HeardWell layouts message ready (far next) answer reply
-    pub current : new.session.current ≡ current_after NextMessage old.session.limit reply.od.items (Some c)
+    pub current : new.session.current
+        ≡ current_after NextMessage old.session.limit reply.od.items (Some c)
     pub limit : new.session.limit ≡ old.session.limit
     pub said_is : IsSaid NextMessage old.session.limit reply.od.items (Some c) said
 
-  module _ (cleanly : ExchangesCleanly facts) (read_back : RepliesAreRead) (stays_sized : InputStaysSized) where
-    pub turned : (layouts : Layouts) (link : Link) (old : StationState W) (wire : W) (room : Bool) (c : Current) (said : Said) (new : StationState W)
-        → Stood facts layouts link old wire → old.session.current ≡ Some c → c.abort ≡ None → IsTurn facts room old said new
+  module _ (cleanly : ExchangesCleanly facts) (read_back : RepliesAreRead)
+      (stays_sized : InputStaysSized) where
+    pub turned : (layouts : Layouts) (link : Link) (old : StationState W) (wire : W)
+        (room : Bool) (c : Current) (said : Said) (new : StationState W)
+        → Stood facts layouts link old wire → old.session.current ≡ Some c → c.abort ≡ None
+        → IsTurn facts room old said new
         → Turned layouts old wire c said new
     turned layouts link old wire room c said new stood is abort turn =
-        by_turn (subst (λ (l : AnyLink W). IsLinkTurn facts l old.session room said new) stood.link_is turn)
+        by_turn (subst (λ (l : AnyLink W). IsLinkTurn facts l old.session room said new)
+        stood.link_is turn)
       where
         s : SessionState
         s = old.session
 
         sent_is : sent (due_of s room) s ≡ sending NextMessage s
-        sent_is = ap (λ (e : Option Exchange). sent_by e (due_of s room) s) stood.calm.exchange ∙ ap (λ (e : Exchange). sending e s) (request_due s room c stood.calm is abort)
+        sent_is = ap (λ (e : Option Exchange). sent_by e (due_of s room) s) stood.calm.exchange
+            ∙ ap (λ (e : Exchange). sending e s) (request_due s room c stood.calm is abort)
 
-        by_turn : IsOperateTurn facts wire (record { out = None; layouts = layouts }) s room said new → Turned layouts old wire c said new
+        by_turn : IsOperateTurn facts wire (record { out = None; layouts = layouts }) s room
+            said new → Turned layouts old wire c said new
         by_turn t =
             let message : MasterMsg = t.message in
             let o : List ℕ = master_text layouts.run message in
-            let for : IsMessageFor NextMessage (sending NextMessage s) message = subst (λ (z : SessionState). IsOutFor (Some message) z) sent_is t.is_for in
-            let head : head_of message.mc ≡ progress_head c.progress = for.head ∙ ap request_head is in
-            let channel : message.mc.channel ≡ Isdu = ap (λ (h : Head). h.channel) head ∙ progress_channel c.progress in
-            let done = cleanly wire o t.exchange.answer (wire_of new.link) stood.is_clean t.exchange.called in
-            let x : CleanExchange (far wire) o (octets_in t.exchange.answer) (far (wire_of new.link)) = done.0 in
-            let same : SameBut (far wire) x.ready = work_same (far wire) x.ready (handed (far wire).isdu) x.work in
+            let for : IsMessageFor NextMessage (sending NextMessage s) message =
+            subst (λ (z : SessionState). IsOutFor (Some message) z) sent_is t.is_for in
+            let head : head_of message.mc ≡ progress_head c.progress = for.head
+            ∙ ap request_head is in
+            let channel : message.mc.channel ≡ Isdu = ap (λ (h : Head). h.channel) head
+            ∙ progress_channel c.progress in
+            let done = cleanly wire o t.exchange.answer (wire_of new.link) stood.is_clean
+            t.exchange.called in
+            let x : CleanExchange (far wire) o (octets_in t.exchange.answer)
+            (far (wire_of new.link)) = done.0 in
+            let same : SameBut (far wire) x.ready =
+            work_same (far wire) x.ready (handed (far wire).isdu) x.work in
             let accepted : IsAccepted layouts x.ready.page link message =
-            subst (λ (p : List ℕ). IsAccepted layouts p link message) (sym same.page) (t.accepted stood.is_honest link stood.operating) in
-            let sized : IsSized (hear x.ready o).far = stays_sized.hears x.ready o (same.sized (t.exchange.passes stood.is_honest).regular.sized) in
+            subst (λ (p : List ℕ). IsAccepted layouts p link message) (sym same.page)
+            (t.accepted stood.is_honest link stood.operating) in
+            let sized : IsSized (hear x.ready o).far =
+            stays_sized.hears x.ready o (same.sized
+            (t.exchange.passes stood.is_honest).regular.sized) in
             let quiet : IsQuiet x.ready.events = subst IsQuiet (sym same.events) stood.quiet in
-            let found = heard_well read_back layouts message link x.ready accepted channel (same.awake ∙ stood.awake) (ap knows_isdu same.page ∙ stood.isdu) (same.link_is ∙ stood.at) quiet sized in
+            let found = heard_well read_back layouts message link x.ready accepted channel
+            (same.awake ∙ stood.awake) (ap knows_isdu same.page ∙ stood.isdu)
+            (same.link_is ∙ stood.at) quiet sized in
             let reply : Reply = found.0 in
-            let well : HeardWell layouts message x.ready (far (wire_of new.link)) (octets_in t.exchange.answer) reply =
+            let well : HeardWell layouts message x.ready (far (wire_of new.link))
+            (octets_in t.exchange.answer) reply =
             rw (x.far_is, x.answer_is) found.1 in
-            let settled : IsSettled (OutOperate (record { out = None; layouts = layouts }) (Some reply)) (sending NextMessage s) said new =
-            subst (λ (z : SessionState). IsSettled (OutOperate (record { out = None; layouts = layouts }) (Some reply)) z said new) sent_is
-            (subst (λ (q : Option Reply). IsSettled (operate_turned (record { out = None; layouts = layouts }) message q) (sent (due_of s room) s) said new) well.good t.exchange.settled) in
+            let settled : IsSettled (OutOperate (record { out = None; layouts = layouts })
+            (Some reply)) (sending NextMessage s) said new =
+            subst (λ (z : SessionState). IsSettled
+            (OutOperate (record { out = None; layouts = layouts }) (Some reply)) z said new)
+            sent_is
+            (subst (λ (q : Option Reply). IsSettled
+            (operate_turned (record { out = None; layouts = layouts }) message q)
+            (sent (due_of s room) s) said new) well.good t.exchange.settled) in
             record {
               next = wire_of new.link;
               stood = record {
                 link_is = settled.link;
                 is_honest = subst IsTrue (sym t.exchange.both.honesty) stood.is_honest;
                 is_clean = done.1;
-                calm = subst IsCalm (sym settled.session) (absorbed_calm s reply stood.calm well.event);
+                calm = subst IsCalm (sym settled.session)
+                    (absorbed_calm s reply stood.calm well.event);
                 told = ap (λ (z : SessionState). z.isdu) settled.session ∙ stood.told;
                 operating = inr_link;
                 awake = well.awake;
@@ -175,9 +235,12 @@ module _ {W : Type 0} (facts : WireFacts W) where
               answer = octets_in t.exchange.answer;
               reply = reply;
               heard_as = well;
-              current = ap (λ (z : SessionState). z.current) settled.session ∙ ap (λ (q : Option Current). current_after NextMessage s.limit reply.od.items q) is;
+              current = ap (λ (z : SessionState). z.current) settled.session
+                  ∙ ap (λ (q : Option Current). current_after NextMessage s.limit reply.od.items
+                  q) is;
               limit = ap (λ (z : SessionState). z.limit) settled.session;
-              said_is = subst (λ (q : Option Current). IsSaid NextMessage s.limit reply.od.items q said) is settled.said_is;
+              said_is = subst (λ (q : Option Current). IsSaid NextMessage s.limit reply.od.items
+                  q said) is settled.said_is;
             }
           where
             inr_link : IsOperating layouts operate_link

@@ -18,7 +18,8 @@ use Rattle.iol_port.specs.contracts.port_core.PortCore.TheInside as core
 use Rattle.iol_port.specs.contracts.port.Port as Port
 use Rattle.iol_port.specs.contracts.port.Port.TheInside as port
 
-core_send : (A : RattleType) (h : alloc.Ghosts A.Denot) → IsSend A → Frees h h.dealloc_token → IsSend (Core.the_row A h)
+core_send : (A : RattleType) (h : alloc.Ghosts A.Denot) → IsSend A → Frees h h.dealloc_token
+    → IsSend (Core.the_row A h)
 core_send A h a f =
     view_send (core.the_row A h) _ _ _ _
     (recorded_send (core.the_field A h).row _ _ (core.the_type A h).to_one
@@ -33,15 +34,30 @@ core_send A h a f =
       ),
     )))
 
-pub port_send : (W A : RattleType) (g : wire.Ghosts W.Denot) (h : alloc.Ghosts A.Denot) → IsSend W → IsSend A → IsSync A → Frees h h.dealloc_token → IsSend (Port.the_row W A g h)
+pub port_send : (W A : RattleType) (g : wire.Ghosts W.Denot) (h : alloc.Ghosts A.Denot)
+    → IsSend W → IsSend A → IsSync A → Frees h h.dealloc_token → IsSend (Port.the_row W A g h)
 port_send W A g h w a y f =
     view_send (port.the_row W A g h) _ _ _ _
     (recorded_send (port.the_field W A g h).row _ _ (port.the_type W A g h).to_one
     (struct_send (shape (port.the_type W A g h)) (
       core_send A h a f,
-      (w, (search (crosses, sendable) depth 20, (search (crosses, sendable) depth 20, (option.the_field_send (Writer.the_row A h) (search (writer.the_send, sendable) depth 20), tt)))),
+      (
+        w,
+        (
+          search (crosses, sendable) depth 20,
+          (
+            search (crosses, sendable) depth 20,
+            (
+              option.the_field_send (Writer.the_row A h)
+                  (search (writer.the_send, sendable) depth 20),
+              tt,
+            ),
+          ),
+        ),
+      ),
     )))
 
 -- at the heap, since `search` finds no allocator's ghost members in a row
-pub heap_port_send : (W : RattleType) (g : wire.Ghosts W.Denot) → IsSend W → IsSend (Port.the_row W Heap.the_row g ghosts)
+pub heap_port_send : (W : RattleType) (g : wire.Ghosts W.Denot) → IsSend W
+    → IsSend (Port.the_row W Heap.the_row g ghosts)
 heap_port_send W g w = port_send W Heap.the_row g ghosts w send sync frees

@@ -25,27 +25,33 @@ none_there told e = grind arith
 
 -- the outcome of a ticket, once one is entered
 lookup-entered : (outs : List (Ticket × Outcome)) (t k : Ticket) (o : Outcome)
-    → lookup (same_ticket k) (insert_entry same_ticket outs t o) ≡ cond (same_ticket k t) (Some o) (lookup (same_ticket k) outs)
+    → lookup (same_ticket k) (insert_entry same_ticket outs t o)
+    ≡ cond (same_ticket k t) (Some o) (lookup (same_ticket k) outs)
 lookup-entered [] t k o = refl
 lookup-entered (e ∷ es) t k o = grind (arith, common_steps, lookup-entered es t k o)
 
 -- What a turn says enters none
 
-posted_none : (b : BookState) (o : Outcome) (k : Ticket) → (o ≡ NoIsdu → ⊥) → HasNoIsdu (posted b o) k → HasNoIsdu b k
+posted_none : (b : BookState) (o : Outcome) (k : Ticket) → (o ≡ NoIsdu → ⊥)
+    → HasNoIsdu (posted b o) k → HasNoIsdu b k
 posted_none b o k differs given = grind (arith, common_steps, lookup-entered)
 
-said_none : (said : Said) (b : BookState) (k : Ticket) → HasNoIsdu (book_through (book_said said) b) k → HasNoIsdu b k
+said_none : (said : Said) (b : BookState) (k : Ticket)
+    → HasNoIsdu (book_through (book_said said) b) k → HasNoIsdu b k
 said_none said b k given = grind (arith, common_steps, posted_none)
 
-through_none : (woke : Bool) (said : Said) (b : BookState) (k : Ticket) → HasNoIsdu (book_through (cond woke (Reset ∷ []) [] ++ book_said said) b) k → HasNoIsdu b k
+through_none : (woke : Bool) (said : Said) (b : BookState) (k : Ticket)
+    → HasNoIsdu (book_through (cond woke (Reset ∷ []) [] ++ book_said said) b) k → HasNoIsdu b k
 through_none woke said b k given = grind (arith, common_steps, said_none)
 
 -- without a request that is taken it says nothing to the book
 quiet_said : (said : Said) (b : BookState) → Asks said None → book_through (book_said said) b ≡ b
 quiet_said said b given = grind (arith, common_steps)
 
-module _ {W : Type 0} (old next : Parts W) (mid : BookState) (woke : Bool) (said : Said) (asks : Asks said mid.standing.taken)
-    (book : next.book.state ≡ book_through (cond woke (Reset ∷ []) [] ++ book_said said) mid) (k : Ticket) (has : HasNoIsdu next.book.state k) where
+module _ {W : Type 0} (old next : Parts W) (mid : BookState) (woke : Bool) (said : Said)
+    (asks : Asks said mid.standing.taken)
+    (book : next.book.state ≡ book_through (cond woke (Reset ∷ []) [] ++ book_said said) mid)
+    (k : Ticket) (has : HasNoIsdu next.book.state k) where
   abbrev b : BookState
   b = old.book.state
 
@@ -53,30 +59,45 @@ module _ {W : Type 0} (old next : Parts W) (mid : BookState) (woke : Bool) (said
   had = through_none woke said mid k (subst (λ (x : BookState). HasNoIsdu x k) book has)
 
   -- this turn's denial
-  denial : (t : Ticket) (q : Request) → next_taken b.standing ≡ Some (t, q) → old.station.session.isdu ≡ Some false → woke ≡ false → mid ≡ denied b t → IsDenied old next t
+  denial : (t : Ticket) (q : Request) → next_taken b.standing ≡ Some (t, q)
+      → old.station.session.isdu ≡ Some false → woke ≡ false → mid ≡ denied b t
+      → IsDenied old next t
   denial t q head told asleep is =
       let first = next_is b.standing t q head in
-      let none : mid.standing.taken ≡ None = ap (λ (x : BookState). x.standing.taken) is ∙ first.free in
-      let quiet : book_through (book_said said) mid ≡ mid = quiet_said said mid (subst (λ (o : Option (Ticket × Request)). Asks said o) none asks) in
+      let none : mid.standing.taken ≡ None = ap (λ (x : BookState). x.standing.taken) is
+      ∙ first.free in
+      let quiet : book_through (book_said said) mid ≡ mid =
+      quiet_said said mid (subst (λ (o : Option (Ticket × Request)). Asks said o) none asks) in
       record {
         told = told;
         waited = first.waits;
         free = first.free;
-        book = book ∙ ap (λ (w : Bool). book_through (cond w (Reset ∷ []) [] ++ book_said said) mid) asleep ∙ quiet ∙ is;
+        book = book ∙ ap (λ (w : Bool). book_through (cond w (Reset ∷ []) [] ++ book_said said)
+            mid) asleep ∙ quiet ∙ is;
       }
 
-  denied_one : (t : Ticket) (q : Request) → next_taken b.standing ≡ Some (t, q) → old.station.session.isdu ≡ Some false → woke ≡ false → mid ≡ denied b t → HasNoIsdu b k ⊎ IsDenied old next k
+  denied_one : (t : Ticket) (q : Request) → next_taken b.standing ≡ Some (t, q)
+      → old.station.session.isdu ≡ Some false → woke ≡ false → mid ≡ denied b t
+      → HasNoIsdu b k ⊎ IsDenied old next k
   denied_one t q head told asleep is = by (same_ticket t k) refl
     where
       by : (c : Bool) → same_ticket t k ≡ c → HasNoIsdu b k ⊎ IsDenied old next k
-      by true e = inr (subst (λ (x : Ticket). IsDenied old next x) (sym (ticket_is t k e)) (denial t q head told asleep is))
+      by true e = inr (subst (λ (x : Ticket). IsDenied old next x) (sym (ticket_is t k e))
+          (denial t q head told asleep is))
       by false e =
           let apart : same_ticket k t ≡ false = grind (arith, nat_tests) in
-          inl (rw (lookup-entered b.standing.outcomes t k NoIsdu, apart) at (subst (λ (x : BookState). HasNoIsdu x k) is had))
+          inl (rw (lookup-entered b.standing.outcomes t k NoIsdu, apart) at
+          (subst (λ (x : BookState). HasNoIsdu x k) is had))
 
-  pub turn_denies : (ready : Bool) → mid ≡ taken_where ready (lacks_isdu old.station.session.isdu) (next_taken b.standing) b → (ready ≡ true → woke ≡ false) → HasNoIsdu b k ⊎ IsDenied old next k
-  turn_denies ready mid_is asleep = by (next_taken b.standing) ready (lacks_isdu old.station.session.isdu) refl refl refl mid_is
+  pub turn_denies : (ready : Bool)
+      → mid ≡ taken_where ready (lacks_isdu old.station.session.isdu) (next_taken b.standing) b
+      → (ready ≡ true → woke ≡ false) → HasNoIsdu b k ⊎ IsDenied old next k
+  turn_denies ready mid_is asleep =
+      by (next_taken b.standing) ready (lacks_isdu old.station.session.isdu) refl refl refl mid_is
     where
-      by : (head : Option (Ticket × Request)) (r lacks : Bool) → next_taken b.standing ≡ head → ready ≡ r → lacks_isdu old.station.session.isdu ≡ lacks → mid ≡ taken_where r lacks head b → HasNoIsdu b k ⊎ IsDenied old next k
-      by (Some (t, q)) true true head is_ready told is = denied_one t q head (none_there old.station.session.isdu told) (asleep is_ready) is
+      by : (head : Option (Ticket × Request)) (r lacks : Bool) → next_taken b.standing ≡ head
+          → ready ≡ r → lacks_isdu old.station.session.isdu ≡ lacks
+          → mid ≡ taken_where r lacks head b → HasNoIsdu b k ⊎ IsDenied old next k
+      by (Some (t, q)) true true head is_ready told is =
+          denied_one t q head (none_there old.station.session.isdu told) (asleep is_ready) is
       by _ _ _ head is_ready told is = inl (subst (λ (x : BookState). HasNoIsdu x k) is had)

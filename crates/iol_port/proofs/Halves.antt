@@ -18,26 +18,45 @@ use Rattle.iol_port.specs.Promises.{HalvesAreTurns}
 -- Steps of the sending, and others behind them
 
 module _ (m : Moment) (ys : List Step) where
-  book_both : (xs : List Step) (b : BookState) → MayBookAll xs b → MayBookAll ys (book_through xs b) → MayBookAll (xs ++ ys) b × (book_through (xs ++ ys) b ≡ book_through ys (book_through xs b))
+  book_both : (xs : List Step) (b : BookState) → MayBookAll xs b
+      → MayBookAll ys (book_through xs b)
+      → MayBookAll (xs ++ ys) b × (book_through (xs ++ ys) b
+      ≡ book_through ys (book_through xs b))
   book_both [] b h k = (k, refl)
   book_both (x ∷ xs) b h k = let r = book_both xs (book_after x b) h.1 k in ((h.0, r.0), r.1)
 
-  session_both : (xs : List Step) (s : Session) → MaySessionAll m xs s → MaySessionAll m ys (session_through xs s) → MaySessionAll m (xs ++ ys) s × (session_through (xs ++ ys) s ≡ session_through ys (session_through xs s))
+  session_both : (xs : List Step) (s : Session) → MaySessionAll m xs s
+      → MaySessionAll m ys (session_through xs s)
+      → MaySessionAll m (xs ++ ys) s
+      × (session_through (xs ++ ys) s ≡ session_through ys (session_through xs s))
   session_both [] s h k = (k, refl)
-  session_both (x ∷ xs) s h k = let r = session_both xs (session_after x s) h.1 k in ((h.0, r.0), r.1)
+  session_both (x ∷ xs) s h k = let r = session_both xs (session_after x s) h.1 k in
+      ((h.0, r.0), r.1)
 
-  images_both : (xs : List Step) (i : Images) → MayImagesAll m xs i → MayImagesAll m ys (images_through m xs i) → MayImagesAll m (xs ++ ys) i × (images_through m (xs ++ ys) i ≡ images_through m ys (images_through m xs i))
+  images_both : (xs : List Step) (i : Images) → MayImagesAll m xs i
+      → MayImagesAll m ys (images_through m xs i)
+      → MayImagesAll m (xs ++ ys) i ×
+      (images_through m (xs ++ ys) i ≡ images_through m ys (images_through m xs i))
   images_both [] i h k = (k, refl)
-  images_both (x ∷ xs) i h k = let r = images_both xs (images_after m x i) h.1 k in ((h.0, r.0), r.1)
+  images_both (x ∷ xs) i h k = let r = images_both xs (images_after m x i) h.1 k in
+      ((h.0, r.0), r.1)
 
   -- the first leave the mode, the image, the frozen events and the kept ones
-  rest_stays : (xs : List Step) (s : Session) (i : Images) (f : Option Frozen) (kept : List Event) → IsTrue (list_all is_sending xs)
-      → ((session_through xs s).mode ≡ s.mode) × ((images_through m xs i).image ≡ i.image) × (MayFrozenAll ys f → MayFrozenAll (xs ++ ys) f)
-      × (frozen_through (xs ++ ys) f ≡ frozen_through ys f) × (kept_through (xs ++ ys) kept ≡ kept_through ys kept)
+  rest_stays : (xs : List Step) (s : Session) (i : Images) (f : Option Frozen)
+      (kept : List Event) → IsTrue (list_all is_sending xs)
+      → ((session_through xs s).mode ≡ s.mode) × ((images_through m xs i).image ≡ i.image)
+      × (MayFrozenAll ys f → MayFrozenAll (xs ++ ys) f)
+      × (frozen_through (xs ++ ys) f ≡ frozen_through ys f)
+      × (kept_through (xs ++ ys) kept ≡ kept_through ys kept)
   rest_stays [] s i f kept only = (refl, refl, (λ k. k), refl, refl)
-  rest_stays (Take t q ∷ xs) s i f kept only = let r = rest_stays xs (session_after (Take t q) s) i f kept only in (r.0, r.1, (λ k. (tt, r.2 k)), r.3, r.4)
-  rest_stays (Deny t ∷ xs) s i f kept only = let r = rest_stays xs s i f kept only in (r.0, r.1, (λ k. (tt, r.2 k)), r.3, r.4)
-  rest_stays (Make ∷ xs) s i f kept only = let r = rest_stays xs s (images_after m Make i) f kept only in (r.0, r.1, (λ k. (tt, r.2 k)), r.3, r.4)
+  rest_stays (Take t q ∷ xs) s i f kept only = let r =
+      rest_stays xs (session_after (Take t q) s) i f kept only in
+      (r.0, r.1, (λ k. (tt, r.2 k)), r.3, r.4)
+  rest_stays (Deny t ∷ xs) s i f kept only = let r = rest_stays xs s i f kept only in
+      (r.0, r.1, (λ k. (tt, r.2 k)), r.3, r.4)
+  rest_stays (Make ∷ xs) s i f kept only = let r =
+      rest_stays xs s (images_after m Make i) f kept only in
+      (r.0, r.1, (λ k. (tt, r.2 k)), r.3, r.4)
   rest_stays (x ∷ xs) s i f kept only = absurd (cc)
 
 -- No step of the one clashes with a step of the other
@@ -45,17 +64,30 @@ module _ (m : Moment) (ys : List Step) where
 abbrev unsent : Step → Bool
 unsent step = not (is_sending step)
 
-beside_one : (x y : Step) → IsTrue (is_sending x) → IsTrue (unsent y) → (IsTrue (is_take x) → IsTrue (is_calm y)) → IsTrue (not (clash x y))
+beside_one : (x y : Step) → IsTrue (is_sending x) → IsTrue (unsent y)
+    → (IsTrue (is_take x) → IsTrue (is_calm y)) → IsTrue (not (clash x y))
 beside_one x y h k c = grind (arith, common_steps)
 
-beside_all : (x : Step) (ys : List Step) → IsTrue (is_sending x) → IsTrue (list_all unsent ys) → (IsTrue (is_take x) → IsTrue (list_all is_calm ys)) → IsTrue (list_all (λ y. not (clash x y)) ys)
+beside_all : (x : Step) (ys : List Step) → IsTrue (is_sending x) → IsTrue (list_all unsent ys)
+    → (IsTrue (is_take x) → IsTrue (list_all is_calm ys))
+    → IsTrue (list_all (λ y. not (clash x y)) ys)
 beside_all x [] h k c = refl
 beside_all x (y ∷ ys) h k c = grind (arith, common_steps, beside_one x y, beside_all x ys)
 
-clash_free_both : (xs ys : List Step) → IsTrue (list_all is_sending xs) → IsTrue (is_clash_free xs) → IsTrue (list_all unsent ys) → (IsTrue (list_any is_take xs) → IsTrue (list_all is_calm ys)) → IsTrue (is_clash_free ys)
+clash_free_both : (xs ys : List Step) → IsTrue (list_all is_sending xs)
+    → IsTrue (is_clash_free xs) → IsTrue (list_all unsent ys)
+    → (IsTrue (list_any is_take xs) → IsTrue (list_all is_calm ys)) → IsTrue (is_clash_free ys)
     → IsTrue (is_clash_free (xs ++ ys))
 clash_free_both [] ys only h k c free = free
-clash_free_both (x ∷ xs) ys only h k c free = grind (arith, common_steps, clash_free_both xs ys, beside_all x ys, list_all-append (λ y. not (clash x y)) xs ys)
+clash_free_both (x ∷ xs) ys only h k c free =
+    grind (
+      arith,
+      common_steps,
+      clash_free_both xs ys,
+      beside_all x ys,
+      list_all-append
+          (λ y. not (clash x y)) xs ys,
+    )
 
 -- The law
 
@@ -67,21 +99,32 @@ halves_are_turns a m b s r =
     let same = rest_stays first got s.steps a.session a.images a.frozen a.kept s.only in
     let mode : m.session.mode ≡ a.session.mode = ap (λ (x : Session). x.mode) s.session ∙ same.0 in
     let at : moment_by m call ≡ first =
-    ap (λ (x : Terms). let k : Moment = record { terms = x; began = m.session.mode; silence = m.silence; call = call } in k) s.terms
-    ∙ ap (λ (x : Mode). let k : Moment = record { terms = a.terms; began = x; silence = m.silence; call = call } in k) mode
-    ∙ ap (λ (x : ℕ). let k : Moment = record { terms = a.terms; began = a.session.mode; silence = x; call = call } in k) s.silence in
-    let out : r.out ≡ record { took = list_any is_take s.steps; wanted = a.images.wanted } = let both = sym r.was ∙ s.pending in cc in
-    let book = book_both first got s.steps a.book s.may_book (subst (λ (x : BookState). MayBookAll got x) s.book r.work.may_book) in
+    ap (λ (x : Terms). let k : Moment =
+    record { terms = x; began = m.session.mode; silence = m.silence; call = call } in k) s.terms
+    ∙ ap (λ (x : Mode). let k : Moment =
+    record { terms = a.terms; began = x; silence = m.silence; call = call } in k) mode
+    ∙ ap (λ (x : ℕ). let k : Moment =
+    record { terms = a.terms; began = a.session.mode; silence = x; call = call } in k)
+    s.silence in
+    let out : r.out ≡ record { took = list_any is_take s.steps; wanted = a.images.wanted } =
+    let both = sym r.was ∙ s.pending in cc in
+    let book = book_both first got s.steps a.book s.may_book
+    (subst (λ (x : BookState). MayBookAll got x) s.book r.work.may_book) in
     let session = session_both first got s.steps a.session (s.may_session call)
-    (subst (λ (x : Session). MaySessionAll first got x) s.session (subst (λ (k : Moment). MaySessionAll k got m.session) at r.work.may_session)) in
+    (subst (λ (x : Session). MaySessionAll first got x) s.session
+    (subst (λ (k : Moment). MaySessionAll k got m.session) at r.work.may_session)) in
     let images = images_both first got s.steps a.images (s.may_images call)
-    (subst (λ (i : Images). MayImagesAll first got i) (s.images call) (subst (λ (k : Moment). MayImagesAll k got m.images) at r.may_images)) in
-    let last : ImageIsLast first b.session.mode m.images b.images = subst (λ (k : Moment). ImageIsLast k b.session.mode m.images b.images) at r.image_is_last in (
+    (subst (λ (i : Images). MayImagesAll first got i) (s.images call)
+    (subst (λ (k : Moment). MayImagesAll k got m.images) at r.may_images)) in
+    let last : ImageIsLast first b.session.mode m.images b.images =
+    subst (λ (k : Moment). ImageIsLast k b.session.mode m.images b.images) at
+    r.image_is_last in (
       record { call = call; steps = s.steps ++ got },
       record {
         fits = subst (λ (k : Mode). CallFits k call) mode r.all.fits;
         silence = r.all.silence ∙ ap (silence_by call) s.silence;
-        clash_free = clash_free_both s.steps got s.only s.clash_free r.only (λ h. r.calm (ap (λ (p : Pending). p.took) out ∙ h)) r.all.clash_free;
+        clash_free = clash_free_both s.steps got s.only s.clash_free r.only
+            (λ h. r.calm (ap (λ (p : Pending). p.took) out ∙ h)) r.all.clash_free;
         terms = r.all.terms ∙ s.terms;
       },
       record {
@@ -93,15 +136,24 @@ halves_are_turns a m b s r =
         down = r.work.down;
       },
       record {
-        may_frozen = same.2 (subst (λ (f : Option Frozen). MayFrozenAll got f) s.frozen r.events.may_frozen);
+        may_frozen = same.2 (subst (λ (f : Option Frozen). MayFrozenAll got f) s.frozen
+            r.events.may_frozen);
         frozen = r.events.frozen ∙ ap (frozen_through got) s.frozen ∙ sym same.3;
         kept = r.events.kept ∙ ap (kept_through got) s.kept ∙ sym same.4;
       },
       record {
         may_images = images.0;
-        images = r.images ∙ ap (λ (k : Moment). images_through k got m.images) at ∙ ap (images_through first got) (s.images call) ∙ sym images.1;
-        image_is_last = (last.0, last.1, λ h up. last.2 h up ∙ ap (λ (i : Images). i.image) (s.images call) ∙ same.1);
-        output_is_wanted = λ calm. subst (λ (k : Moment). OutputIsWanted k (record m.images { wanted = r.out.wanted }) b.images) at r.output_is_wanted calm ∙ ap (λ (p : Pending). p.wanted) out;
+        images = r.images ∙ ap (λ (k : Moment). images_through k got m.images) at
+            ∙ ap (images_through first got) (s.images call) ∙ sym images.1;
+        image_is_last = (
+          last.0,
+          last.1,
+          λ h up. last.2 h up
+              ∙ ap (λ (i : Images). i.image) (s.images call) ∙ same.1,
+        );
+        output_is_wanted = λ calm. subst
+            (λ (k : Moment). OutputIsWanted k (record m.images { wanted = r.out.wanted })
+            b.images) at r.output_is_wanted calm ∙ ap (λ (p : Pending). p.wanted) out;
       },
       (s.free, r.pending),
     )

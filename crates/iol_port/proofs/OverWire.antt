@@ -19,38 +19,90 @@ module _ {W : Type 0} (wire : W) (p next : Parts (Unit {0})) where
   abbrev over : Parts (Unit {0}) → Parts W
   over q = parts_over wire q
 
-  pub submit_over : {b : BookState} {r : Result Ticket PortFault} → SubmitGives p b r next → SubmitGives (over p) b r (over next)
-  submit_over h = record { allowed = h.allowed; ticket = h.ticket; entered = h.entered; refused = h.refused; unchanged = h.unchanged; memory = h.memory; rest = ap over h.rest }
+  pub submit_over : {b : BookState} {r : Result Ticket PortFault} → SubmitGives p b r next
+      → SubmitGives (over p) b r (over next)
+  submit_over h = record {
+    allowed = h.allowed;
+    ticket = h.ticket;
+    entered = h.entered;
+    refused = h.refused;
+    unchanged = h.unchanged;
+    memory = h.memory;
+    rest = ap over h.rest;
+  }
 
-  pub collect_over : {t : Ticket} {r : Result Outcome PortFault} → CollectGives p t r next → CollectGives (over p) t r (over next)
-  collect_over h = record { answer = h.answer; book = h.book; memory = h.memory; rest = ap over h.rest }
+  pub collect_over : {t : Ticket} {r : Result Outcome PortFault} → CollectGives p t r next
+      → CollectGives (over p) t r (over next)
+  collect_over h = record {
+    answer = h.answer;
+    book = h.book;
+    memory = h.memory;
+    rest = ap over h.rest;
+  }
 
-  pub withdraw_over : {t : Ticket} {r : Result (Unit {0}) PortFault} → WithdrawGives p t r next → WithdrawGives (over p) t r (over next)
-  withdraw_over h = record { answer = h.answer; book = h.book; memory = h.memory; rest = ap over h.rest }
+  pub withdraw_over : {t : Ticket} {r : Result (Unit {0}) PortFault} → WithdrawGives p t r next
+      → WithdrawGives (over p) t r (over next)
+  withdraw_over h = record {
+    answer = h.answer;
+    book = h.book;
+    memory = h.memory;
+    rest = ap over h.rest;
+  }
 
-  pub cancel_over : {t : Ticket} {r : Result (Unit {0}) PortFault} → CancelGives p t r next → CancelGives (over p) t r (over next)
-  cancel_over {r = r} h = record { answer = h.answer; waits = on_ok _ _ r (ap over) h.waits; unchanged = on_err _ _ r (ap over) h.unchanged }
+  pub cancel_over : {t : Ticket} {r : Result (Unit {0}) PortFault} → CancelGives p t r next
+      → CancelGives (over p) t r (over next)
+  cancel_over {r = r} h = record {
+    answer = h.answer;
+    waits = on_ok _ _ r (ap over) h.waits;
+    unchanged = on_err _ _ r (ap over) h.unchanged;
+  }
 
-  pub archive_over : {r : Result (List Entry) PortFault} → ArchiveGives p r next → ArchiveGives (over p) r (over next)
-  archive_over h = record { allowed = h.allowed; journal = h.journal; refused = h.refused; book = h.book; memory = h.memory; rest = ap over h.rest }
+  pub archive_over : {r : Result (List Entry) PortFault} → ArchiveGives p r next
+      → ArchiveGives (over p) r (over next)
+  archive_over h = record {
+    allowed = h.allowed;
+    journal = h.journal;
+    refused = h.refused;
+    book = h.book;
+    memory = h.memory;
+    rest = ap over h.rest;
+  }
 
-  pub take_event_over : {r : Result Event PortFault} → TakeEventGives p r next → TakeEventGives (over p) r (over next)
+  pub take_event_over : {r : Result Event PortFault} → TakeEventGives p r next
+      → TakeEventGives (over p) r (over next)
   take_event_over h = record { answer = h.answer; rest = ap over h.rest }
 
-  pub set_output_over : {image : Image} {r : Result (Unit {0}) PortFault} → SetOutputGives p image r next → SetOutputGives (over p) image r (over next)
-  set_output_over {r = r} h = record { answer = h.answer; wanted = on_ok _ _ r (ap over) h.wanted; unchanged = on_err _ _ r (ap over) h.unchanged }
+  pub set_output_over : {image : Image} {r : Result (Unit {0}) PortFault}
+      → SetOutputGives p image r next → SetOutputGives (over p) image r (over next)
+  set_output_over {r = r} h = record {
+    answer = h.answer;
+    wanted = on_ok _ _ r (ap over) h.wanted;
+    unchanged = on_err _ _ r (ap over) h.unchanged;
+  }
 
   pub clear_output_over : ClearOutputGives p next → ClearOutputGives (over p) (over next)
   clear_output_over h = ap over h
 
-  pub expect_over : {identity : Option Identity} {r : Counting} → ExpectGives p identity r next → ExpectGives (over p) identity r (over next)
+  pub expect_over : {identity : Option Identity} {r : Counting} → ExpectGives p identity r next
+      → ExpectGives (over p) identity r (over next)
   expect_over h = record { counts = h.counts; expects = ap over h.expects }
 
-  pub set_cycle_over : {cycle : Option CycleTime} {r : Counting} → SetCycleGives p cycle r next → SetCycleGives (over p) cycle r (over next)
+  pub set_cycle_over : {cycle : Option CycleTime} {r : Counting} → SetCycleGives p cycle r next
+      → SetCycleGives (over p) cycle r (over next)
   set_cycle_over h = record { counts = h.counts; paces = ap over h.paces }
 
   pub restart_over : RestartGives p next → RestartGives (over p) (over next)
-  restart_over h = record { wire = refl; mode = h.mode; why = h.why; session_is = h.session_is; book = h.book; memory = h.memory; kept = h.kept; sent = h.sent; counters = h.counters }
+  restart_over h = record {
+    wire = refl;
+    mode = h.mode;
+    why = h.why;
+    session_is = h.session_is;
+    book = h.book;
+    memory = h.memory;
+    kept = h.kept;
+    sent = h.sent;
+    counters = h.counters;
+  }
 
 -- what each call answers and leaves, over a wire
 pub ruleset over_wire = (

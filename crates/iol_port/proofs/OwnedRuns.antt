@@ -1,4 +1,5 @@
--- what is carried out in a run is each request once, and none that was cut off before a wake that had success, or for good
+-- what is carried out in a run is each request once, and none that was cut off before a wake that
+-- had success, or for good
 use Rattle.std.proofs.Common.{◌≡◌, ◌⊎◌, ◌∷◌, ◌++◌, [], List, ℕ, ◌+◌, ◌≤◌, Option, Some, None, append-nil, refl, sym, ◌∙◌, inl, inr, subst, arith}
 use Rattle.std.proofs.lemmas.Grind.{common_steps}
 use Rattle.std.specs.Map.{lookup, remove_entry}
@@ -31,15 +32,18 @@ use Rattle.iol_port.proofs.OwnedLists.{ahead_once, ahead_given, ahead_next, wait
 
 -- Where the mode is down, it stays so until a wake has success
 
-down_stays : (m : Moment) (step : Step) (s : Session) → s.mode ≡ Down → MaySession m step s → ((session_after step s).late ≡ None) ⊎ ((session_after step s).mode ≡ Down)
+down_stays : (m : Moment) (step : Step) (s : Session) → s.mode ≡ Down → MaySession m step s
+    → ((session_after step s).late ≡ None) ⊎ ((session_after step s).mode ≡ Down)
 down_stays m step s given given2 = grind (arith, common_steps)
 
-restart_down : (s : Session) (job : Option Job) → (session_through (restart_steps (request_of job)) s).mode ≡ Down
+restart_down : (s : Session) (job : Option Job)
+    → (session_through (restart_steps (request_of job)) s).mode ≡ Down
 restart_down s job = grind (arith, common_steps)
 
 module _ (given : ℕ) (before : List Carried) (Happened : Piece → Answered → Type 0) where
   abbrev Asked : Ticket → Request → Type 0
-  Asked t q = Happened (Whole (call.Submit q)) (answered.Ticket t) ⊎ Happened (Whole (call.SubmitUrgent q)) (answered.Ticket t)
+  Asked t q = Happened (Whole (call.Submit q)) (answered.Ticket t)
+      ⊎ Happened (Whole (call.SubmitUrgent q)) (answered.Ticket t)
 
   abbrev OwnsPort : List Owned → Ticket → PortState → Type 0
   OwnsPort owned u a = OwnsAll given before Asked owned u a.book a.session
@@ -53,61 +57,113 @@ module _ (given : ℕ) (before : List Carried) (Happened : Piece → Answered �
   -- a wake that had success: from then on only what was to come by now is carried out
   record GoesWoken (x : Tally) (b : BookState) (s : Session) : Type 0 where
     pub goes : GoesTo given before Asked x b s
-    pub woken : (n : ℕ) → (tally_in goes.owned goes.ticket b s).late n + (tally_in goes.owned goes.ticket b s).coming n ≤ x.coming n
+    pub woken : (n : ℕ) → (tally_in goes.owned goes.ticket b s).late n +
+        (tally_in goes.owned goes.ticket b s).coming n ≤ x.coming n
 
   -- the mode is down, or there was one
   abbrev MayWake : Tally → BookState → Session → Type 0
   MayWake x b s = (GoesTo given before Asked x b s × (s.mode ≡ Down)) ⊎ GoesWoken x b s
 
-  wake_step : (x : Tally) (m : Moment) (step : Step) (b : BookState) (s : Session) → MayBook step b → MaySession m step s → MayWake x b s → MayWake x (book_after step b) (session_after step s)
+  wake_step : (x : Tally) (m : Moment) (step : Step) (b : BookState) (s : Session)
+      → MayBook step b → MaySession m step s → MayWake x b s
+      → MayWake x (book_after step b) (session_after step s)
   unfolding goes_then
   wake_step x m step b s next may (inl (g, down)) = by (down_stays m step s down may)
     where
       one : GoesTo given before Asked x (book_after step b) (session_after step s)
       one = goes_step given before Asked x m step b s next may g
 
-      by : ((session_after step s).late ≡ None) ⊎ ((session_after step s).mode ≡ Down) → MayWake x (book_after step b) (session_after step s)
-      by (inl sure) = inr (record { goes = one; woken = λ n. let none : (tally_in one.owned one.ticket (book_after step b) (session_after step s)).late n ≡ 0 = rw sure refl in omega (arith, none, one.grows.less n) })
+      by : ((session_after step s).late ≡ None) ⊎ ((session_after step s).mode ≡ Down)
+          → MayWake x (book_after step b) (session_after step s)
+      by (inl sure) = inr (record {
+        goes = one;
+        woken = λ n. let none : (tally_in one.owned one.ticket (book_after step b)
+            (session_after step s)).late n ≡ 0 = rw sure refl in
+            omega (arith, none, one.grows.less n);
+      })
       by (inr stays) = inl (one, stays)
-  wake_step x m step b s next may (inr w) = inr (record { goes = goes_then given before Asked x b s (book_after step b) (session_after step s) w.goes one; woken = λ n. omega (arith, w.woken n, one.grows.spent n) })
+  wake_step x m step b s next may (inr w) =
+      inr (record {
+        goes = goes_then given before Asked x b s (book_after step b)
+            (session_after step s) w.goes one;
+        woken = λ n. omega (arith, w.woken n, one.grows.spent n);
+      })
     where
-      one : GoesTo given before Asked (tally_in w.goes.owned w.goes.ticket b s) (book_after step b) (session_after step s)
-      one = step_owns given before Asked m step b s s.job w.goes.owned w.goes.ticket next may w.goes.owns
+      one : GoesTo given before Asked (tally_in w.goes.owned w.goes.ticket b s)
+          (book_after step b) (session_after step s)
+      one = step_owns given before Asked m step b s s.job w.goes.owned w.goes.ticket next may
+          w.goes.owns
 
-  wake_owns : (m : Moment) (steps : List Step) (b : BookState) (s : Session) (owned : List Owned) (u : Ticket) → s.mode ≡ Down → ((session_through steps s).mode ≡ Down → ⊥)
-      → MayBookAll steps b → MaySessionAll m steps s → OwnsAll given before Asked owned u b s → GoesWoken (tally_in owned u b s) (book_through steps b) (session_through steps s)
+  wake_owns : (m : Moment) (steps : List Step) (b : BookState) (s : Session)
+      (owned : List Owned) (u : Ticket) → s.mode ≡ Down
+      → ((session_through steps s).mode ≡ Down → ⊥)
+      → MayBookAll steps b → MaySessionAll m steps s → OwnsAll given before Asked owned u b s
+      → GoesWoken (tally_in owned u b s) (book_through steps b) (session_through steps s)
   wake_owns m steps b s owned u down left next may owns =
-      elim (steps_keep (MayWake (tally_in owned u b s)) m (wake_step (tally_in owned u b s) m) steps b s next may (inl (still given before Asked b s owned u owns, down))) [
+      elim (steps_keep (MayWake (tally_in owned u b s)) m (wake_step (tally_in owned u b s) m)
+      steps b s next may (inl (still given before Asked b s owned u owns, down))) [
         | inl stayed ↦ absurd (left stayed.1)
         | inr w ↦ w
       ]
 
   -- The pieces
 
-  restart_owns : (b : BookState) (s : Session) (job : Option Job) (owned : List Owned) (u : Ticket) → OwnsAll given before Asked owned u b (record s { job = job })
-      → GoesTo given before Asked (tally_in owned u b (record s { job = job })) (book_through (restart_steps (request_of job)) b) (session_through (restart_steps (request_of job)) (record s { job = job }))
-  restart_owns b s None owned u owns = still given before Asked b (record s { job = None }) owned u owns
-  restart_owns b s (Some job) owned u owns = cut_owns given before Asked job b s owned u owns Restarted
+  restart_owns : (b : BookState) (s : Session) (job : Option Job) (owned : List Owned)
+      (u : Ticket) → OwnsAll given before Asked owned u b (record s { job = job })
+      → GoesTo given before Asked (tally_in owned u b (record s { job = job }))
+      (book_through (restart_steps (request_of job)) b)
+      (session_through (restart_steps (request_of job)) (record s { job = job }))
+  restart_owns b s None owned u owns =
+      still given before Asked b (record s { job = None }) owned u owns
+  restart_owns b s (Some job) owned u owns =
+      cut_owns given before Asked job b s owned u owns Restarted
 
-  piece_owns : (a b : PortState) (c : Piece) (reply : Answered) (owned : List Owned) (u : Ticket) → PieceOf a c reply b → Happened c reply → OwnsPort owned u a → GoesPort (tally_at owned u a) b
-  piece_owns a b c reply owned u is happened owns = piece_leaves (GoesPort (tally_at owned u a)) a b c reply is (record {
-    stays = λ kept images. same;
-    expect = λ identity. same;
-    submit = λ q e r. waits_owns given before Asked a.book a.session owned u owns urgent (waiting ++ (next_ticket a.book, q) ∷ []) outcomes (a.book.last + 1)
-        (λ n. omega (arith, waiting_push n waiting (next_ticket a.book, q), ahead_next a.book.last n))
-        owns.urgent (each_push Asked waiting (next_ticket a.book) q (inl (rw (e, r) at happened)) owns.waiting) owns.outcomes;
-    urgent = λ q e r. waits_owns given before Asked a.book a.session owned u owns (urgent ++ (next_ticket a.book, q) ∷ []) waiting outcomes (a.book.last + 1)
-        (λ n. omega (arith, waiting_push n urgent (next_ticket a.book, q), ahead_next a.book.last n))
-        (each_push Asked urgent (next_ticket a.book) q (inr (rw (e, r) at happened)) owns.urgent) owns.waiting owns.outcomes;
-    collect = λ t out e. rw e (waits_owns given before Asked a.book a.session owned u owns urgent waiting (remove_entry (same_ticket t) outcomes) a.book.last (λ n. omega arith) owns.urgent owns.waiting (each_removed Stands (same_ticket t) outcomes owns.outcomes));
-    withdraw = λ t e. rw e (waits_owns given before Asked a.book a.session owned u owns (without t urgent) (others_without t urgent waiting) (insert_entry same_ticket outcomes t outcome.Withdrawn) a.book.last
-        (λ n. omega (arith, waiting_without n t urgent, waiting_others n t urgent waiting))
-        (each_removed Asked (same_ticket t) urgent owns.urgent) (each_others Asked t urgent waiting owns.waiting) (each_inserted Stands outcomes t outcome.Withdrawn tt owns.outcomes));
-    cancel = λ t e r free. same_sent given before Asked a.book a.session owned u owns (marked a.session.job) (marked_sent a.session.job);
-    restart = restart_owns a.book a.session a.session.job owned u owns;
-    archive = λ may. same;
-    moves = λ m steps b w. rw (w.book, w.session) (steps_keep (GoesTo given before Asked (tally_at owned u a)) m (goes_step given before Asked (tally_at owned u a) m) steps a.book a.session w.may_book w.may_session same);
-  })
+  piece_owns : (a b : PortState) (c : Piece) (reply : Answered) (owned : List Owned)
+      (u : Ticket) → PieceOf a c reply b → Happened c reply → OwnsPort owned u a
+      → GoesPort (tally_at owned u a) b
+  piece_owns a b c reply owned u is happened owns =
+      piece_leaves (GoesPort (tally_at owned u a)) a b c reply is (record {
+        stays = λ kept images. same;
+        expect = λ identity. same;
+        submit = λ q e r. waits_owns given before Asked a.book a.session owned u owns urgent
+            (waiting ++ (next_ticket a.book, q) ∷ []) outcomes (a.book.last + 1)
+            (λ n. omega (
+              arith,
+              waiting_push n waiting (next_ticket a.book, q),
+              ahead_next
+                  a.book.last n,
+            ))
+            owns.urgent (each_push Asked waiting (next_ticket a.book) q
+            (inl (rw (e, r) at happened)) owns.waiting) owns.outcomes;
+        urgent = λ q e r. waits_owns given before Asked a.book a.session owned u owns
+            (urgent ++ (next_ticket a.book, q) ∷ []) waiting outcomes (a.book.last + 1)
+            (λ n. omega (
+              arith,
+              waiting_push n urgent (next_ticket a.book, q),
+              ahead_next
+                  a.book.last n,
+            ))
+            (each_push Asked urgent (next_ticket a.book) q (inr (rw (e, r) at happened))
+            owns.urgent) owns.waiting owns.outcomes;
+        collect = λ t out e. rw e (waits_owns given before Asked a.book a.session owned u owns
+            urgent waiting (remove_entry (same_ticket t) outcomes) a.book.last (λ n. omega arith)
+            owns.urgent owns.waiting (each_removed Stands (same_ticket t) outcomes owns.outcomes));
+        withdraw = λ t e. rw e (waits_owns given before Asked a.book a.session owned u owns
+            (without t urgent) (others_without t urgent waiting)
+            (insert_entry same_ticket outcomes t outcome.Withdrawn) a.book.last
+            (λ n. omega (arith, waiting_without n t urgent, waiting_others n t urgent waiting))
+            (each_removed Asked (same_ticket t) urgent owns.urgent)
+            (each_others Asked t urgent waiting owns.waiting)
+            (each_inserted Stands outcomes t outcome.Withdrawn tt owns.outcomes));
+        cancel = λ t e r free. same_sent given before Asked a.book a.session owned u owns
+            (marked a.session.job) (marked_sent a.session.job);
+        restart = restart_owns a.book a.session a.session.job owned u owns;
+        archive = λ may. same;
+        moves = λ m steps b w. rw (w.book, w.session)
+            (steps_keep (GoesTo given before Asked (tally_at owned u a)) m
+            (goes_step given before Asked (tally_at owned u a) m) steps a.book a.session
+            w.may_book w.may_session same);
+      })
     where
       open a.book.standing use {urgent, waiting, outcomes}
 
@@ -118,7 +174,9 @@ module _ (given : ℕ) (before : List Carried) (Happened : Piece → Answered �
       same = still given before Asked a.book a.session owned u owns
 
   -- one that leads out of down had such a wake
-  piece_wakes : (a b : PortState) (c : Piece) (reply : Answered) (owned : List Owned) (u : Ticket) → PieceOf a c reply b → a.session.mode ≡ Down → OwnsPort owned u a → (b.session.mode ≡ Down → ⊥) → GoesWoken (tally_at owned u a) b.book b.session
+  piece_wakes : (a b : PortState) (c : Piece) (reply : Answered) (owned : List Owned)
+      (u : Ticket) → PieceOf a c reply b → a.session.mode ≡ Down → OwnsPort owned u a
+      → (b.session.mode ≡ Down → ⊥) → GoesWoken (tally_at owned u a) b.book b.session
   piece_wakes a b c reply owned u is down owns = piece_leaves Woken a b c reply is (record {
     stays = λ kept images left. absurd (left down);
     expect = λ identity left. absurd (left down);
@@ -129,7 +187,9 @@ module _ (given : ℕ) (before : List Carried) (Happened : Piece → Answered �
     cancel = λ t e r free left. absurd (left down);
     restart = λ left. absurd (left (restart_down a.session a.session.job));
     archive = λ may left. absurd (left down);
-    moves = λ m steps b w. rw (w.book, w.session) (λ left. wake_owns m steps a.book a.session owned u down left w.may_book w.may_session owns);
+    moves = λ m steps b w. rw (w.book, w.session)
+        (λ left. wake_owns m steps a.book a.session owned u down left w.may_book w.may_session
+        owns);
   })
     where
       Woken : PortState → Type 0
@@ -137,51 +197,81 @@ module _ (given : ℕ) (before : List Carried) (Happened : Piece → Answered �
 
   -- Whole runs
 
-  record RunOwns (x : Tally) (pieces : List Piece) (replies : List Answered) (b : PortState) : Type 0 where
+  record RunOwns (x : Tally) (pieces : List Piece) (replies : List Answered)
+      (b : PortState) : Type 0 where
     pub goes : GoesPort x b
-    pub got : (t : Ticket) (out : Outcome) → Happens pieces replies (Whole (call.Collect t)) (answered.Outcome out) → OutcomeStands (tally_at goes.owned goes.ticket b) t out
+    pub got : (t : Ticket) (out : Outcome)
+        → Happens pieces replies (Whole (call.Collect t)) (answered.Outcome out)
+        → OutcomeStands (tally_at goes.owned goes.ticket b) t out
 
   -- what is told by a call, and by those after it
-  run_then : (a mid b : PortState) (c : Piece) (r : Answered) (pieces : List Piece) (replies : List Answered) (owned : List Owned) (u : Ticket) → PieceOf a c r mid → OwnsPort owned u a
-      → (one : GoesPort (tally_at owned u a) mid) → RunOwns (tally_at one.owned one.ticket mid) pieces replies b → RunOwns (tally_at owned u a) (c ∷ pieces) (r ∷ replies) b
+  run_then : (a mid b : PortState) (c : Piece) (r : Answered) (pieces : List Piece)
+      (replies : List Answered) (owned : List Owned) (u : Ticket) → PieceOf a c r mid
+      → OwnsPort owned u a
+      → (one : GoesPort (tally_at owned u a) mid)
+      → RunOwns (tally_at one.owned one.ticket mid) pieces replies b
+      → RunOwns (tally_at owned u a) (c ∷ pieces) (r ∷ replies) b
   unfolding goes_then
   run_then a mid b c r pieces replies owned u is owns one later = record { goes = goes; got = by }
     where
       goes : GoesPort (tally_at owned u a) b
-      goes = goes_then given before Asked (tally_at owned u a) mid.book mid.session b.book b.session one later.goes
+      goes = goes_then given before Asked (tally_at owned u a) mid.book mid.session b.book
+          b.session one later.goes
 
-      by : (t : Ticket) (out : Outcome) → Happens (c ∷ pieces) (r ∷ replies) (Whole (call.Collect t)) (answered.Outcome out) → OutcomeStands (tally_at later.goes.owned later.goes.ticket b) t out
-      by t out (inl (e, f)) = outcome_then (tally_at owned u a) (tally_at later.goes.owned later.goes.ticket b) goes.grows t out
-          (each_looked (OutcomeStands (tally_at owned u a)) a.book.standing.outcomes t out (told_outcome a mid t out (rw (e, f) at is)) owns.outcomes)
+      by : (t : Ticket) (out : Outcome)
+          → Happens (c ∷ pieces) (r ∷ replies) (Whole (call.Collect t)) (answered.Outcome out)
+          → OutcomeStands (tally_at later.goes.owned later.goes.ticket b) t out
+      by t out (inl (e, f)) = outcome_then (tally_at owned u a)
+          (tally_at later.goes.owned later.goes.ticket b) goes.grows t out
+          (each_looked (OutcomeStands (tally_at owned u a)) a.book.standing.outcomes t out
+          (told_outcome a mid t out (rw (e, f) at is)) owns.outcomes)
       by t out (inr i) = later.got t out i
 
-  run_owns : (a b : PortState) (pieces : List Piece) (replies : List Answered) (owned : List Owned) (u : Ticket) → Pieces a pieces replies b
-      → ((c : Piece) (r : Answered) → Happens pieces replies c r → Happened c r) → OwnsPort owned u a → RunOwns (tally_at owned u a) pieces replies b
+  run_owns : (a b : PortState) (pieces : List Piece) (replies : List Answered)
+      (owned : List Owned) (u : Ticket) → Pieces a pieces replies b
+      → ((c : Piece) (r : Answered) → Happens pieces replies c r → Happened c r)
+      → OwnsPort owned u a → RunOwns (tally_at owned u a) pieces replies b
   run_owns a b [] [] owned u run all owns =
-      record { goes = subst (λ (p : PortState). GoesPort (tally_at owned u a) p) (sym run) (still given before Asked a.book a.session owned u owns); got = λ t out no. absurd no }
+      record {
+        goes = subst (λ (p : PortState). GoesPort (tally_at owned u a) p) (sym run)
+            (still given before Asked a.book a.session owned u owns);
+        got = λ t out no. absurd no;
+      }
   run_owns a b (c ∷ pieces) (r ∷ replies) owned u (mid, first, rest) all owns =
-      let one : GoesPort (tally_at owned u a) mid = piece_owns a mid c r owned u first (all c r (inl (refl, refl))) owns in
-      run_then a mid b c r pieces replies owned u first owns one (run_owns mid b pieces replies one.owned one.ticket rest (λ x y i. all x y (inr i)) one.owns)
+      let one : GoesPort (tally_at owned u a) mid =
+      piece_owns a mid c r owned u first (all c r (inl (refl, refl))) owns in
+      run_then a mid b c r pieces replies owned u first owns one
+      (run_owns mid b pieces replies one.owned one.ticket rest (λ x y i. all x y (inr i))
+      one.owns)
   run_owns a b [] (r ∷ replies) owned u run all owns = absurd run
   run_owns a b (c ∷ pieces) [] owned u run all owns = absurd run
 
 -- What happens in a run and in one that goes on
 
-happens_both : (a b : PortState) (pieces more : List Piece) (replies others : List Answered) → Pieces a pieces replies b → (c : Piece) (r : Answered)
-    → (Happens pieces replies c r ⊎ Happens more others c r → Happens (pieces ++ more) (replies ++ others) c r)
-    × (Happens (pieces ++ more) (replies ++ others) c r → Happens pieces replies c r ⊎ Happens more others c r)
+happens_both : (a b : PortState) (pieces more : List Piece) (replies others : List Answered)
+    → Pieces a pieces replies b → (c : Piece) (r : Answered)
+    → (Happens pieces replies c r ⊎ Happens more others c r
+    → Happens (pieces ++ more) (replies ++ others) c r)
+    × (Happens (pieces ++ more) (replies ++ others) c r
+    → Happens pieces replies c r ⊎ Happens more others c r)
 happens_both a b [] more [] others run c r = (λ h. grind arith, λ i. inr i)
 happens_both a b (d ∷ pieces) more (s ∷ replies) others (mid, one, rest) c r =
-    let both = happens_both mid b pieces more replies others rest c r in (λ h. grind (arith, both.0), λ h. grind (arith, both.1))
+    let both = happens_both mid b pieces more replies others rest c r in
+    (λ h. grind (arith, both.0), λ h. grind (arith, both.1))
 happens_both a b [] more (s ∷ replies) others run c r = absurd run
 happens_both a b (d ∷ pieces) more [] others run c r = absurd run
 
 -- the ledger of a run says what the device carried out in it
-carries_out : (given : ℕ) (before : List Carried) (pieces : List Piece) (replies : List Answered) (b : PortState) (owned : List Owned) (u : Ticket) → OwnsPort given before (Happens pieces replies) owned u b
-    → ((t : Ticket) (a : Answer) → Happens pieces replies (Whole (call.Collect t)) (answered.Outcome (outcome.Done a)) → HasAnswer owned t a) → CarriesOut given before pieces replies b.session.carried owned
+carries_out : (given : ℕ) (before : List Carried) (pieces : List Piece)
+    (replies : List Answered) (b : PortState) (owned : List Owned) (u : Ticket)
+    → OwnsPort given before (Happens pieces replies) owned u b
+    → ((t : Ticket) (a : Answer) → Happens pieces replies (Whole (call.Collect t))
+    (answered.Outcome (outcome.Done a)) → HasAnswer owned t a)
+    → CarriesOut given before pieces replies b.session.carried owned
 carries_out given before pieces replies b owned u owns done = record {
   record_is = owns.record_is;
-  apart = apart_of given owned (λ n. omega (arith, owns.once.once n)) (λ n low. omega (arith, owns.once.above n low));
+  apart = apart_of given owned (λ n. omega (arith, owns.once.once n))
+      (λ n low. omega (arith, owns.once.above n low));
   asked = owns.asked;
   done = done;
 }
@@ -191,7 +281,10 @@ module _ (limits : Limits) (far : Far) (silence : ℕ) (Happened : Piece → Ans
   start : OwnsPort limits.given far.carried Happened [] (ticket_of 0) (opened limits far silence)
   start = record {
     record_is = sym (append-nil far.carried);
-    once = record { once = λ n. omega (arith, ahead_once limits.given n); above = λ n low. omega (arith, ahead_given limits.given n low) };
+    once = record {
+      once = λ n. omega (arith, ahead_once limits.given n);
+      above = λ n low. omega (arith, ahead_given limits.given n low);
+    };
     asked = λ o i. absurd i;
     urgent = tt;
     waiting = tt;
@@ -202,80 +295,144 @@ module _ (limits : Limits) (far : Far) (silence : ℕ) (Happened : Piece → Ans
 
 pub each_done_has_its_pair : EachDoneHasItsPair
 each_done_has_its_pair limits far silence pieces replies b run =
-    let end = run_owns limits.given far.carried (Happens pieces replies) (opened limits far silence) b pieces replies [] (ticket_of 0) run (λ c r i. i) (start limits far silence (Happens pieces replies)) in
-    (end.goes.owned, carries_out limits.given far.carried pieces replies b end.goes.owned end.goes.ticket end.goes.owns (λ t a i. end.got t (outcome.Done a) i))
+    let end = run_owns limits.given far.carried (Happens pieces replies)
+    (opened limits far silence) b pieces replies [] (ticket_of 0) run (λ c r i. i)
+    (start limits far silence (Happens pieces replies)) in (
+      end.goes.owned,
+      carries_out limits.given far.carried pieces replies b end.goes.owned
+          end.goes.ticket end.goes.owns (λ t a i. end.got t (outcome.Done a) i),
+    )
 
 -- a run, and one that goes on from where it led
-module _ (limits : Limits) (far : Far) (silence : ℕ) (pieces more : List Piece) (replies others : List Answered) (a c : PortState) (run : Pieces (opened limits far silence) pieces replies a) where
+module _ (limits : Limits) (far : Far) (silence : ℕ) (pieces more : List Piece)
+    (replies others : List Answered) (a c : PortState)
+    (run : Pieces (opened limits far silence) pieces replies a) where
   abbrev Both : Piece → Answered → Type 0
   Both d r = Happens (pieces ++ more) (replies ++ others) d r
 
   abbrev tally : List Owned → Ticket → PortState → Tally
   tally owned u p = tally_at limits.given far.carried Both owned u p
 
-  first : RunOwns limits.given far.carried Both (tally [] (ticket_of 0) (opened limits far silence)) pieces replies a
-  first = run_owns limits.given far.carried Both (opened limits far silence) a pieces replies [] (ticket_of 0) run
-      (λ d r i. (happens_both _ a pieces more replies others run d r).0 (inl i)) (start limits far silence Both)
+  first : RunOwns limits.given far.carried Both
+      (tally [] (ticket_of 0) (opened limits far silence)) pieces replies a
+  first = run_owns limits.given far.carried Both (opened limits far silence) a pieces replies []
+      (ticket_of 0) run
+      (λ d r i. (happens_both _ a pieces more replies others run d r).0 (inl i))
+      (start limits far silence Both)
 
-  then_run : (b : PortState) (after : List Piece) (answers : List Answered) (owned : List Owned) (u : Ticket) → Pieces b after answers c → ((d : Piece) (r : Answered) → Happens after answers d r → Happens more others d r)
-      → OwnsPort limits.given far.carried Both owned u b → RunOwns limits.given far.carried Both (tally owned u b) after answers c
-  then_run b after answers owned u rest among owns = run_owns limits.given far.carried Both b c after answers owned u rest
+  then_run : (b : PortState) (after : List Piece) (answers : List Answered) (owned : List Owned)
+      (u : Ticket) → Pieces b after answers c
+      → ((d : Piece) (r : Answered) → Happens after answers d r → Happens more others d r)
+      → OwnsPort limits.given far.carried Both owned u b
+      → RunOwns limits.given far.carried Both (tally owned u b) after answers c
+  then_run b after answers owned u rest among owns =
+      run_owns limits.given far.carried Both b c after answers owned u rest
       (λ d r i. (happens_both _ a pieces more replies others run d r).0 (inr (among d r i))) owns
 
   -- what was cut off by the end of the first
   cut_then : (t : Ticket) (cause : Cause)
-      → Happens pieces replies (Whole (call.Collect t)) (answered.Outcome (outcome.Unknown cause)) ⊎ (lookup (same_ticket t) a.book.standing.outcomes ≡ Some (outcome.Unknown cause))
+      → Happens pieces replies (Whole (call.Collect t))
+      (answered.Outcome (outcome.Unknown cause))
+      ⊎ (lookup (same_ticket t) a.book.standing.outcomes ≡ Some (outcome.Unknown cause))
       → OutcomeStands (tally first.goes.owned first.goes.ticket a) t (outcome.Unknown cause)
   cut_then t cause (inl i) = first.got t (outcome.Unknown cause) i
-  cut_then t cause (inr e) = each_looked (OutcomeStands (tally first.goes.owned first.goes.ticket a)) a.book.standing.outcomes t (outcome.Unknown cause) e first.goes.owns.outcomes
+  cut_then t cause (inr e) = each_looked
+      (OutcomeStands (tally first.goes.owned first.goes.ticket a)) a.book.standing.outcomes t
+      (outcome.Unknown cause) e first.goes.owns.outcomes
 
-  -- From a ledger behind the first on: what is to come or late there for none of these tickets is carried out for none of them
-  stays_out : (IsCut : Ticket → Type 0) (b : PortState) (owned : List Owned) (u : Ticket) (after : List Piece) (answers : List Answered) (all : RunOwns limits.given far.carried Both (tally first.goes.owned first.goes.ticket a) more others c)
-      → OwnsPort limits.given far.carried Both owned u b → (later : RunOwns limits.given far.carried Both (tally owned u b) after answers c) → all.goes.owned ≡ later.goes.owned
+  -- From a ledger behind the first on: what is to come or late there for none of these tickets is
+  -- carried out for none of them
+  stays_out : (IsCut : Ticket → Type 0) (b : PortState) (owned : List Owned) (u : Ticket)
+      (after : List Piece) (answers : List Answered)
+      (all : RunOwns limits.given far.carried Both
+      (tally first.goes.owned first.goes.ticket a) more others c)
+      → OwnsPort limits.given far.carried Both owned u b
+      → (later : RunOwns limits.given far.carried Both (tally owned u b) after answers c)
+      → all.goes.owned ≡ later.goes.owned
       → ((t : Ticket) → IsCut t → (tally owned u b).late t.0 + (tally owned u b).coming t.0 ≡ 0)
       → (mine added : List Owned) × (b.session.carried ≡ far.carried ++ pairs_of mine)
-      × CarriesOut limits.given far.carried (pieces ++ more) (replies ++ others) c.session.carried (mine ++ added) × ((o : Owned) → IsOneOf o added → IsCut o.ticket → ⊥)
+      × CarriesOut limits.given far.carried (pieces ++ more) (replies ++ others)
+      c.session.carried (mine ++ added) × ((o : Owned) → IsOneOf o added → IsCut o.ticket → ⊥)
   stays_out IsCut b owned u after answers all owns later same none = (
     owned,
     later.goes.grows.added,
     owns.record_is,
-    subst (λ (os : List Owned). CarriesOut limits.given far.carried (pieces ++ more) (replies ++ others) c.session.carried os) (same ∙ later.goes.grows.owned_is)
-        (carries_out limits.given far.carried (pieces ++ more) (replies ++ others) c all.goes.owned all.goes.ticket all.goes.owns (λ t x i. by t x ((happens_both _ a pieces more replies others run _ _).1 i))),
-    λ o i cut. omega (arith, none o.ticket cut, one_counts o later.goes.grows.added i, later.goes.grows.spent o.ticket.0),
+    subst (λ (os : List Owned). CarriesOut limits.given far.carried (pieces ++ more)
+        (replies ++ others) c.session.carried os) (same ∙ later.goes.grows.owned_is)
+        (carries_out limits.given far.carried (pieces ++ more) (replies ++ others) c
+        all.goes.owned all.goes.ticket all.goes.owns
+        (λ t x i. by t x ((happens_both _ a pieces more replies others run _ _).1 i))),
+    λ o i cut. omega (
+      arith,
+      none o.ticket cut,
+      one_counts o later.goes.grows.added i,
+      later.goes.grows.spent o.ticket.0,
+    ),
   )
     where
-      by : (t : Ticket) (x : Answer) → Happens pieces replies (Whole (call.Collect t)) (answered.Outcome (outcome.Done x)) ⊎ Happens more others (Whole (call.Collect t)) (answered.Outcome (outcome.Done x)) → HasAnswer all.goes.owned t x
-      by t x (inl i) = outcome_then (tally first.goes.owned first.goes.ticket a) (tally all.goes.owned all.goes.ticket c) all.goes.grows t (outcome.Done x) (first.got t (outcome.Done x) i)
+      by : (t : Ticket) (x : Answer) → Happens pieces replies (Whole (call.Collect t))
+          (answered.Outcome (outcome.Done x))
+          ⊎ Happens more others (Whole (call.Collect t)) (answered.Outcome (outcome.Done x))
+          → HasAnswer all.goes.owned t x
+      by t x (inl i) = outcome_then (tally first.goes.owned first.goes.ticket a)
+          (tally all.goes.owned all.goes.ticket c) all.goes.grows t (outcome.Done x)
+          (first.got t (outcome.Done x) i)
       by t x (inr i) = all.got t (outcome.Done x) i
 
 pub cut_for_good_stays_out : CutForGoodStaysOut
 cut_for_good_stays_out limits far silence pieces more replies others a c run rest =
-    stays_out limits far silence pieces more replies others a c run (IsCutForGood pieces replies a) a before_it.goes.owned before_it.goes.ticket more others later before_it.goes.owns later refl
-    (λ t (cause, sure, cut). let (none, late) = cut_then limits far silence pieces more replies others a c run t cause cut in omega (arith, none, late sure))
+    stays_out limits far silence pieces more replies others a c run
+    (IsCutForGood pieces replies a) a before_it.goes.owned before_it.goes.ticket more others
+    later before_it.goes.owns later refl
+    (λ t (cause, sure, cut). let (none, late) =
+    cut_then limits far silence pieces more replies others a c run t cause cut in
+    omega (arith, none, late sure))
   where
-    before_it : RunOwns limits.given far.carried (Happens (pieces ++ more) (replies ++ others)) (tally_at limits.given far.carried (Happens (pieces ++ more) (replies ++ others)) [] (ticket_of 0) (opened limits far silence)) pieces replies a
+    before_it : RunOwns limits.given far.carried (Happens (pieces ++ more) (replies ++ others))
+        (tally_at limits.given far.carried (Happens (pieces ++ more) (replies ++ others)) []
+        (ticket_of 0) (opened limits far silence)) pieces replies a
     before_it = first limits far silence pieces more replies others a c run
 
-    later : RunOwns limits.given far.carried (Happens (pieces ++ more) (replies ++ others)) (tally_at limits.given far.carried (Happens (pieces ++ more) (replies ++ others)) before_it.goes.owned before_it.goes.ticket a) more others c
-    later = then_run limits far silence pieces more replies others a c run a more others before_it.goes.owned before_it.goes.ticket rest (λ d r i. i) before_it.goes.owns
+    later : RunOwns limits.given far.carried (Happens (pieces ++ more) (replies ++ others))
+        (tally_at limits.given far.carried (Happens (pieces ++ more) (replies ++ others))
+        before_it.goes.owned before_it.goes.ticket a) more others c
+    later = then_run limits far silence pieces more replies others a c run a more others
+        before_it.goes.owned before_it.goes.ticket rest (λ d r i. i) before_it.goes.owns
 
 pub late_ends : LateEnds
 unfolding run_then goes_then
 late_ends limits far silence pieces more piece replies others a b c run wakes rest =
-    stays_out limits far silence pieces (piece ∷ more) replies (answered.Nothing ∷ others) a c run (IsCutOff pieces replies a) b woken.goes.owned woken.goes.ticket more others all woken.goes.owns later refl
-    (λ t (cause, cut). let (none, _) = cut_then limits far silence pieces (piece ∷ more) replies (answered.Nothing ∷ others) a c run t cause cut in omega (arith, none, woken.woken t.0))
+    stays_out limits far silence pieces (piece ∷ more) replies (answered.Nothing ∷ others) a c
+    run (IsCutOff pieces replies a) b woken.goes.owned woken.goes.ticket more others all
+    woken.goes.owns later refl
+    (λ t (cause, cut). let (none, _) =
+    cut_then limits far silence pieces (piece ∷ more) replies (answered.Nothing ∷ others) a
+    c run t cause cut in omega (arith, none, woken.woken t.0))
   where
     Happened : Piece → Answered → Type 0
     Happened d r = Happens (pieces ++ piece ∷ more) (replies ++ answered.Nothing ∷ others) d r
 
-    before_it : RunOwns limits.given far.carried Happened (tally_at limits.given far.carried Happened [] (ticket_of 0) (opened limits far silence)) pieces replies a
-    before_it = first limits far silence pieces (piece ∷ more) replies (answered.Nothing ∷ others) a c run
+    before_it : RunOwns limits.given far.carried Happened
+        (tally_at limits.given far.carried Happened [] (ticket_of 0)
+        (opened limits far silence)) pieces replies a
+    before_it = first limits far silence pieces (piece ∷ more) replies
+        (answered.Nothing ∷ others) a c run
 
-    woken : GoesWoken limits.given far.carried Happened (tally_at limits.given far.carried Happened before_it.goes.owned before_it.goes.ticket a) b.book b.session
-    woken = piece_wakes limits.given far.carried Happened a b piece answered.Nothing before_it.goes.owned before_it.goes.ticket wakes.is wakes.down before_it.goes.owns wakes.up
+    woken : GoesWoken limits.given far.carried Happened
+        (tally_at limits.given far.carried Happened before_it.goes.owned before_it.goes.ticket
+        a) b.book b.session
+    woken = piece_wakes limits.given far.carried Happened a b piece answered.Nothing
+        before_it.goes.owned before_it.goes.ticket wakes.is wakes.down before_it.goes.owns wakes.up
 
-    later : RunOwns limits.given far.carried Happened (tally_at limits.given far.carried Happened woken.goes.owned woken.goes.ticket b) more others c
-    later = then_run limits far silence pieces (piece ∷ more) replies (answered.Nothing ∷ others) a c run b more others woken.goes.owned woken.goes.ticket rest (λ d r i. inr i) woken.goes.owns
+    later : RunOwns limits.given far.carried Happened
+        (tally_at limits.given far.carried Happened woken.goes.owned woken.goes.ticket b) more
+        others c
+    later = then_run limits far silence pieces (piece ∷ more) replies
+        (answered.Nothing ∷ others) a c run b more others woken.goes.owned woken.goes.ticket
+        rest (λ d r i. inr i) woken.goes.owns
 
-    all : RunOwns limits.given far.carried Happened (tally_at limits.given far.carried Happened before_it.goes.owned before_it.goes.ticket a) (piece ∷ more) (answered.Nothing ∷ others) c
-    all = run_then limits.given far.carried Happened a b c piece answered.Nothing more others before_it.goes.owned before_it.goes.ticket wakes.is before_it.goes.owns woken.goes later
+    all : RunOwns limits.given far.carried Happened
+        (tally_at limits.given far.carried Happened before_it.goes.owned before_it.goes.ticket
+        a) (piece ∷ more) (answered.Nothing ∷ others) c
+    all = run_then limits.given far.carried Happened a b c piece answered.Nothing more others
+        before_it.goes.owned before_it.goes.ticket wakes.is before_it.goes.owns woken.goes later

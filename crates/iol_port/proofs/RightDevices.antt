@@ -10,11 +10,13 @@ use Rattle.iol_app.specs.StationState.{IsPresent, operates}
 use Rattle.iol_app.specs.Core.{IsRightIn}
 use Rattle.iol_port.specs.RightDevice.{IsOfRightDevice}
 
-of_present : (layouts : Layouts) (present : Option Told) → IsPresent layouts present → IsOfRightDevice present
+of_present : (layouts : Layouts) (present : Option Told) → IsPresent layouts present
+    → IsOfRightDevice present
 unfolding IsPresent
 of_present layouts None right = right
 of_present layouts (Some told) right = right.1.expected
 
-pub right_device : (state : State) (t : SessionState) → IsRightIn state t → IsTrue (operates state) → IsOfRightDevice t.present
+pub right_device : (state : State) (t : SessionState) → IsRightIn state t
+    → IsTrue (operates state) → IsOfRightDevice t.present
 right_device (AtOperate s) t right up = of_present s.layouts t.present right
 right_device state t right up = absurd (let never : false ≡ true = up in cc)

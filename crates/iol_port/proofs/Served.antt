@@ -1,4 +1,5 @@
--- Turns of a port over a clean wire, one after the other: requests that wait are served in order, each in its number of turns.
+-- Turns of a port over a clean wire, one after the other: requests that wait are served in order,
+-- each in its number of turns.
 use Rattle.std.proofs.Common.{◌≡◌, ◌⊎◌, inl, inr, ℕ, zero, suc, ◌+◌, ◌-◌, ◌<◌, ◌≤◌, Bool, true, false, List, [], ◌∷◌, ◌++◌, length, append_assoc, refl, sym, ap, subst, ◌∙◌, Option, Some, None, take_all, take, get_or, replicate, arith}
 use Rattle.std.specs.Prelude.{IsTrue, is_some, if◌then◌else◌, slice_get, drop}
 use Rattle.std.proofs.lemmas.Bool.Decides.{nat_tests}
@@ -30,13 +31,17 @@ use Rattle.iol_port.proofs.CleanSession.{calm_ready}
 
 -- Room in the record
 
-takes_first : (room : Option ℕ) (base : List Carried) (count : ℕ) → takes_all room base (suc count) ≡ true → takes_more room base ≡ true
+takes_first : (room : Option ℕ) (base : List Carried) (count : ℕ)
+    → takes_all room base (suc count) ≡ true → takes_more room base ≡ true
 takes_first room base count given = grind (arith, nat_tests, common_steps)
 
-takes_one : (room : Option ℕ) (base : List Carried) → takes_more room base ≡ true → takes_all room base 1 ≡ true
+takes_one : (room : Option ℕ) (base : List Carried) → takes_more room base ≡ true
+    → takes_all room base 1 ≡ true
 takes_one room base given = grind (arith, nat_tests, common_steps)
 
-takes_rest : (room : Option ℕ) (base : List Carried) (count : ℕ) (request : Request) (answer : Answer) → takes_all room base (suc count) ≡ true → takes_all room (grown_by base request answer) count ≡ true
+takes_rest : (room : Option ℕ) (base : List Carried) (count : ℕ) (request : Request)
+    (answer : Answer) → takes_all room base (suc count) ≡ true
+    → takes_all room (grown_by base request answer) count ≡ true
 takes_rest room base count request answer h =
     let pair : Carried = record { request = request; answer = answer } in
     let more : length (base ++ pair ∷ []) ≡ length base + 1 = length-append base (pair ∷ []) in
@@ -50,29 +55,39 @@ record Queue (book : BookState) (requests : List (Ticket × Request)) : Type 0 w
   others : List (Ticket × Request)
   order : book.standing.urgent ++ book.standing.waiting ≡ requests ++ others
 
-queue_next : (book : BookState) (first : Ticket × Request) (rest : List (Ticket × Request)) → Queue book (first ∷ rest) → next_taken book.standing ≡ Some first
+queue_next : (book : BookState) (first : Ticket × Request) (rest : List (Ticket × Request))
+    → Queue book (first ∷ rest) → next_taken book.standing ≡ Some first
 queue_next book first rest queue = rw (queue.free, queue.order) refl
 
-behind : (urgent waiting : List (Ticket × Request)) (first : Ticket × Request) (rest : List (Ticket × Request)) → urgent ++ waiting ≡ first ∷ rest → drop 1 urgent ++ others_behind urgent waiting ≡ rest
+behind : (urgent waiting : List (Ticket × Request)) (first : Ticket × Request)
+    (rest : List (Ticket × Request)) → urgent ++ waiting ≡ first ∷ rest
+    → drop 1 urgent ++ others_behind urgent waiting ≡ rest
 behind urgent waiting first rest given = grind (arith, common_steps)
 
-queue_rest : (book : BookState) (first : Ticket × Request) (rest : List (Ticket × Request)) (answer : Answer) → Queue book (first ∷ rest) → Queue (posted (took book first) (Done answer)) rest
+queue_rest : (book : BookState) (first : Ticket × Request) (rest : List (Ticket × Request))
+    (answer : Answer) → Queue book (first ∷ rest)
+    → Queue (posted (took book first) (Done answer)) rest
 queue_rest book first rest answer queue = record {
   free = refl;
   others = queue.others;
-  order = behind book.standing.urgent book.standing.waiting first (rest ++ queue.others) queue.order;
+  order = behind book.standing.urgent book.standing.waiting first (rest ++ queue.others)
+      queue.order;
 }
 
-was_free : (taken : Option (Ticket × Request)) (list : List (Ticket × Request)) (first : Ticket × Request) → (if is_some taken then None else slice_get list 0) ≡ Some first → is_some taken ≡ false
+was_free : (taken : Option (Ticket × Request)) (list : List (Ticket × Request))
+    (first : Ticket × Request) → (if is_some taken then None else slice_get list 0) ≡ Some first
+    → is_some taken ≡ false
 was_free taken list first given = grind (arith, common_steps)
 
-headed : (list : List (Ticket × Request)) (first : Ticket × Request) → slice_get list 0 ≡ Some first → list ≡ first ∷ drop 1 list
+headed : (list : List (Ticket × Request)) (first : Ticket × Request)
+    → slice_get list 0 ≡ Some first → list ≡ first ∷ drop 1 list
 headed list first given = grind (arith, common_steps)
 
 -- Calls
 
 -- one call more than so many turns
-snoc_turns : (calls : List Call) (c : Call) (n : ℕ) → calls ++ c ∷ [] ≡ replicate n call.Turn → (n ≡ suc (length calls)) × (calls ≡ replicate (length calls) call.Turn) × (c ≡ call.Turn)
+snoc_turns : (calls : List Call) (c : Call) (n : ℕ) → calls ++ c ∷ [] ≡ replicate n call.Turn
+    → (n ≡ suc (length calls)) × (calls ≡ replicate (length calls) call.Turn) × (c ≡ call.Turn)
 snoc_turns [] c zero e = grind (arith, common_steps)
 snoc_turns [] c (suc zero) e = grind (arith, common_steps)
 snoc_turns [] c (suc (suc n)) e = grind (arith, common_steps)
@@ -90,16 +105,20 @@ one_more needed n few = omega (arith, few)
 module _ {W : Type 0} (facts : WireFacts W) where
   open facts use {honest, far}
 
-  record_at : (layouts : Layouts) (ticket : Ticket) (request : Request) (base : List Carried) (book : BookState) (stage : Stage) (now : Parts W)
-      (is : IsAt facts layouts ticket request base book stage now) → record_of facts now ≡ (far is.wire).carried
-  record_at layouts ticket request base book stage now is = ap (λ (l : AnyLink W). (far (wire_of l)).carried) is.at.stood.link_is
+  record_at : (layouts : Layouts) (ticket : Ticket) (request : Request) (base : List Carried)
+      (book : BookState) (stage : Stage) (now : Parts W)
+      (is : IsAt facts layouts ticket request base book stage now)
+      → record_of facts now ≡ (far is.wire).carried
+  record_at layouts ticket request base book stage now is =
+      ap (λ (l : AnyLink W). (far (wire_of l)).carried) is.at.stood.link_is
 
   -- the wire is honest, and the device's record has this room
   pub record Steady (room : Option ℕ) (now : Parts W) : Type 0 where
     pub is_honest : IsTrue (honest (wire_of now.station.link))
     pub room_is : (far (wire_of now.station.link)).room ≡ room
 
-  steady_more : (room : Option ℕ) (mid next : Parts W) → Steady room mid → CleanTurn facts mid next → Steady room next
+  steady_more : (room : Option ℕ) (mid next : Parts W) → Steady room mid
+      → CleanTurn facts mid next → Steady room next
   steady_more room mid next steady turn = record {
     is_honest = subst IsTrue (sym turn.honesty) steady.is_honest;
     room_is = turn.room steady.is_honest ∙ steady.room_is;
@@ -116,7 +135,9 @@ module _ {W : Type 0} (facts : WireFacts W) where
     pub record Idle (base : List Carried) (book : BookState) (now : Parts W) : Type 0 where
       pub record_is : record_of facts now ≡ base
       pub book_is : now.book.state ≡ book
-      pub may : (ticket : Ticket) (request : Request) → next_taken now.book.state.standing ≡ Some (ticket, request) → IsTrue (has_room (far (wire_of now.station.link)))
+      pub may : (ticket : Ticket) (request : Request)
+          → next_taken now.book.state.standing ≡ Some (ticket, request)
+          → IsTrue (has_room (far (wire_of now.station.link)))
           → MayStart facts layouts ticket request now
 
     -- where the port stands after so many turns
@@ -124,11 +145,17 @@ module _ {W : Type 0} (facts : WireFacts W) where
     Going zero requests base book now = Idle base book now
     Going (suc n) [] base book now = (more : List Carried) × (record_of facts now ≡ base ++ more)
     Going (suc n) (next ∷ rest) base book now =
-        ((after : After (suc n) next base book now) × ((answer : Answer) → after.stage ≡ Ended answer → ⊥))
-        ⊎ ((answer : Answer) × (needed next.1 answer ≤ suc n) × Going (suc n - needed next.1 answer) rest (grown_by base next.1 answer) (posted (took book next) (Done answer)) now)
+        ((after : After (suc n) next base book now)
+        × ((answer : Answer) → after.stage ≡ Ended answer → ⊥))
+        ⊎ ((answer : Answer) × (needed next.1 answer ≤ suc n)
+        × Going (suc n - needed next.1 answer) rest (grown_by base next.1 answer)
+        (posted (took book next) (Done answer)) now)
 
-    idle_at : (ticket : Ticket) (request : Request) (base : List Carried) (book : BookState) (answer : Answer) (now : Parts W)
-        → IsAt facts layouts ticket request base book (Ended answer) now → Idle (grown_by base request answer) (posted (took book (ticket, request)) (Done answer)) now
+    idle_at : (ticket : Ticket) (request : Request) (base : List Carried) (book : BookState)
+        (answer : Answer) (now : Parts W)
+        → IsAt facts layouts ticket request base book (Ended answer) now
+        → Idle (grown_by base request answer)
+        (posted (took book (ticket, request)) (Done answer)) now
     idle_at ticket request base book answer now is = record {
       record_is = record_at layouts ticket request base book (Ended answer) now is ∙ is.at.fits.1;
       book_is = is.book_is;
@@ -145,121 +172,202 @@ module _ {W : Type 0} (facts : WireFacts W) where
           page_is = refl;
           link_is = is.at.stood.at;
           isdu = _;
-          stands = subst (λ (s : IsduState). Stands layouts.run.od (far is.wire).carried Quiet s (far is.wire).carried) (sym is.at.fits.3.1) refl;
+          stands = subst (λ (s : IsduState). Stands layouts.run.od (far is.wire).carried Quiet s
+              (far is.wire).carried) (sym is.at.fits.3.1) refl;
         };
         isdu = is.at.stood.isdu;
         told = is.at.stood.told;
         quiet = is.at.stood.quiet;
-        room = subst (λ (l : AnyLink W). IsTrue (has_room (far (wire_of l)))) is.at.stood.link_is room;
+        room = subst (λ (l : AnyLink W). IsTrue (has_room (far (wire_of l))))
+            is.at.stood.link_is room;
         next = is_next;
       };
     }
 
     -- a request after one more turn
-    went : (n : ℕ) (next : Ticket × Request) (rest : List (Ticket × Request)) (base : List Carried) (book : BookState) (now : Parts W) → After (suc n) next base book now → Going (suc n) (next ∷ rest) base book now
+    went : (n : ℕ) (next : Ticket × Request) (rest : List (Ticket × Request))
+        (base : List Carried) (book : BookState) (now : Parts W)
+        → After (suc n) next base book now → Going (suc n) (next ∷ rest) base book now
     went n next rest base book now after = by after.stage after.is_at after.turns_are
       where
-        by : (stage : Stage) → IsAt facts layouts next.0 next.1 base book stage now → turns_at layouts.run.od next.1 stage ≡ suc n → Going (suc n) (next ∷ rest) base book now
+        by : (stage : Stage) → IsAt facts layouts next.0 next.1 base book stage now
+            → turns_at layouts.run.od next.1 stage ≡ suc n
+            → Going (suc n) (next ∷ rest) base book now
         by (Ended answer) is turns = inr (
           answer,
           omega (arith, turns),
-          subst (λ (k : ℕ). Going k rest (grown_by base next.1 answer) (posted (took book next) (Done answer)) now) (sym (none_left (needed next.1 answer) n turns))
+          subst (λ (k : ℕ). Going k rest (grown_by base next.1 answer)
+              (posted (took book next) (Done answer)) now)
+              (sym (none_left (needed next.1 answer) n turns))
               (idle_at next.0 next.1 base book answer now is),
         )
-        by stage is turns = inl (record { stage = stage; is_at = is; turns_are = turns }, λ answer e. cc)
+        by stage is turns = inl (
+          record { stage = stage; is_at = is; turns_are = turns },
+          λ
+              answer e. cc,
+        )
 
     -- one turn more
-    going_more : (room : Option ℕ) (n : ℕ) (requests : List (Ticket × Request)) (base : List Carried) (book : BookState) (mid next : Parts W)
-        → Queue book requests → takes_all room base (length requests) ≡ true → Steady room mid → CleanTurn facts mid next
+    going_more : (room : Option ℕ) (n : ℕ) (requests : List (Ticket × Request))
+        (base : List Carried) (book : BookState) (mid next : Parts W)
+        → Queue book requests → takes_all room base (length requests) ≡ true → Steady room mid
+        → CleanTurn facts mid next
         → Going n requests base book mid → Going (suc n) requests base book next
     going_more room zero [] base book mid next queue fits steady turn idle =
         let grown = turn.grows steady.is_honest in
         (grown.0, grown.1 ∙ ap (λ (xs : List Carried). xs ++ grown.0) idle.record_is)
     going_more room (suc n) [] base book mid next queue fits steady turn (more, is) =
-        let grown = turn.grows steady.is_honest in
-        (more ++ grown.0, grown.1 ∙ ap (λ (xs : List Carried). xs ++ grown.0) is ∙ append_assoc base more grown.0)
+        let grown = turn.grows steady.is_honest in (
+          more ++ grown.0,
+          grown.1 ∙ ap (λ (xs : List Carried). xs ++ grown.0) is
+              ∙ append_assoc base more grown.0,
+        )
     going_more room zero (first ∷ rest) base book mid next queue fits steady turn idle =
-        let some : has_room (far (wire_of mid.station.link)) ≡ true = rw (steady.room_is, idle.record_is) (takes_first room base (length rest) fits) in
-        let is_next : next_taken mid.book.state.standing ≡ Some first = ap (λ (b : BookState). next_taken b.standing) idle.book_is ∙ queue_next book first rest queue in
-        let after : After 1 first (record_of facts mid) mid.book.state next = turn.starts layouts first.0 first.1 (idle.may first.0 first.1 is_next some) in
+        let some : has_room (far (wire_of mid.station.link)) ≡ true =
+        rw (steady.room_is, idle.record_is) (takes_first room base (length rest) fits) in
+        let is_next : next_taken mid.book.state.standing ≡ Some first =
+        ap (λ (b : BookState). next_taken b.standing) idle.book_is
+        ∙ queue_next book first rest queue in
+        let after : After 1 first (record_of facts mid) mid.book.state next =
+        turn.starts layouts first.0 first.1 (idle.may first.0 first.1 is_next some) in
         went 0 first rest base book next
-        (subst (λ (b : BookState). After 1 first base b next) idle.book_is (subst (λ (xs : List Carried). After 1 first xs mid.book.state next) idle.record_is after))
-    going_more room (suc n) (first ∷ rest) base book mid next queue fits steady turn (inl (after, goes)) =
+        (subst (λ (b : BookState). After 1 first base b next) idle.book_is
+        (subst (λ (xs : List Carried). After 1 first xs mid.book.state next) idle.record_is
+        after))
+    going_more room (suc n) (first ∷ rest) base book mid next queue fits steady turn
+        (inl (after, goes)) =
         went (suc n) first rest base book next
-        (subst (λ (k : ℕ). After (suc k) first base book next) after.turns_are (turn.goes_on layouts first.0 first.1 base book after.stage after.is_at goes))
-    going_more room (suc n) (first ∷ rest) base book mid next queue fits steady turn (inr (answer, few, going)) = inr (
-      answer,
-      omega (arith, few),
-      subst (λ (k : ℕ). Going k rest (grown_by base first.1 answer) (posted (took book first) (Done answer)) next) (one_more (needed first.1 answer) n few)
-          (going_more room (suc n - needed first.1 answer) rest (grown_by base first.1 answer) (posted (took book first) (Done answer)) mid next
-          (queue_rest book first rest answer queue) (takes_rest room base (length rest) first.1 answer fits) steady turn going),
-    )
+        (subst (λ (k : ℕ). After (suc k) first base book next) after.turns_are
+        (turn.goes_on layouts first.0 first.1 base book after.stage after.is_at goes))
+    going_more room (suc n) (first ∷ rest) base book mid next queue fits steady turn
+        (inr (answer, few, going)) = inr (
+          answer,
+          omega (arith, few),
+          subst (λ (k : ℕ). Going k rest (grown_by base first.1 answer)
+              (posted (took book first) (Done answer)) next)
+              (one_more (needed first.1 answer) n few)
+              (going_more room (suc n - needed first.1 answer) rest (grown_by base first.1 answer)
+              (posted (took book first) (Done answer)) mid next
+              (queue_rest book first rest answer queue)
+              (takes_rest room base (length rest) first.1 answer fits) steady turn going),
+        )
 
     -- what that says of the record and of the book
-    on_its_way : CleanLaws → (stage : Stage) (n : ℕ) (next : Ticket × Request) (base : List Carried) (book : BookState) (now : Parts W) → IsAt facts layouts next.0 next.1 base book stage now
-        → turns_at layouts.run.od next.1 stage ≡ n → ((answer : Answer) → stage ≡ Ended answer → ⊥) → IsOnItsWay facts layouts n next base book now
+    on_its_way : CleanLaws → (stage : Stage) (n : ℕ) (next : Ticket × Request)
+        (base : List Carried) (book : BookState) (now : Parts W)
+        → IsAt facts layouts next.0 next.1 base book stage now
+        → turns_at layouts.run.od next.1 stage ≡ n
+        → ((answer : Answer) → stage ≡ Ended answer → ⊥)
+        → IsOnItsWay facts layouts n next base book now
     on_its_way laws (Written zero) n next base book now is turns goes = absurd is.at.fits
     on_its_way laws (Written (suc i)) n next base book now is turns goes =
-        let few = segment_within layouts.run.od (laws.texts layouts.run.od is.low) (request_text next.1) i is.at.fits.0 in
-        (is.book_is, inl (omega (arith, few, turns), record_at layouts next.0 next.1 base book (Written (suc i)) now is ∙ is.at.fits.3))
-    on_its_way laws Waiting n next base book now is turns goes = (is.book_is, inl (omega (arith, turns), record_at layouts next.0 next.1 base book Waiting now is ∙ is.at.fits.3))
+        let few = segment_within layouts.run.od (laws.texts layouts.run.od is.low)
+        (request_text next.1) i is.at.fits.0 in (
+          is.book_is,
+          inl (
+            omega (arith, few, turns),
+            record_at layouts next.0 next.1 base book
+                (Written (suc i)) now is ∙ is.at.fits.3,
+          ),
+        )
+    on_its_way laws Waiting n next base book now is turns goes = (
+      is.book_is,
+      inl (
+        omega (arith, turns),
+        record_at layouts next.0 next.1 base book
+            Waiting now is ∙ is.at.fits.3,
+      ),
+    )
     on_its_way laws (Reading answer zero) n next base book now is turns goes = absurd is.at.fits
     on_its_way laws (Reading answer (suc j)) n next base book now is turns goes =
-        let few = segment_within layouts.run.od (laws.texts layouts.run.od is.low) (answer_text next.1 answer) (suc j) is.at.fits.5 in
-        (is.book_is, inr (answer, omega (arith, few, turns), record_at layouts next.0 next.1 base book (Reading answer (suc j)) now is ∙ is.at.fits.3))
+        let few = segment_within layouts.run.od (laws.texts layouts.run.od is.low)
+        (answer_text next.1 answer) (suc j) is.at.fits.5 in (
+          is.book_is,
+          inr (
+            answer,
+            omega (arith, few, turns),
+            record_at layouts next.0 next.1
+                base book (Reading answer (suc j)) now is ∙ is.at.fits.3,
+          ),
+        )
     on_its_way laws (Ended answer) n next base book now is turns goes = absurd (goes answer refl)
 
-    are_served : CleanLaws → (n : ℕ) (requests : List (Ticket × Request)) (base : List Carried) (book : BookState) (now : Parts W) → Going n requests base book now → AreServed facts layouts n requests base book now
+    are_served : CleanLaws → (n : ℕ) (requests : List (Ticket × Request)) (base : List Carried)
+        (book : BookState) (now : Parts W) → Going n requests base book now
+        → AreServed facts layouts n requests base book now
     are_served laws zero requests base book now idle = (idle.record_is, idle.book_is)
     are_served laws (suc n) [] base book now grown = grown
-    are_served laws (suc n) (next ∷ rest) base book now (inl (after, goes)) = inl (on_its_way laws after.stage (suc n) next base book now after.is_at after.turns_are goes)
+    are_served laws (suc n) (next ∷ rest) base book now (inl (after, goes)) =
+        inl (on_its_way laws after.stage (suc n) next base book now after.is_at after.turns_are
+        goes)
     are_served laws (suc n) (next ∷ rest) base book now (inr (answer, few, going)) =
-        inr (answer, few, are_served laws (suc n - needed next.1 answer) rest (grown_by base next.1 answer) (posted (took book next) (Done answer)) now going)
+        inr (
+          answer,
+          few,
+          are_served laws (suc n - needed next.1 answer) rest
+              (grown_by base next.1 answer) (posted (took book next) (Done answer)) now going,
+        )
 
     -- of one request alone
-    on_time : (ticket : Ticket) (request : Request) (p : Parts W) (n : ℕ) (now : Parts W) → AreServed facts layouts (suc n) ((ticket, request) ∷ []) (record_of facts p) p.book.state now
+    on_time : (ticket : Ticket) (request : Request) (p : Parts W) (n : ℕ) (now : Parts W)
+        → AreServed facts layouts (suc n) ((ticket, request) ∷ []) (record_of facts p)
+        p.book.state now
         → IsOnTime facts layouts ticket request p (suc n) now
     on_time ticket request p n now (inl given) = grind (arith, common_steps)
-    on_time ticket request p n now (inr (answer, few, rest)) = by (suc n - needed request answer) refl rest
+    on_time ticket request p n now (inr (answer, few, rest)) =
+        by (suc n - needed request answer) refl rest
       where
         by : (left : ℕ) → suc n - needed request answer ≡ left
-            → AreServed facts layouts left [] (grown_by (record_of facts p) request answer) (posted (took p.book.state (ticket, request)) (Done answer)) now
+            → AreServed facts layouts left [] (grown_by (record_of facts p) request answer)
+            (posted (took p.book.state (ticket, request)) (Done answer)) now
             → IsOnTime facts layouts ticket request p (suc n) now
         by zero left (is, book) = inr (inr (inl (answer, is, omega (arith, few, left), book)))
         by (suc k) left (more, is) = inr (inr (inr (answer, more, is, omega (arith, few, left))))
 
     -- where it begins
-    begins : (first : Ticket × Request) (rest : List (Ticket × Request)) (p : Parts W) → MayServe facts layouts first rest p → Going zero (first ∷ rest) (record_of facts p) p.book.state p
+    begins : (first : Ticket × Request) (rest : List (Ticket × Request)) (p : Parts W)
+        → MayServe facts layouts first rest p
+        → Going zero (first ∷ rest) (record_of facts p) p.book.state p
     begins first rest p may = record {
       record_is = refl;
       book_is = refl;
       may = λ ticket request is_next room.
           let found : Some first ≡ Some (ticket, request) = sym may.starts.next ∙ is_next in
           let same : first ≡ (ticket, request) = cc in
-          subst (λ (next : Ticket × Request). MayStart facts layouts next.0 next.1 p) same may.starts;
+          subst (λ (next : Ticket × Request). MayStart facts layouts next.0 next.1 p) same
+          may.starts;
     }
 
-    steady_first : (ticket : Ticket) (request : Request) (p : Parts W) → MayStart facts layouts ticket request p → Steady (far (wire_of p.station.link)).room p
+    steady_first : (ticket : Ticket) (request : Request) (p : Parts W)
+        → MayStart facts layouts ticket request p → Steady (far (wire_of p.station.link)).room p
     steady_first ticket request p may = record {
-      is_honest = subst (λ (l : AnyLink W). IsTrue (honest (wire_of l))) (sym may.link_is) may.is_honest;
+      is_honest = subst (λ (l : AnyLink W). IsTrue (honest (wire_of l))) (sym may.link_is)
+          may.is_honest;
       room_is = refl;
     }
 
-    queue_first : (first : Ticket × Request) (rest : List (Ticket × Request)) (p : Parts W) → MayServe facts layouts first rest p → Queue p.book.state (first ∷ rest)
+    queue_first : (first : Ticket × Request) (rest : List (Ticket × Request)) (p : Parts W)
+        → MayServe facts layouts first rest p → Queue p.book.state (first ∷ rest)
     queue_first first rest p may = record {
-      free = was_free p.book.state.standing.taken (p.book.state.standing.urgent ++ p.book.state.standing.waiting) first may.starts.next;
+      free = was_free p.book.state.standing.taken
+          (p.book.state.standing.urgent ++ p.book.state.standing.waiting) first may.starts.next;
       others = may.others;
       order = may.in_order;
     }
 
     -- one request may be served where it may start
-    may_serve : (ticket : Ticket) (request : Request) (p : Parts W) → MayStart facts layouts ticket request p → MayServe facts layouts (ticket, request) [] p
+    may_serve : (ticket : Ticket) (request : Request) (p : Parts W)
+        → MayStart facts layouts ticket request p → MayServe facts layouts (ticket, request) [] p
     may_serve ticket request p may =
         let s = p.book.state.standing in
         let list : List (Ticket × Request) = s.urgent ++ s.waiting in
         let free = was_free s.taken list (ticket, request) may.next in
-        let head : slice_get list 0 ≡ Some (ticket, request) = subst (λ (b : Bool). (if b then None else slice_get list 0) ≡ Some (ticket, request)) free may.next in
-        let some : has_room (far (wire_of p.station.link)) ≡ true = subst (λ (l : AnyLink W). IsTrue (has_room (far (wire_of l)))) (sym may.link_is) may.room in
+        let head : slice_get list 0 ≡ Some (ticket, request) =
+        subst (λ (b : Bool). (if b then None else slice_get list 0)
+        ≡ Some (ticket, request)) free may.next in
+        let some : has_room (far (wire_of p.station.link)) ≡ true =
+        subst (λ (l : AnyLink W). IsTrue (has_room (far (wire_of l)))) (sym may.link_is)
+        may.room in
         record {
           starts = may;
           others = drop 1 list;
@@ -272,31 +380,49 @@ module _ {W : Type 0} (facts : WireFacts W) where
   -- where the port stands after so many turns and no other call
   abbrev pub SoFar : Parts W → List Call → Parts W → Type 0
   SoFar p calls now =
-      (n : ℕ) → calls ≡ replicate n call.Turn → (layouts : Layouts) (first : Ticket × Request) (rest : List (Ticket × Request)) → MayServe facts layouts first rest p
-      → Steady (far (wire_of p.station.link)).room now × Going layouts n (first ∷ rest) (record_of facts p) p.book.state now
+      (n : ℕ) → calls ≡ replicate n call.Turn
+      → (layouts : Layouts) (first : Ticket × Request) (rest : List (Ticket × Request))
+      → MayServe facts layouts first rest p
+      → Steady (far (wire_of p.station.link)).room now
+      × Going layouts n (first ∷ rest) (record_of facts p) p.book.state now
 
   pub so_far_none : (p : Parts W) → SoFar p [] p
-  so_far_none p zero e layouts first rest may = (steady_first layouts first.0 first.1 p may.starts, begins layouts first rest p may)
+  so_far_none p zero e layouts first rest may =
+      (steady_first layouts first.0 first.1 p may.starts, begins layouts first rest p may)
   so_far_none p (suc n) e layouts first rest may = absurd (cc)
 
-  so_far_snoc : (p mid next : Parts W) (calls : List Call) (c : Call) → SoFar p calls mid → (c ≡ call.Turn → CleanTurn facts mid next) → SoFar p (calls ++ c ∷ []) next
+  so_far_snoc : (p mid next : Parts W) (calls : List Call) (c : Call) → SoFar p calls mid
+      → (c ≡ call.Turn → CleanTurn facts mid next) → SoFar p (calls ++ c ∷ []) next
   so_far_snoc p mid next calls c so_far turn n e layouts first rest may =
-      let found : (n ≡ suc (length calls)) × (calls ≡ replicate (length calls) call.Turn) × (c ≡ call.Turn) = snoc_turns calls c n e in
+      let found : (n ≡ suc (length calls)) × (calls ≡ replicate (length calls) call.Turn)
+      × (c ≡ call.Turn) = snoc_turns calls c n e in
       let mid_is = so_far (length calls) found.1 layouts first rest may in
       let t : CleanTurn facts mid next = turn found.2 in
       let room : Option ℕ = (far (wire_of p.station.link)).room in (
         steady_more room mid next mid_is.0 t,
-        subst (λ (k : ℕ). Going layouts k (first ∷ rest) (record_of facts p) p.book.state next) (sym found.0)
-            (going_more layouts room (length calls) (first ∷ rest) (record_of facts p) p.book.state mid next (queue_first layouts first rest p may) may.room mid_is.0 t mid_is.1),
+        subst (λ (k : ℕ). Going layouts k (first ∷ rest) (record_of facts p) p.book.state next)
+            (sym found.0)
+            (going_more layouts room (length calls) (first ∷ rest) (record_of facts p)
+            p.book.state mid next (queue_first layouts first rest p may) may.room mid_is.0 t
+            mid_is.1),
       )
 
-  pub so_far_more : (p mid next : Parts W) (calls : List Call) (i : ℕ) (d : Call) → i < length calls → SoFar p (take i calls) mid → (get_or calls i d ≡ call.Turn → CleanTurn facts mid next)
+  pub so_far_more : (p mid next : Parts W) (calls : List Call) (i : ℕ) (d : Call)
+      → i < length calls → SoFar p (take i calls) mid
+      → (get_or calls i d ≡ call.Turn → CleanTurn facts mid next)
       → SoFar p (take (i + 1) calls) next
-  so_far_more p mid next calls i d below so_far turn = rw (take_more calls i d below) (so_far_snoc p mid next (take i calls) (get_or calls i d) so_far turn)
+  so_far_more p mid next calls i d below so_far turn =
+      rw (take_more calls i d below) (so_far_snoc p mid next (take i calls) (get_or calls i d)
+      so_far turn)
 
-  pub clean_serves : CleanLaws → (p next : Parts W) (calls : List Call) (i : ℕ) → length calls ≤ i → SoFar p (take i calls) next → CleanServes facts p calls next
+  pub clean_serves : CleanLaws → (p next : Parts W) (calls : List Call) (i : ℕ)
+      → length calls ≤ i → SoFar p (take i calls) next → CleanServes facts p calls next
   clean_serves laws p next calls i all so_far n e layouts first rest may =
-      are_served layouts laws n (first ∷ rest) (record_of facts p) p.book.state next (so_far n (take_all i calls all ∙ e) layouts first rest may).1
+      are_served layouts laws n (first ∷ rest) (record_of facts p) p.book.state next
+      (so_far n (take_all i calls all ∙ e) layouts first rest may).1
 
-  pub clean_runs : (p next : Parts W) (calls : List Call) → CleanServes facts p calls next → CleanRuns facts p calls next
-  clean_runs p next calls serves n e layouts ticket request may = on_time layouts ticket request p n next (serves (suc n) e layouts (ticket, request) [] (may_serve layouts ticket request p may))
+  pub clean_runs : (p next : Parts W) (calls : List Call) → CleanServes facts p calls next
+      → CleanRuns facts p calls next
+  clean_runs p next calls serves n e layouts ticket request may =
+      on_time layouts ticket request p n next
+      (serves (suc n) e layouts (ticket, request) [] (may_serve layouts ticket request p may))

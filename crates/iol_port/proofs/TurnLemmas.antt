@@ -29,14 +29,19 @@ use Rattle.iol_mode.specs.declared.configuration.Configuration.{Configuration}
 use Rattle.iol_port.proofs.CallLemmas.{does_by_choice, none_pending}
 
 -- down leaves no request under way
-pub none_down : (state : State) (session : SessionState) (g : Ghost) (answer : Option Answer) → Joined state session → mode_in state ≡ Down → job_of (request_in session.current) answer g.request.busy g.request.asked ≡ None
+pub none_down : (state : State) (session : SessionState) (g : Ghost) (answer : Option Answer)
+    → Joined state session → mode_in state ≡ Down
+    → job_of (request_in session.current) answer g.request.busy g.request.asked ≡ None
 none_down state session g answer fits down = grind (arith, common_steps)
 
-pub terms_of : (limit was : ℕ) (page old : List ℕ) (asks asked : Configuration) → (limit ≡ was) × (page ≡ old) × (asks ≡ asked)
-    → let a : Terms = record { busy_limit = limit; page = page; expected = asks.expected } in let b : Terms = record { busy_limit = was; page = old; expected = asked.expected } in a ≡ b
+pub terms_of : (limit was : ℕ) (page old : List ℕ) (asks asked : Configuration)
+    → (limit ≡ was) × (page ≡ old) × (asks ≡ asked)
+    → let a : Terms = record { busy_limit = limit; page = page; expected = asks.expected } in
+    let b : Terms = record { busy_limit = was; page = old; expected = asked.expected } in a ≡ b
 terms_of limit was page old asks asked same = cc
 
-module _ {W : Type 0} (facts : WireFacts W) (p next : Parts W) (base : ℕ) (g : Ghost) (said : Said) where
+module _ {W : Type 0} (facts : WireFacts W) (p next : Parts W) (base : ℕ) (g : Ghost)
+    (said : Said) where
   abbrev before : PortState
   before = state_of facts p (record { base = base; ghost = g; pending = None })
 
@@ -45,42 +50,67 @@ module _ {W : Type 0} (facts : WireFacts W) (p next : Parts W) (base : ℕ) (g :
 
   -- what the words of a turn leave in the book and in the kept events
   pub record Settles (began : Mode) (start : BookState) : Type 0 where
-    pub posts : next.book.state ≡ book_through (woke_up began (mode_of next.station.link) ++ book_said said) start
+    pub posts : next.book.state ≡ book_through
+        (woke_up began (mode_of next.station.link) ++ book_said said) start
     pub keeps : next.kept ≡ kept_through (reports_said said) p.kept
 
-  book_steps : (start : BookState) (steps : List Step) (began : Mode) → Settles began start → filter is_for_book steps ≡ woke_up began (mode_of next.station.link) ++ book_said said → MayBookAll steps start × (next.book.state ≡ book_through steps start)
+  book_steps : (start : BookState) (steps : List Step) (began : Mode) → Settles began start
+      → filter is_for_book steps ≡ woke_up began (mode_of next.station.link) ++ book_said said
+      → MayBookAll steps start × (next.book.state ≡ book_through steps start)
   book_steps start steps began settles said_book = (
     MayBookAll-filter steps start (rw said_book (may_book_said _ _ said start)),
     settles.posts ∙ (rw (← said_book) (sym (book_through-filter steps start))),
   )
 
-  kept_steps : (steps : List Step) (began : Mode) (start : BookState) → Settles began start → filter is_report steps ≡ reports_said said → next.kept ≡ kept_through steps p.kept
-  kept_steps steps began start settles said_reports = settles.keeps ∙ (rw (← said_reports) (sym (kept_through-filter steps p.kept)))
+  kept_steps : (steps : List Step) (began : Mode) (start : BookState) → Settles began start
+      → filter is_report steps ≡ reports_said said → next.kept ≡ kept_through steps p.kept
+  kept_steps steps began start settles said_reports = settles.keeps
+      ∙ (rw (← said_reports) (sym (kept_through-filter steps p.kept)))
 
   -- with no taking before it
-  idle_turn : Settles (mode_of p.station.link) p.book.state → (t : TurnGives facts p.station g said next.station) → TurnOf before (after t.given.after)
+  idle_turn : Settles (mode_of p.station.link) p.book.state
+      → (t : TurnGives facts p.station g said next.station) → TurnOf before (after t.given.after)
   idle_turn settles t =
       let x = t.given in
       let book = book_steps p.book.state x.steps _ settles x.said_book in (
         record { call = x.call; steps = x.steps },
-        record { fits = x.fits; silence = x.silent; clash_free = x.clash_free; terms = terms_of _ _ _ _ _ _ x.terms },
+        record {
+          fits = x.fits;
+          silence = x.silent;
+          clash_free = x.clash_free;
+          terms = terms_of _ _ _ _ _ _ x.terms;
+        },
         record {
           may_book = book.0;
           book = book.1;
           may_session = x.session.0;
           session = sym x.session.1;
           base = refl;
-          down = none_down next.station.link.state next.station.session x.after x.after.request.hidden.answer t.stands.both.joined;
+          down = none_down next.station.link.state next.station.session x.after
+              x.after.request.hidden.answer t.stands.both.joined;
         },
-        record { may_frozen = x.frozen.0; frozen = sym x.frozen.1; kept = kept_steps x.steps _ _ settles x.said_reports },
-        record { may_images = x.images.0; images = sym x.images.1; image_is_last = x.image_is_last; output_is_wanted = t.output_is_wanted },
+        record {
+          may_frozen = x.frozen.0;
+          frozen = sym x.frozen.1;
+          kept = kept_steps x.steps _ _ settles x.said_reports;
+        },
+        record {
+          may_images = x.images.0;
+          images = sym x.images.1;
+          image_is_last = x.image_is_last;
+          output_is_wanted = t.output_is_wanted;
+        },
         (refl, refl),
       )
 
   -- after a taking
-  taking_turn : (k : Ticket) (q : Request) → next_taken p.book.state.standing ≡ Some (k, q) → let s : StationState W = record p.station { session = begun_in q p.station.session } in
-      BeginGives (core_of p.station) (core_of s) g (far_of facts p.station) (silence_of facts p.station) q → Settles (mode_of p.station.link) (took p.book.state (k, q))
-      → (t : TurnGives facts s (begun_ghost g) said next.station) → TurnOf before (after t.given.after)
+  taking_turn : (k : Ticket) (q : Request) → next_taken p.book.state.standing ≡ Some (k, q)
+      → let s : StationState W = record p.station { session = begun_in q p.station.session } in
+      BeginGives (core_of p.station) (core_of s) g (far_of facts p.station)
+      (silence_of facts p.station) q
+      → Settles (mode_of p.station.link) (took p.book.state (k, q))
+      → (t : TurnGives facts s (begun_ghost g) said next.station)
+      → TurnOf before (after t.given.after)
   taking_turn k q head begins settles t =
       let x = t.given in
       let book = book_steps (took p.book.state (k, q)) x.steps _ settles x.said_book in
@@ -88,59 +118,109 @@ module _ {W : Type 0} (facts : WireFacts W) (p next : Parts W) (base : ℕ) (g :
       let m : Moment = moment_of (core_of p.station) g (silence_of facts p.station) x.call in
       let old : Session = session_in facts p.station g in (
         record { call = x.call; steps = Take k.0 q ∷ x.steps },
-        record { fits = x.fits; silence = x.silent; clash_free = rw (clash_free-take k.0 q x.steps (x.fresh refl) (clash_free-deny k.0 x.steps _ _ said x.said_book)) x.clash_free; terms = terms_of _ _ _ _ _ _ x.terms },
+        record {
+          fits = x.fits;
+          silence = x.silent;
+          clash_free = rw (clash_free-take k.0 q x.steps (x.fresh refl)
+              (clash_free-deny k.0 x.steps _ _ said x.said_book)) x.clash_free;
+          terms = terms_of _ _ _ _ _ _ x.terms;
+        },
         record {
           may_book = (head, book.0);
           book = book.1;
-          may_session = (begins.may m k.0 refl, subst (λ (s : Session). MaySessionAll m x.steps s) (sym taken_is) x.session.0);
-          session = sym x.session.1 ∙ ap (λ (s : Session). session_through x.steps s) (sym taken_is);
+          may_session = (
+            begins.may m k.0 refl,
+            subst
+                (λ (s : Session). MaySessionAll m x.steps s) (sym taken_is) x.session.0,
+          );
+          session = sym x.session.1 ∙ ap (λ (s : Session). session_through x.steps s)
+              (sym taken_is);
           base = refl;
-          down = none_down next.station.link.state next.station.session x.after x.after.request.hidden.answer t.stands.both.joined;
+          down = none_down next.station.link.state next.station.session x.after
+              x.after.request.hidden.answer t.stands.both.joined;
         },
-        record { may_frozen = (tt, x.frozen.0); frozen = sym x.frozen.1; kept = kept_steps x.steps _ _ settles x.said_reports },
-        record { may_images = (tt, x.images.0); images = sym x.images.1; image_is_last = x.image_is_last; output_is_wanted = t.output_is_wanted },
+        record {
+          may_frozen = (tt, x.frozen.0);
+          frozen = sym x.frozen.1;
+          kept = kept_steps x.steps _ _ settles x.said_reports;
+        },
+        record {
+          may_images = (tt, x.images.0);
+          images = sym x.images.1;
+          image_is_last = x.image_is_last;
+          output_is_wanted = t.output_is_wanted;
+        },
         (refl, refl),
       )
 
   -- after a denial, which leaves the station as it is
-  denying_turn : (k : Ticket) → option_map (λ p. p.0) (next_taken p.book.state.standing) ≡ Some k → ((m : Moment) → m.terms.page ≡ g.page → MaySession m (Deny k.0) (session_in facts p.station g)) → Settles (mode_of p.station.link) (denied p.book.state k)
+  denying_turn : (k : Ticket) → option_map (λ p. p.0) (next_taken p.book.state.standing)
+      ≡ Some k → ((m : Moment) → m.terms.page ≡ g.page
+      → MaySession m (Deny k.0) (session_in facts p.station g))
+      → Settles (mode_of p.station.link) (denied p.book.state k)
       → (t : TurnGives facts p.station g said next.station) → TurnOf before (after t.given.after)
   denying_turn k head may_deny settles t =
       let x = t.given in
       let book = book_steps (denied p.book.state k) x.steps _ settles x.said_book in
       let m : Moment = moment_of (core_of p.station) g (silence_of facts p.station) x.call in (
         record { call = x.call; steps = Deny k.0 ∷ x.steps },
-        record { fits = x.fits; silence = x.silent; clash_free = rw (clash_free-deny k.0 x.steps _ _ said x.said_book) x.clash_free; terms = terms_of _ _ _ _ _ _ x.terms },
+        record {
+          fits = x.fits;
+          silence = x.silent;
+          clash_free = rw (clash_free-deny k.0 x.steps _ _ said x.said_book) x.clash_free;
+          terms = terms_of _ _ _ _ _ _ x.terms;
+        },
         record {
           may_book = (head, book.0);
           book = book.1;
           may_session = (may_deny m refl, x.session.0);
           session = sym x.session.1;
           base = refl;
-          down = none_down next.station.link.state next.station.session x.after x.after.request.hidden.answer t.stands.both.joined;
+          down = none_down next.station.link.state next.station.session x.after
+              x.after.request.hidden.answer t.stands.both.joined;
         },
-        record { may_frozen = (tt, x.frozen.0); frozen = sym x.frozen.1; kept = kept_steps x.steps _ _ settles x.said_reports },
-        record { may_images = (tt, x.images.0); images = sym x.images.1; image_is_last = x.image_is_last; output_is_wanted = t.output_is_wanted },
+        record {
+          may_frozen = (tt, x.frozen.0);
+          frozen = sym x.frozen.1;
+          kept = kept_steps x.steps _ _ settles x.said_reports;
+        },
+        record {
+          may_images = (tt, x.images.0);
+          images = sym x.images.1;
+          image_is_last = x.image_is_last;
+          output_is_wanted = t.output_is_wanted;
+        },
         (refl, refl),
       )
 
 module _ {W : Type 0} (facts : WireFacts W) where
   -- the same over a station that is that one
   abbrev Turned : StationState W → BookState → Parts W → Parts W → Said → Type 0
-  Turned s b p next said = TurnSteps facts s said next.station × (next.book.state ≡ book_through (woke_up (mode_of s.link) (mode_of next.station.link) ++ book_said said) b)
+  Turned s b p next said = TurnSteps facts s said next.station
+      × (next.book.state ≡ book_through
+      (woke_up (mode_of s.link) (mode_of next.station.link) ++ book_said said) b)
 
-  pub turn_does : (p next : Parts W) (said : Said) (s : StationState W) (b : BookState) → p.sent ≡ false → next.sent ≡ false → BeginsNext p.station p.book.state s b → TurnSteps facts s said next.station
-      → next.book.state ≡ book_through (woke_up (mode_of s.link) (mode_of next.station.link) ++ book_said said) b → next.kept ≡ kept_through (reports_said said) p.kept → Follows facts p call.Turn answered.Nothing next
+  pub turn_does : (p next : Parts W) (said : Said) (s : StationState W) (b : BookState)
+      → p.sent ≡ false → next.sent ≡ false → BeginsNext p.station p.book.state s b
+      → TurnSteps facts s said next.station
+      → next.book.state ≡ book_through
+      (woke_up (mode_of s.link) (mode_of next.station.link) ++ book_said said) b
+      → next.kept ≡ kept_through (reports_said said) p.kept
+      → Follows facts p call.Turn answered.Nothing next
   unfolding TurnSteps BeginSteps DenySteps
-  turn_does p next said s b free after begins gives book kept = does_by_choice facts p call.Turn answered.Nothing next
+  turn_does p next said s b free after begins gives book kept =
+      does_by_choice facts p call.Turn answered.Nothing next
       (λ u shows.
-      let none : u.pending ≡ None = none_pending u.pending p.sent (core_of p.station) u.ghost (silence_of facts p.station) free shows.out in
+      let none : u.pending ≡ None = none_pending u.pending p.sent (core_of p.station) u.ghost
+      (silence_of facts p.station) free shows.out in
       let v : Choice = record u { pending = None } in
       let same : u ≡ v = ap (λ (x : Option Pending). record u { pending = x }) none in
-      subst After (sym same) (by_begins begins (gives, book) u.base u.ghost (subst (ShowsAt facts p.station p.sent) same shows)))
+      subst After (sym same) (by_begins begins (gives, book) u.base u.ghost
+      (subst (ShowsAt facts p.station p.sent) same shows)))
     where
       After : Choice → Type 0
-      After u = (v : Choice) × Shows facts next v × CallOf (state_of facts p u) call.Turn answered.Nothing (state_of facts next v)
+      After u = (v : Choice) × Shows facts next v
+          × CallOf (state_of facts p u) call.Turn answered.Nothing (state_of facts next v)
 
       at : StationState W → BookState → Type 0
       at s b = Turned s b p next said
@@ -148,24 +228,58 @@ module _ {W : Type 0} (facts : WireFacts W) where
       whole : ℕ → Ghost → Choice
       whole base g = record { base = base; ghost = g; pending = None }
 
-      stood : (g : Ghost) → StandsAt facts next.station g → (base : ℕ) → Shows facts next (whole base g)
+      stood : (g : Ghost) → StandsAt facts next.station g → (base : ℕ)
+          → Shows facts next (whole base g)
       stood g h base = record { is_honest = h.is_honest; both = h.both; out = (after, h.attempted) }
 
-      by_begins : BeginsNext p.station p.book.state s b → at s b → (base : ℕ) (g : Ghost) → ShowsAt facts p.station p.sent (whole base g) → After (whole base g)
+      by_begins : BeginsNext p.station p.book.state s b → at s b → (base : ℕ) (g : Ghost)
+          → ShowsAt facts p.station p.sent (whole base g) → After (whole base g)
       by_begins (inl (s_is, b_is)) turned base g shows =
-          let (gives, posts) = subst (λ (c : BookState). at p.station c) b_is (subst (λ (x : StationState W). at x b) s_is turned) in
-          let t = gives g (record { is_honest = shows.is_honest; both = shows.both; attempted = shows.out.1 }) in
-          (whole base t.given.after, stood t.given.after t.stands base, (refl, idle_turn facts p next base g said (record { posts = posts; keeps = kept }) t))
+          let (gives, posts) = subst (λ (c : BookState). at p.station c) b_is
+          (subst (λ (x : StationState W). at x b) s_is turned) in
+          let t = gives g (record {
+            is_honest = shows.is_honest;
+            both = shows.both;
+            attempted = shows.out.1;
+          }) in (
+            whole base t.given.after,
+            stood t.given.after t.stands base,
+            (refl, idle_turn facts p next base g said (record { posts = posts; keeps = kept }) t),
+          )
       by_begins (inr (inl (k, q, head, b_is, none, s_is, begins))) turned base g shows =
           let mid : StationState W = record p.station { session = begun_in q p.station.session } in
-          let (gives, posts) = subst (λ (c : BookState). at mid c) b_is (subst (λ (x : StationState W). at x b) s_is turned) in
-          let taken = subst (λ (x : StationState W). BeginGives (core_of p.station) (core_of x) g (far_of facts p.station) (silence_of facts p.station) q) s_is (begins g (far_of facts p.station) (silence_of facts p.station) shows.both) in
-          let t = gives (begun_ghost g) (record { is_honest = shows.is_honest; both = taken.stands; attempted = shows.out.1 }) in
-          (whole base t.given.after, stood t.given.after t.stands base, (refl, taking_turn facts p next base g said k q head taken (record { posts = posts; keeps = kept }) t))
+          let (gives, posts) = subst (λ (c : BookState). at mid c) b_is
+          (subst (λ (x : StationState W). at x b) s_is turned) in
+          let taken = subst (λ (x : StationState W). BeginGives (core_of p.station) (core_of x)
+          g (far_of facts p.station) (silence_of facts p.station) q) s_is
+          (begins g (far_of facts p.station) (silence_of facts p.station) shows.both) in
+          let t = gives (begun_ghost g) (record
+          { is_honest = shows.is_honest; both = taken.stands; attempted = shows.out.1 }) in (
+            whole base t.given.after,
+            stood t.given.after t.stands base,
+            (
+              refl,
+              taking_turn facts p next base g said k q head taken
+                  (record { posts = posts; keeps = kept }) t,
+            ),
+          )
       by_begins (inr (inr (k, head, b_is, none, s_is, told, denies))) turned base g shows =
-          let (gives, posts) = subst (λ (c : BookState). at p.station c) b_is (subst (λ (x : StationState W). at x b) s_is turned) in
-          let t = gives g (record { is_honest = shows.is_honest; both = shows.both; attempted = shows.out.1 }) in
-          (whole base t.given.after, stood t.given.after t.stands base, (refl, denying_turn facts p next base g said k head (λ m page. denies g (far_of facts p.station) (silence_of facts p.station) shows.both m k.0 page) (record { posts = posts; keeps = kept }) t))
+          let (gives, posts) = subst (λ (c : BookState). at p.station c) b_is
+          (subst (λ (x : StationState W). at x b) s_is turned) in
+          let t = gives g (record {
+            is_honest = shows.is_honest;
+            both = shows.both;
+            attempted = shows.out.1;
+          }) in (
+            whole base t.given.after,
+            stood t.given.after t.stands base,
+            (
+              refl,
+              denying_turn facts p next base g said k head
+                  (λ m page. denies g (far_of facts p.station) (silence_of facts p.station)
+                  shows.both m k.0 page) (record { posts = posts; keeps = kept }) t,
+            ),
+          )
 
 -- a turn gives no ticket
 last_after : (step : Step) (b : BookState) → (book_after step b).last ≡ b.last
@@ -176,5 +290,6 @@ last_through [] b = refl
 last_through (step ∷ steps) b = last_through steps (book_after step b) ∙ last_after step b
 
 module _ {W : Type 0} where
-  pub turn_gives_none : (s next : StationState W) (b mid after : BookState) (steps : List Step) → BeginsNext s b next mid → after ≡ book_through steps mid → after.last ≡ b.last
+  pub turn_gives_none : (s next : StationState W) (b mid after : BookState) (steps : List Step)
+      → BeginsNext s b next mid → after ≡ book_through steps mid → after.last ≡ b.last
   turn_gives_none s next b mid after steps given given2 = grind (arith, common_steps, last_through)

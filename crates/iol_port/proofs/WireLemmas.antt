@@ -1,4 +1,5 @@
--- on every wire a run is its calls, one after another, and its wire comes from the first by calls alone
+-- on every wire a run is its calls, one after another, and its wire comes from the first by calls
+-- alone
 use Rattle.std.proofs.Common.{ap, Ok, Err, OnOk, OnErr, ◌<◌, ◌+◌, ◌∷◌, ◌++◌, [], List, ℕ, Result, false, ◌≡◌, ◌∙◌, sym, inl, inr, length, take, get_or, refl, subst, arith}
 use Rattle.std.proofs.lemmas.Grind.{common_steps}
 use Rattle.std.proofs.lemmas.List.{take_more}
@@ -58,30 +59,44 @@ module _ {W : Type 0} (facts : WireFacts W) where
   pub run_none : (p : Parts W) → Ran p [] [] p
   run_none p = refl
 
-  run_snoc : (p mid next : Parts W) (calls : List Call) (replies : List Answered) (c : Call) (reply : Answered) → Ran p calls replies mid → Called mid c reply next → Ran p (calls ++ c ∷ []) (replies ++ reply ∷ []) next
-  run_snoc p mid next [] [] c reply run one = (next, subst (λ (q : Parts W). Called q c reply next) run one, refl)
-  run_snoc p mid next (d ∷ calls) (r ∷ replies) c reply (following, first, rest) one = (following, first, run_snoc following mid next calls replies c reply rest one)
+  run_snoc : (p mid next : Parts W) (calls : List Call) (replies : List Answered) (c : Call)
+      (reply : Answered) → Ran p calls replies mid → Called mid c reply next
+      → Ran p (calls ++ c ∷ []) (replies ++ reply ∷ []) next
+  run_snoc p mid next [] [] c reply run one =
+      (next, subst (λ (q : Parts W). Called q c reply next) run one, refl)
+  run_snoc p mid next (d ∷ calls) (r ∷ replies) c reply (following, first, rest) one =
+      (following, first, run_snoc following mid next calls replies c reply rest one)
   run_snoc p mid next _ _ c reply run one = absurd run
 
-  pub run_more : (p mid next : Parts W) (calls : List Call) (i : ℕ) (d : Call) (replies : List Answered) (reply : Answered) → i < length calls → Ran p (take i calls) replies mid
-      → Called mid (get_or calls i d) reply next → Ran p (take (i + 1) calls) (replies ++ reply ∷ []) next
+  pub run_more : (p mid next : Parts W) (calls : List Call) (i : ℕ) (d : Call)
+      (replies : List Answered) (reply : Answered) → i < length calls
+      → Ran p (take i calls) replies mid
+      → Called mid (get_or calls i d) reply next
+      → Ran p (take (i + 1) calls) (replies ++ reply ∷ []) next
   run_more p mid next calls i d replies reply below run one =
-      rw (take_more calls i d below) (run_snoc p mid next (take i calls) replies (get_or calls i d) reply run one)
+      rw (take_more calls i d below) (run_snoc p mid next (take i calls) replies
+      (get_or calls i d) reply run one)
 
   abbrev Comes : W → Parts W → Type 0
   Comes first p = ComesFrom facts first (wire_of p.station.link)
 
   -- one call of the wire more
-  calls_snoc : (first old new : W) (calls : List Asked) (asked : Asked) → AreCalls facts calls first old → IsCall facts asked old new
+  calls_snoc : (first old new : W) (calls : List Asked) (asked : Asked)
+      → AreCalls facts calls first old → IsCall facts asked old new
       → AreCalls facts (calls ++ asked ∷ []) first new
-  calls_snoc first old new [] asked is one = (new, subst (λ (w : W). IsCall facts asked w new) is one, refl)
-  calls_snoc first old new (c ∷ calls) asked (mid, this, rest) one = (mid, this, calls_snoc mid old new calls asked rest one)
+  calls_snoc first old new [] asked is one =
+      (new, subst (λ (w : W). IsCall facts asked w new) is one, refl)
+  calls_snoc first old new (c ∷ calls) asked (mid, this, rest) one =
+      (mid, this, calls_snoc mid old new calls asked rest one)
 
-  comes_more : (first old new : W) (asked : Asked) → IsCall facts asked old new → ComesFrom facts first old → ComesFrom facts first new
-  comes_more first old new asked one (calls, are) = (calls ++ asked ∷ [], calls_snoc first old new calls asked are one)
+  comes_more : (first old new : W) (asked : Asked) → IsCall facts asked old new
+      → ComesFrom facts first old → ComesFrom facts first new
+  comes_more first old new asked one (calls, are) =
+      (calls ++ asked ∷ [], calls_snoc first old new calls asked are one)
 
   abbrev Stands : AnyLink W → Type 0
-  Stands link = IsTrue (honest link.wire) → StateStands link.state (silence link.wire) (far link.wire)
+  Stands link = IsTrue (honest link.wire)
+      → StateStands link.state (silence link.wire) (far link.wire)
 
   down_stands : (state : State) (n : ℕ) (f : Far) → mode_in state ≡ Down → StateStands state n f
   down_stands state n f down = grind (arith, common_steps)
@@ -106,7 +121,10 @@ module _ {W : Type 0} (facts : WireFacts W) where
     stands = λ h. stands_on wire p next leaves.link (is.stands h);
   }
 
-  pub port_turned : (o : Opening W) (p next : Parts W) → IsPort facts o p → Does facts p call.Turn answered.Nothing next → IsCall facts (asks_of p) (wire_of p.station.link) (wire_of next.station.link) → next.sent ≡ false → Stands next.station.link
+  pub port_turned : (o : Opening W) (p next : Parts W) → IsPort facts o p
+      → Does facts p call.Turn answered.Nothing next
+      → IsCall facts (asks_of p) (wire_of p.station.link) (wire_of next.station.link)
+      → next.sent ≡ false → Stands next.station.link
       → IsPort facts o next
   port_turned o p next is does one free stands = record {
     run = run_kept facts o p next call.Turn answered.Nothing is.run does;
@@ -116,6 +134,14 @@ module _ {W : Type 0} (facts : WireFacts W) where
   }
 
   -- a new port
-  pub port_new : (o : Opening W) (p : Parts W) → (OpensWell o → StandsFor facts p (opened o.limits o.far o.silence)) → wire_of p.station.link ≡ o.wire → p.sent ≡ false → mode_of p.station.link ≡ Down
+  pub port_new : (o : Opening W) (p : Parts W)
+      → (OpensWell o → StandsFor facts p (opened o.limits o.far o.silence))
+      → wire_of p.station.link ≡ o.wire → p.sent ≡ false → mode_of p.station.link ≡ Down
       → IsPort facts o p
-  port_new o p stands same free down = record { run = run_new facts o p stands; wire = ([], same); free = free; stands = λ h. down_stands p.station.link.state _ _ down }
+  port_new o p stands same free down =
+      record {
+        run = run_new facts o p stands;
+        wire = ([], same);
+        free = free;
+        stands = λ h. down_stands p.station.link.state _ _ down;
+      }

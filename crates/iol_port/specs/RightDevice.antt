@@ -15,4 +15,5 @@ IsOfRightDevice (Some told) = is_expected told.expected told.page ≡ true
 -- the present session
 -- LINK-11
 abbrev pub IsForRightDevice : {W : Type 0} → Parts W → Type 0
-IsForRightDevice p = IsTrue (is_operating p.station.link) → IsOfRightDevice p.station.session.present
+IsForRightDevice p = IsTrue (is_operating p.station.link)
+    → IsOfRightDevice p.station.session.present

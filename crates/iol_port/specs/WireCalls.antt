@@ -10,7 +10,8 @@ module _ {W : Type 0} (facts : WireFacts W) where
   AreCalls [] old new = new ≡ old
   AreCalls (asked ∷ more) old new = (mid : W) × IsCall facts asked old mid × AreCalls more mid new
 
-  -- The wire is what the first one became by wakes and exchanges, and by nothing else: so what holds
+  -- The wire is what the first one became by wakes and exchanges, and by nothing else: so what
+  -- holds
   -- of a wire and itself, and is kept by each of these, holds of these two
   -- PORT-2
   abbrev pub ComesFrom : W → W → Type 0

@@ -151,7 +151,8 @@ impl<W: Wire, A: Handle> Port<W, A> {
     }
 
     /// Hands out the outcome of a ticket as [`collect`](Port::collect) does, into a place of the
-    /// caller, which a refusal leaves as it was. Most asks come before the outcome, and cost little.
+    /// caller, which a refusal leaves as it was. Most asks come before the outcome, and cost
+    /// little.
     pub fn collect_into(&mut self, ticket: Ticket, into: &mut Outcome) -> Result<(), PortFault>
         ensures does { Does W.facts self.old.parts (call.Collect ticket)
             (outcome_reply (result_map_both (λ _. into.new) (λ why. why) result)) self.new.parts }

@@ -175,7 +175,8 @@ impl<A: Allocator + Copy> PortCore<A> {
     }
 
     /// Hands out the outcome of a ticket as [`collect`](Port::collect) does, into a place of the
-    /// caller, which a refusal leaves as it was. Most asks come before the outcome, and cost little.
+    /// caller, which a refusal leaves as it was. Most asks come before the outcome, and cost
+    /// little.
     pub fn collect_into(&mut self, ticket: Ticket, into: &mut Outcome) -> Result<(), PortFault>
         ensures does { CoreDoes self.old (call.Collect ticket)
             (outcome_reply (result_map_both (λ _. into.new) (λ why. why) result)) self.new }

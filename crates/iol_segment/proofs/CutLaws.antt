@@ -22,14 +22,17 @@ segments-high size text low =
     omega (arith, above, low)
 
 -- and each segment before that begins within the text
-pub segments-low : (size : ℕ) (text : List ℕ) (i : ℕ) → 1 ≤ size → i < segments size text → i * size < length text
+pub segments-low : (size : ℕ) (text : List ℕ) (i : ℕ) → 1 ≤ size → i < segments size text
+    → i * size < length text
 segments-low size text i low less =
-    let below : segments size text * size ≤ length text + (size - 1) = div-mul-le_self (length text + (size - 1)) size in
+    let below : segments size text * size ≤ length text + (size - 1) =
+    div-mul-le_self (length text + (size - 1)) size in
     let more : suc i * size ≤ segments size text * size = mul-le-mul_right size less in
     let one : suc i * size ≡ i * size + size = omega arith in
     omega (arith, below, more, one, low)
 
-pub segments-past : (size : ℕ) (text : List ℕ) (i : ℕ) → 1 ≤ size → segments size text ≤ i → length text ≤ i * size
+pub segments-past : (size : ℕ) (text : List ℕ) (i : ℕ) → 1 ≤ size → segments size text ≤ i
+    → length text ≤ i * size
 segments-past size text i low more =
     let high = segments-high size text low in
     let past : segments size text * size ≤ i * size = mul-le-mul_right size more in
@@ -39,16 +42,23 @@ pub length-pairs_from : (size : ℕ) (text : List ℕ) (i n : ℕ) → length (p
 length-pairs_from size text i zero = refl
 length-pairs_from size text i (suc n) = ap suc (length-pairs_from size text (suc i) n)
 
-pairs_from-get : (size : ℕ) (text : List ℕ) (i n k : ℕ) → k < n → slice_get (pairs_from size text i n) k ≡ Some (pair size text (i + k))
+pairs_from-get : (size : ℕ) (text : List ℕ) (i n k : ℕ) → k < n
+    → slice_get (pairs_from size text i n) k ≡ Some (pair size text (i + k))
 pairs_from-get size text i zero k less = absurd (omega arith)
 pairs_from-get size text i (suc n) zero less = ap (λ at. Some (pair size text at)) (omega arith)
-pairs_from-get size text i (suc n) (suc k) less = pairs_from-get size text (suc i) n k (omega arith) ∙ ap (λ at. Some (pair size text at)) (omega arith)
+pairs_from-get size text i (suc n) (suc k) less =
+    pairs_from-get size text (suc i) n k (omega arith)
+    ∙ ap (λ at. Some (pair size text at)) (omega arith)
 
-pub pair_at-within : (size : ℕ) (text : List ℕ) (i : ℕ) → i * size < length text → pair_at size text i ≡ Some (pair size text i)
-pair_at-within size text i less = ap (λ b. if b then Some (pair size text i) else None) (lt-ltb (i * size) (length text) less)
+pub pair_at-within : (size : ℕ) (text : List ℕ) (i : ℕ) → i * size < length text
+    → pair_at size text i ≡ Some (pair size text i)
+pair_at-within size text i less =
+    ap (λ b. if b then Some (pair size text i) else None) (lt-ltb (i * size) (length text) less)
 
-pair_at-past : (size : ℕ) (text : List ℕ) (i : ℕ) → length text ≤ i * size → pair_at size text i ≡ None
-pair_at-past size text i more = ap (λ b. if b then Some (pair size text i) else None) (le-ltb (i * size) (length text) more)
+pair_at-past : (size : ℕ) (text : List ℕ) (i : ℕ) → length text ≤ i * size
+    → pair_at size text i ≡ None
+pair_at-past size text i more = ap (λ b. if b then Some (pair size text i) else None)
+    (le-ltb (i * size) (length text) more)
 
 none_plus : (i : ℕ) → 0 + i ≡ i
 none_plus i = omega arith
@@ -57,8 +67,11 @@ pub cut_is_pairs : (size : ℕ) → 1 ≤ size → CutIsPairs size
 cut_is_pairs size low text i =
     ⊎_elim
     (λ (l : i < segments size text).
-    pairs_from-get size text 0 (segments size text) i l ∙ ap (λ k. Some (pair size text k)) (none_plus i) ∙ sym (pair_at-within size text i (segments-low size text i low l)))
+    pairs_from-get size text 0 (segments size text) i l
+    ∙ ap (λ k. Some (pair size text k)) (none_plus i)
+    ∙ sym (pair_at-within size text i (segments-low size text i low l)))
     (λ (g : segments size text ≤ i).
-    slice_get_past (cut size text) i (omega (arith, length-pairs_from size text 0 (segments size text), g))
+    slice_get_past (cut size text) i
+    (omega (arith, length-pairs_from size text 0 (segments size text), g))
     ∙ sym (pair_at-past size text i (segments-past size text i low g)))
     (cases_lt i (segments size text))

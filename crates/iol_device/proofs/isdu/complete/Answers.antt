@@ -7,4 +7,5 @@ use Rattle.iol_device.proofs.isdu.complete.Goals as goal
 pub returns-then-is_err-clause-state : goal.returns-then-is_err-clause-state
 returns-then-is_err-clause-state c =
     sym (ap (λ asked. completed asked (count_in c.args.flow))
-    (no_request c.args.joiner.now.text c.request_into.result (search rules) c.request_into.ensures.refused))
+    (no_request c.args.joiner.now.text c.request_into.result (search rules)
+    c.request_into.ensures.refused))

@@ -13,7 +13,8 @@ same number first a b = omega arith
 nowhere : (first number : ℕ) → first ≤ number → number < first → ⊥
 nowhere first number low high = omega arith
 
-module _ {W G : Type 0} (facts : WireFacts W) (pass_gives : GateFacts G) (gate : G) (first turns made : ℕ)
+module _ {W G : Type 0} (facts : WireFacts W) (pass_gives : GateFacts G) (gate : G)
+    (first turns made : ℕ)
     (worked : IsWorked facts pass_gives gate first turns made) where
   both : (end : ℕ) → AreWorked facts pass_gives gate (first + 1) end turns
       → AreWorked facts pass_gives gate first end turns
@@ -29,12 +30,13 @@ module _ {W G : Type 0} (facts : WireFacts W) (pass_gives : GateFacts G) (gate :
   with_others end rest (Err _) e others =
       (others.0, omega (arith, others.1), rw (← e) others.2, both others.0 others.3)
 
-module _ {W G : Type 0} (facts : WireFacts W) (pass_gives : GateFacts G) (gate : G) (turns : ℕ) where
-  none_started : (first end : ℕ) (all : Result (Unit {0}) MasterFault) → IsErr all → first < end
-      → Works facts pass_gives gate first end turns all
-  none_started first end (Ok _) is_err some = grind (arith, is_err)
-  none_started first end (Err _) is_err some =
-      (first, omega arith, some, λ number low high. elim (nowhere first number low high) [ ])
+module _ {W G : Type 0} (facts : WireFacts W) (pass_gives : GateFacts G) (gate : G) (turns : ℕ)
+  where
+    none_started : (first end : ℕ) (all : Result (Unit {0}) MasterFault) → IsErr all → first < end
+        → Works facts pass_gives gate first end turns all
+    none_started first end (Ok _) is_err some = grind (arith, is_err)
+    none_started first end (Err _) is_err some =
+        (first, omega arith, some, λ number low high. elim (nowhere first number low high) [ ])
 
 pub returns-in_err-worker-clause-works : goal.returns-in_err-worker-clause-works
 returns-in_err-worker-clause-works g t c =
@@ -44,6 +46,8 @@ returns-in_err-worker-clause-works g t c =
 pub returns-clause-works : goal.returns-clause-works
 returns-clause-works g t c =
     let shift = c.in_ok-worker.ensures.shift in
-    with_others g.W.Wire.facts g.G.Gate.pass_gives c.args.gate.now c.args.first c.args.turns c.join.result
+    with_others g.W.Wire.facts g.G.Gate.pass_gives c.args.gate.now c.args.first c.args.turns
+    c.join.result
     (rw (← shift.0, ← shift.1, ← shift.2) c.join.ensures) _ _ _
-    (simp (length-take, length-drop) (omega (arith, c.in-len1-up.len_at_least))) c.work_all-all.ensures.works
+    (simp (length-take, length-drop) (omega (arith, c.in-len1-up.len_at_least)))
+    c.work_all-all.ensures.works

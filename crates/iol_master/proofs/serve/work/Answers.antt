@@ -9,5 +9,6 @@ loop-turn-preserved g c =
       counted = omega (arith, before.counted, c.turn.ensures.counted);
       list = c.turn.ensures.turned ∷ before.list;
       count = omega (arith, before.count);
-      yes = one_more g.G.Gate.pass_gives _ _ _ before.yes (rw (← c.if-not-pass.false) c.pass.ensures);
+      yes = one_more g.G.Gate.pass_gives _ _ _ before.yes
+          (rw (← c.if-not-pass.false) c.pass.ensures);
     }

@@ -19,4 +19,9 @@ returns c =
       taken = c.records_fit.ensures.taken;
       archived = c.records_fit.ensures.archived;
     } in
-    record { opens = opened_sound laws; runs = λ a b calls replies run sound. pieces_sound laws a b _ replies run sound; pieces = pieces_sound laws; fits = sound_fits laws }
+    record {
+      opens = opened_sound laws;
+      runs = λ a b calls replies run sound. pieces_sound laws a b _ replies run sound;
+      pieces = pieces_sound laws;
+      fits = sound_fits laws;
+    }

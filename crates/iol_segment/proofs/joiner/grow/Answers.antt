@@ -5,10 +5,13 @@ use Rattle.iol_segment.proofs.joiner.grow.Goals as goal
 
 pub returns-in-Ok-clause-grown : goal.returns-in-Ok-clause-grown
 returns-in-Ok-clause-grown c =
-    grown-whole (c.args.text.now.items ++ c.args.octets.now) c.append.new.into.items _ c.in-Ok.total (ap total_at (sym c.deref.ensures.0) ∙ sym c.total_of.ensures ∙ c.in-Ok.is)
-    (omega (arith, c.if-total-len.true, c.len.ensures.value)) c.append.ensures c.truncate.ensures.items
+    grown-whole (c.args.text.now.items ++ c.args.octets.now) c.append.new.into.items _
+    c.in-Ok.total (ap total_at (sym c.deref.ensures.0) ∙ sym c.total_of.ensures ∙ c.in-Ok.is)
+    (omega (arith, c.if-total-len.true, c.len.ensures.value)) c.append.ensures
+    c.truncate.ensures.items
 
 pub returns-in-Ok-2-clause-grown : goal.returns-in-Ok-2-clause-grown
 returns-in-Ok-2-clause-grown c =
-    grown-more (c.args.text.now.items ++ c.args.octets.now) c.append.new.into.items c.in-Ok.total (ap total_at (sym c.deref.ensures.0) ∙ sym c.total_of.ensures ∙ c.in-Ok.is)
+    grown-more (c.args.text.now.items ++ c.args.octets.now) c.append.new.into.items
+    c.in-Ok.total (ap total_at (sym c.deref.ensures.0) ∙ sym c.total_of.ensures ∙ c.in-Ok.is)
     (omega (arith, c.if-total-len.false, c.len.ensures.value)) c.append.ensures

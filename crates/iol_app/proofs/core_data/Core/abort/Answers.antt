@@ -1,4 +1,5 @@
--- An abort that waits at the busy limit changes nothing of what is seen, one that the program asks for sets the mark.
+-- An abort that waits at the busy limit changes nothing of what is seen, one that the program asks
+-- for sets the mark.
 use Rattle.std.proofs.lemmas.Grind.{common_steps}
 use Rattle.std.proofs.Common.{arith}
 use Rattle.iol_app.proofs.CoreCalls.{abort_steps, cancel_steps}

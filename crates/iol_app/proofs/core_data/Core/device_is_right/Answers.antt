@@ -14,4 +14,5 @@ right_in (AtPreoperate s) t h = h.1.2
 right_in (AtOperate s) t h = h.told.2
 
 pub returns : goal.returns
-returns c = subst IsRight c.self.view_is (right_in c.self.inside.state c.self.inside.session c.self.invariant.1)
+returns c = subst IsRight c.self.view_is
+    (right_in c.self.inside.state c.self.inside.session c.self.invariant.1)

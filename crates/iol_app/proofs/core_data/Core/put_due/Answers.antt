@@ -19,7 +19,9 @@ use Rattle.iol_app.specs.Pieces.{IsSent, SendSteps}
 use Rattle.iol_app.proofs.Pieces.{no_exchange, new_sends, same_sends}
 use Rattle.iol_app.proofs.core_data.Core.put_due.Goals as goal
 
-both : (c : goal.After-put_out) → let new : Core = record { state = c.put_out.new.self; session = c.new_message-message.new.self } in IsSent c.args.room c.args.self.now new × SendSteps c.args.self.now new
+both : (c : goal.After-put_out) → let new : Core =
+    record { state = c.put_out.new.self; session = c.new_message-message.new.self } in
+    IsSent c.args.room c.args.self.now new × SendSteps c.args.self.now new
 both c =
     let operate = c.in-Operate.operate in
     let layouts = operate.layouts in
@@ -29,23 +31,45 @@ both c =
     let m = made.result in
     let none : operate.out ≡ None = grind (arith, common_steps) in
     let free : State = AtOperate (record { out = None; layouts = layouts }) in
-    let state_is : c.self.inside.state ≡ free = c.in-Operate.is ∙ ap (λ (o : Option Sending). AtOperate (record { out = o; layouts = layouts })) none in
+    let state_is : c.self.inside.state ≡ free = c.in-Operate.is
+    ∙ ap (λ (o : Option Sending). AtOperate (record { out = o; layouts = layouts })) none in
     let next : Core = core_out layouts (unsent m) (sending due t) due t.current in
-    let put_is : c.put_out.new.self ≡ next.state = c.put_out.ensures.state ∙ ap (putting m) state_is in
+    let put_is : c.put_out.new.self ≡ next.state = c.put_out.ensures.state
+    ∙ ap (putting m) state_is in
     let new : Core = record { state = c.put_out.new.self; session = made.new.self } in
     let new_is : new ≡ next =
-    ap (λ (s : State). let k : Core = record { state = s; session = made.new.self } in k) put_is ∙ ap (λ (s : SessionState). let k : Core = record { state = next.state; session = s } in k) made.ensures.session in
+    ap (λ (s : State). let k : Core = record { state = s; session = made.new.self } in k) put_is
+    ∙ ap (λ (s : SessionState). let k : Core = record { state = next.state; session = s } in
+    k) made.ensures.session in
     let old : Core = record { state = free; session = t } in
-    let old_is : old ≡ c.args.self.now = ap (λ (s : State). let k : Core = record { state = s; session = t } in k) (sym state_is) ∙ c.self.view_is in
-    let joined : StateFits free t = subst (λ (s : State). StateFits s t) state_is c.self.invariant.1 in
-    let is : IsMessageFor due (sending due t) m = record { head = made.ensures.due.head; octets = made.ensures.due.od } in
-    let parts : HasMasterParts layouts.run m = subst (λ (l : Option Shape). IfSome l (λ k. HasMasterParts k m)) joined.told.0 made.ensures.parts in
-    let sent : IsSent c.args.room old next = record { message = m; is = refl; due = is; parts = parts; carries = made.ensures.due.out } in
+    let old_is : old ≡ c.args.self.now =
+    ap (λ (s : State). let k : Core = record { state = s; session = t } in k) (sym state_is)
+    ∙ c.self.view_is in
+    let joined : StateFits free t = subst (λ (s : State). StateFits s t) state_is
+    c.self.invariant.1 in
+    let is : IsMessageFor due (sending due t) m =
+    record { head = made.ensures.due.head; octets = made.ensures.due.od } in
+    let parts : HasMasterParts layouts.run m =
+    subst (λ (l : Option Shape). IfSome l (λ k. HasMasterParts k m)) joined.told.0
+    made.ensures.parts in
+    let sent : IsSent c.args.room old next =
+    record {
+      message = m;
+      is = refl;
+      due = is;
+      parts = parts;
+      carries = made.ensures.due.out;
+    } in
     let steps : SendSteps old next =
-    new_sends c.station_laws.ensures layouts t c.args.room m c.is_valid.ensures (no_exchange t.exchange t joined.out_for) is made.ensures.due.out (subst ModeFits put_is c.put_out.ensures.fits)
+    new_sends c.station_laws.ensures layouts t c.args.room m c.is_valid.ensures
+    (no_exchange t.exchange t joined.out_for) is made.ensures.due.out
+    (subst ModeFits put_is c.put_out.ensures.fits)
     (λ far. subst (λ (s : State). AcceptedBy s far) put_is (c.put_out.ensures.accepted far))
-    (subst (λ (s : State). StandsOn free s) put_is (subst (λ (s : State). StandsOn s c.put_out.new.self) state_is c.put_out.ensures.stands)) in
-    subst (λ (k : Core). IsSent c.args.room k new × SendSteps k new) old_is (subst (λ (k : Core). IsSent c.args.room old k × SendSteps old k) (sym new_is) (sent, steps))
+    (subst (λ (s : State). StandsOn free s) put_is
+    (subst (λ (s : State). StandsOn s c.put_out.new.self) state_is c.put_out.ensures.stands)) in
+    subst (λ (k : Core). IsSent c.args.room k new × SendSteps k new) old_is
+    (subst (λ (k : Core). IsSent c.args.room old k × SendSteps old k) (sym new_is)
+    (sent, steps))
 
 pub returns-then-is_none-clause-sent : goal.returns-then-is_none-clause-sent
 returns-then-is_none-clause-sent c = (both c).0

@@ -9,7 +9,9 @@ use Rattle.iol_app.proofs.Pieces.{receive_steps}
 use Rattle.iol_app.proofs.core_data.Core.receive.Goals as goal
 
 pub returns-clause-ends : goal.returns-clause-ends
-returns-clause-ends c = settled_ends c.args.self.now.session (came_of c.args.self.now (octets_in c.args.came.now)) c.take.new.said c.args.self.now.session.current refl c.take.ensures.said
+returns-clause-ends c = settled_ends c.args.self.now.session
+    (came_of c.args.self.now (octets_in c.args.came.now)) c.take.new.said
+    c.args.self.now.session.current refl c.take.ensures.said
 
 pub returns-clause-reading : goal.returns-clause-reading
 returns-clause-reading c = grind (arith, common_steps, judged_reading)

@@ -10,7 +10,8 @@ use Rattle.iol_app.proofs.Pieces.{wake_steps, idle_said}
 use Rattle.iol_app.proofs.core_data.Core.receive_wake.Goals as goal
 
 -- in down no request is under way
-woken_current : (answered : Bool) (s : SessionState) → s.current ≡ None → (after_wake answered s).session.current ≡ s.current
+woken_current : (answered : Bool) (s : SessionState) → s.current ≡ None
+    → (after_wake answered s).session.current ≡ s.current
 woken_current true s free = refl
 woken_current false s free = sym free
 
@@ -21,4 +22,5 @@ pub returns-clause-reading : goal.returns-clause-reading
 returns-clause-reading c = grind (arith, common_steps, still_down, woken_reading, idle_said)
 
 pub returns-clause-steps : goal.returns-clause-steps
-returns-clause-steps c = wake_steps c.station_laws.ensures c.args.self.now (is_some c.args.rate) c.take_wake.new.self c.requires c.take_wake.ensures.stands c.take_wake.ensures.core
+returns-clause-steps c = wake_steps c.station_laws.ensures c.args.self.now (is_some c.args.rate)
+    c.take_wake.new.self c.requires c.take_wake.ensures.stands c.take_wake.ensures.core

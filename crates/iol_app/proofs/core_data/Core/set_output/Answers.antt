@@ -4,7 +4,8 @@ use Rattle.std.specs.Prelude.{OnOk}
 use Rattle.iol_app.proofs.CoreCalls.{want_steps}
 use Rattle.iol_app.proofs.core_data.Core.set_output.Goals as goal
 
-both_ok : {A E : Type 0} (P Q R : Type 0) (result : Result A E) → (P → Q → R) → OnOk result P → OnOk result Q → OnOk result R
+both_ok : {A E : Type 0} (P Q R : Type 0) (result : Result A E) → (P → Q → R) → OnOk result P
+    → OnOk result Q → OnOk result R
 both_ok P Q R (Ok value) h p q = h p q
 both_ok P Q R (Err fault) h p q = tt
 

@@ -29,30 +29,45 @@ pub returns-in-Wake-clause-steps : goal.returns-in-Wake-clause-steps
 returns-in-Wake-clause-steps g c =
     let mid : Core = c.send.new.self in
     let down = c.in-Wake.ensures.says in
-    let same : mid ≡ c.args.self.now = sent_down c.args.self.now mid c.args.room c.in-Wake.ensures.sent down in
-    let steps : WakeSteps mid (is_some c.wake-rate.result) c.take_wake.new.self = core_wake_steps c.station_laws.ensures mid (is_some c.wake-rate.result) c.take_wake.new.self down c.take_wake.ensures.stands c.take_wake.ensures.core in
-    wake_steps g.W.Wire.facts c.args.wire.now c.wake-rate.new.self c.args.room c.args.said.now c.args.self.now c.take_wake.new.self c.wake-rate.result c.requires.idle
-    (subst (λ (k : Core). WakeSteps k (is_some c.wake-rate.result) c.take_wake.new.self) same steps) c.wake-rate.ensures.wakes c.wake-rate.ensures.honesty c.wake-rate.ensures.quiet
+    let same : mid ≡ c.args.self.now =
+    sent_down c.args.self.now mid c.args.room c.in-Wake.ensures.sent down in
+    let steps : WakeSteps mid (is_some c.wake-rate.result) c.take_wake.new.self =
+    core_wake_steps c.station_laws.ensures mid (is_some c.wake-rate.result)
+    c.take_wake.new.self down c.take_wake.ensures.stands c.take_wake.ensures.core in
+    wake_steps g.W.Wire.facts c.args.wire.now c.wake-rate.new.self c.args.room c.args.said.now
+    c.args.self.now c.take_wake.new.self c.wake-rate.result c.requires.idle
+    (subst (λ (k : Core). WakeSteps k (is_some c.wake-rate.result) c.take_wake.new.self) same
+    steps) c.wake-rate.ensures.wakes c.wake-rate.ensures.honesty c.wake-rate.ensures.quiet
 
 -- the octets that the wire was given are those of the message that is out
-octets_are : (g : given.Over) (c : goal.After-take g) → c.as_slice.result.now ≡ text_out c.send.new.self.state
+octets_are : (g : given.Over) (c : goal.After-take g)
+    → c.as_slice.result.now ≡ text_out c.send.new.self.state
 octets_are g c =
     c.as_slice.ensures.value ∙ ap (λ (o : Outgoing). o.octets.items) c.in-Exchange.ensures.says.1
 
-passed : (g : given.Over) (c : goal.After-take g) → Passes g.W.Wire.facts c.args.wire.now (text_out c.send.new.self.state) c.exchange-came.result c.exchange-came.new.self
+passed : (g : given.Over) (c : goal.After-take g)
+    → Passes g.W.Wire.facts c.args.wire.now (text_out c.send.new.self.state)
+    c.exchange-came.result c.exchange-came.new.self
 passed g c =
-    subst (λ (octets : List ℕ). Passes g.W.Wire.facts c.args.wire.now octets c.exchange-came.result c.exchange-came.new.self) (octets_are g c)
-    (c.exchange-came.ensures.passes (subst (λ (octets : List ℕ). IsTrue (has_checksum 1 octets)) (sym c.as_slice.ensures.value) c.in-Exchange.ensures.says.2))
+    subst (λ (octets : List ℕ). Passes g.W.Wire.facts c.args.wire.now octets
+    c.exchange-came.result c.exchange-came.new.self) (octets_are g c)
+    (c.exchange-came.ensures.passes (subst (λ (octets : List ℕ). IsTrue (has_checksum 1 octets))
+    (sym c.as_slice.ensures.value) c.in-Exchange.ensures.says.2))
 
-exchanged : (g : given.Over) (c : goal.After-take g) → Exchanged g.W.Wire.facts c.args.wire.now c.exchange-came.new.self c.args.room c.take.new.said c.send.new.self c.take.new.self
+exchanged : (g : given.Over) (c : goal.After-take g)
+    → Exchanged g.W.Wire.facts c.args.wire.now c.exchange-came.new.self c.args.room
+    c.take.new.said c.send.new.self c.take.new.self
 exchanged g c = record {
   answer = c.exchange-came.result;
-  called = subst (λ (octets : List ℕ). g.W.Wire.facts.exchange_gives c.args.wire.now octets c.exchange-came.result c.exchange-came.new.self) (octets_are g c) c.exchange-came.ensures.gives;
+  called = subst (λ (octets : List ℕ). g.W.Wire.facts.exchange_gives c.args.wire.now octets
+      c.exchange-came.result c.exchange-came.new.self) (octets_are g c)
+      c.exchange-came.ensures.gives;
   passes = passed g c;
   honesty = c.exchange-came.ensures.honesty;
   few = c.take.ensures.few;
   fits = c.take.ensures.fits;
-  stood = λ h. c.in-Exchange.ensures.on (g.W.Wire.facts.far c.args.wire.now) (g.W.Wire.facts.silence c.args.wire.now) (c.requires.stands h);
+  stood = λ h. c.in-Exchange.ensures.on (g.W.Wire.facts.far c.args.wire.now)
+      (g.W.Wire.facts.silence c.args.wire.now) (c.requires.stands h);
   gives = c.take.ensures.gives;
   is = c.take.ensures.core;
   said_is = c.take.ensures.said;
@@ -61,7 +76,8 @@ exchanged g c = record {
 fitting : (g : given.Over) (c : goal.After-take g) → ModeFits c.args.self.now.state
 fitting g c = subst (λ (k : Core). ModeFits k.state) c.self.view_is c.self.invariant.0
 
-joined : (g : given.Over) (c : goal.After-take g) → StateFits c.args.self.now.state c.args.self.now.session
+joined : (g : given.Over) (c : goal.After-take g)
+    → StateFits c.args.self.now.state c.args.self.now.session
 joined g c = subst (λ (k : Core). StateFits k.state k.session) c.self.view_is c.self.invariant.1
 
 pub returns-in-Exchange-clause-turn : goal.returns-in-Exchange-clause-turn
@@ -78,14 +94,20 @@ returns-in-Exchange-clause-ends g c = grind (arith, common_steps, sent_current, 
 
 pub returns-in-Exchange-clause-reading : goal.returns-in-Exchange-clause-reading
 returns-in-Exchange-clause-reading g c =
-    turn_reading g.W.Wire.facts c.args.room (station_of c.args.wire.now c.args.self.now) c.take.new.said (station_of c.exchange-came.new.self c.take.new.self)
-    (subst (λ (k : Core). IsSession k.session) c.self.view_is c.is_valid.ensures) (joined g c) (returns-in-Exchange-clause-turn g c)
+    turn_reading g.W.Wire.facts c.args.room (station_of c.args.wire.now c.args.self.now)
+    c.take.new.said (station_of c.exchange-came.new.self c.take.new.self)
+    (subst (λ (k : Core). IsSession k.session) c.self.view_is c.is_valid.ensures) (joined g c)
+    (returns-in-Exchange-clause-turn g c)
 
 pub returns-in-Exchange-clause-steps : goal.returns-in-Exchange-clause-steps
 returns-in-Exchange-clause-steps g c =
     let up = c.take.ensures in
-    exchange_steps g.W.Wire.facts c.args.wire.now c.exchange-came.new.self c.args.room c.take.new.said c.args.self.now c.send.new.self c.take.new.self c.exchange-came.result c.in-Exchange.ensures.steps
-    (receive_steps c.station_laws.ensures c.send.new.self (octets_in c.exchange-came.result) c.take.new.said c.take.new.self up.valid c.in-Exchange.ensures.says.0 up.few up.fits up.gives up.said up.core) (passed g c) c.exchange-came.ensures.honesty
+    exchange_steps g.W.Wire.facts c.args.wire.now c.exchange-came.new.self c.args.room
+    c.take.new.said c.args.self.now c.send.new.self c.take.new.self c.exchange-came.result
+    c.in-Exchange.ensures.steps
+    (receive_steps c.station_laws.ensures c.send.new.self (octets_in c.exchange-came.result)
+    c.take.new.said c.take.new.self up.valid c.in-Exchange.ensures.says.0 up.few up.fits
+    up.gives up.said up.core) (passed g c) c.exchange-came.ensures.honesty
 
 -- what was asked for went out, and brought what the exchange brought
 replied : (g : given.Over) (c : goal.After-take g)
@@ -101,7 +123,8 @@ replied g c =
     let is : Exchange out ≡ asked_in c.args.self.now.state c.args.self.now.session c.args.room =
     ap (λ (o : Outgoing). Exchange o) (sym c.in-Exchange.ensures.says.1)
     ∙ c.in-Exchange.ensures.asked in
-    subst (λ (a : Asked). IsReplied a (text_out mid) (tries_in c.args.self.now.state) came c.take.result)
+    subst (λ (a : Asked). IsReplied a (text_out mid) (tries_in c.args.self.now.state) came
+    c.take.result)
     is
     (refl, c.take.ensures.brought ∙ ap (λ (n : ℕ). brought.Exchanged n (verdict_on out came)) tries)
 

@@ -7,7 +7,8 @@ use Rattle.iol_book.proofs.book.Book.collect_into.Goals as goal
 pub invariant_of-self : goal.invariant_of-self
 invariant_of-self g c = record {
   replayed = grind (arith, common_steps, replay-push);
-  numbered = entered-collect _ _ _ c.args.ticket (grind (arith, common_steps)) c.self.invariant.numbered;
+  numbered = entered-collect _ _ _ c.args.ticket (grind (arith, common_steps))
+      c.self.invariant.numbered;
   urgent_room = omega arith;
   queue_room = omega arith;
   outcome_room = grind (arith, common_steps);

@@ -7,7 +7,9 @@ use Rattle.iol_book.proofs.book.Book.submit_urgent.Goals as goal
 pub invariant_of-self : goal.invariant_of-self
 invariant_of-self g c = record {
   replayed = grind (arith, common_steps, replay-push);
-  numbered = entered-urgent _ _ _ c.in_ok-given.given c.args.request _ (grind (arith, common_steps)) (grind (arith, common_steps)) (grind (arith, common_steps)) c.self.invariant.numbered;
+  numbered = entered-urgent _ _ _ c.in_ok-given.given c.args.request _
+      (grind (arith, common_steps)) (grind (arith, common_steps)) (grind (arith, common_steps))
+      c.self.invariant.numbered;
   urgent_room = omega arith;
   queue_room = omega arith;
   outcome_room = grind (arith, common_steps);

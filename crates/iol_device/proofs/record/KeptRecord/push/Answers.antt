@@ -8,8 +8,13 @@ use Rattle.iol_device.proofs.record.KeptRecord.push.Goals.{in-Some, in_default}
 pub returns-clause-appended : goal.returns-clause-appended
 returns-clause-appended g c =
     elim c.match-last_mut.branch [
-      | in-Some w ↦ ap (λ k. k.pairs.items) w.self-inside-is ∙ set_last _ c.self.inside.pairs.items _ _ _ c.push_reserved.ensures.items (omega (arith, c.push_reserved.ensures.len))
-          ∙ ap₂ (λ r a. c.self.inside.pairs.items ++ record { request = r; answer = a } ∷ []) w.set.ensures w.set-in-Some.ensures
-          ∙ ap (λ (v : RecordValue). grown_by v.carried c.args.request.now c.args.answer.now) c.self.view_is
-      | in_default w ↦ let no = subst IsSome w.in_default.is (c.last_mut.ensures.variant.1 (omega (arith, c.push_reserved.ensures.len))) in absurd cc
+      | in-Some w ↦ ap (λ k. k.pairs.items) w.self-inside-is
+          ∙ set_last _ c.self.inside.pairs.items _ _ _ c.push_reserved.ensures.items
+          (omega (arith, c.push_reserved.ensures.len))
+          ∙ ap₂ (λ r a. c.self.inside.pairs.items ++ record { request = r; answer = a } ∷ [])
+          w.set.ensures w.set-in-Some.ensures
+          ∙ ap (λ (v : RecordValue). grown_by v.carried c.args.request.now c.args.answer.now)
+          c.self.view_is
+      | in_default w ↦ let no = subst IsSome w.in_default.is
+          (c.last_mut.ensures.variant.1 (omega (arith, c.push_reserved.ensures.len))) in absurd cc
     ]

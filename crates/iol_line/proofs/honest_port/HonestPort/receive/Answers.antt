@@ -6,6 +6,13 @@ use Rattle.iol_line.proofs.honest_port.HonestPort.receive.Goals as goal
 
 pub invariant_of-self : goal.invariant_of-self
 invariant_of-self g c =
-    let p : HonestPort = record { parts = c.self.inside.core; at = c.self.inside.at.at; limits = c.self.inside.limits.value; from = c.self.inside.from.at } in
+    let p : HonestPort = record {
+      parts = c.self.inside.core;
+      at = c.self.inside.at.at;
+      limits = c.self.inside.limits.value;
+      from = c.self.inside.from.at;
+    } in
     rw c.of.ensures
-    (received p c.receive.new.self (octets_in c.args.came.now) g.after c.self.invariant c.receive.ensures.does (subst (λ (q : HonestPort). Exchanges q (octets_in c.args.came.now) g.after) (sym c.self.view_is) c.requires.1.1.1))
+    (received p c.receive.new.self (octets_in c.args.came.now) g.after c.self.invariant
+    c.receive.ensures.does (subst (λ (q : HonestPort). Exchanges q
+    (octets_in c.args.came.now) g.after) (sym c.self.view_is) c.requires.1.1.1))

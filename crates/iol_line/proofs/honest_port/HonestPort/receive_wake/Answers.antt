@@ -7,6 +7,14 @@ use Rattle.iol_line.proofs.honest_port.HonestPort.receive_wake.Goals as goal
 
 pub invariant_of-self : goal.invariant_of-self
 invariant_of-self g c =
-    let p : HonestPort = record { parts = c.self.inside.core; at = c.self.inside.at.at; limits = c.self.inside.limits.value; from = c.self.inside.from.at } in
+    let p : HonestPort = record {
+      parts = c.self.inside.core;
+      at = c.self.inside.at.at;
+      limits = c.self.inside.limits.value;
+      from = c.self.inside.from.at;
+    } in
     rw c.of.ensures
-    (woken p c.receive_wake.new.self (is_some c.args.rate) g.after c.self.invariant c.receive_wake.ensures.does (subst (λ (q : HonestPort). HonestWake q.at.far (is_some c.args.rate) g.after) (sym c.self.view_is) c.requires.1.1.1))
+    (woken p c.receive_wake.new.self (is_some c.args.rate) g.after c.self.invariant
+    c.receive_wake.ensures.does (subst
+    (λ (q : HonestPort). HonestWake q.at.far (is_some c.args.rate) g.after)
+    (sym c.self.view_is) c.requires.1.1.1))

@@ -3,4 +3,7 @@ use denote.Param.Send.{IsSend}
 use Rattle.iol_line.specs.contracts.place.Place.{the_row}
 
 pub send : IsSend the_row
-send = record { owned = λ d vs. ((λ vss. (tt, ((λ uss. (tt, tt)), tt))), tt); leaving = λ k f vs. tt }
+send = record {
+  owned = λ d vs. ((λ vss. (tt, ((λ uss. (tt, tt)), tt))), tt);
+  leaving = λ k f vs. tt;
+}

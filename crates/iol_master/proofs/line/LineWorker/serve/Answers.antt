@@ -9,7 +9,8 @@ none_yet more = omega arith
 not_below : (turn : ℕ) → turn < 0 → ⊥
 not_below turn below = omega arith
 
-one_more : (calls turn : ℕ) (asked : Asked) (more : List Asked) → calls ≡ length (asked ∷ more) + turn → calls ≡ length more + (turn + 1)
+one_more : (calls turn : ℕ) (asked : Asked) (more : List Asked)
+    → calls ≡ length (asked ∷ more) + turn → calls ≡ length more + (turn + 1)
 one_more calls turn asked more e = omega arith
 
 few : (calls turn turns : ℕ) → calls ≡ 0 + turn → turn ≤ turns → calls ≤ turns
@@ -28,9 +29,11 @@ loop-turn-preserved g c =
     let before = c.loop-turn.invariant in
     record {
       called = λ more last are.
-          let made = before.called (asked.0 ∷ more) last (c.turn.new.self, asked.1, are) in (made.0, made.1, one_more _ _ asked.0 more made.2);
+          let made = before.called (asked.0 ∷ more) last (c.turn.new.self, asked.1, are) in
+          (made.0, made.1, one_more _ _ asked.0 more made.2);
       all = rw add-one (c.loop-turn.self, before.all, c.turn.ensures.turned);
-      yes = one_turn_more g.G.Gate.pass_gives _ _ _ before.yes (rw (← c.if-not-pass.false) c.pass.ensures);
+      yes = one_turn_more g.G.Gate.pass_gives _ _ _ before.yes
+          (rw (← c.if-not-pass.false) c.pass.ensures);
     }
 
 pub returns-then-not-pass : goal.returns-then-not-pass
@@ -57,7 +60,10 @@ returns g c =
       called = (made.0, made.1, few _ _ _ made.2 c.loop-turn.auto.turn-end);
       worked = record {
         made = c.loop-turn.turn;
-        let_in = record { yes = loop.yes; ends = inl (omega (arith, c.loop-turn.auto.turn-end, c.loop-turn-test.false)) };
+        let_in = record {
+          yes = loop.yes;
+          ends = inl (omega (arith, c.loop-turn.auto.turn-end, c.loop-turn-test.false));
+        };
         all = loop.all;
       };
     }

@@ -28,6 +28,11 @@ returns-clause-turned g c =
             again = w.deref_mut-in-Exchange.result.now;
             awaits = w.receive.ensures.awaits;
             taken = w.receive.new.self;
-            brings = (w.exchange-came.result, rw (← w.as_slice.ensures.value) w.exchange-came.ensures.gives, w.receive.ensures.takes);
+            brings = (
+              w.exchange-came.result,
+              rw (← w.as_slice.ensures.value)
+                  w.exchange-came.ensures.gives,
+              w.receive.ensures.takes,
+            );
           })
     ]

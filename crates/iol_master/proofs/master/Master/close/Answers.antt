@@ -13,7 +13,8 @@ module _ {W : Type 0} (p : Port W) (given : ℕ) (has : HasGiven p given) where
   first : HaveGiven (p ∷ []) given
   first = (given, 0, has, refl, plus_none given)
 
-  also : (ports : List (Port W)) (others : ℕ) → HaveGiven ports others → HaveGiven (p ∷ ports) (others + given)
+  also : (ports : List (Port W)) (others : ℕ) → HaveGiven ports others
+      → HaveGiven (p ∷ ports) (others + given)
   also ports others have = (given, others, has, have, swapped given others)
 
 pub loop-held-init : goal.loop-held-init

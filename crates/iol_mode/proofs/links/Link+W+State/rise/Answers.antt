@@ -8,13 +8,21 @@ use Rattle.iol_mode.proofs.links.Link+W+State.rise.Goals as goal
 
 pub returns-clause-turn : goal.returns-clause-turn
 returns-clause-turn g c =
-    subst (λ k. IsStartTurn g.W.Wire.facts k.wire k.state (outcome_with c.exchanged.result c.exchanged.new.state) c.exchanged.new.wire) c.self.view_is
-    (start_turn g.W.Wire.facts c.self.inside.wire c.exchanged.new.wire c.self.inside.state (outcome_with c.exchanged.result c.exchanged.new.state)
+    subst (λ k. IsStartTurn g.W.Wire.facts k.wire k.state
+    (outcome_with c.exchanged.result c.exchanged.new.state) c.exchanged.new.wire) c.self.view_is
+    (start_turn g.W.Wire.facts c.self.inside.wire c.exchanged.new.wire c.self.inside.state
+    (outcome_with c.exchanged.result c.exchanged.new.state)
     (subst (λ k. is_starting k.state ≡ true) (sym c.self.view_is) c.requires) c.self.invariant.1
-    c.exchanged.ensures.called.0 c.exchanged.ensures.called.1 c.exchanged.ensures.called.2 c.exchanged.ensures.honesty c.exchanged.ensures.called.3 (subst StateFits (sym (outcome_state c.exchanged.result c.exchanged.new.state)) c.exchanged.ensures.fits) c.exchanged.ensures.called.5)
+    c.exchanged.ensures.called.0 c.exchanged.ensures.called.1 c.exchanged.ensures.called.2
+    c.exchanged.ensures.honesty c.exchanged.ensures.called.3
+    (subst StateFits (sym (outcome_state c.exchanged.result c.exchanged.new.state))
+    c.exchanged.ensures.fits) c.exchanged.ensures.called.5)
 
 pub returns-clause-tried : goal.returns-clause-tried
 returns-clause-tried g c =
-    subst (λ k. IsStartTried g.W.Wire.facts k.wire k.state c.exchanged.result c.exchanged.new.wire) c.self.view_is
-    (start_tried g.W.Wire.facts c.self.inside.wire c.exchanged.new.wire c.self.inside.state c.exchanged.result
-    (subst (λ k. is_starting k.state ≡ true) (sym c.self.view_is) c.requires) c.exchanged.ensures.called.0 c.exchanged.ensures.called.1 c.exchanged.ensures.called.4)
+    subst (λ k. IsStartTried g.W.Wire.facts k.wire k.state c.exchanged.result
+    c.exchanged.new.wire) c.self.view_is
+    (start_tried g.W.Wire.facts c.self.inside.wire c.exchanged.new.wire c.self.inside.state
+    c.exchanged.result
+    (subst (λ k. is_starting k.state ≡ true) (sym c.self.view_is) c.requires)
+    c.exchanged.ensures.called.0 c.exchanged.ensures.called.1 c.exchanged.ensures.called.4)

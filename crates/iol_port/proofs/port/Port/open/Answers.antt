@@ -8,10 +8,16 @@ invariant_of-result g c =
     let facts = g.W.Wire.facts in
     let limits = c.args.limits.now in
     let new = new_over facts c.args.wire limits c.in-Ok.core c.in-Ok.ensures.parts in
-    rw (c.of.ensures, c.of-wire_then.ensures) (port_new facts (opening_of facts limits c.args.wire) _ (opens_over facts c.args.wire limits c.in-Ok.core c.in-Ok.ensures.opens) new.wire_is new.sent new.mode)
+    rw (c.of.ensures, c.of-wire_then.ensures)
+    (port_new facts (opening_of facts limits c.args.wire) _
+    (opens_over facts c.args.wire limits c.in-Ok.core c.in-Ok.ensures.opens) new.wire_is
+    new.sent new.mode)
 
 pub returns-in-Ok-clause-parts : goal.returns-in-Ok-clause-parts
-returns-in-Ok-clause-parts g c = rw (c.of.ensures, c.of-wire_then.ensures) (new_over g.W.Wire.facts c.args.wire c.args.limits.now c.in-Ok.core c.in-Ok.ensures.parts)
+returns-in-Ok-clause-parts g c = rw (c.of.ensures, c.of-wire_then.ensures)
+    (new_over g.W.Wire.facts c.args.wire c.args.limits.now c.in-Ok.core c.in-Ok.ensures.parts)
 
 pub returns-in-Ok-clause-stands : goal.returns-in-Ok-clause-stands
-returns-in-Ok-clause-stands g c = rw c.of-wire_then.ensures (opens_over g.W.Wire.facts c.args.wire c.args.limits.now c.in-Ok.core c.in-Ok.ensures.opens)
+returns-in-Ok-clause-stands g c =
+    rw c.of-wire_then.ensures (opens_over g.W.Wire.facts c.args.wire c.args.limits.now
+    c.in-Ok.core c.in-Ok.ensures.opens)

@@ -6,8 +6,10 @@ use Rattle.iol_port.proofs.port.Port.run.Given as goal
 
 abbrev pub invariant-loop-call : goal.invariant-loop-call
 invariant-loop-call g l = record {
-  runs : Runs g.W.Wire.facts l.fn.self.parts (take l.call-index l.calls) l.replies.items l.self.parts;
-  gives : RunGives g.W.Wire.facts l.fn.self.parts (take l.call-index l.calls) l.replies.items l.self.parts;
+  runs : Runs g.W.Wire.facts l.fn.self.parts (take l.call-index l.calls) l.replies.items
+      l.self.parts;
+  gives : RunGives g.W.Wire.facts l.fn.self.parts (take l.call-index l.calls) l.replies.items
+      l.self.parts;
   clean : SoFar g.W.Wire.facts l.fn.self.parts (take l.call-index l.calls) l.self.parts;
   rest : l.self ≡ record l.fn.self { parts = l.self.parts };
   one_each : vec_len l.replies ≡ l.call-index;

@@ -5,4 +5,8 @@ use Rattle.iol_port.proofs.port_core.PortCore.collect.Goals as goal
 pub returns-clause-does : goal.returns-clause-does
 returns-clause-does g c =
     rw (← c.self.view_is, c.by_book.ensures)
-    (λ far n. record { follows = collect_does (at_end far n) _ c.args.ticket c.collect.result c.collect.new.self c.collect.ensures.answer c.collect.ensures.state; book = c.collect.ensures.state })
+    (λ far n. record {
+      follows = collect_does (at_end far n) _ c.args.ticket c.collect.result
+          c.collect.new.self c.collect.ensures.answer c.collect.ensures.state;
+      book = c.collect.ensures.state;
+    })

@@ -5,5 +5,15 @@ use Rattle.iol_port.proofs.port_core.PortCore.collect_into.Goals as goal
 
 pub returns-clause-does : goal.returns-clause-does
 returns-clause-does g c =
-    rw (← c.self.view_is, c.by_book.ensures, by_book_put c.collect_into.result c.collect_into.new.into)
-    (λ far n. record { follows = collect_does (at_end far n) _ c.args.ticket (result_map_both (λ _. c.collect_into.new.into) (λ why. why) c.collect_into.result) c.collect_into.new.self c.collect_into.ensures.answer c.collect_into.ensures.state; book = c.collect_into.ensures.state })
+    rw (
+      ← c.self.view_is,
+      c.by_book.ensures,
+      by_book_put c.collect_into.result
+          c.collect_into.new.into,
+    )
+    (λ far n. record {
+      follows = collect_does (at_end far n) _ c.args.ticket
+          (result_map_both (λ _. c.collect_into.new.into) (λ why. why) c.collect_into.result)
+          c.collect_into.new.self c.collect_into.ensures.answer c.collect_into.ensures.state;
+      book = c.collect_into.ensures.state;
+    })

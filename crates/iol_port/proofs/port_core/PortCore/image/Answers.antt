@@ -6,4 +6,14 @@ use Rattle.iol_port.proofs.port_core.PortCore.image.Goals as goal
 pub returns-clause-does : goal.returns-clause-does
 returns-clause-does g c =
     rw (← c.self.view_is)
-    (λ far n. record { follows = look_does (at_end far n) (record { station = bare c.self.inside.core; book = c.self.inside.book; kept = c.self.inside.kept.items; sent = c.self.inside.sent; counters = c.self.inside.counters }) _ c.image.ensures; book = refl })
+    (λ far n. record {
+      follows = look_does (at_end far n)
+          (record {
+            station = bare c.self.inside.core;
+            book = c.self.inside.book;
+            kept = c.self.inside.kept.items;
+            sent = c.self.inside.sent;
+            counters = c.self.inside.counters;
+          }) _ c.image.ensures;
+      book = refl;
+    })

@@ -9,7 +9,14 @@ use Rattle.iol_port.proofs.port_core.PortCore.open.Goals as goal
 pub returns-in-Ok-clause-opens : goal.returns-in-Ok-clause-opens
 returns-in-Ok-clause-opens g c far n well =
     let core = c.new.ensures.core in
-    opened_stands (at_end far n) c.args.limits.now tt (record { station = bare c.new.result; book = c.in-Ok.book; kept = c.new-in-Ok.result.items; sent = false; counters = c.zero.result })
+    opened_stands (at_end far n) c.args.limits.now tt
+    (record {
+      station = bare c.new.result;
+      book = c.in-Ok.book;
+      kept = c.new-in-Ok.result.items;
+      sent = false;
+      counters = c.zero.result;
+    })
     (record {
       wire_is = refl;
       mode = ap (λ (k : Core). mode_in k.state) core;

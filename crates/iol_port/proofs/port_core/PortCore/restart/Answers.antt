@@ -10,16 +10,43 @@ pub returns-then-restart-clause-does : goal.returns-then-restart-clause-does
 returns-then-restart-clause-does g c =
     rw (← c.self.view_is)
     (λ far n. record {
-      follows = restart_does (at_end far n) (record { station = bare c.self.inside.core; book = c.self.inside.book; kept = c.self.inside.kept.items; sent = c.self.inside.sent; counters = c.self.inside.counters }) (bare c.restart.new.self) c.post.new.self _ (subst (λ (p : Parts (Unit {0})). p.sent ≡ false) (sym c.self.view_is) (nothing_out c.args.self.now c.requires))
-          (restart_cuts _ _ _ (some_request _ ∙ sym c.restart.ensures.cut ∙ c.if-restart.true) c.post.ensures.state) (ap bare c.restart.ensures.core) (subst (RestartSteps c.self.inside.core) c.restart.ensures.core c.restart.ensures.steps);
-      book = restart_book _ _ _ _ c.self.invariant.same (restart_cuts _ _ _ (some_request _ ∙ sym c.restart.ensures.cut ∙ c.if-restart.true) c.post.ensures.state);
+      follows = restart_does (at_end far n)
+          (record {
+            station = bare c.self.inside.core;
+            book = c.self.inside.book;
+            kept = c.self.inside.kept.items;
+            sent = c.self.inside.sent;
+            counters = c.self.inside.counters;
+          }) (bare c.restart.new.self) c.post.new.self
+          _ (subst (λ (p : Parts (Unit {0})). p.sent ≡ false) (sym c.self.view_is)
+          (nothing_out c.args.self.now c.requires))
+          (restart_cuts _ _ _ (some_request _ ∙ sym c.restart.ensures.cut ∙ c.if-restart.true)
+          c.post.ensures.state) (ap bare c.restart.ensures.core)
+          (subst (RestartSteps c.self.inside.core) c.restart.ensures.core
+          c.restart.ensures.steps);
+      book = restart_book _ _ _ _ c.self.invariant.same
+          (restart_cuts _ _ _ (some_request _ ∙ sym c.restart.ensures.cut ∙ c.if-restart.true)
+          c.post.ensures.state);
     })
 
 pub returns-else-restart-clause-does : goal.returns-else-restart-clause-does
 returns-else-restart-clause-does g c =
     rw (← c.self.view_is)
     (λ far n. record {
-      follows = restart_does (at_end far n) (record { station = bare c.self.inside.core; book = c.self.inside.book; kept = c.self.inside.kept.items; sent = c.self.inside.sent; counters = c.self.inside.counters }) (bare c.restart.new.self) c.self.inside.book _ (subst (λ (p : Parts (Unit {0})). p.sent ≡ false) (sym c.self.view_is) (nothing_out c.args.self.now c.requires))
-          (restart_quiet _ _ (some_request _ ∙ sym c.restart.ensures.cut ∙ c.if-restart.false)) (ap bare c.restart.ensures.core) (subst (RestartSteps c.self.inside.core) c.restart.ensures.core c.restart.ensures.steps);
-      book = restart_book _ _ _ _ c.self.invariant.same (restart_quiet _ _ (some_request _ ∙ sym c.restart.ensures.cut ∙ c.if-restart.false));
+      follows = restart_does (at_end far n)
+          (record {
+            station = bare c.self.inside.core;
+            book = c.self.inside.book;
+            kept = c.self.inside.kept.items;
+            sent = c.self.inside.sent;
+            counters = c.self.inside.counters;
+          }) (bare c.restart.new.self)
+          c.self.inside.book _ (subst (λ (p : Parts (Unit {0})). p.sent ≡ false)
+          (sym c.self.view_is) (nothing_out c.args.self.now c.requires))
+          (restart_quiet _ _ (some_request _ ∙ sym c.restart.ensures.cut ∙ c.if-restart.false))
+          (ap bare c.restart.ensures.core)
+          (subst (RestartSteps c.self.inside.core) c.restart.ensures.core
+          c.restart.ensures.steps);
+      book = restart_book _ _ _ _ c.self.invariant.same
+          (restart_quiet _ _ (some_request _ ∙ sym c.restart.ensures.cut ∙ c.if-restart.false));
     })

@@ -22,34 +22,70 @@ use Rattle.iol_port.proofs.port_core.PortCore.send.Goals as goal
 
 pub invariant_of-self : goal.invariant_of-self
 invariant_of-self g c =
-    let p : Parts (Unit {0}) = record { station = bare c.self.inside.core; book = c.self.inside.book; kept = c.self.inside.kept.items; sent = c.self.inside.sent; counters = c.self.inside.counters } in
+    let p : Parts (Unit {0}) = record {
+      station = bare c.self.inside.core;
+      book = c.self.inside.book;
+      kept = c.self.inside.kept.items;
+      sent = c.self.inside.sent;
+      counters = c.self.inside.counters;
+    } in
     let mid : Core = c.if-not-self.self-inside.core in
     let book : BookValue = c.if-not-self.self-inside.book in
     let later : List Event = c.if-not-self.self-inside.kept.items in
-    let room : c.has_room-room.result ≡ has_room p.kept = c.has_room-room.ensures ∙ ap (λ (q : Parts (Unit {0})). has_room q.kept) (sym c.self.view_is) in
+    let room : c.has_room-room.result ≡ has_room p.kept = c.has_room-room.ensures
+    ∙ ap (λ (q : Parts (Unit {0})). has_room q.kept) (sym c.self.view_is) in
     let begun : BeginsNext p.station p.book.state (bare mid) book.state × (later ≡ p.kept) =
-    elim c.if-not-self.branch as (λ _. BeginsNext p.station p.book.state (bare mid) book.state × (later ≡ p.kept)) [
+    elim c.if-not-self.branch as (λ _. BeginsNext p.station p.book.state (bare mid) book.state
+    × (later ≡ p.kept)) [
       | then-not-self w ↦
           let is = w.self-inside-is in
           let begun = w.begin_next in
           let core_is : mid ≡ begun.new.core = ap (λ x. x.core) is in
           let book_is : book ≡ begun.new.book = ap (λ x. x.book) is in (
-            subst (λ (k : Core). BeginsNext p.station p.book.state (bare k) book.state) (sym core_is)
-                (subst (λ (s : BookState). BeginsNext p.station p.book.state (bare begun.new.core) s) (sym (ap (λ (b : BookValue). b.state) book_is)) begun.ensures.next),
+            subst (λ (k : Core). BeginsNext p.station p.book.state (bare k) book.state)
+                (sym core_is)
+                (subst (λ (s : BookState). BeginsNext p.station p.book.state
+                (bare begun.new.core) s) (sym (ap (λ (b : BookValue). b.state) book_is))
+                begun.ensures.next),
             ap (λ x. x.kept.items) is,
           )
       | else-not-self w ↦
-          let is = w.self-inside-is in
-          (inl (ap bare (ap (λ x. x.core) is), ap (λ x. x.book.state) is), ap (λ x. x.kept.items) is)
+          let is = w.self-inside-is in (
+            inl (ap bare (ap (λ x. x.core) is), ap (λ x. x.book.state) is),
+            ap
+                (λ x. x.kept.items) is,
+          )
     ] in
-    send_tied p mid c.send.new.self book later c.if-not-self.self-inside.sent c.has_room-room.result c.send.result c.self.invariant begun.0 begun.1 room c.send.ensures.sent c.send.ensures.reads c.send.ensures.says
+    send_tied p mid c.send.new.self book later c.if-not-self.self-inside.sent
+    c.has_room-room.result c.send.result c.self.invariant begun.0 begun.1 room
+    c.send.ensures.sent c.send.ensures.reads c.send.ensures.says
 
-both : (g : given.Over) (c : goal.After-send g) → let next : Parts (Unit {0}) = record { station = bare c.send.new.self; book = c.if-not-self.self-inside.book; kept = c.if-not-self.self-inside.kept.items; sent = c.if-not-self.self-inside.sent; counters = c.if-not-self.self-inside.counters } in
+both : (g : given.Over) (c : goal.After-send g)
+    → let next : Parts (Unit {0}) = record {
+      station = bare c.send.new.self;
+      book = c.if-not-self.self-inside.book;
+      kept = c.if-not-self.self-inside.kept.items;
+      sent = c.if-not-self.self-inside.sent;
+      counters = c.if-not-self.self-inside.counters;
+    } in
     SendGives c.args.self.now next × SendDoes c.args.self.now next
 both g c =
-    let p : Parts (Unit {0}) = record { station = bare c.self.inside.core; book = c.self.inside.book; kept = c.self.inside.kept.items; sent = c.self.inside.sent; counters = c.self.inside.counters } in
-    let next : Parts (Unit {0}) = record { station = bare c.send.new.self; book = c.if-not-self.self-inside.book; kept = c.if-not-self.self-inside.kept.items; sent = c.if-not-self.self-inside.sent; counters = c.if-not-self.self-inside.counters } in
-    let room : c.has_room-room.result ≡ has_room p.kept = c.has_room-room.ensures ∙ ap (λ (q : Parts (Unit {0})). has_room q.kept) (sym c.self.view_is) in
+    let p : Parts (Unit {0}) = record {
+      station = bare c.self.inside.core;
+      book = c.self.inside.book;
+      kept = c.self.inside.kept.items;
+      sent = c.self.inside.sent;
+      counters = c.self.inside.counters;
+    } in
+    let next : Parts (Unit {0}) = record {
+      station = bare c.send.new.self;
+      book = c.if-not-self.self-inside.book;
+      kept = c.if-not-self.self-inside.kept.items;
+      sent = c.if-not-self.self-inside.sent;
+      counters = c.if-not-self.self-inside.counters;
+    } in
+    let room : c.has_room-room.result ≡ has_room p.kept = c.has_room-room.ensures
+    ∙ ap (λ (q : Parts (Unit {0})). has_room q.kept) (sym c.self.view_is) in
     subst (λ (q : Parts (Unit {0})). SendGives q next × SendDoes q next) c.self.view_is
     (elim c.if-not-self.branch as (λ _. SendGives p next × SendDoes p next) [
       | then-not-self w ↦
@@ -58,29 +94,52 @@ both g c =
           let begun = w.begin_next in
           let core_is : c.if-not-self.self-inside.core ≡ begun.new.core = ap (λ x. x.core) is in
           let book_is : next.book ≡ begun.new.book = ap (λ x. x.book) is in
-          let request : Option Request = to_begin (lacks_isdu p.station.session.isdu) (next_taken p.book.state.standing) in
-          let exact : begun.new.core ≡ core_of (station_begun p) = begun.ensures.exact ∙ ap (λ (r : Bool). core_of (prepared request p.station r)) room in
+          let request : Option Request =
+          to_begin (lacks_isdu p.station.session.isdu) (next_taken p.book.state.standing) in
+          let exact : begun.new.core ≡ core_of (station_begun p) = begun.ensures.exact
+          ∙ ap (λ (r : Bool). core_of (prepared request p.station r)) room in
           let sent : IsSent (has_room p.kept) (core_of (station_begun p)) c.send.new.self =
-          subst (λ (r : Bool). IsSent r (core_of (station_begun p)) c.send.new.self) room (subst (λ (k : Core). IsSent c.has_room-room.result k c.send.new.self) (core_is ∙ exact) c.send.ensures.sent) in (
+          subst (λ (r : Bool). IsSent r (core_of (station_begun p)) c.send.new.self) room
+          (subst (λ (k : Core). IsSent c.has_room-room.result k c.send.new.self)
+          (core_is ∙ exact) c.send.ensures.sent) in (
             record {
               core = λ _. sent;
               book = λ _. ap (λ (b : BookValue). b.state) book_is ∙ begun.ensures.taken
-                  ∙ ap (λ (r : Bool). taken_where (operates p.station.link.state && is_ready p.station.session r) (lacks_isdu p.station.session.isdu) (next_taken p.book.state.standing) p.book.state) room;
+                  ∙ ap (λ (r : Bool). taken_where
+                  (operates p.station.link.state && is_ready p.station.session r)
+                  (lacks_isdu p.station.session.isdu) (next_taken p.book.state.standing)
+                  p.book.state) room;
               memory = ap (λ (b : BookValue). b.memory) book_is ∙ begun.ensures.memory;
               kept = ap (λ x. x.kept.items) is;
               sent = ap (λ x. x.sent) is;
               counters = ap (λ x. x.counters) is;
             },
-            send_does p next (bare begun.new.core) begun.new.book.state free begun.ensures.next (subst (λ (k : Core). SendSteps k c.send.new.self) core_is c.send.ensures.steps) (ap (λ (b : BookValue). b.state) book_is) (ap (λ x. x.kept.items) is) (ap (λ x. x.sent) is) (ap (λ x. x.counters) is),
+            send_does p next (bare begun.new.core) begun.new.book.state free begun.ensures.next
+                (subst (λ (k : Core). SendSteps k c.send.new.self) core_is c.send.ensures.steps)
+                (ap (λ (b : BookValue). b.state) book_is) (ap (λ x. x.kept.items) is)
+                (ap (λ x. x.sent) is) (ap (λ x. x.counters) is),
           )
       | else-not-self w ↦
           let sent : p.sent ≡ true = cc in
           let is = w.self-inside-is in
           let core_is : c.if-not-self.self-inside.core ≡ c.self.inside.core = ap (λ x. x.core) is in
-          let same : c.send.new.self ≡ c.self.inside.core = sent_same c.has_room-room.result c.self.inside.core c.send.new.self (c.self.invariant.out sent) (subst (λ (k : Core). IsSent c.has_room-room.result k c.send.new.self) core_is c.send.ensures.sent) in
+          let same : c.send.new.self ≡ c.self.inside.core =
+          sent_same c.has_room-room.result c.self.inside.core c.send.new.self
+          (c.self.invariant.out sent)
+          (subst (λ (k : Core). IsSent c.has_room-room.result k c.send.new.self)
+          core_is c.send.ensures.sent) in
           let next_is : next ≡ p = cc in
-          subst (λ (q : Parts (Unit {0})). SendGives p q × SendDoes p q) (sym next_is)
-          (record { core = λ free. absurd (let k : true ≡ false = sym sent ∙ free in cc); book = λ free. absurd (let k : true ≡ false = sym sent ∙ free in cc); memory = refl; kept = refl; sent = sent; counters = refl }, again_does p sent)
+          subst (λ (q : Parts (Unit {0})). SendGives p q × SendDoes p q) (sym next_is) (
+            record {
+              core = λ free. absurd (let k : true ≡ false = sym sent ∙ free in cc);
+              book = λ free. absurd (let k : true ≡ false = sym sent ∙ free in cc);
+              memory = refl;
+              kept = refl;
+              sent = sent;
+              counters = refl;
+            },
+            again_does p sent,
+          )
     ])
 
 pub returns-clause-gives : goal.returns-clause-gives

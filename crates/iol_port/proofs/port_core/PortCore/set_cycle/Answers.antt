@@ -7,6 +7,19 @@ use Rattle.iol_port.proofs.port_core.PortCore.set_cycle.Goals as goal
 
 pub returns-clause-does : goal.returns-clause-does
 returns-clause-does g c =
-    let counts = c.counting-counting.ensures ∙ ap (λ q. counting (page_shown q)) (sym c.self.view_is) in
+    let counts = c.counting-counting.ensures
+    ∙ ap (λ q. counting (page_shown q)) (sym c.self.view_is) in
     rw (← c.self.view_is)
-    (λ far n. record { follows = set_cycle_does (at_end far n) (record { station = bare c.self.inside.core; book = c.self.inside.book; kept = c.self.inside.kept.items; sent = c.self.inside.sent; counters = c.self.inside.counters }) c.args.cycle c.counting-counting.result (bare c.set_cycle.new.self) counts (ap bare c.set_cycle.ensures.core) c.set_cycle.ensures.steps; book = refl })
+    (λ far n. record {
+      follows = set_cycle_does (at_end far n)
+          (record {
+            station = bare c.self.inside.core;
+            book = c.self.inside.book;
+            kept = c.self.inside.kept.items;
+            sent = c.self.inside.sent;
+            counters = c.self.inside.counters;
+          }) c.args.cycle c.counting-counting.result
+          (bare c.set_cycle.new.self) counts (ap bare c.set_cycle.ensures.core)
+          c.set_cycle.ensures.steps;
+      book = refl;
+    })

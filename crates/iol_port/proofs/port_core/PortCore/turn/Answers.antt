@@ -25,32 +25,59 @@ use Rattle.iol_port.proofs.port_core.PortCore.turn.Goals as goal
 
 pub settle-requires-clause-asked : goal.settle-requires-clause-asked
 settle-requires-clause-asked g c =
-    ends_ask _ _ _ (begun_same _ _ _ _ c.begin_next.ensures.next c.self.invariant.same) c.turn-brought.ensures.ends
+    ends_ask _ _ _ (begun_same _ _ _ _ c.begin_next.ensures.next c.self.invariant.same)
+    c.turn-brought.ensures.ends
 
 pub invariant_of-self : goal.invariant_of-self
 invariant_of-self g c =
-    let p : Parts (Unit {0}) = record { station = bare c.self.inside.core; book = c.self.inside.book; kept = c.self.inside.kept.items; sent = c.self.inside.sent; counters = c.self.inside.counters } in
-    let free : p.sent ≡ false = ap (λ (q : Parts (Unit {0})). q.sent) c.self.view_is ∙ c.requires.free in
+    let p : Parts (Unit {0}) = record {
+      station = bare c.self.inside.core;
+      book = c.self.inside.book;
+      kept = c.self.inside.kept.items;
+      sent = c.self.inside.sent;
+      counters = c.self.inside.counters;
+    } in
+    let free : p.sent ≡ false = ap (λ (q : Parts (Unit {0})). q.sent) c.self.view_is
+    ∙ c.requires.free in
     rw free
-    (turn_tied p (bare c.begin_next.new.core) (bare c.turn-brought.new.self) c.begin_next.new.book.state c.settle.new.kept.items c.settle.new.book _ _ c.turn-brought.new.said c.self.invariant c.begin_next.ensures.next
-    (turn_limit g.W.Wire.facts _ (station_of c.args.wire.now c.begin_next.new.core) c.turn-brought.new.said (station_of c.turn-brought.new.wire c.turn-brought.new.self) c.turn-brought.ensures.turn)
-    c.turn-brought.ensures.request c.turn-brought.ensures.reading (λ room. grind (arith, common_steps)) c.settle.ensures.book c.settle.ensures.kept)
+    (turn_tied p (bare c.begin_next.new.core) (bare c.turn-brought.new.self)
+    c.begin_next.new.book.state c.settle.new.kept.items c.settle.new.book _ _
+    c.turn-brought.new.said c.self.invariant c.begin_next.ensures.next
+    (turn_limit g.W.Wire.facts _ (station_of c.args.wire.now c.begin_next.new.core)
+    c.turn-brought.new.said (station_of c.turn-brought.new.wire c.turn-brought.new.self)
+    c.turn-brought.ensures.turn)
+    c.turn-brought.ensures.request c.turn-brought.ensures.reading
+    (λ room. grind (arith, common_steps)) c.settle.ensures.book c.settle.ensures.kept)
 
 -- the parts before the turn, and what was begun, over the wire
 abbrev inside : (g : given.Over) (c : goal.After-settle g) → Parts (Unit {0})
-inside g c = record { station = bare c.self.inside.core; book = c.self.inside.book; kept = c.self.inside.kept.items; sent = c.self.inside.sent; counters = c.self.inside.counters }
+inside g c = record {
+  station = bare c.self.inside.core;
+  book = c.self.inside.book;
+  kept = c.self.inside.kept.items;
+  sent = c.self.inside.sent;
+  counters = c.self.inside.counters;
+}
 
 abbrev before : (g : given.Over) (c : goal.After-settle g) → Parts g.row.W.Denot
 before g c = parts_over c.args.wire.now (inside g c)
 
 abbrev after : (g : given.Over) (c : goal.After-settle g) → Parts g.row.W.Denot
-after g c = record { station = station_of c.turn-brought.new.wire c.turn-brought.new.self; book = c.settle.new.book; kept = c.settle.new.kept.items; sent = c.self.inside.sent; counters = c.turned.new.self }
+after g c = record {
+  station = station_of c.turn-brought.new.wire c.turn-brought.new.self;
+  book = c.settle.new.book;
+  kept = c.settle.new.kept.items;
+  sent = c.self.inside.sent;
+  counters = c.turned.new.self;
+}
 
 abbrev mid : (g : given.Over) (c : goal.After-settle g) → StationState g.row.W.Denot
 mid g c = station_of c.args.wire.now c.begin_next.new.core
 
-begins : (g : given.Over) (c : goal.After-settle g) → BeginsNext (before g c).station (before g c).book.state (mid g c) c.begin_next.new.book.state
-begins g c = begins_over c.args.wire.now c.self.inside.core c.begin_next.new.core c.self.inside.book.state c.begin_next.new.book.state c.begin_next.ensures.next
+begins : (g : given.Over) (c : goal.After-settle g)
+    → BeginsNext (before g c).station (before g c).book.state (mid g c) c.begin_next.new.book.state
+begins g c = begins_over c.args.wire.now c.self.inside.core c.begin_next.new.core
+    c.self.inside.book.state c.begin_next.new.book.state c.begin_next.ensures.next
 
 free : (g : given.Over) (c : goal.After-settle g) → c.self.inside.sent ≡ false
 free g c = ap (λ (q : Parts (Unit {0})). q.sent) c.self.view_is ∙ c.requires.free
@@ -59,43 +86,69 @@ pub returns-clause-does : goal.returns-clause-does
 returns-clause-does g c =
     rw (← c.self.view_is)
     (record {
-      follows = turn_does g.W.Wire.facts (before g c) (after g c) c.turn-brought.new.said (mid g c) c.begin_next.new.book.state (free g c) (free g c) (begins g c) c.turn-brought.ensures.steps (cc) c.settle.ensures.kept;
-      book = turn_gives_none _ _ _ _ _ (cond c.woke_up-woke.result (Reset ∷ []) [] ++ book_said c.turn-brought.new.said) (begins g c) c.settle.ensures.book;
+      follows = turn_does g.W.Wire.facts (before g c) (after g c) c.turn-brought.new.said
+          (mid g c) c.begin_next.new.book.state (free g c) (free g c) (begins g c)
+          c.turn-brought.ensures.steps (cc) c.settle.ensures.kept;
+      book = turn_gives_none _ _ _ _ _
+          (cond c.woke_up-woke.result (Reset ∷ []) [] ++ book_said c.turn-brought.new.said)
+          (begins g c) c.settle.ensures.book;
     })
 
 pub returns-clause-clean : goal.returns-clause-clean
 returns-clause-clean g c =
     rw (← c.self.view_is)
-    (clean_turn g.W.Wire.facts c.clean_laws.ensures g.met.W.Wire.clean_exchanges (before g c) (after g c)
-    (mid g c) c.begin_next.new.book.state _ c.woke_up-woke.result c.turn-brought.new.said (begins g c)
-    (takes_over c.args.wire.now c.has_room-room.result c.self.inside.core c.begin_next.new.core c.self.inside.book.state c.begin_next.new.book.state c.begin_next.ensures.takes) c.turn-brought.ensures.turn c.self.invariant.busy
-    (none_woke g.W.Wire.facts (mid g c).link _ _ c.woke_up-woke.result c.status-began.ensures.mode c.woke_up-woke.ensures)
+    (clean_turn g.W.Wire.facts c.clean_laws.ensures g.met.W.Wire.clean_exchanges (before g c)
+    (after g c)
+    (mid g c) c.begin_next.new.book.state _ c.woke_up-woke.result c.turn-brought.new.said
+    (begins g c)
+    (takes_over c.args.wire.now c.has_room-room.result c.self.inside.core c.begin_next.new.core
+    c.self.inside.book.state c.begin_next.new.book.state c.begin_next.ensures.takes)
+    c.turn-brought.ensures.turn c.self.invariant.busy
+    (none_woke g.W.Wire.facts (mid g c).link _ _ c.woke_up-woke.result
+    c.status-began.ensures.mode c.woke_up-woke.ensures)
     c.settle.ensures.book)
 
 pub returns-clause-gives : goal.returns-clause-gives
 returns-clause-gives g c =
     let facts = g.W.Wire.facts in
     let p : Parts g.row.W.Denot = before g c in
-    let next : Option Request = to_begin (lacks_isdu p.station.session.isdu) (next_taken p.book.state.standing) in
-    let room : c.has_room-room.result ≡ has_room p.kept = c.has_room-room.ensures ∙ ap (λ (q : Parts (Unit {0})). has_room q.kept) (sym c.self.view_is) in
-    let exact : mid g c ≡ prepared next p.station c.has_room-room.result = ap (λ (k : Core). station_of c.args.wire.now k) c.begin_next.ensures.exact in
+    let next : Option Request = to_begin (lacks_isdu p.station.session.isdu)
+    (next_taken p.book.state.standing) in
+    let room : c.has_room-room.result ≡ has_room p.kept = c.has_room-room.ensures
+    ∙ ap (λ (q : Parts (Unit {0})). has_room q.kept) (sym c.self.view_is) in
+    let exact : mid g c ≡ prepared next p.station c.has_room-room.result =
+    ap (λ (k : Core). station_of c.args.wire.now k) c.begin_next.ensures.exact in
     rw (← c.self.view_is)
     (record {
       said = c.turn-brought.new.said;
       brought = c.turn-brought.result;
-      turn = turn_begun_asked facts p.station (mid g c) (after g c).station next c.has_room-room.result _ c.turn-brought.new.said c.turn-brought.result room exact c.turn-brought.ensures.exact;
+      turn = turn_begun_asked facts p.station (mid g c) (after g c).station next
+          c.has_room-room.result _ c.turn-brought.new.said c.turn-brought.result room exact
+          c.turn-brought.ensures.exact;
       book = c.settle.ensures.book
-          ∙ book_told p.station (mid g c) (after g c).station next c.has_room-room.result c.woke_up-woke.result c.status-began.result.mode c.status.result.mode c.turn-brought.new.said c.begin_next.new.book.state
+          ∙ book_told p.station (mid g c) (after g c).station next c.has_room-room.result
+          c.woke_up-woke.result c.status-began.result.mode c.status.result.mode
+          c.turn-brought.new.said c.begin_next.new.book.state
           exact c.status-began.ensures.mode c.status.ensures.mode c.woke_up-woke.ensures
-          ∙ ap (λ (b : BookState). book_through (woke_up (mode_of p.station.link) (mode_of (after g c).station.link) ++ book_said c.turn-brought.new.said) b)
-          (c.begin_next.ensures.taken ∙ ap (λ (r : Bool). taken_where (operates p.station.link.state && is_ready p.station.session r) (lacks_isdu p.station.session.isdu) (next_taken p.book.state.standing) p.book.state) room);
+          ∙ ap (λ (b : BookState). book_through
+          (woke_up (mode_of p.station.link) (mode_of (after g c).station.link)
+          ++ book_said c.turn-brought.new.said) b)
+          (c.begin_next.ensures.taken ∙ ap
+          (λ (r : Bool). taken_where (operates p.station.link.state
+          && is_ready p.station.session r) (lacks_isdu p.station.session.isdu)
+          (next_taken p.book.state.standing) p.book.state) room);
       memory = c.settle.ensures.memory ∙ c.begin_next.ensures.memory;
       kept = c.settle.ensures.kept;
       counters = c.turned.ensures;
       denies = λ ticket has. turn_denies p (after g c)
           c.begin_next.new.book.state c.woke_up-woke.result c.turn-brought.new.said
-          (ends_ask _ _ _ (begun_same _ _ _ _ c.begin_next.ensures.next c.self.invariant.same) c.turn-brought.ensures.ends)
-          c.settle.ensures.book ticket has (is_operating p.station.link && is_ready p.station.session c.has_room-room.result) c.begin_next.ensures.taken
-          (λ ready. none_woke facts (mid g c).link _ _ c.woke_up-woke.result c.status-began.ensures.mode c.woke_up-woke.ensures
-          (ap (λ (s : StationState g.row.W.Denot). is_operating s.link) exact ∙ (grind (arith, common_steps))));
+          (ends_ask _ _ _ (begun_same _ _ _ _ c.begin_next.ensures.next c.self.invariant.same)
+          c.turn-brought.ensures.ends)
+          c.settle.ensures.book ticket has
+          (is_operating p.station.link && is_ready p.station.session c.has_room-room.result)
+          c.begin_next.ensures.taken
+          (λ ready. none_woke facts (mid g c).link _ _ c.woke_up-woke.result
+          c.status-began.ensures.mode c.woke_up-woke.ensures
+          (ap (λ (s : StationState g.row.W.Denot). is_operating s.link) exact
+          ∙ (grind (arith, common_steps))));
     })

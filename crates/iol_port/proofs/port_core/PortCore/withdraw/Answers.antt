@@ -5,4 +5,8 @@ use Rattle.iol_port.proofs.port_core.PortCore.withdraw.Goals as goal
 pub returns-clause-does : goal.returns-clause-does
 returns-clause-does g c =
     rw (← c.self.view_is, c.by_book.ensures)
-    (λ far n. record { follows = withdraw_does (at_end far n) _ c.args.ticket c.withdraw.result c.withdraw.new.self c.withdraw.ensures.answer c.withdraw.ensures.state; book = c.withdraw.ensures.state })
+    (λ far n. record {
+      follows = withdraw_does (at_end far n) _ c.args.ticket c.withdraw.result
+          c.withdraw.new.self c.withdraw.ensures.answer c.withdraw.ensures.state;
+      book = c.withdraw.ensures.state;
+    })

@@ -6,4 +6,7 @@ use Rattle.iol_segment.proofs.joiner.Joiner.into_answer.Goals as goal
 
 pub returns-clause-only : goal.returns-clause-only
 returns-clause-only c =
-    subst (λ text. (a : Answer) → BeginsWithAnswer (is_read c.args.request.now) text a → c.read_answer.result ≡ Ok a) (c.deref.ensures.0 ∙ ap (λ (j : Joining). j.text) c.self.view_is) c.read_answer.ensures.only
+    subst (λ text. (a : Answer) → BeginsWithAnswer (is_read c.args.request.now) text a
+    → c.read_answer.result ≡ Ok a)
+    (c.deref.ensures.0 ∙ ap (λ (j : Joining). j.text) c.self.view_is)
+    c.read_answer.ensures.only
