@@ -1,13 +1,15 @@
 //! Numbers and octets as words: hexadecimal octets, and decimal numbers.
-ghost use Rattle.std.specs.Prelude.{◌≡◌, ◌<◌, ◌≤◌, ◌^◌, ◌↔◌, ℕ, Some, IfSome, is_some, option_map, option_and_then};
+ghost use Rattle.std.specs.Prelude.{◌≡◌, ◌+◌, ◌*◌, ◌<◌, ◌≤◌, ◌^◌, ◌↔◌, ℕ, Some, IfSome, is_some, option_map, option_and_then};
 ghost use Rattle.std.specs.List.{list_all};
+ghost use Rattle.std.specs.Char.{digit_value};
 ghost use Rattle.std.specs.Fmt.{decimal};
+ghost use Rattle.std.specs.Option.{SomeIff};
+ghost use Rattle.std.specs.Str.Parse.{AllDigits, digits_value};
 ghost use Rattle.iol_script.specs.Numerals.{digit_of, octet_of, word_octet, word_code, pairs_of, word_octets, octets_of, within, number_in, is_plain_of};
 ghost use Rattle.iol_script.specs.Text.{words_left};
 
 use crate::parts::Words;
 use arrayvec::ArrayVec;
-use std::str;
 
 /// The value of a hexadecimal digit, in both cases.
 fn digit(c: u8) -> Option<u8>
@@ -137,6 +139,29 @@ fn is_plain(word: &[u8]) -> bool
     }
 }
 
+/// The number with one more decimal digit behind its own.
+fn with_digit(number: u64, digit: u8) -> Option<u64>
+    ensures { SomeIff result ((digit_value digit < 10)
+        × (number * 10 + digit_value digit < 2 ^ 64)) (number * 10 + digit_value digit) }
+{
+    if !digit.is_ascii_digit() {
+        return None;
+    }
+    number.checked_mul(10)?.checked_add(u64::from(digit - b'0'))
+}
+
+/// The number that decimal digits write.
+fn number_of_digits(word: &[u8]) -> Option<u64>
+    ensures { SomeIff result (AllDigits 10 word.now × (digits_value 10 word.now < 2 ^ 64))
+        (digits_value 10 word.now) }
+{
+    let mut number = 0;
+    for digit in word {
+        number = with_digit(number, *digit)?;
+    }
+    Some(number)
+}
+
 /// The number whose decimal text is the word, without leading zeros.
 fn plain_number(word: &[u8]) -> Option<u64>
     ensures { (n : ℕ) → n < 2 ^ 64 → (result ≡ Some n) ↔ (word.now ≡ decimal n) }
@@ -144,7 +169,7 @@ fn plain_number(word: &[u8]) -> Option<u64>
     if !is_plain(word) {
         return None;
     }
-    str::from_utf8(word).ok()?.parse().ok()
+    number_of_digits(word)
 }
 
 /// A decimal number without leading zeros, from `least` to `most`.
