@@ -11,11 +11,11 @@ use arrayvec::ArrayVec;
 use iol_image::Image;
 use iol_isdu::{Octets, Place};
 
-/// Whether a word is this name.
+/// Whether a word is this name. Names are short, so octets are compared one by one.
 pub(crate) fn is(word: &[u8], name: &[u8]) -> bool
     ensures { result ≡ bytes_eq word.now name.now }
 {
-    word.len() == name.len() && word == name
+    word.len() == name.len() && word.iter().zip(name).all(|(octet, wanted)| octet == wanted)
 }
 
 /// No word is left.

@@ -3,28 +3,46 @@ ghost use Rattle.std.specs.Prelude.{◌≡◌, ◌+◌, ◌^◌, ◌<◌, ◌∷
 ghost use Rattle.std.specs.List.{position, slice_split};
 ghost use Rattle.std.specs.Option.{option_map, option_map_or};
 
+use memchr::memchr;
+
 /// The most bytes of a line, its line feed not counted.
 const LONGEST: usize = 1024;
 
-/// Where the first `mark` stands.
-fn place_of(text: &[u8], mark: u8) -> Option<usize>
-    ensures { result ≡ position (λ b. b == mark) text.now }
-{
-    text.iter().position(|byte| *byte == mark)
-}
-
-/// What stands before the first `mark`, and what stands behind it if there is one.
-fn cut(text: &[u8], mark: u8) -> (&[u8], Option<&[u8]>)
-    ensures parts { slice_split (λ b. b == mark) text.now
+/// The first line of a text, and what stands behind its line feed if there is one. A line may
+/// be long, so many bytes are looked at at once.
+fn first_line(text: &[u8]) -> (&[u8], Option<&[u8]>)
+    ensures parts { slice_split (λ b. b == 10) text.now
         ≡ result.0.now
-        ∷ option_map_or (λ later. slice_split (λ b. b == mark) later.now) result.1 [] }
+        ∷ option_map_or (λ later. slice_split (λ b. b == 10) later.now) result.1 [] }
     ensures whole { IfNone result.1 (result.0.now ≡ text.now) }
     ensures shorter { IfSome result.1 (λ later. length result.0.now + length later.now + 1
         ≡ length text.now) }
 {
-    match place_of(text, mark) {
+    match memchr(b'\n', text) {
         Some(place) => (&text[..place], Some(&text[place + 1..])),
         None => (text, None),
+    }
+}
+
+/// Where the first space stands.
+fn space_in(line: &[u8]) -> Option<usize>
+    ensures { result ≡ position (λ b. b == 32) line.now }
+{
+    line.iter().position(|byte| *byte == b' ')
+}
+
+/// The first word of a line, and what stands behind the space after it if there is one.
+fn first_word(line: &[u8]) -> (&[u8], Option<&[u8]>)
+    ensures parts { slice_split (λ b. b == 32) line.now
+        ≡ result.0.now
+        ∷ option_map_or (λ later. slice_split (λ b. b == 32) later.now) result.1 [] }
+    ensures whole { IfNone result.1 (result.0.now ≡ line.now) }
+    ensures shorter { IfSome result.1 (λ later. length result.0.now + length later.now + 1
+        ≡ length line.now) }
+{
+    match space_in(line) {
+        Some(place) => (&line[..place], Some(&line[place + 1..])),
+        None => (line, None),
     }
 }
 
@@ -66,7 +84,7 @@ impl<'a> Iterator for Lines<'a> {
         if self.left.is_empty() {
             return None;
         }
-        let (line, later) = cut(self.left, b'\n');
+        let (line, later) = first_line(self.left);
         self.left = later.unwrap_or(&[]);
         self.given += 1;
         Some((self.given, line))
@@ -110,7 +128,7 @@ impl<'a> Iterator for Words<'a> {
     ghost remaining = { item_count words_left };
 
     fn next(&mut self) -> Option<&'a [u8]> {
-        let (word, later) = cut(self.left?, b' ');
+        let (word, later) = first_word(self.left?);
         self.left = later;
         Some(word)
     }
