@@ -1,8 +1,9 @@
 //! `run`: a port over a simulated wire, as a script says.
-ghost use Rattle.std.specs.Prelude.{◌≡◌, ◌≢◌, ◌<◌, ◌⊎◌, ℕ, Err, OnErr, OnOk, IfOk, IfErr, IsOk, None, Some};
+ghost use Rattle.std.specs.Prelude.{◌≡◌, ◌≢◌, ◌<◌, ◌≤◌, ◌⊎◌, ℕ, Err, OnErr, OnOk, IfOk, IfErr, IsOk, None, Some};
 ghost use Rattle.std.specs.Io.KnownBytes.{Keeps};
 ghost use Rattle.std.specs.Option.{ForSome};
 ghost use Rattle.std.specs.String.{string_bytes};
+ghost use Rattle.std.specs.Vec.{vec_len};
 ghost use Rattle.iol_far.specs.Far.{opened};
 ghost use Rattle.iol_page.specs.Page.{layouts_of};
 ghost use Rattle.iol_script.specs.Script.{first_bad_run};
@@ -84,23 +85,24 @@ fn played<A: Handle>(alloc: A, input: &[u8]) -> Result<String<A>, ProgramFault>
 pub(crate) fn wire_of<A: Handle>(alloc: A, script: Script<A>) -> Result<Sim<Params, A>, AllocError>
     requires page { IsOk (layouts_of script.page) }
     requires other { ForSome script.other (λ page. IsOk (layouts_of page)) }
+    requires params { vec_len script.params ≤ 32 }
     ensures far { IfOk result (λ sim. sim.device.far ≡ opened script.page (Some ROOM)) }
-    ensures app { IfOk result (λ sim. sim.device.app ≡ script.params) }
+    ensures app { IfOk result (λ sim. sim.device.app ≡ script.params.items) }
     ensures steps { IfOk result (λ sim. sim.steps ≡ script.steps.items) }
     ensures silence { IfOk result (λ sim. sim.silence ≡ 0) }
     ensures whole { IfOk result (λ sim. sim ≡ first_wire (record {
       page = script.page;
       other = script.other;
-      params = script.params;
+      params = script.params.items;
       limits = script.limits;
       steps = script.steps.items;
     })) }
 {
-    let others = script.params.copy();
-    let device = device_of(alloc, script.params, script.page)?;
+    let params = script.params.as_slice();
+    let device = device_of(alloc, Params::of(params), script.page)?;
     match script.other {
         Some(page) => {
-            let other = device_of(alloc, others, page)?;
+            let other = device_of(alloc, Params::of(params), page)?;
             Sim::with_other(alloc, device, other, script.steps).map_err(|_| AllocError)
         }
         None => Sim::new(alloc, device, script.steps).map_err(|_| AllocError),

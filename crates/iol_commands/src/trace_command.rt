@@ -2,6 +2,7 @@
 ghost use Rattle.std.specs.Prelude.{◌≡◌, ◌≢◌, ◌<◌, ◌≤◌, ◌⊎◌, length, List, ℕ, Err, OnErr, OnOk, IfErr, IsOk, IsOkAnd, None};
 ghost use Rattle.std.specs.Io.KnownBytes.{Appends, Keeps};
 ghost use Rattle.std.specs.Option.{ForSome};
+ghost use Rattle.std.specs.Vec.{vec_len};
 ghost use Rattle.iol_book.specs.BookModel.{AreLimits};
 ghost use Rattle.iol_page.specs.Page.{layouts_of};
 ghost use Rattle.iol_script.specs.Script.{calls_in, first_bad_run};
@@ -63,6 +64,7 @@ fn traced<A: Handle, W: Write>(
 ) -> Result<(), ProgramFault>
     requires page { IsOk (layouts_of script.page) }
     requires other { ForSome script.other (λ page. IsOk (layouts_of page)) }
+    requires params { vec_len script.params ≤ 32 }
     requires limits { AreLimits script.limits }
     requires given { script.limits.given ≡ 0 }
     requires calls { length (calls_in (numbered_lines input.now)) ≤ 1000000 }
@@ -71,7 +73,7 @@ fn traced<A: Handle, W: Write>(
         × TracesOut (record {
           page = script.page;
           other = script.other;
-          params = script.params;
+          params = script.params.items;
           limits = script.limits;
           steps = script.steps.items;
         })

@@ -13,7 +13,7 @@ module _ {A : Type 0} where
     page = fields.page;
     other = fields.other;
     limits = fields.limits;
-    params = fields.params;
+    params = fields.params.items;
     steps = fields.steps.items;
     calls = fields.calls;
     begun = fields.begun;
@@ -23,6 +23,7 @@ module _ {A : Type 0} where
   pub record IsSound (fields : Inside A) : Type 0 where
     pub page : ForSome fields.page (λ octets. IsOk (layouts_of octets))
     pub other : ForSome fields.other (λ octets. IsOk (layouts_of octets))
+    pub params : length fields.params.items ≤ 32
     pub limits : ForSome fields.limits AreLimits
     pub given : ForSome fields.limits (λ limits. limits.given ≡ 0)
     pub steps : length fields.steps.items ≤ 1000000

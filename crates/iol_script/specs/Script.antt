@@ -3,6 +3,7 @@ use Rattle.std.specs.Prelude.{ℕ, ◌+◌, Bool, true, false, Option, Some, Non
 use Rattle.std.specs.Option.{ok_or, option_map_or}
 use Rattle.std.specs.Result.{result_ok, result_err}
 use Rattle.iol_book.specs.declared.entries.Limits.{Limits}
+use Rattle.iol_isdu.specs.declared.values.Place.{Place}
 use Rattle.iol_sim.specs.Params.{number_of}
 use Rattle.iol_sim.specs.declared.params.Entry.{Entry}
 use Rattle.iol_sim.specs.declared.script.Step.{Step}
@@ -59,8 +60,11 @@ abbrev pub line_calls : CallLine → List Call
 line_calls (Once call) = call ∷ []
 line_calls (Turns n) = replicate n Turn
 
--- the draft after a setting: the pages and the limits are given at most once, a
--- parameter is one of 32 at places of their own
+-- one more parameter is taken at a place: it is one of 32 at places of their own
+abbrev pub takes_param : List Entry → Place → Bool
+takes_param params place = nat_lt (length params) 32 && is_none (number_of params place)
+
+-- the draft after a setting: the pages and the limits are given at most once
 abbrev pub with_setting : Draft → Setting → Option Draft
 with_setting draft (setting.Page octets) =
     if is_none draft.page then Some (record draft { page = Some octets }) else None
@@ -72,7 +76,7 @@ with_setting draft (setting.Limits busy journal) =
     (record draft { limits = Some (record { journal = journal; busy = busy; given = 0 }) })
     else None
 with_setting draft (setting.Param place writable value) =
-    if nat_lt (length draft.params) 32 && is_none (number_of draft.params place)
+    if takes_param draft.params place
     then Some
     (record draft {
       params = draft.params

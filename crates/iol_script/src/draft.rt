@@ -8,6 +8,7 @@ ghost use Rattle.iol_script.specs.declared.fault.ScriptFault.TheVariants.{Line};
 ghost use Rattle.iol_script.specs.DraftLines.{after_call, after_page, after_setting, after_turns, after_wire, after_words, with_calls};
 ghost use Rattle.iol_script.specs.RunLines.{call_form, limits_form, other_form, page_form, page_line, param_form, turns_form, wire_form};
 ghost use Rattle.iol_script.specs.Text.{words_left};
+ghost use Rattle.iol_sim.specs.Params.{number_of};
 
 use crate::call_check::fits_call;
 use crate::call_line::turns_of;
@@ -18,10 +19,14 @@ use crate::script::Script;
 use crate::setting::{limits_of, page_of, param_of};
 use crate::wire_line::{WireLine, parse_wire};
 use iol_book::Limits;
+use iol_isdu::Place;
 use iol_page::Page;
-use iol_sim::{Fate, Params, Step};
+use iol_sim::{Entry, Fate, Step};
 use std::alloc::{AllocError, Allocator};
 use std::marker::Model;
+
+/// The most parameters of a script.
+const PARAMS: usize = 32;
 
 /// The most steps of a script.
 const STEPS: usize = 1_000_000;
@@ -46,7 +51,7 @@ pub(crate) struct Draft<A: Allocator> {
     /// The page of a second device.
     other: Option<Page>,
     limits: Option<Limits>,
-    params: Params,
+    params: Vec<Entry, A>,
     steps: Vec<Step, A>,
     calls: usize,
     /// Whether a line of the wire or a call came.
@@ -67,17 +72,19 @@ impl<A: Allocator> Model for Draft<A> {
 
 impl<A: Allocator> Draft<A> {
     ghost use Rattle.iol_script.specs.declared.run_line.RunLine.{RunLine};
-    ghost use Rattle.iol_script.specs.Script.{draft_after, empty_draft, script_after, script_of};
+    ghost use Rattle.iol_script.specs.Script.{draft_after, empty_draft, script_after, script_of, takes_param};
 
     /// No line is read.
     pub(crate) fn new(alloc: A) -> Draft<A>
+    where
+        A: Copy,
         ensures { result ≡ empty_draft }
     {
         Draft {
             page: None,
             other: None,
             limits: None,
-            params: Params::new(),
+            params: Vec::new(alloc),
             steps: Vec::new(alloc),
             calls: 0,
             begun: false,
@@ -112,7 +119,7 @@ impl<A: Allocator> Draft<A> {
         } else if is(name, b"limits") {
             self.take_limits(words).ok_or(bad)
         } else if is(name, b"param") {
-            self.take_param(words).ok_or(bad)
+            self.take_param(number, words)
         } else if is(name, b"wire") {
             self.take_wire(number, words)
         } else if is(name, b"turn") {
@@ -178,15 +185,32 @@ impl<A: Allocator> Draft<A> {
     }
 
     /// The words behind `param`.
-    fn take_param(&mut self, words: Words) -> Option<()>
-        ensures { option_map (λ _. self.new) result
-            ≡ after_setting self.old (param_form (words_left words.entry)) }
+    fn take_param(&mut self, number: u64, words: Words) -> Result<(), ScriptFault>
+        ensures good { OnOk result (after_setting self.old (param_form (words_left words.entry))
+            ≡ Some self.new) }
+        ensures bad { (n : ℕ) → result ≡ Err (Line n) → (n ≡ number)
+            × (after_setting self.old (param_form (words_left words.entry)) ≡ None) }
     {
-        let (place, writable, value) = param_of(words)?;
-        if self.begun {
-            return None;
+        let param = param_of(words).ok_or(ScriptFault::Line(number))?;
+        if self.begun || !self.takes_param(param.place) {
+            return Err(ScriptFault::Line(number));
         }
-        self.params.add(place, writable, value.as_slice()).ok()
+        self.params.push(param)?;
+        Ok(())
+    }
+
+    /// Parameters are taken up to 32, each at a place of its own.
+    fn takes_param(&self, place: Place) -> bool
+        ensures { result ≡ takes_param self.now.params place }
+    {
+        self.params.len() < PARAMS && self.number_of(place).is_none()
+    }
+
+    /// Where the parameter at a place stands among the others.
+    fn number_of(&self, place: Place) -> Option<usize>
+        ensures { result ≡ number_of self.now.params place }
+    {
+        self.params.iter().position(|param| param.place == place)
     }
 
     /// The words behind `wire`.
@@ -220,7 +244,8 @@ impl<A: Allocator> Draft<A> {
         self.add_calls(1)
     }
 
-    /// Steps are taken up to 1,000,000, and a swap only with a second device. The memory for all of them is taken before the first.
+    /// Steps are taken up to 1,000,000, and a swap only with a second device. The memory for
+    /// all of them is taken before the first.
     fn add_steps(&mut self, number: u64, line: WireLine) -> Result<(), ScriptFault>
         ensures good { OnOk result (script_after self.old (RunLine.Wire line) ≡ Some self.new) }
         ensures bad { (n : ℕ) → result ≡ Err (Line n) → (n ≡ number)
@@ -259,13 +284,14 @@ impl<A: Allocator> Draft<A> {
             ≡ record {
               page = result.page;
               other = result.other;
-              params = result.params;
+              params = result.params.items;
               limits = result.limits;
               steps =
                   result.steps.items;
             } }
         ensures page { IsOk (layouts_of result.page) }
         ensures other { ForSome result.other (λ page. IsOk (layouts_of page)) }
+        ensures params { vec_len result.params ≤ 32 }
         ensures limits { AreLimits result.limits }
         ensures given { result.limits.given ≡ 0 }
         ensures steps { vec_len result.steps ≤ 1000000 }

@@ -50,11 +50,11 @@ fn parse_words(mut words: Words) -> Option<RunLine>
         let (busy, journal) = limits_of(words)?;
         Some(RunLine::Setting(Setting::Limits { busy, journal }))
     } else if is(name, b"param") {
-        let (place, writable, value) = param_of(words)?;
+        let param = param_of(words)?;
         Some(RunLine::Setting(Setting::Param {
-            place,
-            writable,
-            value,
+            place: param.place,
+            writable: param.writable,
+            value: param.value,
         }))
     } else if is(name, b"wire") {
         Some(RunLine::Wire(parse_wire(words)?))

@@ -14,7 +14,7 @@ use crate::fault::ScriptFault;
 use crate::parts::Lines;
 use iol_book::Limits;
 use iol_page::Page;
-use iol_sim::{Params, Step};
+use iol_sim::{Entry, Step};
 use std::alloc::{Allocator, Global};
 
 /// What the lines of `run` set up: the device, the port and the wire between them.
@@ -27,15 +27,15 @@ pub struct Script<A: Allocator = Global> {
     pub page: Page,
     /// That of a second device, where there is one.
     pub other: Option<Page>,
-    /// The parameters that each device has.
-    pub params: Params,
+    /// The parameters that each device has, at most 32, each at a place of its own.
+    pub params: Vec<Entry, A>,
     /// What the port is opened with.
     pub limits: Limits,
     /// What happens on the wire.
     pub steps: Vec<Step, A>,
 }
 
-impl<A: Allocator> Script<A> {
+impl<A: Allocator + Copy> Script<A> {
     /// Reads the lines of a whole input, from first to last.
     ///
     /// The settings stand before the first line of the wire and the first call, the
@@ -50,7 +50,7 @@ impl<A: Allocator> Script<A> {
             ≡ Some (record {
               page = s.page;
               other = s.other;
-              params = s.params;
+              params = s.params.items;
               limits = s.limits;
               steps =
                   s.steps.items;
@@ -61,6 +61,7 @@ impl<A: Allocator> Script<A> {
         // What holds of it.
         ensures page { IfOk result (λ s. IsOk (layouts_of s.page)) }
         ensures other { IfOk result (λ s. ForSome s.other (λ page. IsOk (layouts_of page))) }
+        ensures params { IfOk result (λ s. vec_len s.params ≤ 32) }
         ensures limits { IfOk result (λ s. AreLimits s.limits) }
         ensures given { IfOk result (λ s. s.limits.given ≡ 0) }
         ensures steps { IfOk result (λ s. vec_len s.steps ≤ 1000000) }

@@ -12,6 +12,7 @@ use crate::parts::Words;
 use arrayvec::ArrayVec;
 use iol_isdu::{Octets, Place};
 use iol_page::Page;
+use iol_sim::Entry;
 
 /// A line that sets something up before the first step and the first call.
 #[derive(Clone, Debug, PartialEq, Eq, Drop)]
@@ -65,15 +66,19 @@ pub(crate) fn limits_of(mut words: Words) -> Option<(u16, u32)>
 }
 
 /// The words behind `param`: a place, whether it may be written, its octets.
-pub(crate) fn param_of(mut words: Words) -> Option<(Place, bool, Octets)>
-    ensures { option_map (λ param. Setting.Param param.0 param.1 param.2) result
+pub(crate) fn param_of(mut words: Words) -> Option<Entry>
+    ensures { option_map (λ param. Setting.Param param.place param.writable param.value) result
         ≡ param_form (words_left words.entry) }
 {
     let place = place_of(words.next()?, words.next()?)?;
     let writable = access_of(words.next()?)?;
     let value = value_of(words.next()?)?;
     end_of(words)?;
-    Some((place, writable, value))
+    Some(Entry {
+        place,
+        writable,
+        value,
+    })
 }
 
 /// Whether it may be written.

@@ -15,7 +15,7 @@ use Rattle.iol_commands.proofs.trace_command.traced.Goals as goal
 pub returns-clause-printed : goal.returns-clause-printed
 returns-clause-printed g c =
     let given = c.args.script in
-    let script : ScriptValue = record { page = given.page; other = given.other; params = given.params; limits = given.limits; steps = given.steps.items } in
+    let script : ScriptValue = record { page = given.page; other = given.other; params = given.params.items; limits = given.limits; steps = given.steps.items } in
     let wire = c.in_ok-wire_of.field-0 in
     let tap = c.new-wire.result in
     let port = c.in-Ok.port in

@@ -4,4 +4,5 @@ use Rattle.iol_script.proofs.draft.push_fates.Given as goal
 
 abbrev pub invariant-loop : goal.invariant-loop
 invariant-loop g l =
-    (l.steps.items ≡ l.fn.steps.items ++ replicate l.counter (Fate l.fate)) × (vec_len l.steps + l.count ≤ vec_capacity l.steps + l.counter)
+    (l.steps.items ≡ l.fn.steps.items ++ replicate l.counter (Fate l.fate))
+    × (vec_len l.steps + l.count ≤ vec_capacity l.steps + l.counter)
