@@ -12,11 +12,14 @@ stays_bad bad [] = refl
 stays_bad bad (line ∷ lines) = stays_bad bad lines
 
 -- a line is bad
-pub plan-bad : (all lines rest : List (ℕ × List ℕ)) (draft : PlanDraft) (number : ℕ) (line : List ℕ) (bad : ℕ)
-    → fold planned_after (Ok Empty) all ≡ fold planned_after (Ok draft) lines → lines ≡ (number, line) ∷ rest
+pub plan-bad : (all lines rest : List (ℕ × List ℕ)) (draft : PlanDraft) (number : ℕ) (line : List ℕ)
+    (bad : ℕ)
+    → fold planned_after (Ok Empty) all ≡ fold planned_after (Ok draft) lines
+    → lines ≡ (number, line) ∷ rest
     → planned_after (Ok draft) (number, line) ≡ Err bad → plan_of all ≡ Err bad
 plan-bad all lines rest draft number line bad is these found =
-    ap (whole_plan (length all + 1)) (is ∙ ap (fold planned_after (Ok draft)) these ∙ ap (λ (r : Result PlanDraft ℕ). fold planned_after r rest) found ∙ stays_bad bad rest)
+    ap (whole_plan (length all + 1)) (is ∙ ap (fold planned_after (Ok draft)) these
+    ∙ ap (λ (r : Result PlanDraft ℕ). fold planned_after r rest) found ∙ stays_bad bad rest)
 
 -- A text has no more lines than octets
 
@@ -27,7 +30,8 @@ length-onto_first c (part ∷ parts) = omega arith
 length-lines : (text : List ℕ) → length (lines_of text) ≤ length text
 length-lines [] = omega arith
 length-lines (c ∷ text) =
-    elim (c == 10) as (λ b. length (cond b ([] ∷ lines_of text) (onto_first c (lines_of text))) ≤ length (c ∷ text)) [
+    elim (c == 10) as (λ b. length (cond b ([] ∷ lines_of text)
+    (onto_first c (lines_of text))) ≤ length (c ∷ text)) [
       | true ↦ omega (arith, length-lines text)
       | false ↦ omega (arith, length-lines text, length-onto_first c (lines_of text))
     ]

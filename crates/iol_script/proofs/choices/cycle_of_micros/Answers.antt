@@ -2,4 +2,5 @@ use Rattle.iol_script.proofs.Cycles.{computed}
 use Rattle.iol_script.proofs.choices.cycle_of_micros.Goals as goal
 
 pub returns : goal.returns
-returns c = computed c.from_micros.result c.unwrap.result c.args.micros c.unwrap.ensures c.from_micros.ensures.long c.from_micros.ensures.shortest
+returns c = computed c.from_micros.result c.unwrap.result c.args.micros c.unwrap.ensures
+    c.from_micros.ensures.long c.from_micros.ensures.shortest

@@ -5,4 +5,7 @@ use Rattle.iol_script.proofs.OctetsLemmas.{behind}
 use Rattle.iol_script.proofs.numerals.parted_octets.Given as goal
 
 abbrev pub invariant-loop-word : goal.invariant-loop-word
-invariant-loop-word g l = (octets_of (words_left l.fn.words) ≡ behind l.octets.items (octets_of (words_left l.word-iterator))) × (length l.octets.items ≤ g.row.N)
+invariant-loop-word g l =
+    (octets_of (words_left l.fn.words)
+    ≡ behind l.octets.items (octets_of (words_left l.word-iterator)))
+    × (length l.octets.items ≤ g.row.N)

@@ -5,7 +5,10 @@ use Rattle.iol_script.proofs.setting.page_of.Goals as goal
 
 pub returns-in-Ok-clause-form : goal.returns-in-Ok-clause-form
 returns-in-Ok-clause-form c =
-    page_read (words_left c.args.words) c.in_ok-octets.octets.items c.from_octets-page.result _ c.in_ok-octets.ensures (search rules) (search rules) c.in-Ok.ensures
+    page_read (words_left c.args.words) c.in_ok-octets.octets.items c.from_octets-page.result _
+    c.in_ok-octets.ensures (search rules) (search rules) c.in-Ok.ensures
 
 pub returns-in-Err-clause-form : goal.returns-in-Err-clause-form
-returns-in-Err-clause-form c = no_page_read (words_left c.args.words) c.in_ok-octets.octets.items c.from_octets-page.result _ c.in_ok-octets.ensures (search rules) c.in-Err.ensures
+returns-in-Err-clause-form c =
+    no_page_read (words_left c.args.words) c.in_ok-octets.octets.items c.from_octets-page.result _
+    c.in_ok-octets.ensures (search rules) c.in-Err.ensures

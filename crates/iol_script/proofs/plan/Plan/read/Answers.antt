@@ -11,12 +11,14 @@ returns-in_default-clause-bad_line c =
     let bad : planned_after (Ok c.loop-number.draft) (number, line) ≡ Err number = search rules in (
       number,
       refl,
-      plan-bad (numbered_lines c.args.input.now) (lines_left c.loop-number.number-iterator) (lines_left c.next.new.self) c.loop-number.draft number line number
+      plan-bad (numbered_lines c.args.input.now) (lines_left c.loop-number.number-iterator)
+          (lines_left c.next.new.self) c.loop-number.draft number line number
           c.loop-number.invariant.1 c.in-Some.ensures.steps bad,
     )
 
 pub count-requires-clause-fits : goal.count-requires-clause-fits
-count-requires-clause-fits c = inl (omega (arith, few_lines c.args.input.now, ap length c.of.ensures))
+count-requires-clause-fits c =
+    inl (omega (arith, few_lines c.args.input.now, ap length c.of.ensures))
 
 pub overflow_add-result : goal.overflow_add-result
 overflow_add-result c =

@@ -7,4 +7,5 @@ use Rattle.iol_script.proofs.plan.Plan.read.Given as goal
 abbrev pub invariant-loop-number : goal.invariant-loop-number
 invariant-loop-number l =
     IsPlanned l.draft
-    × (fold planned_after (Ok Empty) (numbered_lines l.input) ≡ fold planned_after (Ok l.draft) (lines_left l.number-iterator))
+    × (fold planned_after (Ok Empty) (numbered_lines l.input)
+    ≡ fold planned_after (Ok l.draft) (lines_left l.number-iterator))
