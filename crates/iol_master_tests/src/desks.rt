@@ -78,23 +78,48 @@ fn opened<L: Ledger, K: Ledger, A: Handle, R: Abort>(
     Ok(open_one(rt, alloc, port, clients, tickets)?)
 }
 
-/// Opens all desks of a master; one that is dropped keeps its place. A further one is refused, and
-/// opened once another is settled.
-fn take_all<W: Wire, L: Ledger, K: Ledger, R: Wait + Abort>(
+/// Opens all desks of a master but one. One that is dropped keeps its place.
+fn take_most<W: Wire, L: Ledger, K: Ledger, R: Wait>(
     rt: &R,
     master: &Master<W, L, K>,
 ) -> Result<(), MasterFault> {
-    let first = master.desk(rt, 1)?;
     for _ in 1..1024 {
         drop(master.desk(rt, 1)?);
     }
-    assert!(rt; master.desk(rt, 1).err() == Some(MasterFault::DesksFull));
-    assert!(rt; master.settle(rt, first) == Settled::Part(0));
-    let next = master.desk(rt, 1)?;
-    assert!(rt; next.port() == 1 && next.accepted() == 0);
     Ok(())
 }
 
+/// Where all desks are open a further one is refused, and opened once another is settled.
+fn has_no_more<W: Wire, L: Ledger, K: Ledger, R: Wait>(
+    rt: &R,
+    master: &Master<W, L, K>,
+) -> Result<bool, MasterFault> {
+    take_most(rt, master)?;
+    let last = master.desk(rt, 1)?;
+    let is_full = master.desk(rt, 1).err() == Some(MasterFault::DesksFull);
+    let is_settled = master.settle(rt, last) == Settled::Part(0);
+    let next = master.desk(rt, 1)?;
+    Ok(is_full && is_settled && next.port() == 1 && next.accepted() == 0)
+}
+
+/// Two desks at one port, of which one submits an urgent request.
+fn counts_both<W: Wire, L: Ledger, K: Ledger, R: Wait>(
+    rt: &R,
+    master: &Master<W, L, K>,
+) -> Result<bool, MasterFault> {
+    let mut one = master.desk(rt, 1)?;
+    let mut two = master.desk(rt, 1)?;
+    Ok(
+        submit(rt, master, &mut one, Kind::Ordinary) == Ok(Ticket(8))
+            && submit(rt, master, &mut two, Kind::Urgent) == Ok(Ticket(9))
+            && cancelled(rt, master, 1, Ticket(9)) == Err(of_book(BookFault::NotInFlight))
+            && cancelled(rt, master, 1, Ticket(7)) == Err(of_book(BookFault::UnknownTicket))
+            && master.settle(rt, one) == Settled::Part(1)
+            && master.settle(rt, two) == Settled::Last(1, 2),
+    )
+}
+
+/// The desks of one master are counted, and then run out.
 fn run_out<L: Ledger, K: Ledger + Sync, R: Threads + Wait + Abort + Sync>(
     rt: &R,
     alloc: Global,
@@ -105,13 +130,14 @@ fn run_out<L: Ledger, K: Ledger + Sync, R: Threads + Wait + Abort + Sync>(
     requires tickets { IsBlankFor tickets K.name K.parts 1 }
 {
     let master = opened::<L, K, Global, R>(rt, alloc, &LIMITS, clients, tickets)?;
-    take_all(rt, &master)?;
+    assert!(rt; counts_both(rt, &master)?);
+    assert!(rt; has_no_more(rt, &master)?);
     assert!(rt; master.serve(rt, &Open, 1) == Ok(()));
     Ok(())
 }
 
 #[test]
-fn desks_run_out(rt: HostRuntime) -> Result<(), Fail> {
+fn desks_count_and_run_out(rt: HostRuntime) -> Result<(), Fail> {
     run_out::<Brand, Brand, HostRuntime>(&rt, rt.alloc(), Blank::new(1025), Blank::new(1))
 }
 
@@ -139,8 +165,7 @@ fn open_is_refused<W: Wire + Drop, A: Handle, L: Ledger, K: Ledger, R: Abort>(
         }
         Err((fault, ports)) => {
             assert!(rt; refusing.has_refused());
-            assert!(rt; fault == MasterFault::OutOfMemory);
-            assert!(rt; ports.len() == 1);
+            assert!(rt; fault == MasterFault::OutOfMemory && ports.len() == 1);
             Ok(true)
         }
     }
@@ -184,8 +209,7 @@ fn submit_refusing<W: Wire, L: Ledger, K: Ledger, A: Handle, R: Wait + Abort>(
     } else {
         Ok(Ticket(8))
     };
-    assert!(rt; answer == wanted);
-    assert!(rt; desk.accepted() == u64::from(!refused));
+    assert!(rt; answer == wanted && desk.accepted() == u64::from(!refused));
     refused
 }
 
@@ -208,6 +232,25 @@ fn refuse_each<W: Wire, L: Ledger, K: Ledger, A: Handle, R: Wait + Abort>(
     }
 }
 
+/// The tally of one request at a desk that was settled.
+const ONE: Tally = Tally {
+    desks: 0,
+    settled: 1,
+    tickets: 1,
+};
+
+/// The one request that was taken waits, and its desk is settled.
+fn waits<W: Wire, L: Ledger, K: Ledger, A: Handle, R: Wait>(
+    rt: &R,
+    master: &Master<W, L, K, A>,
+    desk: Desk<L>,
+) -> bool {
+    desk.accepted() == 1
+        && turns(rt, master, 1, 1) == Ok(())
+        && collected(rt, master, 1, Ticket(8)) == Err(of_book(BookFault::NotYet))
+        && master.settle(rt, desk) == Settled::Last(1, 1)
+}
+
 /// Submits while each request for memory is refused in turn; no other call makes one.
 fn submits_once<W: Wire + Drop, L: Ledger, K: Ledger, A: Handle, R: Wait + Abort>(
     rt: &R,
@@ -218,18 +261,9 @@ fn submits_once<W: Wire + Drop, L: Ledger, K: Ledger, A: Handle, R: Wait + Abort
     refusing.order(Refusal::Only(0));
     let mut desk = master.desk(rt, 1)?;
     refuse_each(rt, refusing, &master, &mut desk, kind);
-    assert!(rt; desk.accepted() == 1);
     refusing.order(Refusal::Never);
-    turns(rt, &master, 1, 1)?;
-    assert!(rt; collected(rt, &master, 1, Ticket(8)) == Err(of_book(BookFault::NotYet)));
-    assert!(rt; master.settle(rt, desk) == Settled::Last(1, 1));
-    assert!(rt; refusing.requests() == 0);
-    let tally = Tally {
-        desks: 0,
-        settled: 1,
-        tickets: 1,
-    };
-    assert!(rt; master.close() == tally);
+    assert!(rt; waits(rt, &master, desk) && refusing.requests() == 0);
+    assert!(rt; master.close() == ONE);
     Ok(())
 }
 
@@ -328,13 +362,14 @@ fn refuses_for<W: Wire, L: Ledger, K: Ledger, A: Handle, R: Wait + Abort>(
     fault: BookFault,
     given: u64,
     taken: u32,
-) -> Result<(), MasterFault> {
+) -> Result<bool, MasterFault> {
     let mut desk = master.desk(rt, 1)?;
     submit_many(rt, master, &mut desk, kind, given, taken);
     refusing.order(Refusal::From(0));
-    assert!(rt; submit(rt, master, &mut desk, kind) == Err(of_book(fault)));
-    assert!(rt; desk.accepted() == u64::from(taken));
-    Ok(())
+    Ok(
+        submit(rt, master, &mut desk, kind) == Err(of_book(fault))
+            && desk.accepted() == u64::from(taken),
+    )
 }
 
 /// Submits at a master of one port until this is why a submit is refused: where memory is
@@ -353,7 +388,8 @@ fn refused_first<L: Ledger, K: Ledger, R: Wait + Abort>(
     let (limits, taken) = limits_for(fault);
     refusing.order(Refusal::Never);
     let master = opened::<L, K, &RefusingAlloc, R>(rt, refusing, &limits, clients, tickets)?;
-    Ok(refuses_for(rt, refusing, &master, kind, fault, limits.given, taken)?)
+    assert!(rt; refuses_for(rt, refusing, &master, kind, fault, limits.given, taken)?);
+    Ok(())
 }
 
 #[test]
@@ -377,40 +413,4 @@ fn submits_are_refused_in_order(rt: HostRuntime) -> Result<(), Fail> {
         }
     }
     Ok(())
-}
-
-/// Two desks at one port, of which one submits an urgent request.
-fn counts_both<W: Wire, L: Ledger, K: Ledger, R: Wait + Abort>(
-    rt: &R,
-    master: &Master<W, L, K>,
-) -> Result<(), MasterFault> {
-    let mut one = master.desk(rt, 1)?;
-    let mut two = master.desk(rt, 1)?;
-    assert!(rt; submit(rt, master, &mut one, Kind::Ordinary) == Ok(Ticket(8)));
-    assert!(rt; submit(rt, master, &mut two, Kind::Urgent) == Ok(Ticket(9)));
-    let waits = of_book(BookFault::NotInFlight);
-    assert!(rt; cancelled(rt, master, 1, Ticket(9)) == Err(waits));
-    let unknown = of_book(BookFault::UnknownTicket);
-    assert!(rt; cancelled(rt, master, 1, Ticket(7)) == Err(unknown));
-    assert!(rt; master.settle(rt, one) == Settled::Part(1));
-    assert!(rt; master.settle(rt, two) == Settled::Last(1, 2));
-    Ok(())
-}
-
-fn both_count<L: Ledger, K: Ledger, R: Wait + Abort>(
-    rt: &R,
-    alloc: Global,
-    clients: Blank,
-    tickets: Blank,
-) -> Result<(), Fail>
-    requires clients { IsBlankFor clients L.name L.parts 1025 }
-    requires tickets { IsBlankFor tickets K.name K.parts 1 }
-{
-    let master = opened::<L, K, Global, R>(rt, alloc, &LIMITS, clients, tickets)?;
-    Ok(counts_both(rt, &master)?)
-}
-
-#[test]
-fn both_submits_count(rt: HostRuntime) -> Result<(), Fail> {
-    both_count::<Brand, Brand, HostRuntime>(&rt, rt.alloc(), Blank::new(1025), Blank::new(1))
 }

@@ -3,6 +3,7 @@ ghost use Rattle.iol_master.specs.Ledgers.{IsBlankFor};
 
 use crate::calls::{answer, read};
 use crate::opening::LIMITS;
+use crate::seats::is_image;
 use crate::slow::{ALARM, Flags, INPUT, START_UP, VALUE, is_set, sending, slow_wire};
 use iol_app::Mode;
 use iol_book::{BookFault, Outcome, Ticket};
@@ -51,64 +52,67 @@ pub fn serve<W: Wire, K: Ledger, R: Wait>(
     worker.serve(rt, line, &Before(turns.saturating_add(1)), 1, u64::MAX);
 }
 
-fn withdraws<K: Ledger, R: Abort>(rt: &R, port: &mut LinePort<K>) {
-    assert!(rt; port.submit(read()) == Ok(Ticket(1)));
-    assert!(rt; port.withdraw(Ticket(1)) == Ok(()));
-    assert!(rt; port.collect(Ticket(1)) == Ok(Outcome::Withdrawn));
+fn withdraws<K: Ledger>(port: &mut LinePort<K>) -> bool {
+    port.submit(read()) == Ok(Ticket(1))
+        && port.withdraw(Ticket(1)) == Ok(())
+        && port.collect(Ticket(1)) == Ok(Outcome::Withdrawn)
 }
 
 /// It has its input, and wants an output and what comes of a request.
-fn is_up<K: Ledger, R: Abort>(rt: &R, port: &mut LinePort<K>) -> Result<(), Fail> {
-    assert!(rt; port.status().mode == Mode::Operate);
-    assert!(rt; port.image() == Some(&Image::new(&INPUT)?));
-    assert!(rt; port.set_output(&Image::new(&[0x99])?) == Ok(()));
-    assert!(rt; port.submit_urgent(read()) == Ok(Ticket(2)));
-    Ok(())
+fn is_up<K: Ledger>(port: &mut LinePort<K>, output: &Image) -> bool {
+    port.status().mode == Mode::Operate
+        && is_image(port.image(), &INPUT)
+        && port.set_output(output) == Ok(())
+        && port.submit_urgent(read()) == Ok(Ticket(2))
 }
 
-fn is_answered<K: Ledger, R: Abort>(rt: &R, port: &mut LinePort<K>) -> Result<(), Fail> {
-    let wanted = answer(&VALUE)?;
-    assert!(rt; port.collect(Ticket(2)) == Ok(wanted));
-    assert!(rt; port.take_event() == Ok(ALARM));
-    Ok(())
+fn is_answered<K: Ledger>(port: &mut LinePort<K>, wanted: Outcome) -> bool {
+    port.collect(Ticket(2)) == Ok(wanted) && port.take_event() == Ok(ALARM)
 }
 
-fn archives<K: Ledger, R: Abort>(rt: &R, port: &mut LinePort<K>) {
-    let archived = port.archive();
-    assert!(rt; archived.is_ok_and(|entries| entries.len() == 7));
+fn archives<K: Ledger>(port: &mut LinePort<K>) -> Result<bool, PortFault> {
+    let archived = port.archive()?;
     port.clear_output();
-    assert!(rt; port.submit(read()) == Ok(Ticket(3)));
+    Ok(archived.len() == 7 && port.submit(read()) == Ok(Ticket(3)))
 }
 
-fn is_cancelled<K: Ledger, R: Abort>(rt: &R, port: &mut LinePort<K>) {
+fn is_cancelled<K: Ledger>(port: &mut LinePort<K>) -> bool {
     let mut outcome = Outcome::Withdrawn;
-    assert!(rt; port.collect_into(Ticket(3), &mut outcome) == Ok(()));
-    assert!(rt; outcome == Outcome::Unknown(Cause::Cancelled));
+    port.collect_into(Ticket(3), &mut outcome) == Ok(())
+        && outcome == Outcome::Unknown(Cause::Cancelled)
 }
 
-fn restarts<K: Ledger, R: Abort>(rt: &R, port: &mut LinePort<K>) {
+fn restarts<K: Ledger>(port: &mut LinePort<K>) -> bool {
     port.restart();
-    assert!(rt; !port.is_restart_waiting());
-    assert!(rt; port.status().mode == Mode::Down);
+    !port.is_restart_waiting() && port.status().mode == Mode::Down
 }
 
-/// Calls of a port between turns.
-fn calls<W: Wire, K: Ledger, R: Wait + Abort>(
+/// Calls of a port between turns, up to one request that is answered.
+fn answers<W: Wire, K: Ledger, R: Wait + Abort>(
     rt: &R,
     line: &Line<K>,
     worker: &mut LineWorker<W, K>,
 ) -> Result<(), Fail> {
-    withdraws(rt, &mut *line.lock(rt));
+    assert!(rt; withdraws(&mut *line.lock(rt)));
     serve(rt, line, worker, START_UP);
-    is_up(rt, &mut *line.lock(rt))?;
+    assert!(rt; is_up(&mut *line.lock(rt), &Image::new(&[0x99])?));
     serve(rt, line, worker, ENOUGH);
-    is_answered(rt, &mut *line.lock(rt))?;
-    archives(rt, &mut *line.lock(rt));
+    assert!(rt; is_answered(&mut *line.lock(rt), answer(&VALUE)?));
+    Ok(())
+}
+
+/// Further ones, up to a request that is cancelled, and a restart.
+fn cancels<W: Wire, K: Ledger, R: Wait + Abort>(
+    rt: &R,
+    line: &Line<K>,
+    worker: &mut LineWorker<W, K>,
+) -> Result<(), PortFault> {
+    assert!(rt; archives(&mut *line.lock(rt))?);
     serve(rt, line, worker, COMMAND + 1);
     assert!(rt; line.lock(rt).cancel(Ticket(3)) == Ok(()));
     serve(rt, line, worker, ENOUGH);
-    is_cancelled(rt, &mut *line.lock(rt));
-    restarts(rt, &mut *line.lock(rt));
+    assert!(rt; is_cancelled(&mut *line.lock(rt)));
+    assert!(rt; restarts(&mut *line.lock(rt)));
     Ok(())
 }
 
@@ -117,7 +121,8 @@ fn call_row<K: Ledger, R: Wait + Abort>(rt: &R, alloc: Global, hands: Blank) -> 
     requires { IsBlankFor hands K.name K.parts 1 }
 {
     let (line, mut worker) = Line::<K>::open(port(alloc)?, sending(alloc)?, hands);
-    calls(rt, &line, &mut worker)?;
+    answers(rt, &line, &mut worker)?;
+    cancels(rt, &line, &mut worker)?;
     let wire = worker.into_wire();
     assert!(rt; wire.device().handed().is_none());
     assert!(rt; line.into_inner().status().mode == Mode::Down);
@@ -167,11 +172,10 @@ fn beside<W: Wire + Send + Drop, K: Ledger + Sync, R: Threads + Wait + Sync>(
 }
 
 /// The restart was made, and the request that was submitted meanwhile waits through it.
-fn was_restarted<K: Ledger, R: Abort>(rt: &R, port: &mut LinePort<K>) {
-    assert!(rt; !port.is_restart_waiting());
-    assert!(rt; port.status().mode == Mode::Down);
-    let not_yet = PortFault::Book(BookFault::NotYet);
-    assert!(rt; port.collect(Ticket(1)) == Err(not_yet));
+fn was_restarted<K: Ledger>(port: &mut LinePort<K>) -> bool {
+    !port.is_restart_waiting()
+        && port.status().mode == Mode::Down
+        && port.collect(Ticket(1)) == Err(PortFault::Book(BookFault::NotYet))
 }
 
 fn slow_row<K: Ledger + Sync, R: Threads + Wait + Abort + Sync>(
@@ -187,7 +191,7 @@ fn slow_row<K: Ledger + Sync, R: Threads + Wait + Abort + Sync>(
     flags.armed.store(true, Ordering::SeqCst);
     assert!(rt; beside(rt, &line, worker, &flags));
     assert!(rt; flags.was_let_go.load(Ordering::SeqCst));
-    was_restarted(rt, &mut *line.lock(rt));
+    assert!(rt; was_restarted(&mut *line.lock(rt)));
     Ok(())
 }
 

@@ -147,23 +147,25 @@ fn meeting<W: Wire + Send, L: Ledger + Sync, K: Ledger + Sync, R: Threads + Wait
     let second = desks(rt, master, 2)?;
     let gate = Meet::new();
     let (first, (second, is_served)) = together(rt, master, first, second, &gate);
-    assert!(rt; is_served);
-    assert!(rt; gate.have_met());
+    assert!(rt; is_served && gate.have_met());
     master.serve(rt, &gate, 100)?;
     Ok((firsts(rt, first), firsts(rt, second)))
 }
 
-/// A port answered both of its tickets with its own value.
-fn is_answered<W: Wire, L: Ledger, K: Ledger, R: Wait + Abort>(
+/// A port answered both of its tickets with its own value, and knows no third.
+fn is_answered<W: Wire, L: Ledger, K: Ledger, R: Wait>(
     rt: &R,
     master: &Master<W, L, K>,
     number: u32,
     value: &[u8],
-) -> Result<(), Fail> {
+) -> Result<bool, Fail> {
     let wanted = Ok(answer(value)?);
-    assert!(rt; collected(rt, master, number, Ticket(1)) == wanted);
-    assert!(rt; collected(rt, master, number, Ticket(2)) == wanted);
-    Ok(())
+    let unknown = Err(of_book(BookFault::UnknownTicket));
+    Ok(
+        collected(rt, master, number, Ticket(1)) == wanted
+            && collected(rt, master, number, Ticket(2)) == wanted
+            && collected(rt, master, number, Ticket(3)) == unknown,
+    )
 }
 
 /// Settles two desks, of which each submitted one request.
@@ -176,10 +178,17 @@ fn settled<W: Wire, L: Ledger, K: Ledger, R: Wait>(
     (master.settle(rt, one), master.settle(rt, two))
 }
 
-fn has_two_ports<W: Wire, L: Ledger, K: Ledger, R: Wait + Abort>(rt: &R, master: &Master<W, L, K>) {
-    assert!(rt; master.desk(rt, 0).err() == Some(MasterFault::NoSuchPort));
-    assert!(rt; master.desk(rt, 3).err() == Some(MasterFault::NoSuchPort));
+fn has_two_ports<W: Wire, L: Ledger, K: Ledger, R: Wait>(rt: &R, master: &Master<W, L, K>) -> bool {
+    master.desk(rt, 0).err() == Some(MasterFault::NoSuchPort)
+        && master.desk(rt, 3).err() == Some(MasterFault::NoSuchPort)
 }
+
+/// The tally of four requests at desks that were settled.
+const FOUR: Tally = Tally {
+    desks: 0,
+    settled: 4,
+    tickets: 4,
+};
 
 /// Two ports are served, with two clients at each.
 fn serves_two<W: Wire + Send + Drop, L: Ledger + Sync, K: Ledger + Sync, R>(
@@ -189,20 +198,13 @@ fn serves_two<W: Wire + Send + Drop, L: Ledger + Sync, K: Ledger + Sync, R>(
 where
     R: Threads + Wait + Abort + Sync,
 {
-    has_two_ports(rt, &master);
+    assert!(rt; has_two_ports(rt, &master));
     let (first, second) = meeting(rt, &master)?;
-    is_answered(rt, &master, 1, &[0x42, 0])?;
-    is_answered(rt, &master, 2, &[0x42, 1])?;
-    let unknown = of_book(BookFault::UnknownTicket);
-    assert!(rt; collected(rt, &master, 1, Ticket(3)) == Err(unknown));
+    assert!(rt; is_answered(rt, &master, 1, &[0x42, 0])?);
+    assert!(rt; is_answered(rt, &master, 2, &[0x42, 1])?);
     assert!(rt; settled(rt, &master, first) == (Settled::Part(1), Settled::Part(1)));
     assert!(rt; settled(rt, &master, second) == (Settled::Part(1), Settled::Last(1, 4)));
-    let tally = Tally {
-        desks: 0,
-        settled: 4,
-        tickets: 4,
-    };
-    assert!(rt; master.close() == tally);
+    assert!(rt; master.close() == FOUR);
     Ok(())
 }
 
@@ -231,20 +233,18 @@ const SECOND: u32 = 2;
 
 /// One desk's urgent request goes before the other's, and is cancelled under the
 /// port's lock while it is under way.
-fn cancels<W: Wire, L: Ledger, K: Ledger, R: Wait + Abort>(
+fn cancels<W: Wire, L: Ledger, K: Ledger, R: Wait>(
     rt: &R,
     master: &Master<W, L, K>,
-) -> Result<(), Fail> {
-    turns(rt, master, SECOND, 16)?;
-    let waits = of_book(BookFault::NotInFlight);
-    assert!(rt; cancelled(rt, master, SECOND, Ticket(1)) == Err(waits));
-    assert!(rt; cancelled(rt, master, SECOND, Ticket(2)) == Ok(()));
-    turns(rt, master, SECOND, 1)?;
-    let cut = Outcome::Unknown(Cause::Cancelled);
-    assert!(rt; collected(rt, master, SECOND, Ticket(2)) == Ok(cut));
-    turns(rt, master, SECOND, 3)?;
-    assert!(rt; collected(rt, master, SECOND, Ticket(1)) == Ok(answer(&[0x42, 1])?));
-    Ok(())
+    wanted: Outcome,
+) -> bool {
+    turns(rt, master, SECOND, 16) == Ok(())
+        && cancelled(rt, master, SECOND, Ticket(1)) == Err(of_book(BookFault::NotInFlight))
+        && cancelled(rt, master, SECOND, Ticket(2)) == Ok(())
+        && turns(rt, master, SECOND, 1) == Ok(())
+        && collected(rt, master, SECOND, Ticket(2)) == Ok(Outcome::Unknown(Cause::Cancelled))
+        && turns(rt, master, SECOND, 3) == Ok(())
+        && collected(rt, master, SECOND, Ticket(1)) == Ok(wanted)
 }
 
 /// Two desks submit at a port, and the second one's request is cancelled.
@@ -255,7 +255,7 @@ fn cancels_one<W: Wire, L: Ledger, K: Ledger, R: Wait + Abort>(
     let (mut one, mut two) = desks(rt, master, SECOND)?;
     assert!(rt; master.submit(rt, &mut one, read()) == Ok(Ticket(1)));
     assert!(rt; master.submit_urgent(rt, &mut two, read()) == Ok(Ticket(2)));
-    cancels(rt, master)?;
+    assert!(rt; cancels(rt, master, answer(&[0x42, 1])?));
     assert!(rt; settled(rt, master, (one, two)) == (Settled::Part(1), Settled::Last(1, 2)));
     Ok(())
 }

@@ -5,8 +5,9 @@ ghost use Rattle.iol_master.specs.Ledgers.{IsBlankFor};
 
 use crate::calls::turns;
 use crate::opening::{open_one, open_port};
-use crate::slow::{Flags, INPUT, START_UP, is_set, sending, slow_wire};
+use crate::slow::{Flags, INPUT, START_UP, is_set, slow_wire};
 use iol_cell::{ImageSeat, image_cell};
+use iol_image::Image;
 use iol_link::Wire;
 use iol_master::{Master, MasterFault};
 use iol_port::Port;
@@ -58,53 +59,28 @@ pub fn shown<W: Wire + Drop, L: Ledger, K: Ledger, R: Wait + Abort>(
     Ok((open_one(rt, alloc, port, clients, tickets)?, seat))
 }
 
-/// Whether a seat has these octets.
-pub fn shows<R: Wait>(rt: &R, seat: &mut ImageSeat, octets: &[u8]) -> bool {
-    seat.read(rt).is_some_and(|image| image.octets() == octets)
+/// Whether an image is there, and has these octets.
+pub fn is_image(image: Option<&Image>, octets: &[u8]) -> bool {
+    image.is_some_and(|image| image.octets() == octets)
 }
 
-fn restart<W: Wire, L: Ledger, K: Ledger, R: Wait>(
-    rt: &R,
-    master: &Master<W, L, K>,
-) -> Result<(), MasterFault> {
-    let mut held = master.lock(rt, 1)?;
-    held.restart(rt);
-    Ok(())
+/// Whether a seat has these octets.
+pub fn shows<R: Wait>(rt: &R, seat: &mut ImageSeat, octets: &[u8]) -> bool {
+    is_image(seat.read(rt).as_ref(), octets)
 }
 
 /// An image is there from the turn on that brought it, and up to a restart.
-fn publishes<W: Wire, L: Ledger, K: Ledger, R: Wait + Abort>(
+fn publishes<W: Wire, L: Ledger, K: Ledger, R: Wait>(
     rt: &R,
     master: &Master<W, L, K>,
     seat: &mut ImageSeat,
-) -> Result<(), MasterFault> {
+) -> Result<bool, MasterFault> {
     turns(rt, master, 1, START_UP - 1)?;
-    assert!(rt; seat.read(rt).is_none());
+    let is_early = seat.read(rt).is_none();
     turns(rt, master, 1, 1)?;
-    assert!(rt; shows(rt, seat, &INPUT));
-    restart(rt, master)?;
-    assert!(rt; seat.read(rt).is_none());
-    Ok(())
-}
-
-fn image_row<L: Ledger, K: Ledger, R: Wait + Abort>(
-    rt: &R,
-    alloc: Global,
-    clients: Blank,
-    tickets: Blank,
-) -> Result<(), Fail>
-    requires clients { IsBlankFor clients L.name L.parts 1025 }
-    requires tickets { IsBlankFor tickets K.name K.parts 1 }
-{
-    let wire = sending(alloc)?;
-    let (master, mut seat) = shown::<_, L, K, R>(rt, alloc, wire, clients, tickets)?;
-    publishes(rt, &master, &mut seat)?;
-    Ok(())
-}
-
-#[test]
-fn a_seat_reads_what_turns_publish(rt: HostRuntime) -> Result<(), Fail> {
-    image_row::<Brand, Brand, HostRuntime>(&rt, rt.alloc(), Blank::new(1025), Blank::new(1))
+    let is_there = shows(rt, seat, &INPUT);
+    master.lock(rt, 1)?.restart(rt);
+    Ok(is_early && is_there && seat.read(rt).is_none())
 }
 
 /// Reads a seat once an exchange waits for it. Answers whether it found the image.
@@ -133,6 +109,7 @@ fn beside<W: Wire, L: Ledger, K: Ledger, R: Threads + Wait + Sync>(
     )
 }
 
+/// A seat reads what turns publish, and also while a turn is under way.
 fn held_row<L: Ledger, K: Ledger, R: Threads + Wait + Abort + Sync>(
     rt: &R,
     alloc: Global,
@@ -143,13 +120,15 @@ fn held_row<L: Ledger, K: Ledger, R: Threads + Wait + Abort + Sync>(
     requires tickets { IsBlankFor tickets K.name K.parts 1 }
 {
     let (wire, flags) = slow_wire(alloc)?;
-    let (master, seat) = shown::<_, L, K, R>(rt, alloc, wire, clients, tickets)?;
+    let (master, mut seat) = shown::<_, L, K, R>(rt, alloc, wire, clients, tickets)?;
+    assert!(rt; publishes(rt, &master, &mut seat)?);
     turns(rt, &master, 1, START_UP)?;
     assert!(rt; beside(rt, &master, seat, &flags) == (true, Ok(())));
     assert!(rt; flags.was_let_go.load(Ordering::SeqCst));
     Ok(())
 }
 
+/// Refuses a turn or a restart that leaves the cell as it was, and a read that waits for the lock.
 #[test]
 fn a_seat_is_read_while_the_lock_is_held(rt: HostRuntime) -> Result<(), Fail> {
     held_row::<Brand, Brand, HostRuntime>(&rt, rt.alloc(), Blank::new(1025), Blank::new(1))

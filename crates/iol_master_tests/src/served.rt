@@ -7,7 +7,7 @@ use crate::calls::{answer, read};
 use crate::desks::Open;
 use crate::lines::{port, serve};
 use crate::opening::{open_port, wired};
-use crate::seats::{shown, shows};
+use crate::seats::{is_image, shown, shows};
 use crate::slow::{ALARM, INPUT, START_UP, VALUE};
 use iol_app::Mode;
 use iol_book::{Entry, Outcome, Ticket};
@@ -165,61 +165,88 @@ fn entries() -> Result<[Entry; 12], Fail> {
     ])
 }
 
+/// Whether these are the three outcomes.
+fn are_outcomes(came: &[Result<Outcome, PortFault>]) -> Result<bool, Fail> {
+    Ok(came == outcomes()?.as_slice())
+}
+
+/// Whether this is the journal, and nothing else.
+fn are_entries(archived: &[Entry]) -> Result<bool, Fail> {
+    Ok(archived == entries()?.as_slice())
+}
+
 /// The port is up, and wants an output.
-fn wants_output<W: Wire, K: Ledger, R: Abort>(rt: &R, held: &mut Held<W, K>) -> Result<(), Fail> {
-    assert!(rt; held.status().mode == Mode::Operate);
-    assert!(rt; held.set_output(&Image::new(&OUTPUT)?) == Ok(()));
-    Ok(())
+fn wants_output<W: Wire, K: Ledger>(held: &mut Held<W, K>, output: &Image) -> bool {
+    held.status().mode == Mode::Operate && held.set_output(output) == Ok(())
 }
 
 /// Submits three requests, of which the urgent one comes first.
-fn submit_three<W: Wire, L: Ledger, K: Ledger, R: Wait + Abort>(
+fn submits_three<W: Wire, L: Ledger, K: Ledger, R: Wait>(
     rt: &R,
     master: &Master<W, L, K>,
-) -> Result<(), MasterFault> {
+    desk: &mut Desk<L>,
+) -> bool {
+    master.submit(rt, desk, read()) == Ok(Ticket(1))
+        && master.submit(rt, desk, absent()) == Ok(Ticket(2))
+        && master.submit_urgent(rt, desk, read()) == Ok(Ticket(3))
+}
+
+/// The port is to have an output, and three requests are submitted.
+fn wants_all<W: Wire, L: Ledger, K: Ledger, R: Wait>(
+    rt: &R,
+    master: &Master<W, L, K>,
+    output: &Image,
+) -> Result<bool, MasterFault> {
+    let is_wanted = wants_output(&mut *master.lock(rt, 1)?, output);
     let mut desk = master.desk(rt, 1)?;
-    assert!(rt; master.submit(rt, &mut desk, read()) == Ok(Ticket(1)));
-    assert!(rt; master.submit(rt, &mut desk, absent()) == Ok(Ticket(2)));
-    assert!(rt; master.submit_urgent(rt, &mut desk, read()) == Ok(Ticket(3)));
-    Ok(())
+    Ok(is_wanted && submits_three(rt, master, &mut desk))
 }
 
 /// The link is up again, and the event came where the StatusCode is known.
-fn is_up_again<W: Wire, K: Ledger, R: Abort>(rt: &R, held: &mut Held<W, K>, form: Form) {
+fn is_up_again<W: Wire, K: Ledger>(held: &mut Held<W, K>, form: Form) -> bool {
     let is_odd = matches!(form, Form::Odd);
-    assert!(rt; held.status().mode == Mode::Operate);
-    assert!(rt; held.status().event_form == is_odd);
-    if !is_odd {
-        assert!(rt; held.take_event() == Ok(ALARM));
-    }
-    assert!(rt; held.take_event() == Err(PortFault::NoEvent));
+    held.status().mode == Mode::Operate
+        && held.status().event_form == is_odd
+        && (is_odd || held.take_event() == Ok(ALARM))
+        && held.take_event() == Err(PortFault::NoEvent)
 }
 
 /// All that was submitted has its outcome.
-fn is_done<W: Wire, K: Ledger, R: Abort>(rt: &R, held: &mut Held<W, K>) -> Result<(), Fail> {
+fn is_done<W: Wire, K: Ledger>(held: &mut Held<W, K>) -> Result<bool, Fail> {
     let came = [
         held.collect(Ticket(1)),
         held.collect(Ticket(2)),
         held.collect(Ticket(3)),
     ];
-    assert!(rt; came.as_slice() == outcomes()?.as_slice());
-    Ok(())
+    are_outcomes(came.as_slice())
+}
+
+/// The link is up again, and all is done.
+fn has_all<W: Wire, L: Ledger, K: Ledger, R: Wait>(
+    rt: &R,
+    master: &Master<W, L, K>,
+    form: Form,
+) -> Result<bool, Fail> {
+    let mut held = master.lock(rt, 1)?;
+    Ok(is_up_again(&mut *held, form) && is_done(&mut *held)?)
 }
 
 /// The journal has it all, and nothing else.
-fn is_kept<W: Wire, K: Ledger, R: Abort>(rt: &R, held: &mut Held<W, K>) -> Result<(), Fail> {
-    let archived = held.archive()?;
-    assert!(rt; archived.as_slice() == entries()?.as_slice());
-    Ok(())
+fn keeps_all<W: Wire, L: Ledger, K: Ledger, R: Wait>(
+    rt: &R,
+    master: &Master<W, L, K>,
+) -> Result<bool, Fail> {
+    let archived = master.lock(rt, 1)?.archive()?;
+    are_entries(archived.as_slice())
 }
 
 /// The workers make so many turns.
-fn served<W: Wire + Send, L: Ledger, K: Ledger + Sync, R: Threads + Wait + Abort + Sync>(
+fn served<W: Wire + Send, L: Ledger, K: Ledger + Sync, R: Threads + Wait + Sync>(
     rt: &R,
     master: &Master<W, L, K>,
     turns: u64,
-) {
-    assert!(rt; master.serve(rt, &Open, turns) == Ok(()));
+) -> bool {
+    master.serve(rt, &Open, turns) == Ok(())
 }
 
 /// The port is served up to OPERATE, through the silence, and on.
@@ -229,17 +256,11 @@ fn through<W: Wire + Send, L: Ledger, K: Ledger + Sync, R: Threads + Wait + Abor
     seat: &mut ImageSeat,
     form: Form,
 ) -> Result<(), Fail> {
-    served(rt, master, START_UP);
-    assert!(rt; shows(rt, seat, &INPUT));
-    wants_output(rt, &mut *master.lock(rt, 1)?)?;
-    submit_three(rt, master)?;
-    served(rt, master, SILENCE);
-    assert!(rt; seat.read(rt).is_none());
-    served(rt, master, TURNS);
-    is_up_again(rt, &mut *master.lock(rt, 1)?, form);
-    is_done(rt, &mut *master.lock(rt, 1)?)?;
-    served(rt, master, 1);
-    is_kept(rt, &mut *master.lock(rt, 1)?)?;
+    assert!(rt; served(rt, master, START_UP) && shows(rt, seat, &INPUT));
+    assert!(rt; wants_all(rt, master, &Image::new(&OUTPUT)?)?);
+    assert!(rt; served(rt, master, SILENCE) && seat.read(rt).is_none());
+    assert!(rt; served(rt, master, TURNS) && has_all(rt, master, form)?);
+    assert!(rt; served(rt, master, 1) && keeps_all(rt, master)?);
     assert!(rt; shows(rt, seat, &LATER));
     Ok(())
 }
@@ -278,53 +299,46 @@ fn a_port_is_served_through_silence(rt: HostRuntime) -> Result<(), Fail> {
 }
 
 /// An output, and three requests, of which the urgent one comes first.
-fn wants_three<K: Ledger, R: Abort>(rt: &R, port: &mut LinePort<K>) -> Result<(), Fail> {
-    assert!(rt; port.set_output(&Image::new(&OUTPUT)?) == Ok(()));
-    assert!(rt; port.submit(read()) == Ok(Ticket(1)));
-    assert!(rt; port.submit(absent()) == Ok(Ticket(2)));
-    assert!(rt; port.submit_urgent(read()) == Ok(Ticket(3)));
-    Ok(())
+fn wants_three<K: Ledger>(port: &mut LinePort<K>, output: &Image) -> bool {
+    port.set_output(output) == Ok(())
+        && port.submit(read()) == Ok(Ticket(1))
+        && port.submit(absent()) == Ok(Ticket(2))
+        && port.submit_urgent(read()) == Ok(Ticket(3))
 }
 
-/// The event came, and the three outcomes.
-fn has_three<K: Ledger, R: Abort>(rt: &R, port: &mut LinePort<K>) -> Result<(), Fail> {
-    assert!(rt; port.take_event() == Ok(ALARM));
+/// The event came, and the three outcomes; the journal has them, and nothing else.
+fn has_three<K: Ledger>(port: &mut LinePort<K>) -> Result<bool, Fail> {
+    let event = port.take_event();
     let came = [
         port.collect(Ticket(1)),
         port.collect(Ticket(2)),
         port.collect(Ticket(3)),
     ];
-    assert!(rt; came.as_slice() == outcomes()?.as_slice());
-    Ok(())
-}
-
-/// The journal has them, and nothing else.
-fn keeps_three<K: Ledger, R: Abort>(rt: &R, port: &mut LinePort<K>) -> Result<(), Fail> {
     let archived = port.archive()?;
-    assert!(rt; archived.as_slice() == entries()?.as_slice());
-    Ok(())
+    Ok(event == Ok(ALARM) && are_outcomes(came.as_slice())? && are_entries(archived.as_slice())?)
 }
 
 /// A line is served through the silence, and has all that was asked of it.
-fn line_through<W: Wire, K: Ledger, R: Wait + Abort>(
+fn line_through<W: Wire, K: Ledger, R: Wait>(
     rt: &R,
     line: &Line<K>,
     worker: &mut LineWorker<W, K>,
-) -> Result<(), Fail> {
+    output: &Image,
+) -> Result<bool, Fail> {
     serve(rt, line, worker, START_UP);
-    wants_three(rt, &mut *line.lock(rt))?;
+    let is_wanted = wants_three(&mut *line.lock(rt), output);
     serve(rt, line, worker, TURNS);
-    has_three(rt, &mut *line.lock(rt))?;
-    keeps_three(rt, &mut *line.lock(rt))
+    Ok(is_wanted && has_three(&mut *line.lock(rt))?)
 }
 
 fn line_row<K: Ledger, R: Wait + Abort>(rt: &R, alloc: Global, hands: Blank) -> Result<(), Fail>
     requires { IsBlankFor hands K.name K.parts 1 }
 {
     let (line, mut worker) = Line::<K>::open(port(alloc)?, scripted(alloc)?, hands);
-    line_through(rt, &line, &mut worker)?;
+    let output = Image::new(&OUTPUT)?;
+    assert!(rt; line_through(rt, &line, &mut worker, &output)?);
     let wire = worker.into_wire();
-    assert!(rt; wire.device().output() == Some(&Image::new(&OUTPUT)?));
+    assert!(rt; wire.device().output() == Some(&output));
     Ok(())
 }
 
@@ -342,15 +356,13 @@ fn turns_shown<W: Wire, R: Wait>(rt: &R, port: &mut Port<W>, count: u64) {
 }
 
 /// A port that publishes nothing makes its turns, also over replies that are refused.
-fn is_turned<W: Wire, R: Wait + Abort>(rt: &R, port: &mut Port<W>) -> Result<(), Fail> {
+fn is_turned<W: Wire, R: Wait>(rt: &R, port: &mut Port<W>) -> bool {
     turns_shown(rt, port, START_UP);
-    assert!(rt; port.image() == Some(&Image::new(&INPUT)?));
+    let is_up = is_image(port.image(), &INPUT);
     turns_shown(rt, port, SILENCE + TURNS);
-    assert!(rt; port.status().event_form);
-    assert!(rt; port.image() == Some(&Image::new(&LATER)?));
+    let goes_on = port.status().event_form && is_image(port.image(), &LATER);
     port.restart_shown(rt);
-    assert!(rt; port.status().mode == Mode::Down);
-    Ok(())
+    is_up && goes_on && port.status().mode == Mode::Down
 }
 
 /// Refuses a `turn_shown` that makes no turn where no writer was given, or where a StatusCode was
@@ -359,5 +371,6 @@ fn is_turned<W: Wire, R: Wait + Abort>(rt: &R, port: &mut Port<W>) -> Result<(),
 fn a_turn_is_made_where_nothing_is_published(rt: HostRuntime) -> Result<(), Fail> {
     let (wire, _output) = watched_line(rt.alloc(), Form::Odd)?;
     let mut port = open_port(rt.alloc(), wire)?;
-    is_turned(&rt, &mut port)
+    assert!(rt; is_turned(&rt, &mut port));
+    Ok(())
 }

@@ -1,14 +1,25 @@
 //! Sizes from which on something could say that there is no memory. No clause says that memory is
 //! lacking only where a growth was refused. What lines can say is in `tests/rows`.
 use crate::opening::open_port;
-use iol_cell::image_cell;
+use iol_cell::{ImageSeat, image_cell};
 use iol_image::Image;
 use iol_link::Wire;
 use iol_mseq::Message;
 use iol_port::{Call, Port};
 use iol_sim::Raw;
 use std::alloc::Global;
+use std::sync::Wait;
 use std::test::Fail;
+
+/// Whether each seat has this image.
+fn all_read<R: Wait>(rt: &R, seats: &mut [ImageSeat], image: &Image) -> bool {
+    for seat in seats {
+        if seat.read(rt).as_ref() != Some(image) {
+            return false;
+        }
+    }
+    true
+}
 
 /// Refuses a cell that has no memory, or no seat of its own, from a number of readers on.
 #[test]
@@ -18,9 +29,7 @@ fn a_cell_has_a_seat_for_each_reader(rt: HostRuntime) -> Result<(), Fail> {
         let (mut writer, mut seats) = image_cell(&rt, rt.alloc(), readers)?;
         assert!(rt; seats.len() == readers);
         writer.publish(&rt, Some(&image));
-        for seat in seats.iter_mut() {
-            assert!(rt; seat.read(&rt).as_ref() == Some(&image));
-        }
+        assert!(rt; all_read(&rt, seats.as_mut_slice(), &image));
     }
     Ok(())
 }
@@ -35,16 +44,23 @@ fn messages(alloc: Global, count: u16) -> Result<Vec<Message>, Fail> {
     Ok(messages)
 }
 
+/// Whether a wire has these messages, and no more.
+fn has_each(wire: &mut Raw, messages: &[Message]) -> bool {
+    for message in messages {
+        if wire.exchange(&[]).as_ref() != Some(message) {
+            return false;
+        }
+    }
+    wire.exchange(&[]).is_none()
+}
+
 /// Refuses a wire that has no memory for many messages.
 #[test]
 fn a_raw_wire_has_each_message(rt: HostRuntime) -> Result<(), Fail> {
     for &count in &[0, 1, 2, 255, 256, 257, 1_000] {
         let messages = messages(rt.alloc(), count)?;
         let mut wire = Raw::new(rt.alloc(), messages.as_slice())?;
-        for message in messages {
-            assert!(rt; wire.exchange(&[]) == Some(message));
-        }
-        assert!(rt; wire.exchange(&[]).is_none());
+        assert!(rt; has_each(&mut wire, messages.as_slice()));
     }
     Ok(())
 }

@@ -56,31 +56,30 @@ impl Gate for Closing {
 }
 
 /// A client of the port of this number submits a read and settles.
-fn submit<W: Wire, L: Ledger, K: Ledger, R: Wait + Abort>(
+fn submits<W: Wire, L: Ledger, K: Ledger, R: Wait>(
     rt: &R,
     master: &Master<W, L, K>,
     number: u8,
-) -> Result<(), MasterFault> {
+) -> Result<bool, MasterFault> {
     let mut desk = master.desk(rt, u32::from(number))?;
-    assert!(rt; master.submit(rt, &mut desk, read()) == Ok(Ticket(1)));
-    assert!(rt; desk.port() == u32::from(number));
-    assert!(rt; master.settle(rt, desk) == Settled::Last(1, u64::from(number)));
-    Ok(())
+    Ok(
+        master.submit(rt, &mut desk, read()) == Ok(Ticket(1))
+            && desk.port() == u32::from(number)
+            && master.settle(rt, desk) == Settled::Last(1, u64::from(number)),
+    )
 }
 
 /// The port of this index was served up to its own turn, and has its own answer.
-fn was_served<W: Wire, L: Ledger, K: Ledger, R: Wait + Abort>(
+fn was_served<W: Wire, L: Ledger, K: Ledger, R: Wait>(
     rt: &R,
     master: &Master<W, L, K>,
     gate: &Closing,
     index: u8,
-) -> Result<(), Fail> {
+) -> Result<bool, Fail> {
     let port = u32::from(index) + 1;
     let last = CLOSING.saturating_add(u64::from(port));
-    assert!(rt; gate.last_asked(index) == Some(last));
     let wanted = answer(&[0x42, index])?;
-    assert!(rt; collected(rt, master, port, Ticket(1)) == Ok(wanted));
-    Ok(())
+    Ok(gate.last_asked(index) == Some(last) && collected(rt, master, port, Ticket(1)) == Ok(wanted))
 }
 
 /// Submits at each port, serves all of them, and looks at each.
@@ -90,12 +89,12 @@ fn serve_all<W: Wire + Send, L: Ledger, K: Ledger + Sync, R: Threads + Wait + Ab
     master: &Master<W, L, K>,
 ) -> Result<(), Fail> {
     for index in 0..PORTS {
-        submit(rt, master, index + 1)?;
+        assert!(rt; submits(rt, master, index + 1)?);
     }
     let gate = Closing::new(alloc)?;
     assert!(rt; master.serve(rt, &gate, 2_000) == Ok(()));
     for index in 0..PORTS {
-        was_served(rt, master, &gate, index)?;
+        assert!(rt; was_served(rt, master, &gate, index)?);
     }
     Ok(())
 }
@@ -157,17 +156,18 @@ fn entries(ticket: Ticket) -> Result<[Entry; 3], Fail> {
 }
 
 /// Withdraws the request of a ticket and collects it; the journal has that and nothing else.
-fn take_back<W: Wire, L: Ledger, K: Ledger, R: Wait + Abort>(
+fn takes_back<W: Wire, L: Ledger, K: Ledger, R: Wait>(
     rt: &R,
     master: &Master<W, L, K>,
     ticket: Ticket,
-) -> Result<(), Fail> {
+) -> Result<bool, Fail> {
+    let wanted = entries(ticket)?;
     let mut held = master.lock(rt, 1)?;
-    assert!(rt; held.withdraw(ticket) == Ok(()));
-    assert!(rt; held.collect(ticket) == Ok(Outcome::Withdrawn));
-    let archived = held.archive()?;
-    assert!(rt; archived.as_slice() == entries(ticket)?.as_slice());
-    Ok(())
+    Ok(
+        held.withdraw(ticket) == Ok(())
+            && held.collect(ticket) == Ok(Outcome::Withdrawn)
+            && held.archive()?.as_slice() == wanted.as_slice(),
+    )
 }
 
 /// Submits so many writes at a desk, each of which is taken back.
@@ -179,7 +179,7 @@ fn submit_many<W: Wire, L: Ledger, K: Ledger, R: Wait + Abort>(
 ) -> Result<(), Fail> {
     for number in 1..=count {
         assert!(rt; master.submit(rt, desk, write()?) == Ok(Ticket(number)));
-        take_back(rt, master, Ticket(number))?;
+        assert!(rt; takes_back(rt, master, Ticket(number))?);
     }
     Ok(())
 }

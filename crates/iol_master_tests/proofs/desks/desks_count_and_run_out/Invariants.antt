@@ -1,4 +1,4 @@
-use Rattle.iol_master_tests.proofs.desks.desks_run_out.Given as goal
+use Rattle.iol_master_tests.proofs.desks.desks_count_and_run_out.Given as goal
 
 -- the blanks name the ledgers of this master
 abbrev pub ghosts-run_out-L-Ledger : goal.ghosts-run_out-L-Ledger
