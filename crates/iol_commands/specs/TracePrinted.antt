@@ -1,9 +1,9 @@
 -- What `trace` carries out, and what it prints of it.
-use Rattle.std.specs.Prelude.{◌≡◌, ℕ, ◌+◌, ⊥, false, Option, Some, None, List, [], ◌∷◌, ◌++◌, IsSomeAnd, unwrap_or}
+use Rattle.std.specs.Prelude.{◌≡◌, ℕ, ◌+◌, false, Option, Some, None, List, [], ◌∷◌, ◌++◌, IsSomeAnd, unwrap_or, Result, Ok, Err}
 use Rattle.std.specs.Io.KnownBytes.{Appends}
-use Rattle.std.specs.Result.{result_ok}
 use Rattle.iol_mseq.specs.Shape.{Shape, startup_shape}
 use Rattle.iol_page.specs.Page.{layouts_of}
+use Rattle.iol_page.specs.declared.fault.PageFault.{PageFault}
 use Rattle.iol_page.specs.declared.page.Layouts.{Layouts}
 use Rattle.iol_link.specs.WireFacts.{WireFacts}
 use Rattle.iol_tap.specs.Tapped.{Tapped, tap_facts, IsNoteOf}
@@ -31,18 +31,14 @@ layout_in Startup layouts = startup_shape
 layout_in Preoperate layouts = unwrap_or layouts.pre startup_shape
 layout_in Operate layouts = layouts.run
 
--- what a page asks for, if one was read and its layouts aren't refused
-abbrev pub layouts_shown : Option (List ℕ) → Option Layouts
-layouts_shown None = None
-layouts_shown (Some page) = result_ok (layouts_of page)
+abbrev pub layout_by : Mode → Result Layouts PageFault → Shape
+layout_by mode (Ok layouts) = layout_in mode layouts
+layout_by mode (Err fault) = startup_shape
 
 -- the layout of a mode in a session with this page: before it was read, that of STARTUP
 abbrev pub layout_now : Mode → Option (List ℕ) → Shape
-layout_now mode page = layout_under mode (layouts_shown page)
-
-abbrev pub layout_under : Mode → Option Layouts → Shape
-layout_under mode None = startup_shape
-layout_under mode (Some layouts) = layout_in mode layouts
+layout_now mode None = startup_shape
+layout_now mode (Some page) = layout_by mode (layouts_of page)
 
 -- the layout in which a port sends, as the page of its session asks for it
 abbrev pub layout_at : {W : Type 0} → Parts W → Shape

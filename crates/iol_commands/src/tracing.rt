@@ -6,7 +6,7 @@ ghost use Rattle.iol_port.specs.declared.call.Call.TheVariants.{Turn};
 ghost use Rattle.iol_script.specs.Script.{calls_in, line_calls};
 ghost use Rattle.iol_script.specs.Text.{numbered_lines};
 ghost use Rattle.iol_commands.specs.declared.fault.ProgramFault.TheVariants.{OutOfMemory, WriteFailed};
-ghost use Rattle.iol_commands.specs.TracePrinted.{layout_in, layout_now, layouts_shown, place, Flows, PortTraces, TracesFrom, PrintsNoteOf};
+ghost use Rattle.iol_commands.specs.TracePrinted.{layout_in, layout_now, place, Flows, PortTraces, TracesFrom, PrintsNoteOf};
 
 use crate::fault::ProgramFault;
 use crate::passing::print_passed;
@@ -194,17 +194,13 @@ impl<A: Handle> Tracer<A> {
 fn layout_now(mode: Mode, page: Option<Page>) -> Layout
     ensures { result ≡ layout_now mode page }
 {
-    match layouts_shown(page) {
-        Some(layouts) => layout_in(mode, &layouts),
-        None => Layout::startup(),
+    let Some(page) = page else {
+        return Layout::startup();
+    };
+    match page.layouts() {
+        Ok(layouts) => layout_in(mode, &layouts),
+        Err(_) => Layout::startup(),
     }
-}
-
-/// What a page asks for, if one was read.
-fn layouts_shown(page: Option<Page>) -> Option<Layouts>
-    ensures { result ≡ layouts_shown page }
-{
-    page?.layouts().ok()
 }
 
 /// The layout of a mode. In down no message is sent.
