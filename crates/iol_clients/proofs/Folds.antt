@@ -16,11 +16,15 @@ module _ {A : Type 0} (xs : List A) (i : ℕ) where
     summed f sum now a b = rw (sum_by_more f xs i x below, ← is) (b ∙ ap (λ s. s + f x) a)
 
     module _ {P : Type 0} (p q u : P) where
-      pub folded : (R : P → A → P → Type 0) → FoldsTo R p (take i xs) q → R q x u → FoldsTo R p (take (i + 1) xs) u
+      pub folded : (R : P → A → P → Type 0) → FoldsTo R p (take i xs) q → R q x u
+          → FoldsTo R p (take (i + 1) xs) u
       folded R before step =
-          rw (take_more xs i x below) (FoldsTo-push R p (take i xs) q (get_or xs i x) u before (rw (← is) step))
+          rw (take_more xs i x below) (FoldsTo-push R p (take i xs) q (get_or xs i x) u before
+          (rw (← is) step))
 
-      pub mapped : {B : Type 0} (R : P → B → P → Type 0) (f : A → B) → FoldsTo R p (map f (take i xs)) q → R q (f x) u
+      pub mapped : {B : Type 0} (R : P → B → P → Type 0) (f : A → B)
+          → FoldsTo R p (map f (take i xs)) q → R q (f x) u
           → FoldsTo R p (map f (take (i + 1) xs)) u
       mapped R f before step =
-          rw (map_more f xs i x below) (FoldsTo-push R p (map f (take i xs)) q (f (get_or xs i x)) u before (rw (← is) step))
+          rw (map_more f xs i x below) (FoldsTo-push R p (map f (take i xs)) q
+          (f (get_or xs i x)) u before (rw (← is) step))

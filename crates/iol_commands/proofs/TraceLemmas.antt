@@ -39,17 +39,23 @@ use Rattle.iol_commands.specs.TracePrinted.{layout_at, layout_now, first_tap, ta
 pub flows_none : (at : Option (List ℕ)) (waits : List ℕ) → Flows at at waits waits []
 flows_none at waits = record { written = []; appends = Appends-nil at; rest = append-nil waits }
 
-pub flows_printed : (at : Option (List ℕ)) (waits left text : List ℕ) → left ≡ waits ++ text → Flows at at waits left text
-flows_printed at waits left text is = record { written = []; appends = Appends-nil at; rest = sym is }
+pub flows_printed : (at : Option (List ℕ)) (waits left text : List ℕ) → left ≡ waits ++ text
+    → Flows at at waits left text
+flows_printed at waits left text is =
+    record { written = []; appends = Appends-nil at; rest = sym is }
 
-pub flows_written : (old new : Option (List ℕ)) (waits left : List ℕ) → Appends old new waits → left ≡ [] → Flows old new waits left []
-flows_written old new waits left all none = record { written = waits; appends = all; rest = ap (λ (l : List ℕ). waits ++ l) (sym none) }
+pub flows_written : (old new : Option (List ℕ)) (waits left : List ℕ) → Appends old new waits
+    → left ≡ [] → Flows old new waits left []
+flows_written old new waits left all none =
+    record { written = waits; appends = all; rest = ap (λ (l : List ℕ). waits ++ l) (sym none) }
 
-pub flows_join : (a b c : Option (List ℕ)) (x y z text later : List ℕ) → Flows a b x y text → Flows b c y z later → Flows a c x z (text ++ later)
+pub flows_join : (a b c : Option (List ℕ)) (x y z text later : List ℕ) → Flows a b x y text
+    → Flows b c y z later → Flows a c x z (text ++ later)
 flows_join a b c x y z text later p q = record {
   written = p.written ++ q.written;
   appends = Appends-trans a b c p.written q.written p.appends q.appends;
-  rest = sym (append_assoc x text later) ∙ ap (λ (l : List ℕ). l ++ later) p.rest ∙ append_assoc p.written y later
+  rest = sym (append_assoc x text later) ∙ ap (λ (l : List ℕ). l ++ later) p.rest
+      ∙ append_assoc p.written y later
       ∙ ap (λ (l : List ℕ). p.written ++ l) q.rest ∙ sym (append_assoc p.written q.written z);
 }
 
@@ -76,8 +82,8 @@ module _ {W : Type 0} (facts : WireFacts W) where
   passes_of call.Turn asked s t text called printed =
       let (note, last, is) = noted asked (tap_at s) (tap_at t) called in
       let shown : PrintsNote s.number (layout_at s.port) (Some note) t.number text =
-          subst (λ (o : Option Passed). PrintsNote s.number (layout_at s.port) o t.number text)
-          last printed in
+      subst (λ (o : Option Passed). PrintsNote s.number (layout_at s.port) o t.number text)
+      last printed in
       (note, is, shown.0, shown.1)
   passes_of (call.Submit request) asked s t text called printed =
       still s.number t.number (tap_at s) (tap_at t) text called printed
@@ -197,11 +203,11 @@ module _ {W : Type 0} (facts : WireFacts W) where
       stands shows goes gives_it called granted shape same printed before wrote =
       let answer : List ℕ = answer_text made reply in
       let at : layout ≡ layout_at p =
-          shape ∙ ap (λ (s : Status). layout_now s.mode page) stands
-          ∙ ap (layout_now (status_of p.station).mode) shows in
+      shape ∙ ap (λ (s : Status). layout_now s.mode page) stands
+      ∙ ap (layout_now (status_of p.station).mode) shows in
       let noted_by : PrintsNoteOf made n (layout_at p) (wire_of q.station.link).last m passed =
-          subst (λ (w : Tapped W). PrintsNoteOf made n (layout_at p) w.last m passed) same
-          (subst (λ (l : Shape). PrintsNoteOf made n l wire.last m passed) at printed) in (
+      subst (λ (w : Tapped W). PrintsNoteOf made n (layout_at p) w.last m passed) same
+      (subst (λ (l : Shape). PrintsNoteOf made n l wire.last m passed) at printed) in (
         passed ++ answer,
         wrote ∙ ap (λ (l : List ℕ). l ++ answer) before ∙ append_assoc old passed answer,
         call_traced n m p q made reply asked (passed ++ answer) passed goes gives_it called
@@ -233,10 +239,16 @@ module _ {W : Type 0} (facts : WireFacts W) where
       )
 
 -- a text is printed, and some of what waits is written
-pub flows_after : {T E : Type 0} (r : Result T E) (a b : Option (List ℕ)) (x y z text : List ℕ) (P : List ℕ → Type 0)
-    → y ≡ x ++ text → P text → OnOk r (Flows a b y z []) → OnOk r ((t : List ℕ) × Flows a b x z t × P t)
-flows_after (Ok v) a b x y z text P is holds flows =
-    (text, subst (λ (t : List ℕ). Flows a b x z t) (append-nil text) (flows_join a a b x y z text [] (flows_printed a x y text is) flows), holds)
+pub flows_after : {T E : Type 0} (r : Result T E) (a b : Option (List ℕ)) (x y z text : List ℕ)
+    (P : List ℕ → Type 0)
+    → y ≡ x ++ text → P text → OnOk r (Flows a b y z [])
+    → OnOk r ((t : List ℕ) × Flows a b x z t × P t)
+flows_after (Ok v) a b x y z text P is holds flows = (
+  text,
+  subst (λ (t : List ℕ). Flows a b x z t) (append-nil text)
+      (flows_join a a b x y z text [] (flows_printed a x y text is) flows),
+  holds,
+)
 flows_after (Err v) a b x y z text P is holds flows = tt
 
 -- so many turns are so many calls
@@ -244,22 +256,34 @@ pub turns_length : (n : ℕ) → length (replicate n call.Turn) ≡ n
 turns_length n = length-replicate n call.Turn
 
 -- there are numbers for the calls of a line
-pub room_left : (n m limit : ℕ) (all done rest line later : List Call) → n + length all < limit → all ≡ done ++ rest → rest ≡ line ++ later → m ≤ n + length done → m + length line < limit
+pub room_left : (n m limit : ℕ) (all done rest line later : List Call) → n + length all < limit
+    → all ≡ done ++ rest → rest ≡ line ++ later → m ≤ n + length done → m + length line < limit
 room_left n m limit all done rest line later room is more so_far =
     let whole : length all ≡ length done + length rest = ap length is ∙ length-append done rest in
-    let left : length rest ≡ length line + length later = ap length more ∙ length-append line later in
+    let left : length rest ≡ length line + length later = ap length more
+    ∙ length-append line later in
     omega arith
 
 -- what waits at the end is written, the record with it
-pub whole_written : {T E : Type 0} (r : Result T E) (a b d : Option (List ℕ)) (empty waits out shown text record_is : List ℕ) (P : List ℕ → Type 0)
-    → empty ≡ [] → Flows a b empty waits text → out ≡ waits ++ record_is → shown ≡ out → P (text ++ record_is) → OnOk r (Appends b d shown)
+pub whole_written : {T E : Type 0} (r : Result T E) (a b d : Option (List ℕ))
+    (empty waits out shown text record_is : List ℕ) (P : List ℕ → Type 0)
+    → empty ≡ [] → Flows a b empty waits text → out ≡ waits ++ record_is → shown ≡ out
+    → P (text ++ record_is) → OnOk r (Appends b d shown)
     → OnOk r ((all : List ℕ) × Appends a d all × P all)
 whole_written (Ok v) a b d empty waits out shown text record_is P none flows is same holds wrote =
-    let texts : text ≡ flows.written ++ waits = ap (λ (l : List ℕ). l ++ text) (sym none) ∙ flows.rest in
+    let texts : text ≡ flows.written ++ waits = ap (λ (l : List ℕ). l ++ text) (sym none)
+    ∙ flows.rest in
     let all : flows.written ++ shown ≡ text ++ record_is =
-    ap (λ (l : List ℕ). flows.written ++ l) (same ∙ is) ∙ sym (append_assoc flows.written waits record_is) ∙ ap (λ (l : List ℕ). l ++ record_is) (sym texts) in
-    (flows.written ++ shown, Appends-trans a b d flows.written shown flows.appends wrote, subst P (sym all) holds)
-whole_written (Err v) a b d empty waits out shown text record_is P none flows is same holds wrote = tt
+    ap (λ (l : List ℕ). flows.written ++ l) (same ∙ is)
+    ∙ sym (append_assoc flows.written waits record_is)
+    ∙ ap (λ (l : List ℕ). l ++ record_is) (sym texts) in (
+      flows.written ++ shown,
+      Appends-trans a b d flows.written shown flows.appends wrote,
+      subst
+          P (sym all) holds,
+    )
+whole_written (Err v) a b d empty waits out shown text record_is P none flows is same holds
+    wrote = tt
 
 -- the wire of a script, as a port over a tap on it sees it
 abbrev tapped : WireFacts (Tapped (Simulated (List Entry)))
@@ -280,7 +304,7 @@ unfolding Runs
 traced_out script p q a opening tap n m calls text last_wire from_one stands first over tap_is
     opens traced those =
     let is_opened : opening ≡ tapped_opening script =
-        over ∙ ap (opening_of tapped script.limits) tap_is in
+    over ∙ ap (opening_of tapped script.limits) tap_is in
     record {
       answers = traced.answers;
       first = p;
@@ -302,7 +326,8 @@ traced_out script p q a opening tap n m calls text last_wire from_one stands fir
     }
 
 -- what holds of what was read holds of all that was there
-if_some_of : (had : Option (List ℕ)) (items : List ℕ) (P : List ℕ → Type 0) → IfSome had (λ xs. items ≡ xs) → P items → IfSome had P
+if_some_of : (had : Option (List ℕ)) (items : List ℕ) (P : List ℕ → Type 0)
+    → IfSome had (λ xs. items ≡ xs) → P items → IfSome had P
 if_some_of None items P is holds = tt
 if_some_of (Some xs) items P is holds = subst P is holds
 
@@ -312,17 +337,17 @@ pub script_traced : {T E : Type 0} (r : Result T E) (a b had : Option (List ℕ)
     → IfSome had (λ xs. items ≡ xs) → one ≡ items → two ≡ items
     → script_in (numbered_lines one) ≡ Some script
     → OnOk r ((text : List ℕ) × Appends a b text
-      × TracesOut script (calls_in (numbered_lines two)) text)
+    × TracesOut script (calls_in (numbered_lines two)) text)
     → OnOk r ((text : List ℕ) × Appends a b text
-      × IfSome had (λ input. PrintsTrace (numbered_lines input) text))
+    × IfSome had (λ input. PrintsTrace (numbered_lines input) text))
 script_traced (Ok x) a b had items one two script all first second is (text, wrote, says) =
     let read : script_in (numbered_lines items) ≡ Some script =
-        ap (λ (l : List ℕ). script_in (numbered_lines l)) (sym first) ∙ is in
+    ap (λ (l : List ℕ). script_in (numbered_lines l)) (sym first) ∙ is in
     let said : TracesOut script (calls_in (numbered_lines items)) text =
-        subst (λ (l : List ℕ). TracesOut script (calls_in (numbered_lines l)) text) second says in
+    subst (λ (l : List ℕ). TracesOut script (calls_in (numbered_lines l)) text) second says in
     let prints : PrintsTrace (numbered_lines items) text =
-        subst (λ (o : Option ScriptValue).
-        IsSomeAnd o (λ s. TracesOut s (calls_in (numbered_lines items)) text)) (sym read) said in (
+    subst (λ (o : Option ScriptValue).
+    IsSomeAnd o (λ s. TracesOut s (calls_in (numbered_lines items)) text)) (sym read) said in (
       text,
       wrote,
       if_some_of had items (λ (input : List ℕ). PrintsTrace (numbered_lines input) text) all prints,

@@ -35,7 +35,10 @@ impl Random {
         requires { 0 < limit }
         ensures { result < limit }
     {
-        self.0 = self.0.wrapping_mul(6364136223846793005).wrapping_add(1442695040888963407);
+        self.0 = self
+            .0
+            .wrapping_mul(6364136223846793005)
+            .wrapping_add(1442695040888963407);
         (self.0 >> 33) % limit
     }
 
@@ -86,7 +89,10 @@ impl Line {
     fn step(&mut self) {
         match self.random.below(24) {
             0 => {
-                let _ = self.device.raise(Event { qualifier: 0x54, code: 0x1000 });
+                let _ = self.device.raise(Event {
+                    qualifier: 0x54,
+                    code: 0x1000,
+                });
             }
             1 => self.device.clear_input(),
             2 | 3 => {

@@ -76,11 +76,13 @@ const REST: [Exchange; 3] = [
 #[test]
 fn lies_are_found(rt: HostRuntime) -> Result<(), Fail> {
     assert!(rt; verdict_of(None, &NOT_TAKEN) == Verdict::NotHonest(1, Reason::NotTaken));
-    assert!(rt; verdict_of(Some(&PLAIN), &REPLY_LENGTH)
-        == Verdict::NotHonest(2, Reason::ReplyLength));
+    assert!(rt;
+        verdict_of(Some(&PLAIN), &REPLY_LENGTH) == Verdict::NotHonest(2, Reason::ReplyLength)
+    );
     assert!(rt; verdict_of(None, &STATUS) == Verdict::NotHonest(1, Reason::StatusWithoutData));
-    assert!(rt; verdict_of(Some(&PROCESS_DATA), &INVALID)
-        == Verdict::NotHonest(3, Reason::InvalidNotZero));
+    assert!(rt;
+        verdict_of(Some(&PROCESS_DATA), &INVALID) == Verdict::NotHonest(3, Reason::InvalidNotZero)
+    );
     assert!(rt; verdict_of(None, &FLAG) == Verdict::NotHonest(1, Reason::FlagAtConfirm));
     assert!(rt; verdict_of(None, &CHANGED) == Verdict::NotHonest(2, Reason::PageChanged));
     assert!(rt; verdict_of(None, &ZERO) == Verdict::NotHonest(2, Reason::PageZero));

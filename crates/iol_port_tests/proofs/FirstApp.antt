@@ -1,4 +1,5 @@
--- over every simulated wire a port leaves the devices of the opening, each with its first application
+-- over every simulated wire a port leaves the devices of the opening, each with its first
+-- application
 use Rattle.std.proofs.Common.{◌≡◌, ◌⊎◌, inl, inr, List, [], ◌∷◌, Option, Some, None, option_map, refl, ap, subst, ◌∙◌}
 use Rattle.iol_device.specs.App.{Gives, Follows}
 use Rattle.iol_device.specs.Device.{Running}
@@ -31,26 +32,36 @@ one_first (first, None) y (inr e) one = ap (λ (z : _ × Option _). z.0) e
 one_first (first, Some other) y same one = absurd (cc)
 
 module _ {P : Type 0} (gives : Gives P) where
-  those_by : (asked : Asked) (old new : Simulated P) → IsCall (sim_facts gives) asked old new → AreThose (devices_of old) (devices_of new)
+  those_by : (asked : Asked) (old new : Simulated P) → IsCall (sim_facts gives) asked old new
+      → AreThose (devices_of old) (devices_of new)
   those_by Wake old new (answer, woken) = woken.those
   those_by (Exchange sent) old new (answer, exchanged) = exchanged.those
 
-  those_through : (calls : List Asked) (old new : Simulated P) → AreCalls (sim_facts gives) calls old new → AreThose (devices_of old) (devices_of new)
+  those_through : (calls : List Asked) (old new : Simulated P)
+      → AreCalls (sim_facts gives) calls old new → AreThose (devices_of old) (devices_of new)
   those_through [] old new same = inl (ap (λ (s : Simulated P). firsts_of (devices_of s)) same)
   those_through (asked ∷ calls) old new (mid, one, rest) =
-      same_and (firsts_of (devices_of old)) (firsts_of (devices_of mid)) (firsts_of (devices_of new)) (those_by asked old mid one) (those_through calls mid new rest)
+      same_and (firsts_of (devices_of old)) (firsts_of (devices_of mid))
+      (firsts_of (devices_of new)) (those_by asked old mid one)
+      (those_through calls mid new rest)
 
-  pub those_now : (old new : Simulated P) → ComesFrom (sim_facts gives) old new → AreThose (devices_of old) (devices_of new)
+  pub those_now : (old new : Simulated P) → ComesFrom (sim_facts gives) old new
+      → AreThose (devices_of old) (devices_of new)
   those_now old new (calls, through) = those_through calls old new through
 
-  pub follows_first : (old new : Simulated P) → ComesFrom (sim_facts gives) old new → Follows gives new.device.first new.device.far.carried new.device.app
+  pub follows_first : (old new : Simulated P) → ComesFrom (sim_facts gives) old new
+      → Follows gives new.device.first new.device.far.carried new.device.app
       → old.away ≡ None → Follows gives old.device.first new.device.far.carried new.device.app
   follows_first old new from follows one =
       subst (λ (first : P). Follows gives first new.device.far.carried new.device.app)
-      (one_first (firsts_of (devices_of old)) (firsts_of (devices_of new)) (those_now old new from) (ap (option_map (λ (d : Running P). d.first)) one)) follows
+      (one_first (firsts_of (devices_of old)) (firsts_of (devices_of new))
+      (those_now old new from) (ap (option_map (λ (d : Running P). d.first)) one)) follows
 
-pub answered_first : (old new : Simulated (List Entry)) → ComesFrom (sim_facts Stores) old new → AnsweredBy new.device.first new.device.far.carried new.device.app
+pub answered_first : (old new : Simulated (List Entry)) → ComesFrom (sim_facts Stores) old new
+    → AnsweredBy new.device.first new.device.far.carried new.device.app
     → old.away ≡ None → AnsweredBy old.device.first new.device.far.carried new.device.app
 answered_first old new from answered one =
     subst (λ (first : List Entry). AnsweredBy first new.device.far.carried new.device.app)
-    (one_first (firsts_of (devices_of old)) (firsts_of (devices_of new)) (those_now Stores old new from) (ap (option_map (λ (d : Running (List Entry)). d.first)) one)) answered
+    (one_first (firsts_of (devices_of old)) (firsts_of (devices_of new))
+    (those_now Stores old new from)
+    (ap (option_map (λ (d : Running (List Entry)). d.first)) one)) answered

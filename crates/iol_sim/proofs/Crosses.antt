@@ -12,9 +12,12 @@ use Rattle.iol_sim.specs.contracts.params.Params as Params
 use Rattle.iol_sim.specs.contracts.params.ParamsApp.TheImpl as params
 
 -- the device itself, however its record is one
-device_send : (records : Records (Kept.the_row Heap.the_row ghosts).Denot) → IsSend (Device.the_row Params.the_row (Kept.the_row Heap.the_row ghosts) params.ghosts records)
+device_send : (records : Records (Kept.the_row Heap.the_row ghosts).Denot)
+    → IsSend (Device.the_row Params.the_row (Kept.the_row Heap.the_row ghosts) params.ghosts
+    records)
 device_send records = search (crosses, sendable) depth 60 fits 20000
 
 -- however the heap's handle is copied
-pub sim_send : (copies : Copies (Heap.the_row).Denot) → IsSend (Sim.the_row Params.the_row Heap.the_row params.ghosts ghosts copies)
+pub sim_send : (copies : Copies (Heap.the_row).Denot)
+    → IsSend (Sim.the_row Params.the_row Heap.the_row params.ghosts ghosts copies)
 sim_send copies = search (device_send, crosses, sendable) depth 60 fits 20000

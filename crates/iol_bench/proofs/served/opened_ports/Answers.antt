@@ -8,5 +8,8 @@ one_more more ports turns a b = omega arith
 
 pub loop-preserved : goal.loop-preserved
 loop-preserved c =
-    let pushed = c.in_ok-push.ensures in
-    (one_more _ _ _ pushed.len c.loop.invariant.0, rw pushed.items (All-push (λ p. HasGiven p 0) _ _ c.loop.invariant.1 c.in_ok-port.ensures))
+    let pushed = c.in_ok-push.ensures in (
+      one_more _ _ _ pushed.len c.loop.invariant.0,
+      rw pushed.items
+          (All-push (λ p. HasGiven p 0) _ _ c.loop.invariant.1 c.in_ok-port.ensures),
+    )

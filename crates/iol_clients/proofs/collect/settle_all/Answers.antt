@@ -9,7 +9,8 @@ loop-client-preserved g c =
     let before = c.loop-client.invariant in
     record {
       all = rw append_assoc (rw c.in-Some.ensures.steps.0 at before.all);
-      settled = rw map-append (FoldsTo-push Settles 0 _ _ _ _ before.settled (c.settle.result, c.settle.ensures, rw c.in_default.is refl));
+      settled = rw map-append (FoldsTo-push Settles 0 _ _ _ _ before.settled
+          (c.settle.result, c.settle.ensures, rw c.in_default.is refl));
     }
 
 pub loop-client-preserved-in-Last : goal.loop-client-preserved-in-Last
@@ -17,5 +18,6 @@ loop-client-preserved-in-Last g c =
     let before = c.loop-client.invariant in
     record {
       all = rw append_assoc (rw c.in-Some.ensures.steps.0 at before.all);
-      settled = rw map-append (FoldsTo-push Settles 0 _ _ _ _ before.settled (c.settle.result, c.settle.ensures, rw c.in-Last.is refl));
+      settled = rw map-append (FoldsTo-push Settles 0 _ _ _ _ before.settled
+          (c.settle.result, c.settle.ensures, rw c.in-Last.is refl));
     }

@@ -8,5 +8,6 @@ use Rattle.iol_clients.proofs.collect.settle_all.Given as goal
 abbrev pub invariant-loop-client : goal.invariant-loop-client
 invariant-loop-client g l = record {
   all : l.yielded ++ into_iter_items l.client-iterator ≡ into_iter_items l.initial.client-iterator;
-  settled : FoldsTo Settles 0 (map (λ client. seen client.desk client.tickets.items) l.yielded) l.total;
+  settled : FoldsTo Settles 0 (map (λ client. seen client.desk client.tickets.items) l.yielded)
+      l.total;
 }

@@ -6,4 +6,5 @@ use Rattle.iol_clients.proofs.run.start.Goals as goal
 
 -- the thread owns the client, and borrows the master and the runtime
 pub spawn-requires-send-F : goal.spawn-requires-send-F
-spawn-requires-send-F g c κs within = search (master_sync, the_send, crosses, sendable) depth 60 fits 20000
+spawn-requires-send-F g c κs within =
+    search (master_sync, the_send, crosses, sendable) depth 60 fits 20000

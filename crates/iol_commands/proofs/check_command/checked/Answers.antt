@@ -12,11 +12,17 @@ loop-number-preserved g c =
     let lines = lines_left c.loop-number.number-iterator in
     let rest = lines_left c.next.new.self in
     let answered = c.in_ok-answer.ensures in (
-      c.loop-number.invariant.0 ∙ first_bad-good lines rest c.in-Some.number c.in-Some.line.now form c.in-Some.ensures.steps fits,
-      prints_more (numbered_lines c.args.input.now) c.loop-number.layout c.answer.new.layout lines rest c.in-Some.number c.in-Some.line.now form (string_bytes c.loop-number.output) (string_bytes c.answer.new.output)
-          answered.printed.0 c.loop-number.invariant.1 c.in-Some.ensures.steps fits answered.printed.2 answered.printed.1 answered.layout,
+      c.loop-number.invariant.0 ∙ first_bad-good lines rest c.in-Some.number c.in-Some.line.now
+          form c.in-Some.ensures.steps fits,
+      prints_more (numbered_lines c.args.input.now) c.loop-number.layout c.answer.new.layout
+          lines rest c.in-Some.number c.in-Some.line.now form
+          (string_bytes c.loop-number.output) (string_bytes c.answer.new.output)
+          answered.printed.0 c.loop-number.invariant.1 c.in-Some.ensures.steps fits
+          answered.printed.2 answered.printed.1 answered.layout,
     )
 
 pub returns-clause-printed : goal.returns-clause-printed
 returns-clause-printed g c =
-    prints_whole (numbered_lines c.args.input.now) c.loop-number.layout (lines_left c.loop-number.number-iterator) (string_bytes c.loop-number.output) c.loop-number.invariant.1 c.in-None.ensures.steps.0
+    prints_whole (numbered_lines c.args.input.now) c.loop-number.layout
+    (lines_left c.loop-number.number-iterator) (string_bytes c.loop-number.output)
+    c.loop-number.invariant.1 c.in-None.ensures.steps.0

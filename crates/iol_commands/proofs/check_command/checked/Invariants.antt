@@ -9,4 +9,5 @@ use Rattle.iol_commands.proofs.check_command.checked.Given as goal
 abbrev pub invariant-loop-number : goal.invariant-loop-number
 invariant-loop-number g l =
     (first_bad (numbered_lines l.input) ≡ first_bad (lines_left l.number-iterator))
-    × ((later : List ℕ) → PrintsAll l.layout (lines_left l.number-iterator) later → PrintsAll startup_shape (numbered_lines l.input) (string_bytes l.output ++ later))
+    × ((later : List ℕ) → PrintsAll l.layout (lines_left l.number-iterator) later
+    → PrintsAll startup_shape (numbered_lines l.input) (string_bytes l.output ++ later))

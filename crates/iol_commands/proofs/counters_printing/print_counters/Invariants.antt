@@ -7,4 +7,5 @@ use Rattle.iol_commands.proofs.counters_printing.print_counters.Given as goal
 abbrev pub invariant-loop-name : goal.invariant-loop-name
 invariant-loop-name g l = string_bytes l.output
     ≡ (string_bytes l.fn.output ++ codes "counters")
-    ++ flat_map (λ counter. counter_text (counter.0.now, counter.1)) (take l.name-index l.name-items)
+    ++ flat_map (λ counter. counter_text (counter.0.now, counter.1))
+    (take l.name-index l.name-items)

@@ -8,5 +8,7 @@ use Rattle.iol_commands.proofs.playing.play_lines.Given as goal
 
 abbrev pub invariant-loop-line : goal.invariant-loop-line
 invariant-loop-line g l =
-    (done : List Call) × (text : List ℕ) × (calls_in (numbered_lines l.input) ≡ done ++ calls_in (lines_left l.line-iterator))
-    × (string_bytes l.output ≡ string_bytes l.fn.output ++ text) × PortPlays g.W.Wire.facts l.fn.port.parts done l.port.parts text
+    (done : List Call) × (text : List ℕ)
+    × (calls_in (numbered_lines l.input) ≡ done ++ calls_in (lines_left l.line-iterator))
+    × (string_bytes l.output ≡ string_bytes l.fn.output ++ text)
+    × PortPlays g.W.Wire.facts l.fn.port.parts done l.port.parts text

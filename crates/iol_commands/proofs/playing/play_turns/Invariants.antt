@@ -7,7 +7,8 @@ use Rattle.iol_commands.proofs.playing.play_turns.Given as goal
 abbrev pub invariant-loop-made : goal.invariant-loop-made
 invariant-loop-made g l = record {
   within : l.made ≤ l.count;
-  played : (text : List ℕ) × (string_bytes l.output ≡ string_bytes l.fn.output ++ text) × PortPlays g.W.Wire.facts l.fn.port.parts (replicate l.made Turn) l.port.parts text;
+  played : (text : List ℕ) × (string_bytes l.output ≡ string_bytes l.fn.output ++ text)
+      × PortPlays g.W.Wire.facts l.fn.port.parts (replicate l.made Turn) l.port.parts text;
 }
 
 abbrev pub decreases-loop-made : goal.decreases-loop-made

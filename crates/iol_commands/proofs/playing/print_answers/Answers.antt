@@ -9,5 +9,7 @@ use Rattle.iol_commands.proofs.playing.print_answers.Goals as goal
 pub returns : goal.returns
 returns g c =
     let left = c.loop-call.call-iterator in
-    answers_printed (string_bytes c.args.output.now) (string_bytes c.loop-call.output) (answers_text c.args.calls.now c.args.answers.now) (iter_rest (zip_first left)) (iter_rest (zip_second left)) c.loop-call.invariant
+    answers_printed (string_bytes c.args.output.now) (string_bytes c.loop-call.output)
+    (answers_text c.args.calls.now c.args.answers.now) (iter_rest (zip_first left))
+    (iter_rest (zip_second left)) c.loop-call.invariant
     (either_empty_from_Zip left c.next.new.self c.next.result c.in-None.is c.next.ensures.steps)

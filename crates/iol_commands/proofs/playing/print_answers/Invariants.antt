@@ -7,4 +7,6 @@ use Rattle.iol_commands.proofs.playing.print_answers.Given as goal
 
 abbrev pub invariant-loop-call : goal.invariant-loop-call
 invariant-loop-call g l =
-    string_bytes l.fn.output ++ answers_text l.calls l.answers ≡ string_bytes l.output ++ answers_text (iter_rest (zip_first l.call-iterator)) (iter_rest (zip_second l.call-iterator))
+    string_bytes l.fn.output ++ answers_text l.calls l.answers ≡ string_bytes l.output
+    ++ answers_text (iter_rest (zip_first l.call-iterator))
+    (iter_rest (zip_second l.call-iterator))

@@ -13,9 +13,23 @@ returns-clause-printed g c =
     let opening = c.in-Ok.ensures.opening in
     let new = c.in_ok-wire.ensures.far in
     let quiet = c.in_ok-wire.ensures.silence in
-    let value : ScriptValue = record { page = script.page; other = script.other; params = script.params.items; limits = script.limits; steps = script.steps.items } in
-    let stands = λ (one : script.other ≡ None). c.in-Ok.ensures.stands (opens_well c.in-Ok.port.opening script.limits wire wire.device.far wire.silence (has_one_device wire) script.page opening (one_device value wire c.in_ok-wire.ensures.whole one) new) in
+    let value : ScriptValue = record {
+      page = script.page;
+      other = script.other;
+      params = script.params.items;
+      limits = script.limits;
+      steps = script.steps.items;
+    } in
+    let stands = λ (one : script.other ≡ None). c.in-Ok.ensures.stands
+    (opens_well c.in-Ok.port.opening script.limits wire wire.device.far wire.silence
+    (has_one_device wire) script.page opening
+    (one_device value wire c.in_ok-wire.ensures.whole one) new) in
     let more = c.in_ok-play_lines.ensures in
-    script_printed c.in-Ok.port.parts c.play_lines.new.port.parts _ c.in-Ok.port.opening wire c.wire.result.now (numbered_lines c.args.input.now) _ more.0 (string_bytes c.new-output.result) (string_bytes c.play_lines.new.output) (string_bytes c.print_records.new.output)
-    c.in_ok-script.ensures.script c.in-Ok.ensures.opening c.in_ok-wire.ensures.whole c.in-Ok.ensures.parts stands (opened_first script.limits wire.device.far wire.silence script.page new quiet) more.2
+    script_printed c.in-Ok.port.parts c.play_lines.new.port.parts _ c.in-Ok.port.opening wire
+    c.wire.result.now (numbered_lines c.args.input.now) _ more.0
+    (string_bytes c.new-output.result) (string_bytes c.play_lines.new.output)
+    (string_bytes c.print_records.new.output)
+    c.in_ok-script.ensures.script c.in-Ok.ensures.opening c.in_ok-wire.ensures.whole
+    c.in-Ok.ensures.parts stands (opened_first script.limits wire.device.far wire.silence
+    script.page new quiet) more.2
     (search rules) (search rules) more.1 c.in_ok-print_records.ensures

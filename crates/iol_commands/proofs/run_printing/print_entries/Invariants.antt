@@ -4,4 +4,5 @@ use Rattle.iol_commands.specs.RunPrinted.{entries_text}
 use Rattle.iol_commands.proofs.run_printing.print_entries.Given as goal
 
 abbrev pub invariant-loop-entry : goal.invariant-loop-entry
-invariant-loop-entry g l = string_bytes l.output ≡ string_bytes l.fn.output ++ entries_text (take l.entry-index l.entries)
+invariant-loop-entry g l = string_bytes l.output ≡ string_bytes l.fn.output
+    ++ entries_text (take l.entry-index l.entries)

@@ -11,7 +11,8 @@ returns-then-count-len-clause-taken g c = (
   simp (length-append, length-take) (omega (arith, length-take c.min-room.result c.loop.piece)),
 )
 
-pub returns-in_err-extend_from_slice-clause-taken : goal.returns-in_err-extend_from_slice-clause-taken
+pub returns-in_err-extend_from_slice-clause-taken :
+    goal.returns-in_err-extend_from_slice-clause-taken
 returns-in_err-extend_from_slice-clause-taken g c = (
   c.loop.input.items ++ take c.in-Ok.count c.read.new.buf,
   Consumes-trans _ _ _ _ _ c.loop.invariant.2 c.in-Ok.ensures.bytes.0,
@@ -20,9 +21,14 @@ returns-in_err-extend_from_slice-clause-taken g c = (
 
 pub returns-then-count-eq0-clause-all : goal.returns-then-count-eq0-clause-all
 returns-then-count-eq0-clause-all g c =
-    whole _ _ c.loop.input.items c.read.new.buf c.in-Ok.count (Consumes-trans _ _ _ _ _ c.loop.invariant.2 c.in-Ok.ensures.bytes.0) (search rules) (c.in-Ok.ensures.bytes.1 (search rules) (omega (arith, length-take c.min-room.result c.loop.piece)))
+    whole _ _ c.loop.input.items c.read.new.buf c.in-Ok.count
+    (Consumes-trans _ _ _ _ _ c.loop.invariant.2 c.in-Ok.ensures.bytes.0) (search rules)
+    (c.in-Ok.ensures.bytes.1 (search rules)
+    (omega (arith, length-take c.min-room.result c.loop.piece)))
 
 pub returns-then-count-len-clause-too_long : goal.returns-then-count-len-clause-too_long
 returns-then-count-len-clause-too_long g c =
-    λ e. longer _ _ (c.loop.input.items ++ take c.in-Ok.count c.read.new.buf) _ (Consumes-trans _ _ _ _ _ c.loop.invariant.2 c.in-Ok.ensures.bytes.0)
-    (simp (length-append, length-take) (omega (arith, length-take c.min-room.result c.loop.piece, c.in-Ok.ensures.bound)))
+    λ e. longer _ _ (c.loop.input.items ++ take c.in-Ok.count c.read.new.buf) _
+    (Consumes-trans _ _ _ _ _ c.loop.invariant.2 c.in-Ok.ensures.bytes.0)
+    (simp (length-append, length-take)
+    (omega (arith, length-take c.min-room.result c.loop.piece, c.in-Ok.ensures.bound)))

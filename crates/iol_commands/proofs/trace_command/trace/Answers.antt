@@ -4,5 +4,15 @@ use Rattle.iol_commands.proofs.trace_command.trace.Goals as goal
 pub returns-clause-printed : goal.returns-clause-printed
 returns-clause-printed g c =
     let script = c.in_ok-script.script in
-    script_traced c.traced.result (g.W.Write.contents c.args.writer.now) (g.W.Write.contents c.traced.new.writer) (g.R.Read.remaining c.args.reader.now) c.in_ok-input.input.items c.as_slice.result.now c.as_slice-2.result.now
-    (record { page = script.page; other = script.other; params = script.params.items; limits = script.limits; steps = script.steps.items }) c.in_ok-input.ensures.all c.as_slice.ensures.value c.as_slice-2.ensures.value c.in_ok-script.ensures.script c.traced.ensures.printed
+    script_traced c.traced.result (g.W.Write.contents c.args.writer.now)
+    (g.W.Write.contents c.traced.new.writer) (g.R.Read.remaining c.args.reader.now)
+    c.in_ok-input.input.items c.as_slice.result.now c.as_slice-2.result.now
+    (record {
+      page = script.page;
+      other = script.other;
+      params = script.params.items;
+      limits = script.limits;
+      steps = script.steps.items;
+    }) c.in_ok-input.ensures.all
+    c.as_slice.ensures.value c.as_slice-2.ensures.value c.in_ok-script.ensures.script
+    c.traced.ensures.printed

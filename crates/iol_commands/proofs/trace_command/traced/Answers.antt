@@ -15,26 +15,40 @@ use Rattle.iol_commands.proofs.trace_command.traced.Goals as goal
 pub returns-clause-printed : goal.returns-clause-printed
 returns-clause-printed g c =
     let given = c.args.script in
-    let script : ScriptValue = record { page = given.page; other = given.other; params = given.params.items; limits = given.limits; steps = given.steps.items } in
+    let script : ScriptValue = record {
+      page = given.page;
+      other = given.other;
+      params = given.params.items;
+      limits = given.limits;
+      steps = given.steps.items;
+    } in
     let wire = c.in_ok-wire_of.field-0 in
     let tap = c.new-wire.result in
     let port = c.in-Ok.port in
-    let new = ap (λ (t : Tapped (Simulated (List Entry))). t.wire.device.far) c.new-wire.ensures ∙ c.in_ok-wire_of.ensures.far in
-    let quiet = ap (λ (t : Tapped (Simulated (List Entry))). t.wire.silence) c.new-wire.ensures ∙ c.in_ok-wire_of.ensures.silence in
-    let first : tap ≡ first_tap script = c.new-wire.ensures ∙ ap (λ (s : Simulated (List Entry)). record { wire = s; last = None }) c.in_ok-wire_of.ensures.whole in
+    let new = ap (λ (t : Tapped (Simulated (List Entry))). t.wire.device.far) c.new-wire.ensures
+    ∙ c.in_ok-wire_of.ensures.far in
+    let quiet = ap (λ (t : Tapped (Simulated (List Entry))). t.wire.silence) c.new-wire.ensures
+    ∙ c.in_ok-wire_of.ensures.silence in
+    let first : tap ≡ first_tap script = c.new-wire.ensures
+    ∙ ap (λ (s : Simulated (List Entry)). record { wire = s; last = None })
+    c.in_ok-wire_of.ensures.whole in
     let stands = λ (one : given.other ≡ None). c.in-Ok.ensures.stands
-    (opens_well port.opening given.limits tap tap.wire.device.far tap.wire.silence (has_one_device tap.wire) given.page c.in-Ok.ensures.opening
-    (one_device script tap.wire (ap (λ (t : Tapped (Simulated (List Entry))). t.wire) first) one) new) in
-    let wire_is = c.wire-2.ensures ∙ ap (λ (t : Tapped (Simulated (List Entry))). t.wire) c.wire.ensures in
+    (opens_well port.opening given.limits tap tap.wire.device.far tap.wire.silence
+    (has_one_device tap.wire) given.page c.in-Ok.ensures.opening
+    (one_device script tap.wire (ap (λ (t : Tapped (Simulated (List Entry))). t.wire) first)
+    one) new) in
+    let wire_is = c.wire-2.ensures ∙ ap (λ (t : Tapped (Simulated (List Entry))). t.wire)
+    c.wire.ensures in
     let followed = c.in_ok-follow.ensures.traced in
     let calls = calls_in (numbered_lines c.args.input.now) in
     let opened_as = opened given.limits tap.wire.device.far tap.wire.silence in
-    let begins = opened_first given.limits tap.wire.device.far tap.wire.silence given.page new quiet in
+    let begins = opened_first given.limits tap.wire.device.far tap.wire.silence given.page new
+    quiet in
     let out : TracesOut script calls (followed.0 ++ records_text c.wire-2.result.now) =
-        traced_out script port.parts c.follow.new.port.parts opened_as port.opening tap
-        c.new-tracer.result.number c.follow.new.self.number calls followed.0 c.wire-2.result.now
-        c.new-tracer.ensures.number stands begins c.in-Ok.ensures.opening first
-        c.in-Ok.ensures.parts followed.2 wire_is in
+    traced_out script port.parts c.follow.new.port.parts opened_as port.opening tap
+    c.new-tracer.result.number c.follow.new.self.number calls followed.0 c.wire-2.result.now
+    c.new-tracer.ensures.number stands begins c.in-Ok.ensures.opening first
+    c.in-Ok.ensures.parts followed.2 wire_is in
     whole_written c.write_output.result (g.W.Write.contents c.args.writer.now)
     (g.W.Write.contents c.follow.new.writer) (g.W.Write.contents c.write_output.new.writer)
     (string_bytes c.new-tracer.result.output) (string_bytes c.follow.new.self.output)

@@ -10,14 +10,16 @@ use Rattle.iol_clients.specs.declared.counts.Counted.{Counted}
 use Rattle.iol_clients.specs.Counts.{noted, Notes}
 use Rattle.iol_clients.proofs.client.Client.collect.Goals as goal
 
-one_noted : (c : Counted) (answer : Result Outcome PortFault) → (noted c answer).tickets ≡ c.tickets + 1
+one_noted : (c : Counted) (answer : Result Outcome PortFault)
+    → (noted c answer).tickets ≡ c.tickets + 1
 one_noted c (Ok (Done answer)) = refl
 one_noted c (Ok (Unknown cause)) = refl
 one_noted c (Ok Withdrawn) = refl
 one_noted c (Ok NoIsdu) = refl
 one_noted c (Err why) = refl
 
-module _ {P A : Type 0} (R : P → A → P → Type 0) (p q u : P) (xs ys : List A) (i : ℕ) (same : ys ≡ xs) where
+module _ {P A : Type 0} (R : P → A → P → Type 0) (p q u : P) (xs ys : List A) (i : ℕ)
+    (same : ys ≡ xs) where
   one_more : (d : A) → i < length ys → FoldsTo R p (take i xs) q → R q (get_or ys i d) u
       → FoldsTo R p (take (i + 1) xs) u
   one_more d below before step =
@@ -34,6 +36,13 @@ loop-ticket-preserved g c =
       up = c.note.ensures.up;
       tickets = omega (arith, before.tickets, one);
       noted = one_more (Notes g.W.Wire.facts) _ (c.loop-ticket.held, c.loop-ticket.counted) _ _ _ _
-          c.deref-ticket-items.ensures.value _ c.loop-ticket-test.true before.noted
-          (c.collect.result, record { does = collect.does; gives = collect.gives; rest = collect.rest }, c.note.ensures.noted);
+          c.deref-ticket-items.ensures.value _ c.loop-ticket-test.true before.noted (
+            c.collect.result,
+            record {
+              does = collect.does;
+              gives = collect.gives;
+              rest = collect.rest;
+            },
+            c.note.ensures.noted,
+          );
     }

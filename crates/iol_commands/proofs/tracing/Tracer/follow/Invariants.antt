@@ -8,6 +8,8 @@ use Rattle.iol_commands.proofs.tracing.Tracer.follow.Given as goal
 
 abbrev pub invariant-loop-line : goal.invariant-loop-line
 invariant-loop-line g l =
-    (done : List Call) × (calls_in (numbered_lines l.input) ≡ done ++ calls_in (lines_left l.line-iterator)) × (l.self.number ≤ l.fn.self.number + length done)
+    (done : List Call) × (calls_in (numbered_lines l.input) ≡ done
+    ++ calls_in (lines_left l.line-iterator)) × (l.self.number ≤ l.fn.self.number + length done)
     × Goes g.W.Wire.facts (g.O.Write.contents l.fn.writer) (g.O.Write.contents l.writer)
-    (string_bytes l.fn.self.output) (string_bytes l.self.output) l.fn.self.number l.fn.port.parts done l.self.number l.port.parts
+    (string_bytes l.fn.self.output) (string_bytes l.self.output) l.fn.self.number
+    l.fn.port.parts done l.self.number l.port.parts

@@ -3,4 +3,7 @@ use Rattle.iol_link.specs.Honest.{silence_after}
 use Rattle.iol_port_tests.proofs.lines.honest.answered_by.Given as goal
 
 abbrev pub ghost-receive : goal.ghost-receive
-ghost-receive a = record { far = a.near.now.far; silence = silence_after a.self.now.at.silence (octets_in a.came.now) }
+ghost-receive a = record {
+  far = a.near.now.far;
+  silence = silence_after a.self.now.at.silence (octets_in a.came.now);
+}

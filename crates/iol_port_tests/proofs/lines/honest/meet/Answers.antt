@@ -6,5 +6,11 @@ use Rattle.iol_port_tests.proofs.lines.honest.meet.Goals as goal
 pub answered_by-requires-clause-premise : goal.answered_by-requires-clause-premise
 answered_by-requires-clause-premise c =
     let port : HonestPort = c.send.new.self in
-    let far_is : port.at.far ≡ c.args.device.now.far = ap (λ (p : HonestPort). p.at.far) c.send.ensures.moves ∙ c.requires in
-    rw (far_is, ← ap (λ (out : Outgoing). out.octets.items) c.in-Exchange.ensures.says.1, ← c.as_slice.ensures.value) (c.exchange-came.ensures port.at.silence)
+    let far_is : port.at.far ≡ c.args.device.now.far =
+    ap (λ (p : HonestPort). p.at.far) c.send.ensures.moves ∙ c.requires in
+    rw (
+      far_is,
+      ← ap (λ (out : Outgoing). out.octets.items) c.in-Exchange.ensures.says.1,
+      ←
+          c.as_slice.ensures.value,
+    ) (c.exchange-came.ensures port.at.silence)
