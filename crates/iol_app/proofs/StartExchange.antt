@@ -168,7 +168,7 @@ message_of (InPre s) n far fits stands = record {
 }
 
 -- what both modes say of the rest
-record Rests (start : Start) (t : SessionState) (g : Ghost) (far : Far) : Type 0 where
+pub record Rests (start : Start) (t : SessionState) (g : Ghost) (far : Far) : Type 0 where
   pub late : g.request.hidden.late ≡ None
   pub opens : IsOpen far.isdu None g.request.hidden
   pub untold : g.events.told ≡ false
@@ -297,7 +297,7 @@ module _ (laws : Laws) (heard : TextsAreHeard) (start : Start) (session : Sessio
       false ((λ a. tt), none_rests far.awake)).1 ∙ sym (none_rests passed.awake)
 
   -- how the new mode and the session stand
-  record Left (state : State) (u : SessionState) : Type 0 where
+  pub record Left (state : State) (u : SessionState) : Type 0 where
     pub request : RequestStands state u.limit u.current u.exchange u.events after passed
     pub events : EventsStand state u.exchange u.events after.events passed
     pub output : OutputStands state u.exchange u.output.told g.sent passed
