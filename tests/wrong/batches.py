@@ -20,6 +20,7 @@ Edit = collections.namedtuple("Edit", "function lines")
 # Heads, as `rt fmt` lays them out.
 FN = re.compile(r'( *)(?:pub(?:\(\w+\))? )?(?:const )?(?:unsafe )?(?:extern "C" )?fn (\w+)')
 IMPL = re.compile(r"(?:unsafe )?impl(?:<.*?>)? (?:(\S.*) for )?(\S.*) \{$")
+TRAIT = re.compile(r"(?:pub(?:\(\w+\))? )?trait (\w+)")
 
 # What a check says of a function, and of a place in a file.
 OF_FUNCTION = re.compile(r"fn (\S+): (.*)")
@@ -60,10 +61,11 @@ def words_of(type_name):
 
 
 def owners(head):
-    """How a check may name what an `impl` is for: a type, and its arguments or its trait."""
+    """How a check may name what an `impl` is for, a type with its arguments or its trait; or a
+    trait, by its head."""
     of = IMPL.match(head)
     if not of:
-        return []
+        return TRAIT.findall(head)
     name, *arguments = words_of(of[2])
     if not of[1]:
         return ["+".join([name, *arguments]), name]
@@ -185,6 +187,7 @@ def refused(crate, edits, said):
         (file, at), function = goal, edits[name].function
         if file == function.file:
             return function.head <= at <= function.end
+        # (a folder's name may begin with a `+`)
         return file.replace("/+", "/").startswith(proofs[name])
 
     if not all(any(is_of(goal, name) for name in edits) for goal in goals):
