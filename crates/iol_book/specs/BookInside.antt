@@ -1,6 +1,5 @@
 -- What callers see of a book's fields, and what holds of them.
 use Rattle.std.specs.Prelude.{ℕ, ◌+◌, ◌-◌, ◌/◌, ◌≤◌, min, length}
-use Rattle.std.specs.Option.{option_map}
 use Rattle.std.specs.Vec.{vec_capacity}
 use Rattle.std.specs.VecDeque.{deque_capacity}
 use Rattle.iol_book.specs.Replay.{Standing}
@@ -19,7 +18,7 @@ module _ {A : Type 0} where
       record {
         urgent = fields.urgent.items;
         waiting = fields.waiting.items;
-        taken = option_map (λ taken. (taken.0, taken.1.value)) fields.taken;
+        taken = fields.taken;
         outcomes = fields.outcomes.items;
       }
 
