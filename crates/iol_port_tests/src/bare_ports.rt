@@ -95,7 +95,7 @@ fn a_port_opens_or_hands_its_wire_back(rt: HostRuntime) -> Result<(), Fail> {
 }
 
 /// How many requests for memory the first submit makes.
-const AT_SUBMIT: u64 = 5;
+const AT_SUBMIT: u64 = 2;
 
 const WANTS_MEMORY: Result<Ticket, PortFault> = Err(PortFault::Book(BookFault::OutOfMemory));
 

@@ -78,7 +78,7 @@ fn eight_go_through(
 }
 
 /// How many requests for memory the first eight submits make.
-const AT_SUBMITS: u64 = 8;
+const AT_SUBMITS: u64 = 6;
 
 #[test]
 fn each_request_for_memory_is_refused(rt: HostRuntime) -> Result<(), Fail> {
