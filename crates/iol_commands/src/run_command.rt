@@ -98,14 +98,20 @@ pub(crate) fn wire_of<A: Handle>(alloc: A, script: Script<A>) -> Result<Sim<Para
       steps = script.steps.items;
     })) }
 {
-    let params = script.params.as_slice();
-    let device = device_of(alloc, Params::of(params), script.page)?;
-    match script.other {
+    let Script {
+        page,
+        other,
+        params,
+        limits: _,
+        steps,
+    } = script;
+    let device = device_of(alloc, Params::of(params.as_slice()), page)?;
+    match other {
         Some(page) => {
-            let other = device_of(alloc, Params::of(params), page)?;
-            Sim::with_other(alloc, device, other, script.steps).map_err(|_| AllocError)
+            let away = device_of(alloc, Params::of(params.as_slice()), page)?;
+            Sim::with_other(alloc, device, away, steps).map_err(|_| AllocError)
         }
-        None => Sim::new(alloc, device, script.steps).map_err(|_| AllocError),
+        None => Sim::new(alloc, device, steps).map_err(|_| AllocError),
     }
 }
 
