@@ -10,7 +10,7 @@ use crate::reason::Reason;
 pub enum Verdict {
     /// No wake-up request was answered yet, so that nothing is judged.
     Unjudged,
-    /// Each reply is one that a device by the rules may have sent.
+    /// Nothing that is judged speaks against a device by the rules. What is free may.
     Honest,
     /// No device by the rules could have sent the reply of this exchange.
     NotHonest(u64, Reason),
