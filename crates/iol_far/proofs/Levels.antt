@@ -154,12 +154,6 @@ writing_unhanded : (size : ℕ) (base : List Carried) (r : Request) (i : ℕ) (s
 writing_unhanded size base r i s carried h q e =
     not_handed (joined size (request_text r) i) (count_at i) q (sym h.1 ∙ e)
 
-reading_unhanded : (size : ℕ) (base : List Carried) (r : Request) (i : ℕ) (t : List ℕ)
-    (s : IsduState) (carried : List Carried) → Stands size base (Had r i t) s carried →
-    (q : Request) → s ≡ Handed q → ⊥
-reading_unhanded size base r i t s carried h q e =
-    let k : Stands size base (Had r i t) (Handed q) carried = rw e at h in k
-
 more_unhanded : (size : ℕ) (base : List Carried) (p : Progress) (c : Channel) (read : Bool)
     (f : Flow) (od x : List ℕ) (s : IsduState) (carried : List Carried) →
     IsMove size More p c read f od → Stands size base (after p More x) s carried → (q : Request)

@@ -8,7 +8,6 @@ use Rattle.std.proofs.lemmas.Slice.Eq.{bytes_eq-Decides}
 use Rattle.iol_octets.specs.declared.control.Channel.{Channel}
 use Rattle.iol_far.specs.declared.mode.Mode.{Mode}
 use Rattle.iol_octets.specs.declared.flow_control.Flow.{Flow}
-use Rattle.iol_octets.specs.declared.flow_control.Flow.TheVariants.{Count}
 use Rattle.iol_page.specs.declared.master_command.MasterCommand.{MasterCommand}
 use Rattle.iol_page.specs.Page.{knows_isdu}
 use Rattle.iol_mseq.specs.declared.master.MasterMsg.{MasterMsg}
@@ -17,9 +16,9 @@ use Rattle.iol_isdu.specs.declared.values.Request.{Request}
 use Rattle.iol_isdu.specs.declared.values.Answer.{Answer}
 use Rattle.iol_segment.specs.Join.{Stage, stage}
 use Rattle.iol_far.specs.Codec.{layout_in, message_in, flow_of}
-use Rattle.iol_far.specs.Isdu.{IsduState, Empty, Receiving, Whole, Handed, Answered, completed, received_at, received, isdu_written, isdu_read, fits}
+use Rattle.iol_far.specs.Isdu.{IsduState, Empty, Receiving, Whole, Handed, Answered, received_at, received, fits}
 use Rattle.iol_event.specs.Memory.{Events, is_empty, raised}
-use Rattle.iol_far.specs.Far.{Far, WaitingCommand, waits_after, valid_after, out_after, isdu_after, events_after, cycle_time_after, is_mode, mode_asked, known_mode, command_in, is_confirm, worked, Heard, hear, heard_as, replied, moved, accepted_now, accepted_by}
+use Rattle.iol_far.specs.Far.{Far, WaitingCommand, waits_after, valid_after, out_after, isdu_after, events_after, cycle_time_after, mode_asked, known_mode, command_in, is_confirm, worked, Heard, hear, heard_as, replied, moved, accepted_now, accepted_by}
 use Rattle.iol_far.specs.Laws.{is_start_read}
 use Rattle.iol_far.specs.Local.{LocalStep, Carry, Raise, Input, NoInput, Power, local, locals, carried_by, has_room, is_input}
 use Rattle.iol_far.specs.Level.{grown_by}
@@ -71,9 +70,6 @@ events_raised c m e s = raised_parts c m.frozen m.waiting m.held e s
 
 -- Modes
 
-is_mode-refl : (m : Mode) → is_mode m m ≡ true
-is_mode-refl m = grind (arith, common_steps)
-
 pub waits_again : (mode : Mode) (w : Option WaitingCommand) (o : List ℕ) (asked : Option Mode) →
     waits_after mode (waits_after mode w o asked) o asked ≡ waits_after mode w o asked
 waits_again mode w o asked = grind (arith, common_steps)
@@ -87,21 +83,6 @@ out_again : (mode : Mode) (old new : List ℕ)
 out_again mode old new = grind (arith, common_steps)
 
 -- The ISDU state
-
-read_again : (m : ℕ) (s : IsduState) (f : Flow) → isdu_read m (isdu_read m s f) f ≡ isdu_read m s f
-read_again m s f = grind (arith, common_steps)
-
-completed_again : (q : Option Request) (c : ℕ) (octets : List ℕ)
-    → isdu_written (completed q (Some c)) (Count c) octets ≡ completed q (Some c)
-completed_again q c octets = grind (arith, common_steps)
-
-receiving_again : (t : List ℕ) (c : ℕ) (octets : List ℕ)
-    → isdu_written (Receiving t (Some c)) (Count c) octets ≡ Receiving t (Some c)
-receiving_again t c octets = grind (arith, nat_tests, common_steps)
-
-received_again : (z : Stage) (t : List ℕ) (c : ℕ) (octets : List ℕ)
-    → isdu_written (received_at z t (Some c)) (Count c) octets ≡ received_at z t (Some c)
-received_again z t c octets = grind (arith, common_steps)
 
 -- The whole far end
 
@@ -161,9 +142,6 @@ worked_again o m g s = rw (
     refl
 
 -- Local steps keep it, but for carrying out between two START reads
-
-not_completed : (q : Option Request) (l : Option ℕ) (r : Request) → completed q l ≡ Handed r → ⊥
-not_completed q l r given = grind (arith, common_steps)
 
 not_handed_at : (z : Stage) (t : List ℕ) (l : Option ℕ) (r : Request)
     → received_at z t l ≡ Handed r → ⊥

@@ -1,39 +1,20 @@
 -- What a far end answers fits its layout, so that it is read back.
-use Rattle.std.proofs.Common.{◌≡◌, ◌⊎◌, inl, inr, ℕ, ◌-◌, ◌≤◌, Bool, List, [], length, replicate, refl, arith}
+use Rattle.std.proofs.Common.{◌≡◌, ◌⊎◌, inl, inr, ℕ, ◌≤◌, Bool, List, [], length, replicate, refl, arith}
 use Rattle.std.proofs.lemmas.Grind.{common_steps}
 use Rattle.std.specs.Prelude.{Option, IfSome, unwrap_or, if◌then◌else◌, ◌==◌}
-use Rattle.std.proofs.lemmas.List.{length-replicate}
 use Rattle.iol_octets.specs.declared.control.Channel.{Channel}
 use Rattle.iol_mseq.specs.Shape.{Shape}
 use Rattle.iol_mseq.specs.Replies.{HasReplyParts}
 use Rattle.iol_page.specs.Page.{PagesAskForLayouts}
-use Rattle.iol_mseq.specs.Parts.{first_of_zeros}
 use Rattle.iol_mseq.specs.ReadBack.{ReplyIsReadBack}
 use Rattle.iol_mseq.specs.declared.master.MasterMsg.{MasterMsg}
 use Rattle.iol_segment.specs.Cut.{SegmentsHaveSize}
 use Rattle.iol_far.specs.declared.mode.Mode.{Mode}
 use Rattle.iol_far.specs.declared.mode.Mode.TheVariants.{Startup, Preoperate, Operate}
-use Rattle.iol_far.specs.Isdu.{IsduState, isdu_data}
 use Rattle.iol_far.specs.Codec.{layout_in, octets_of}
 use Rattle.iol_far.specs.Far.{Far, layout_of, data_of, reply_to}
 use Rattle.iol_far.specs.Laws.{IsSized, RepliesAreRead}
 use Rattle.iol_far.proofs.Pages.{startup_input, pre_has_no_input, modes_have_layouts}
-
-zeros_size : (size octet : ℕ) → 1 ≤ size → length (first_of_zeros size octet) ≡ size
-zeros_size size octet h = let k : length {A = ℕ} (replicate (size - 1) 0) ≡ size - 1 =
-    length-replicate (size - 1) 0 in omega (arith, k)
-
-isdu_size : SegmentsHaveSize → (size : ℕ) (state : IsduState) → 1 ≤ size
-    → length (isdu_data size state) ≡ size
-isdu_size given size state given2 = grind (arith, common_steps)
-
-data_size : SegmentsHaveSize → (far : Far) (size : ℕ) (c : Channel) (address : ℕ) → 1 ≤ size
-    → length (data_of far size c address) ≡ size
-data_size given far size c address given2 = grind (arith, common_steps)
-
-image_size : (size : ℕ) (input : Option (List ℕ)) → IfSome input (λ image. length image ≡ size)
-    → length (unwrap_or input (replicate size 0)) ≡ size
-image_size size input given = grind (arith, common_steps)
 
 input_length : (size : ℕ) (input : Option (List ℕ))
     → (size ≡ 0) ⊎ IfSome input (λ image. length image ≡ size) →

@@ -1,6 +1,6 @@
 -- What one good reply tells the master of the far end's ISDU state and record.
-use Rattle.std.proofs.Common.{◌≡◌, ℕ, suc, ◌+◌, ◌*◌, ◌%◌, ◌<◌, Bool, true, false, ◌&&◌, List, ◌++◌, length, refl, sym, arith}
-use Rattle.std.specs.Prelude.{Some, None, if◌then◌else◌, ◌==◌, IsTrue}
+use Rattle.std.proofs.Common.{◌≡◌, ℕ, suc, ◌*◌, ◌%◌, ◌<◌, Bool, true, false, ◌&&◌, List, ◌++◌, length, refl, sym, arith}
+use Rattle.std.specs.Prelude.{Some, None, if◌then◌else◌, IsTrue}
 use Rattle.std.proofs.lemmas.Bool.Decides.{nat_tests}
 use Rattle.std.proofs.lemmas.Grind.{common_steps}
 use Rattle.iol_octets.specs.declared.control.Channel.{Channel}
@@ -20,15 +20,6 @@ use Rattle.iol_far.specs.Local.{carried_by, has_room}
 use Rattle.iol_far.specs.SegmentLaws.{SegmentLaws}
 use Rattle.iol_far.proofs.Once.{not_handed}
 use Rattle.iol_far.specs.Level.{Progress, Quiet, Written, Busy, Had, Stands, Move, Begin, More, Ask, Next, Leave, Other, asked, after, IsMove, grown_by}
-
--- COUNT goes round
-count_new : (i : ℕ) → (suc i % 16 == suc (suc i) % 16) ≡ false
-count_new i = let e : suc i % 16 ≡ suc (suc i) % 16
-    → ⊥ = (λ (h : suc i % 16 ≡ suc (suc i) % 16). omega arith) in grind (arith, nat_tests, e)
-
-count_next : (i : ℕ) → (suc (suc i) % 16 == (suc i % 16 + 1) % 16) ≡ true
-count_next i = let e : suc (suc i) % 16 ≡ (suc i % 16 + 1) % 16 = omega arith in
-    grind (arith, nat_tests, e)
 
 module _ (size : ℕ) (laws : SegmentLaws size) (base : List Carried) where
   -- a COUNT write at the state before it

@@ -1,5 +1,5 @@
 -- A run goes on by one piece, and of each run the record fits the journal.
-use Rattle.std.proofs.Common.{◌≡◌, ◌∷◌, ◌++◌, [], List, ℕ, Bool, Option, refl, subst}
+use Rattle.std.proofs.Common.{◌∷◌, ◌++◌, [], List, ℕ, Bool, Option, refl, subst}
 use Rattle.iol_far.specs.Far.{Far}
 use Rattle.iol_link.specs.Honest.{HonestWake}
 use Rattle.iol_book.specs.declared.entries.Limits.{Limits}

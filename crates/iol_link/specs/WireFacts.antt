@@ -1,5 +1,5 @@
 -- What a wire is to a contract.
-use Rattle.std.specs.Prelude.{◌≡◌, ℕ, Bool, false, List, [], Option, None, is_some, IsTrue, ⊤}
+use Rattle.std.specs.Prelude.{ℕ, Bool, false, List, [], Option, None, is_some, IsTrue, ⊤}
 use Rattle.arrayvec.specs.ArrayVec.{ArrayVec}
 use Rattle.iol_far.specs.Octets.{octets_in}
 use Rattle.iol_far.specs.Far.{Far, opened}
