@@ -1,6 +1,6 @@
 -- A new message goes out in OPERATE.
 use Rattle.std.proofs.Common.{◌≡◌, ◌⊎◌, inl, inr, ⊎_elim, ℕ, ◌≤◌, Bool, true, false, List, length, refl, sym, ap, ◌∙◌, subst, arith}
-use Rattle.std.specs.Prelude.{Option, IfSome, IsSome, is_some, bytes_eq, unwrap_or, if◌then◌else◌}
+use Rattle.std.specs.Prelude.{Option, IfSome, IsSome, is_some, bytes_eq, unwrap_or}
 use Rattle.std.proofs.lemmas.Grind.{common_steps}
 use Rattle.std.proofs.lemmas.Bool.{cases_Bool}
 use Rattle.std.proofs.lemmas.Slice.Eq.{bytes_eq-Decides}

@@ -1,5 +1,5 @@
 -- What one exchange of a start-up comes to, in both its modes.
-use Rattle.std.proofs.Common.{◌≡◌, ◌≢◌, inl, ℕ, ◌+◌, ◌≤◌, Bool, true, false, ◌&&◌, List, [], ◌∷◌, ◌++◌, filter, refl, sym, ◌∙◌, ap, subst, arith}
+use Rattle.std.proofs.Common.{◌≡◌, ◌≢◌, inl, ℕ, ◌≤◌, Bool, true, false, ◌&&◌, List, [], ◌∷◌, ◌++◌, filter, refl, sym, ◌∙◌, ap, subst, arith}
 use Rattle.std.proofs.lemmas.Grind.{common_steps}
 use Rattle.std.specs.Prelude.{Option, Some, None, Ok, IfSome, IsTrue, not, unwrap_or}
 use Rattle.iol_octets.specs.declared.control.Channel.{Channel}
@@ -14,7 +14,6 @@ use Rattle.iol_page.specs.Identity.{identity_of, is_expected, same_identity}
 use Rattle.iol_page.specs.declared.identity.Identity.{Identity}
 use Rattle.iol_page.specs.declared.page.Layouts.{Layouts}
 use Rattle.iol_page.specs.declared.master_command.MasterCommand.{MasterCommand}
-use Rattle.iol_event.specs.declared.event.Event.{Event}
 use Rattle.iol_event.specs.Memory.{is_empty}
 use Rattle.iol_far.specs.declared.mode.Mode.TheVariants.{Preoperate as FarPreoperate, Operate as FarOperate}
 use Rattle.iol_far.specs.Codec.{layout_in, message_in, flow_of}

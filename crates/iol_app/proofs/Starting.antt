@@ -49,7 +49,7 @@ use Rattle.iol_app.specs.Core.{Ghost, Stands, CallGives, Rises, moment_of, after
 use Rattle.iol_mode.specs.Exchanges.{text_out, judged}
 use Rattle.iol_app.proofs.FarSide.{silent, replied, IsReplied}
 use Rattle.iol_app.proofs.SmallFacts.{third_time}
-use Rattle.iol_app.proofs.StartExchange.{InStart, InPre, Start, state_at, mode_at, same_expected, still, is_still, Message, level, message_of, rests_of, c, o, after, there, going, unconfirmed, Ends, gives, stays, falls, climbs, tells, enters}
+use Rattle.iol_app.proofs.StartExchange.{InStart, InPre, Start, state_at, mode_at, same_expected, still, is_still, Message, level, message_of, rests_of, c, o, going, unconfirmed, Ends, gives, stays, falls, climbs, tells, enters}
 
 -- what is known of every start-up
 record Known : Type 0 where

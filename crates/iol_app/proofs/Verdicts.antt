@@ -1,17 +1,16 @@
 -- What came back is judged by how the attempt ended, and by its length.
 use Rattle.std.proofs.lemmas.Grind.{common_steps}
-use Rattle.std.proofs.Common.{◌≡◌, ◌+◌, ◌∙◌, ℕ, List, refl, sym, ap, subst, arith}
-use Rattle.std.specs.Prelude.{Option, Some, None, nat_le, slice_index}
+use Rattle.std.proofs.Common.{◌≡◌, ◌+◌, ℕ, List, arith}
+use Rattle.std.specs.Prelude.{Option, nat_le, slice_index}
 use Rattle.iol_octets.specs.declared.control.Mc.{Mc}
 use Rattle.iol_octets.specs.Control.{control_octet}
-use Rattle.iol_mseq.specs.Shape.{Shape, startup_shape}
+use Rattle.iol_mseq.specs.Shape.{Shape}
 use Rattle.iol_mseq.specs.Replies.{answered_od}
 use Rattle.iol_mseq.specs.Texts.{master_text}
 use Rattle.iol_mseq.specs.declared.master.MasterMsg.{MasterMsg}
-use Rattle.iol_link.specs.Attempts.{Sending, good_reply, attempt_of}
+use Rattle.iol_link.specs.Attempts.{good_reply, attempt_of}
 use Rattle.iol_link.specs.declared.handler.Attempt.{Attempt}
 use Rattle.iol_mode.specs.declared.states.State.{State}
-use Rattle.iol_mode.specs.declared.states.State.TheVariants.{Down as AtDown, Startup as AtStartup, Preoperate as AtPreoperate, Operate as AtOperate}
 use Rattle.iol_mode.specs.Exchanges.{IsSending, attempted, tries_in, text_out, layout_out}
 use Rattle.iol_app.specs.declared.brought.Brought.TheVariants.{Exchanged}
 use Rattle.iol_app.specs.Asking.{outgoing, reply_size}

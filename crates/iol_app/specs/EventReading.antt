@@ -5,6 +5,8 @@ use Rattle.iol_mseq.specs.declared.reply.Reply.{Reply}
 use Rattle.iol_event.specs.declared.event.Event.{Event}
 use Rattle.iol_event.specs.declared.faults.EventForm.{EventForm}
 use Rattle.iol_event.specs.Reading.{taken}
+use Rattle.iol_steps.specs.declared.said.Said.{Said}
+use Rattle.iol_steps.specs.declared.said.Said.TheVariants.{Reported}
 use Rattle.iol_app.specs.declared.event_work.Events.{Events}
 use Rattle.iol_app.specs.declared.event_work.Reading.{Reading}
 use Rattle.iol_app.specs.declared.event_work.Reading.TheVariants.{Resting, UnderWay, ConfirmDue, Refused}
@@ -56,6 +58,12 @@ read_on any od so_far = so_far
 abbrev pub list_read : Exchange → List ℕ → Reading → Option (List Event)
 list_read ReadEvent od reading = list_after reading (slice_index od 0)
 list_read any od _ = None
+
+-- what is said once that list is told; where none became whole it stays
+-- EVT-8
+abbrev pub told_list : Option (List Event) → Said → Said
+told_list None said = said
+told_list (Some list) said = Reported list
 
 -- the event work after that reply
 -- EVT-8

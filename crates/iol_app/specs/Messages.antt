@@ -1,5 +1,5 @@
 -- What the messages of OPERATE say (IEC 61131-9, A.1.2 and 7.3.6).
-use Rattle.std.specs.Prelude.{ℕ, ◌+◌, ◌%◌, Bool, true, false, List, [], Option, Some, None}
+use Rattle.std.specs.Prelude.{◌≡◌, ℕ, ◌+◌, ◌%◌, Bool, true, false, List, [], Option, Some, None}
 use Rattle.iol_octets.specs.declared.control.Mc.{Mc}
 use Rattle.iol_octets.specs.declared.control.Channel.{Channel}
 use Rattle.iol_octets.specs.declared.control.Channel.TheVariants.{Page, Diagnosis, Isdu}
@@ -10,6 +10,7 @@ use Rattle.iol_page.specs.Commands.{command_octet}
 use Rattle.iol_page.specs.declared.master_command.MasterCommand.TheVariants.{ProcessDataOutputOperate, DeviceOperate}
 use Rattle.iol_event.specs.Reading.{next_address}
 use Rattle.iol_mseq.specs.Parts.{first_of_zeros}
+use Rattle.iol_mseq.specs.declared.master.MasterMsg.{MasterMsg}
 use Rattle.iol_app.specs.declared.event_work.Reading.{Reading}
 use Rattle.iol_app.specs.declared.request.Current.{Current}
 use Rattle.iol_app.specs.declared.request.Progress.{Progress}
@@ -17,6 +18,11 @@ use Rattle.iol_app.specs.declared.request.Progress.TheVariants.{Sending, Asking,
 use Rattle.iol_app.specs.declared.session.Exchange.{Exchange}
 use Rattle.iol_app.specs.declared.session.Exchange.TheVariants.{TellOutput, DropOutput, Abort, ReadEvent, ConfirmEvents, Request, Idle}
 use Rattle.iol_app.specs.EventReading.{reader_of}
+
+-- nothing is said yet
+pub record IsBlank (message : MasterMsg) : Type 0 where
+  pub out : message.out.items ≡ []
+  pub od : message.od.items ≡ []
 
 -- what a control octet says
 pub record Head : Type 0 where

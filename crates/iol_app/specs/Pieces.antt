@@ -1,5 +1,5 @@
 -- The two pieces of a turn, without the wire: what goes out, and what is made of what comes back.
-use Rattle.std.specs.Prelude.{◌≡◌, ◌⊎◌, ℕ, Bool, true, List, Option, Some, None, IsTrue}
+use Rattle.std.specs.Prelude.{◌≡◌, ◌⊎◌, ℕ, Bool, true, false, List, Option, Some, None, IsTrue}
 use Rattle.iol_octets.specs.Checksum.{has_checksum}
 use Rattle.iol_mseq.specs.Master.{HasMasterParts}
 use Rattle.iol_mseq.specs.declared.master.MasterMsg.{MasterMsg}
@@ -32,6 +32,12 @@ IsAskedOut Wake state = IsDown state
 IsAskedOut (Exchange out) state =
     IsSending state × (out ≡ outgoing (layout_out state) (text_out state))
     × IsTrue (has_checksum 1 out.octets.items)
+
+-- whether a message is out, and it is the one asked for
+abbrev pub IsOut : Bool → Asked → State → Type 0
+IsOut true asked state =
+    IsSending state × (asked ≡ Exchange (outgoing (layout_out state) (text_out state)))
+IsOut false asked state = IsDown state × (asked ≡ Wake)
 
 -- a new message for what is due is out from now on
 pub record NewOut (layouts : Layouts) (t : SessionState) (room : Bool) (new : Core) : Type 0 where

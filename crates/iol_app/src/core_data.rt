@@ -7,7 +7,7 @@ ghost use Rattle.iol_link.specs.Attempts.{attempt_in};
 ghost use Rattle.iol_link.specs.WireFacts.{Wakes, Passes};
 ghost use Rattle.iol_mode.specs.States.{IsDown, OutcomeFits, outcome_with};
 ghost use Rattle.iol_mode.specs.Stands.{StateStands};
-ghost use Rattle.iol_mode.specs.Exchanges.{IsSending, AreFew, ExchangeGives, StandsOn, WakeStands, tries_in};
+ghost use Rattle.iol_mode.specs.Exchanges.{IsSending, AreFew, ExchangeGives, StandsOn, WakeStands, tries_in, text_out};
 ghost use Rattle.iol_app.specs.EventReading.{is_refused};
 ghost use Rattle.iol_app.specs.State.{aborted_in, begun_in, wanting, expecting, pacing, output_refusal, IsSession};
 ghost use Rattle.iol_app.specs.Requests.{request_in, request_after, EndsRequest};
@@ -17,12 +17,13 @@ ghost use Rattle.iol_app.specs.StationState.{mode_in, why_in, page_in, operates,
 ghost use Rattle.iol_app.specs.Asking.{asked_in, beginning_in, asked_of, outgoing, IsCall};
 ghost use Rattle.iol_app.specs.Brought.{brought_in, brought_facts};
 ghost use Rattle.iol_app.specs.Core.{after_exchange, after_wake, came_of, opened_core, restarted_core, wanting_core, IsRight};
-ghost use Rattle.iol_app.specs.Pieces.{IsAskedOut, IsSent, ReadsOn, SendSteps, WakeSteps, ReceiveSteps};
+ghost use Rattle.iol_app.specs.Pieces.{IsAskedOut, IsOut, IsSent, ReadsOn, SendSteps, WakeSteps, ReceiveSteps};
 ghost use Rattle.iol_app.specs.Seen.{station_of, NewSteps, BeginSteps, DenySteps, AbortSteps, CancelSteps, WantSteps, RestartSteps, TurnSteps};
 
 use crate::asked::{Asked, Outgoing};
 use crate::brought::{Brought, Out};
 use crate::laws::station_laws;
+use crate::message::blank;
 use crate::output::OutputFault;
 use crate::session::Session;
 use iol_image::Image;
@@ -280,16 +281,29 @@ impl Core {
         ensures on { StandsOn self.old.state self.new.state }
         ensures steps { SendSteps self.old self.new }
     {
+        if self.put_next(room) {
+            goes_out(self.state.layout(), self.state.sends())
+        } else {
+            Asked::Wake
+        }
+    }
+
+    /// Puts out a new message, where one goes out. Answers whether a message is out: else a wake
+    /// is to be sent.
+    fn put_next(&mut self, room: bool) -> bool
+        ensures sent { IsSent room self.old self.new }
+        ensures out { IsOut result (asked_in self.old.state self.old.session room)
+            self.new.state }
+        ensures reads { ReadsOn room self.old self.new }
+        ensures on { StandsOn self.old.state self.new.state }
+        ensures steps { SendSteps self.old self.new }
+    {
         station_laws();
         self.session.is_valid();
         if matches!(self.state, State::Operate(_)) {
             self.put_due(room);
         }
-        if self.state.sends_wake() {
-            Asked::Wake
-        } else {
-            goes_out(self.state.layout(), self.state.sends())
-        }
+        !self.state.sends_wake()
     }
 
     /// In OPERATE: a message for what is due is out, where none was.
@@ -306,8 +320,9 @@ impl Core {
             unreachable!()
         };
         if operate.out.is_none() {
-            let message = self.session.new_message(room);
-            self.state.put_out(&message);
+            let mut message = blank();
+            self.session.new_message(room, &mut message);
+            self.state.put_out(message);
         }
     }
 
@@ -423,17 +438,26 @@ impl Core {
     {
         station_laws();
         self.session.is_valid();
-        match self.send(room) {
-            Asked::Wake => {
-                let rate = wire.wake();
-                self.take_wake(rate);
-                Brought::of_wake(rate)
-            }
-            Asked::Exchange(sent) => {
-                let came = wire.exchange(sent.octets.as_slice());
-                self.take(&came, said)
-            }
+        if self.put_next(room) {
+            let came = self.pass(wire);
+            self.take(&came, said)
+        } else {
+            let rate = wire.wake();
+            self.take_wake(rate);
+            Brought::of_wake(rate)
         }
+    }
+
+    /// The message that is out goes out over this wire, which answers what comes back.
+    fn pass<W: Wire>(&self, wire: &mut W) -> Option<Message>
+        requires { IsSending self.now.state }
+        ensures gives { W.facts.exchange_gives wire.old (text_out self.now.state) result wire.new }
+        ensures passes { Passes W.facts wire.old (text_out self.now.state) result wire.new }
+        ensures honesty { W.facts.honest wire.new ≡ W.facts.honest wire.old }
+    {
+        let mut sent = Message::new();
+        self.state.write(&mut sent);
+        wire.exchange(sent.as_slice())
     }
 }
 

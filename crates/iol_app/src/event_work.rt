@@ -1,11 +1,12 @@
 //! The reading of events: octet by octet, then the confirm (IEC 61131-9, 7.3.8).
-ghost use Rattle.std.specs.Prelude.{◌≡◌, ◌≤◌};
+ghost use Rattle.std.specs.Prelude.{◌≡◌, ◌≤◌, is_some};
 ghost use Rattle.iol_event.specs.Reading.{next_address};
-ghost use Rattle.iol_app.specs.EventReading.{no_events, reader_of, events_after, list_read, reading_after, list_after};
+ghost use Rattle.iol_app.specs.EventReading.{no_events, reader_of, events_after, list_read, told_list, reading_after, list_after};
 
 use crate::session::Exchange;
-use iol_event::{EventList, EventReader};
+use iol_event::EventReader;
 use iol_mseq::{ReplyView, first};
+use iol_steps::Said;
 use std::mem::replace;
 
 /// How far the reading of events has come.
@@ -51,42 +52,57 @@ impl Events {
         }
     }
 
-    /// Takes up a good reply, and answers the list that became whole with it.
+    /// Takes up a good reply. Where a list became whole with it, that is said; answers whether
+    /// one did.
     ///
     /// Rules EVT-7, EVT-8.
-    pub(crate) fn absorb(&mut self, exchange: Exchange, reply: &ReplyView<'_>) -> Option<EventList>
+    pub(crate) fn absorb(
+        &mut self,
+        exchange: Exchange,
+        reply: &ReplyView<'_>,
+        said: &mut Said,
+    ) -> bool
+        ensures tells { result
+            ≡ is_some (list_read exchange reply.now.od.items self.old.reading) }
         ensures events { self.new ≡ events_after exchange reply.now self.old }
-        ensures list { result ≡ list_read exchange reply.now.od.items self.old.reading }
+        ensures list { said.new
+            ≡ told_list (list_read exchange reply.now.od.items self.old.reading) said.old }
     {
         self.flag = reply.event();
         match exchange {
-            Exchange::ReadEvent => self.take(first(reply.od())),
+            Exchange::ReadEvent => self.take(first(reply.od()), said),
             Exchange::ConfirmEvents => {
                 self.reading = Reading::Resting;
-                None
+                false
             }
-            _ => None,
+            _ => false,
         }
     }
 
-    /// Takes an octet of the event memory.
+    /// Takes an octet of the event memory. Out of line, since most turns read none, and the room
+    /// of a list is large.
     ///
     /// Rules EVT-6, EVT-7.
-    fn take(&mut self, octet: u8) -> Option<EventList>
+    #[inline(never)]
+    fn take(&mut self, octet: u8, said: &mut Said) -> bool
+        ensures tells { result ≡ is_some (list_after self.old.reading octet) }
         ensures events { self.new
             ≡ record self.old { reading = reading_after self.old.reading octet } }
-        ensures list { result ≡ list_after self.old.reading octet }
+        ensures list { said.new ≡ told_list (list_after self.old.reading octet) said.old }
     {
         let mut reader = match replace(&mut self.reading, Reading::Resting) {
             Reading::UnderWay(reader) => reader,
             _ => EventReader::new(),
         };
-        let (reading, list) = match reader.take(octet) {
-            Ok(None) => (Reading::UnderWay(reader), None),
-            Ok(Some(list)) => (Reading::ConfirmDue, Some(list)),
-            Err(_) => (Reading::Refused, None),
-        };
-        self.reading = reading;
-        list
+        match reader.take(octet) {
+            Ok(None) => self.reading = Reading::UnderWay(reader),
+            Ok(Some(list)) => {
+                self.reading = Reading::ConfirmDue;
+                *said = Said::Reported(list);
+                return true;
+            }
+            Err(_) => self.reading = Reading::Refused,
+        }
+        false
     }
 }

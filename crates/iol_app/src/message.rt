@@ -1,28 +1,44 @@
 //! What the messages of OPERATE say (IEC 61131-9, A.1.2 and 7.3.6).
-ghost use Rattle.std.specs.Prelude.{◌≡◌, ◌≤◌, [], IfSome};
+ghost use Rattle.std.specs.Prelude.{◌≡◌, ◌≤◌, [], length, IfSome};
 ghost use Rattle.iol_octets.specs.Flow.{IsFlow, flow_address};
 ghost use Rattle.iol_octets.specs.declared.control.Channel.TheVariants.{Page, Isdu};
 ghost use Rattle.iol_mseq.specs.Parts.{first_of_zeros as octet_and_zeros};
 ghost use Rattle.iol_page.specs.Commands.{command_octet};
 ghost use Rattle.iol_app.specs.Requests.{IsCurrent};
-ghost use Rattle.iol_app.specs.Messages.{head_of, head_for, data_for, request_head, request_data, read_of, write_of};
+ghost use Rattle.iol_app.specs.Messages.{IsBlank, head_of, head_for, data_for, request_head, request_data, read_of, write_of};
 
 use crate::event_work::Events;
 use crate::request::{Current, Progress};
 use crate::session::Exchange;
-use iol_mseq::{Part, first_of_zeros, part_of};
+use iol_mseq::{MasterMsg, Part, first_of_zeros};
 use iol_octets::{Channel, Flow, Mc};
 use iol_page::MasterCommand;
 
-/// What a message says, but for its process data.
-#[derive(Drop)]
-pub(crate) struct Body {
-    pub(crate) mc: Mc,
-    /// The on-request data: as many octets as the layout has in a write, none in a read.
-    pub(crate) od: Part,
+/// A message that says nothing yet.
+pub(crate) fn blank() -> MasterMsg
+    ensures { IsBlank result }
+{
+    MasterMsg {
+        mc: ask(Flow::Idle1),
+        out: Part::new(),
+        od: Part::new(),
+    }
 }
 
-/// What a new message for this says, on-request data having that size.
+/// Puts these octets, at most 32, into a part that is empty.
+pub(crate) fn put(part: &mut Part, octets: &[u8])
+    requires empty { part.old.items ≡ [] }
+    requires most { length octets.now ≤ 32 }
+    ensures { part.new.items ≡ octets.now }
+{
+    // Many a part has no octet.
+    if !octets.is_empty() {
+        part.try_extend_from_slice(octets).unwrap();
+    }
+}
+
+/// The control octet of a new message for this, whose on-request data, in a write of that size, go
+/// into a part that is empty.
 ///
 /// Rule REQ-1.
 pub(crate) fn body_for(
@@ -30,35 +46,44 @@ pub(crate) fn body_for(
     size: u8,
     events: &Events,
     current: &Option<Current>,
-) -> Body
+    od: &mut Part,
+) -> Mc
     requires some { 1 ≤ size }
     requires most { size ≤ 32 }
     requires valid { IfSome current.now IsCurrent }
-    ensures head { head_of result.mc ≡ head_for exchange events.now.reading current.now }
-    ensures od { result.od.items ≡ data_for exchange size current.now }
+    requires empty { od.old.items ≡ [] }
+    ensures head { head_of result ≡ head_for exchange events.now.reading current.now }
+    ensures od { od.new.items ≡ data_for exchange size current.now }
 {
     match exchange {
-        Exchange::TellOutput => command(size, MasterCommand::ProcessDataOutputOperate),
-        Exchange::DropOutput => command(size, MasterCommand::DeviceOperate),
+        Exchange::TellOutput => command(size, MasterCommand::ProcessDataOutputOperate, od),
+        Exchange::DropOutput => command(size, MasterCommand::DeviceOperate, od),
         Exchange::Abort => ask(Flow::Abort),
         Exchange::ReadEvent => read(Channel::Diagnosis, events.address()),
-        Exchange::ConfirmEvents => write(Channel::Diagnosis, 0, first_of_zeros(size, 0)),
-        Exchange::Request => request_body(current),
+        Exchange::ConfirmEvents => {
+            *od = first_of_zeros(size, 0);
+            write(Channel::Diagnosis, 0)
+        }
+        Exchange::Request => request_body(current, od),
         Exchange::Idle => ask(Flow::Idle1),
     }
 }
 
-/// What the request's next message says.
-fn request_body(current: &Option<Current>) -> Body
+/// The same for the request's next message.
+fn request_body(current: &Option<Current>, od: &mut Part) -> Mc
     requires valid { IfSome current.now IsCurrent }
-    ensures head { head_of result.mc ≡ request_head current.now }
-    ensures od { result.od.items ≡ request_data current.now }
+    requires empty { od.old.items ≡ [] }
+    ensures head { head_of result ≡ request_head current.now }
+    ensures od { od.new.items ≡ request_data current.now }
 {
     let Some(current) = current else {
         return ask(Flow::Idle1);
     };
     match &current.progress {
-        Progress::Sending(flow, segment) => write(Channel::Isdu, flow.address(), part_of(segment)),
+        Progress::Sending(flow, segment) => {
+            put(od, segment);
+            write(Channel::Isdu, flow.address())
+        }
         Progress::Asking(_) => ask(Flow::Start),
         Progress::Receiving(_, had) => ask(Flow::Count((*had + 1) % 16)),
         Progress::Refused => ask(Flow::Idle1),
@@ -66,50 +91,42 @@ fn request_body(current: &Option<Current>) -> Body
 }
 
 /// The write of a master command.
-fn command(size: u8, command: MasterCommand) -> Body
+fn command(size: u8, command: MasterCommand, od: &mut Part) -> Mc
     requires some { 1 ≤ size }
     requires most { size ≤ 32 }
-    ensures head { head_of result.mc ≡ write_of Page 0 }
-    ensures od { result.od.items ≡ octet_and_zeros size (command_octet command) }
+    ensures head { head_of result ≡ write_of Page 0 }
+    ensures od { od.new.items ≡ octet_and_zeros size (command_octet command) }
 {
-    write(Channel::Page, 0, first_of_zeros(size, command.octet()))
+    *od = first_of_zeros(size, command.octet());
+    write(Channel::Page, 0)
 }
 
 /// A read on the ISDU channel.
-fn ask(flow: Flow) -> Body
+fn ask(flow: Flow) -> Mc
     requires { IsFlow flow }
-    ensures head { head_of result.mc ≡ read_of Isdu (flow_address flow) }
-    ensures od { result.od.items ≡ [] }
+    ensures { head_of result ≡ read_of Isdu (flow_address flow) }
 {
     read(Channel::Isdu, flow.address())
 }
 
-fn read(channel: Channel, address: u8) -> Body
+fn read(channel: Channel, address: u8) -> Mc
     requires { address ≤ 31 }
-    ensures head { head_of result.mc ≡ read_of channel address }
-    ensures od { result.od.items ≡ [] }
+    ensures { head_of result ≡ read_of channel address }
 {
-    Body {
-        mc: Mc {
-            read: true,
-            channel,
-            address,
-        },
-        od: Part::new(),
+    Mc {
+        read: true,
+        channel,
+        address,
     }
 }
 
-fn write(channel: Channel, address: u8, od: Part) -> Body
+fn write(channel: Channel, address: u8) -> Mc
     requires { address ≤ 31 }
-    ensures head { head_of result.mc ≡ write_of channel address }
-    ensures od { result.od.items ≡ od.items }
+    ensures { head_of result ≡ write_of channel address }
 {
-    Body {
-        mc: Mc {
-            read: false,
-            channel,
-            address,
-        },
-        od,
+    Mc {
+        read: false,
+        channel,
+        address,
     }
 }

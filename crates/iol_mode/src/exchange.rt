@@ -1,22 +1,22 @@
 //! One call of the wire, in two halves without it: what goes out, and what is made of what
 //! comes back.
-ghost use Rattle.std.specs.Prelude.{◌≡◌, ◌<◌, ◌↔◌, IsTrue, IsSome, IfSome, is_some};
+ghost use Rattle.std.specs.Prelude.{◌≡◌, ◌<◌, ◌↔◌, [], IsTrue, IsSome, IfSome, is_some};
 ghost use Rattle.iol_octets.specs.Checksum.{has_checksum};
+ghost use Rattle.iol_mseq.specs.Master.{HasMasterParts};
+ghost use Rattle.iol_mseq.specs.Texts.{master_text};
 ghost use Rattle.iol_far.specs.Far.{Far};
 ghost use Rattle.iol_far.specs.Octets.{octets_in};
 ghost use Rattle.iol_link.specs.Attempts.{attempt_in, attempt_of, good_reply};
 ghost use Rattle.iol_mode.specs.Messages.{stays};
-ghost use Rattle.iol_mode.specs.States.{StateFits, Takes, IsDown, IsStartup, IsPreoperate, OutFits, outcome_with, state_of, waked, counted, left_by, any_device};
-ghost use Rattle.iol_mode.specs.Stands.{text_in};
+ghost use Rattle.iol_mode.specs.States.{StateFits, Takes, IsDown, IsStartup, IsPreoperate, outcome_with, state_of, waked, counted, left_by, any_device};
 ghost use Rattle.iol_mode.specs.Exchanges.{IsSending, IsOperateSending, AreFew, text_out, layout_out, putting, judged, attempted, ExchangeGives, StandsOn, AcceptedBy, WakeStands};
 ghost use Rattle.iol_mode.specs.Laws.{Laws};
 
 use crate::configuration::Configuration;
-use crate::messages::copy_of;
 use crate::states::{Startup, State, operate_done, preoperate_done, startup_done, woken};
 use iol_far::{ends_stay_level, links_stay_level, texts_are_heard};
 use iol_link::{AttemptView, Handler, Rate, exchanges_keep_ends_level};
-use iol_mseq::{Layout, MasterMsg, Message};
+use iol_mseq::{Layout, MasterMsg, Message, write_master};
 use iol_page::pages_ask_for_layouts;
 
 /// What is known of every exchange over an honest wire.
@@ -38,10 +38,33 @@ impl State {
         ensures text { result.items ≡ text_out self.now }
         ensures checksum { IsTrue (has_checksum 1 result.items) }
     {
+        let mut octets = Message::new();
+        self.write(&mut octets);
+        octets
+    }
+
+    /// The same, into a buffer that is empty.
+    pub fn write(&self, octets: &mut Message)
+        requires fits { StateFits self.now }
+        requires sends { IsSending self.now }
+        requires empty { octets.old.items ≡ [] }
+        ensures text { octets.new.items ≡ text_out self.now }
+        ensures checksum { IsTrue (has_checksum 1 octets.new.items) }
+    {
+        write_master(&self.layout(), self.sent().message(), octets);
+    }
+
+    /// The message that is out.
+    fn sent(&self) -> &Handler
+        requires fits { StateFits self.now }
+        requires sends { IsSending self.now }
+        ensures text { master_text (layout_out self.now) result.now.message ≡ text_out self.now }
+        ensures parts { HasMasterParts (layout_out self.now) result.now.message }
+    {
         match self {
-            State::Startup(startup) => startup.sent.octets(&Layout::startup()),
-            State::Preoperate(preoperate) => preoperate.sent.octets(&preoperate.pre),
-            State::Operate(operate) => octets_out(&operate.out, &operate.layouts.run),
+            State::Startup(startup) => &startup.sent,
+            State::Preoperate(preoperate) => &preoperate.sent,
+            State::Operate(operate) => operate.out.as_ref().unwrap(),
             State::Down(_) => unreachable!(),
         }
     }
@@ -60,11 +83,11 @@ impl State {
     /// In OPERATE: this message is out from now on, where none is out.
     ///
     /// Nothing went out yet: both ends stand as before, and the far end accepts the octets.
-    pub fn put_out(&mut self, message: &MasterMsg)
+    pub fn put_out(&mut self, message: MasterMsg)
         requires fits { StateFits self.old }
-        requires takes { Takes self.old message.now }
-        requires stays { IsTrue (stays message.now) }
-        ensures state { self.new ≡ putting message.now self.old }
+        requires takes { Takes self.old message }
+        requires stays { IsTrue (stays message) }
+        ensures state { self.new ≡ putting message self.old }
         ensures fits { StateFits self.new }
         ensures sends { IsOperateSending self.new }
         ensures stands { StandsOn self.old self.new }
@@ -147,28 +170,15 @@ fn received<'a>(
     }
 }
 
-/// The octets of the message that is out in OPERATE.
-fn octets_out(out: &Option<Handler>, layout: &Layout) -> Message
-    requires fits { OutFits layout.now out.now }
-    requires out { IsSome out.now }
-    ensures text { result.items ≡ text_in layout.now out.now }
-    ensures checksum { IsTrue (has_checksum 1 result.items) }
-{
-    match out {
-        Some(sent) => sent.octets(layout),
-        None => unreachable!(),
-    }
-}
-
-fn put_out(state: &mut State, message: &MasterMsg)
-    requires takes { Takes state.old message.now }
-    ensures { state.new ≡ putting message.now state.old }
+fn put_out(state: &mut State, message: MasterMsg)
+    requires takes { Takes state.old message }
+    ensures { state.new ≡ putting message state.old }
 {
     let State::Operate(operate) = state else {
         unreachable!()
     };
     if operate.out.is_none() {
-        operate.out = Some(Handler::new(copy_of(message)));
+        operate.out = Some(Handler::new(message));
     }
 }
 

@@ -17,6 +17,7 @@ ghost use Rattle.iol_mode.specs.Exchanges.{IsSending, AreFew, text_out, judged, 
 
 use crate::configuration::Configuration;
 use crate::exchange::laws;
+use crate::messages::copy_of;
 use crate::states::{Down, Mode, Operate, Preoperate, Startup, State, Up};
 use crate::why::Why;
 use iol_link::{Attempt, Rate, Wire};
@@ -199,7 +200,7 @@ impl<W: Wire> Link<W, State> {
             (outcome_with result self.new.state) self.new.wire }
         ensures ends { IsEnd result (outcome_with result self.new.state) }
     {
-        self.state.put_out(message);
+        self.state.put_out(copy_of(message));
         exchanged(&mut self.state, &mut self.wire)
     }
 

@@ -20,15 +20,15 @@ use Rattle.iol_app.proofs.Pieces.{no_exchange, new_sends, same_sends}
 use Rattle.iol_app.proofs.core_data.Core.put_due.Goals as goal
 
 both : (c : goal.After-put_out) → let new : Core =
-    record { state = c.put_out.new.self; session = c.new_message-message.new.self } in
+    record { state = c.put_out.new.self; session = c.new_message.new.self } in
     IsSent c.args.room c.args.self.now new × SendSteps c.args.self.now new
 both c =
     let operate = c.in-Operate.operate in
     let layouts = operate.layouts in
     let t : SessionState = c.self.inside.session in
     let due : Exchange = due_of t c.args.room in
-    let made = c.new_message-message in
-    let m = made.result in
+    let made = c.new_message in
+    let m = made.new.message in
     let none : operate.out ≡ None = grind (arith, common_steps) in
     let free : State = AtOperate (record { out = None; layouts = layouts }) in
     let state_is : c.self.inside.state ≡ free = c.in-Operate.is
