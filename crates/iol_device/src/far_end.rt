@@ -32,6 +32,8 @@ pub(crate) struct FarEnd<R: Record = Kept> {
     valid: bool,
     page: Page,
     layouts: Layouts,
+    /// The layout of the mode.
+    layout: Layout,
     /// The octet of page address 0x01.
     cycle_time: u8,
     carried: R,
@@ -59,7 +61,7 @@ impl<R: Record> Model for FarEnd<R> {
       room = R.room d.carried;
     } };
 
-    ghost invariant = { λ d. IsSound d.page d.mode d.layouts d.isdu.size d.input d.out };
+    ghost invariant = { λ d. IsSound d.page d.mode d.layouts d.layout d.isdu.size d.input d.out };
 }
 
 impl<R: Record> FarEnd<R> {
@@ -88,17 +90,19 @@ impl<R: Record> FarEnd<R> {
     {
         pages_ask_for_layouts();
         let layouts = page.layouts().unwrap();
+        let layout = Layout::startup();
         FarEnd {
             awake: false,
             mode: Mode::Startup,
             waits: None,
-            isdu: IsduSide::new(size_of(&Layout::startup())),
+            isdu: IsduSide::new(size_of(&layout)),
             events: EventMemory::new(),
             input: None,
             out: None,
             valid: false,
             page,
             layouts,
+            layout,
             cycle_time: 0,
             carried,
         }
@@ -137,6 +141,7 @@ impl<R: Record> FarEnd<R> {
     {
         let layout = self.layout_in(mode);
         self.mode = mode;
+        self.layout = layout;
         self.waits = None;
         self.isdu.resize(size_of(&layout));
         self.valid = false;
@@ -155,7 +160,7 @@ impl<R: Record> FarEnd<R> {
             return None;
         }
         match self.new_mode(octets) {
-            None => message_in(&self.layout_in(self.mode), octets),
+            None => message_in(&self.layout, octets),
             Some(into) => {
                 let message = message_in(&self.layout_in(into), octets)?;
                 self.move_into(into);
@@ -217,11 +222,32 @@ impl<R: Record> FarEnd<R> {
         requires { length octets.now ≤ 66 }
         ensures { self.new ≡ far.worked self.old octets.now message.now }
     {
-        self.work_command(octets, command_in(message));
+        self.work_page(octets, message);
         self.work_isdu(message);
         self.work_events(message.mc());
         self.work_output(message.out());
-        self.work_cycle_time(message);
+    }
+
+    /// A write on the page channel: a master command, or the octet of address 0x01.
+    ///
+    /// Rules DEV-3, DEV-9.
+    fn work_page(&mut self, octets: &[u8], message: &MasterView<'_>)
+        requires { length octets.now ≤ 66 }
+        ensures { self.new ≡ record self.old {
+          waits = far.waits_after self.old.mode self.old.waits octets.now
+              (far.known_mode self.old.page (far.mode_asked (far.command_in message.now)));
+          valid = far.valid_after self.old.mode self.old.valid (far.command_in message.now);
+          cycle_time = far.cycle_time_after self.old.cycle_time
+              message.now.mc.channel message.now.mc.read message.now.mc.address
+              (slice_index message.now.od.items 0);
+        } }
+    {
+        let mc = message.mc();
+        // Most messages are none.
+        if mc.channel == Channel::Page && !mc.read {
+            self.work_command(octets, command_in(message));
+            self.work_cycle_time(message);
+        }
     }
 
     /// The mode asked for, where a device of this page has it.
@@ -331,10 +357,10 @@ impl<R: Record> FarEnd<R> {
         requires { reply.old.items ≡ [] }
         ensures { Some reply.new.items ≡ (far.replied self.now message.now).reply }
     {
-        let layout = self.layout_in(self.mode);
+        let layout = &self.layout;
         let mc = message.mc();
         if mc.read {
-            self.append_data(reply, size_of(&layout), mc.channel, mc.address);
+            self.append_data(reply, size_of(layout), mc.channel, mc.address);
         }
         self.append_input(reply, layout.pd_in());
         let invalid = layout.pd_in() != 0 && self.input.is_none();

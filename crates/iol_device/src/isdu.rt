@@ -5,10 +5,10 @@ ghost use Rattle.iol_segment.specs.Cut.{flow_at};
 ghost use Rattle.iol_octets.specs.Flow.{IsFlow};
 ghost use Rattle.iol_octets.specs.declared.flow_control.Flow.{Flow};
 ghost use Rattle.iol_isdu.specs.Parse.{request_of};
-ghost use Rattle.iol_far.specs.Isdu.{Empty, Receiving, IsduState, isdu_written, isdu_read, isdu_data, completed, answer_text, answered, handed, fits};
+ghost use Rattle.iol_far.specs.Isdu.{Empty, Receiving, IsduState, Answered, isdu_written, isdu_read, isdu_data, completed, answer_text, answered, handed, fits};
 ghost use Rattle.iol_far.specs.Record.{takes_more};
 ghost use Rattle.iol_device.specs.App.{Reacts};
-ghost use Rattle.iol_device.specs.Inside.{IsduValue, IsKept, IsKeptAt, GoesOn, IsSent, state_of, count_in, sent_flow, is_sent, is_next};
+ghost use Rattle.iol_device.specs.Inside.{IsduValue, IsKept, IsKeptAt, GoesOn, IsSent, state_of, last_sent, count_in, sent_flow, is_sent, is_next};
 
 use crate::app::App;
 use crate::record::Record;
@@ -134,6 +134,7 @@ impl IsduSide {
     /// A read under this flow.
     ///
     /// Rule DEV-14.
+    #[inline]
     pub fn read(&mut self, flow: Flow)
         ensures { self.new
             ≡ record self.old { state = isdu_read self.old.size self.old.state flow } }
@@ -148,6 +149,7 @@ impl IsduSide {
     /// A read under START.
     ///
     /// Rules DEV-12, DEV-13.
+    #[inline(never)]
     fn read_start(&mut self)
         ensures { self.new
             ≡ record self.old { state = isdu_read self.old.size self.old.state Flow.Start } }
@@ -166,6 +168,7 @@ impl IsduSide {
     /// A read under COUNT.
     ///
     /// Rule DEV-13.
+    #[inline(never)]
     fn read_count(&mut self, count: u8)
         ensures { self.new
             ≡ record self.old {
@@ -195,11 +198,7 @@ impl IsduSide {
         cut_is_whole();
         match self.stage {
             Stage::Handed => append_first(octets, self.size, 1),
-            Stage::Answered => {
-                if !self.cutter.append_again(octets) {
-                    append_zeros(octets, self.size);
-                }
-            }
+            Stage::Answered => append_segment(&self.cutter, self.size, octets),
             _ => append_zeros(octets, self.size),
         }
     }
@@ -306,6 +305,7 @@ fn take(joiner: &mut Joiner, cutter: &mut Cutter<Reaction>, flow: Flow, octets: 
 /// flow.
 ///
 /// Rule DEV-11.
+#[inline(never)]
 fn complete(joiner: &Joiner, cutter: &mut Cutter<Reaction>, flow: Flow) -> Stage
     requires kind { joiner.now.requests ≡ true }
     requires whole { is_whole joiner.now.text ≡ true }
@@ -322,6 +322,24 @@ fn complete(joiner: &Joiner, cutter: &mut Cutter<Reaction>, flow: Flow) -> Stage
         Flow::Count(count) => Some(count),
         _ => None,
     })
+}
+
+/// Puts the segment of the answer that goes out at the end, zeros before the first.
+///
+/// Rule DEV-13.
+#[inline(never)]
+fn append_segment(cutter: &Cutter<Reaction>, size: u8, octets: &mut Message)
+    requires size { size ≡ cutter.now.size }
+    requires most { size ≤ 32 }
+    requires sent { IsSent cutter.now.size
+        (answer_text cutter.now.source.request cutter.now.source.answer) cutter.now.given }
+    requires room { length octets.old.items ≤ 32 }
+    ensures { octets.new.items ≡ octets.old.items ++ isdu_data size
+        (Answered cutter.now.source.request cutter.now.source.answer (last_sent cutter.now.given)) }
+{
+    if !cutter.append_again(octets) {
+        append_zeros(octets, size);
+    }
 }
 
 /// The flow of the last segment given.

@@ -10,4 +10,5 @@ invariant_of-result g c =
     let asked : layouts_of c.args.page ≡ Ok c.unwrap-layouts.result = sym c.layouts.ensures
     ∙ c.unwrap-layouts.ensures in
     let one : c.new.result.size ≡ 1 = search rules in
-    rw one (sound_opened c.pages_ask_for_layouts.ensures c.args.page c.unwrap-layouts.result asked)
+    rw one (sound_opened c.pages_ask_for_layouts.ensures c.args.page c.unwrap-layouts.result
+    c.startup-layout.result asked c.startup-layout.ensures.value)
