@@ -50,9 +50,10 @@ typedef struct { uint8_t length; uint8_t octets[32]; } iol_image;
 typedef struct { void *at; bool is_open; } iol_port;
 
 /* Opens a port, whose link is down. Its journal has at most `journal` entries, 4 to 1,000,000; a request is cut off
- * after `busy` busy replies, 2 to 65,535; the first ticket is `given` + 1.
- * 253 it is open already, 254 `journal` or `busy` is out of its range, 24 no memory. */
-uint8_t iol_port_open(iol_port *port, uint32_t journal, uint16_t busy, uint64_t given);
+ * after `busy` busy replies, 2 to 65,535; `queue` tickets may be outstanding at a time, 1 to 64; the first ticket is
+ * `given` + 1.
+ * 253 it is open already, 254 `journal`, `busy` or `queue` is out of its range, 24 no memory. */
+uint8_t iol_port_open(iol_port *port, uint32_t journal, uint16_t busy, uint8_t queue, uint64_t given);
 
 /* Ends the port, and gives its memory back. 252. */
 uint8_t iol_port_close(iol_port *port);
@@ -105,7 +106,7 @@ uint8_t iol_port_turn_answered(iol_port *port, const uint8_t *octets, size_t cou
 /* ---- requests */
 
 /* Enters a read and answers its ticket, which is never 0; the urgent one goes before those that wait and aren't urgent.
- * 252, 21 64 tickets are outstanding, 22 the journal is full, 23 no ticket is left, 24 no memory. */
+ * 252, 21 `queue` tickets are outstanding, 22 the journal is full, 23 no ticket is left, 24 no memory. */
 uint8_t iol_port_read(iol_port *port, uint16_t index, uint8_t sub, uint64_t *ticket);
 uint8_t iol_port_read_urgent(iol_port *port, uint16_t index, uint8_t sub, uint64_t *ticket);
 

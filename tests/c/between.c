@@ -197,7 +197,7 @@ static void reach(enum state state)
     record[0] = 0;
     answers = 0;
     IS(iol_device_open(&device, page), 0);
-    IS(iol_port_open(&port, 1000, 100, 0), 0);
+    IS(iol_port_open(&port, 1000, 100, 64, 0), 0);
     turns(20);
     IS(iol_port_set_output(&port, &output, 1), 0);
     IS(iol_device_raise(&device, 0xF4, 0x4210), 0);

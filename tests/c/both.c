@@ -210,8 +210,8 @@ static void open_both(const uint8_t page[10])
     IS(iol_device_open(&device, page), IOL_IS_OPEN);
     IS(device_mode(), 1);
     IS(cycle_time(), 0);
-    IS(iol_port_open(&port, 1000, 100, 0), 0);
-    IS(iol_port_open(&port, 1000, 100, 0), IOL_IS_OPEN);
+    IS(iol_port_open(&port, 1000, 100, 64, 0), 0);
+    IS(iol_port_open(&port, 1000, 100, 64, 0), IOL_IS_OPEN);
 }
 
 static void close_both(void)
@@ -225,9 +225,12 @@ static void close_both(void)
 static void refusals_at_opening(void)
 {
     uint8_t page[10];
-    IS(iol_port_open(&port, 3, 100, 0), IOL_OUT_OF_RANGE);
-    IS(iol_port_open(&port, 1000001, 100, 0), IOL_OUT_OF_RANGE);
-    IS(iol_port_open(&port, 4, 1, 0), IOL_OUT_OF_RANGE);
+    IS(iol_port_open(&port, 3, 100, 64, 0), IOL_OUT_OF_RANGE);
+    IS(iol_port_open(&port, 1000001, 100, 64, 0), IOL_OUT_OF_RANGE);
+    IS(iol_port_open(&port, 4, 1, 64, 0), IOL_OUT_OF_RANGE);
+    IS(iol_port_open(&port, 4, 2, 0, 0), IOL_OUT_OF_RANGE);
+    IS(iol_port_open(&port, 4, 2, 65, 0), IOL_OUT_OF_RANGE);
+    IS(iol_port_open(&port, 4, 2, 255, 0), IOL_OUT_OF_RANGE);
     memcpy(page, plain, 10);
     page[2] = 0x12;
     IS(iol_device_open(&device, page), 8);

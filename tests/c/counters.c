@@ -272,7 +272,7 @@ int main(void)
 {
     int count = STEPS;
     IS(iol_device_open(&device, page), 0);
-    IS(iol_port_open(&port, JOURNAL, BUSY, 0), 0);
+    IS(iol_port_open(&port, JOURNAL, BUSY, 64, 0), 0);
     COMPARE();
     while (count-- > 0 && wrong == 0)
         step();

@@ -3,7 +3,7 @@ ghost use Rattle.std.specs.Prelude.{IfOk};
 ghost use Rattle.iol_master.specs.Tickets.{HasGiven};
 
 use anyhow::{Result, bail};
-use iol_book::Limits;
+use iol_book::{Limits, QueueLimit};
 use iol_device::Device;
 use iol_image::Image;
 use iol_isdu::Place;
@@ -24,6 +24,7 @@ const ROOM: u32 = 100;
 const LIMITS: Limits = Limits {
     journal: 100,
     busy: 100,
+    queue: QueueLimit::MOST,
     given: 0,
 };
 

@@ -12,7 +12,7 @@ mod line;
 use crate::line::{exchange, wake};
 use anyhow::Result;
 use iol_app::Asked;
-use iol_book::{Limits, Ticket};
+use iol_book::{Limits, QueueLimit, Ticket};
 use iol_isdu::{Place, Request};
 use iol_port::PortCore;
 
@@ -30,6 +30,7 @@ const TURNS: u32 = 60;
 const LIMITS: Limits = Limits {
     journal: 100,
     busy: 100,
+    queue: QueueLimit::MOST,
     given: 0,
 };
 

@@ -5,7 +5,7 @@ ghost use Rattle.iol_page.specs.Page.{layouts_of};
 
 use crate::check_word::CheckWord;
 use crate::fault::BenchFault;
-use iol_book::Limits;
+use iol_book::{Limits, QueueLimit};
 use iol_device::Device;
 use iol_image::Image;
 use iol_isdu::Place;
@@ -32,6 +32,7 @@ pub(crate) const ROOM: u32 = 10_000;
 const LIMITS: Limits = Limits {
     journal: 50_000,
     busy: 100,
+    queue: QueueLimit::MOST,
     given: 0,
 };
 

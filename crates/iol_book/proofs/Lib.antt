@@ -2,4 +2,6 @@ pub mod ReplayLemmas
 pub mod QueueLemmas
 pub mod NumberLemmas
 pub mod TakingLemmas
+pub mod LineLemmas
+pub mod StandingLemmas
 pub mod SoundLemmas

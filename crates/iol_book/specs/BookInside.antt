@@ -3,6 +3,7 @@ use Rattle.std.specs.Prelude.{ℕ, ◌+◌, ◌-◌, ◌/◌, ◌≤◌, min, le
 use Rattle.std.specs.Vec.{vec_capacity}
 use Rattle.std.specs.VecDeque.{deque_capacity}
 use Rattle.iol_book.specs.Replay.{Standing}
+use Rattle.iol_book.specs.Lines.{AreLines, standing_at}
 use Rattle.iol_book.specs.BookModel.{BookState, BookMemory, BookValue, IsReplayed, owed, taken_count, waiting_count}
 use Rattle.iol_book.specs.Numbers.{IsNumbered}
 use Rattle.iol_book.specs.declared.book.Book.TheInside.{Inside}
@@ -14,13 +15,8 @@ unanswered standing = waiting_count standing + taken_count standing
 module _ {A : Type 0} where
   -- what the queues, the request that is taken and the list of outcomes hold
   abbrev pub standing_of : Inside A → Standing
-  standing_of fields =
-      record {
-        urgent = fields.urgent.items;
-        waiting = fields.waiting.items;
-        taken = fields.taken;
-        outcomes = fields.outcomes.items;
-      }
+  standing_of fields = standing_at fields.journal.items fields.urgent.items fields.waiting.items
+      fields.taken fields.outcomes.items
 
   -- the book without its memory
   abbrev pub state_of : Inside A → BookState
@@ -30,6 +26,7 @@ module _ {A : Type 0} where
     standing = standing_of fields;
     unsure = fields.unsure;
     limit = fields.limit;
+    queue = fields.queue;
   }
 
   -- for how many submits the places for outcomes and for entries are there already
@@ -58,13 +55,16 @@ module _ {A : Type 0} where
 
   -- what holds of the fields of every book
   pub record IsSound (fields : Inside A) : Type 0 where
+    -- each line that is kept is in the journal
+    pub lines : AreLines fields.journal.items fields.urgent.items fields.waiting.items fields.taken
+        fields.outcomes.items
     -- the journal alone says where every ticket stands
     pub replayed : IsReplayed (state_of fields)
     -- each ticket names one request
     pub numbered : IsNumbered fields.last (standing_of fields)
-    -- each of the two queues has room for 64 requests
-    pub urgent_room : 64 ≤ deque_capacity fields.urgent
-    pub queue_room : 64 ≤ deque_capacity fields.waiting
+    -- each of the two queues has room for as many requests as may be outstanding
+    pub urgent_room : fields.queue ≤ deque_capacity fields.urgent
+    pub queue_room : fields.queue ≤ deque_capacity fields.waiting
     -- each request with no outcome has a place for it
     pub outcome_room : length fields.outcomes.items + unanswered (standing_of fields)
         ≤ vec_capacity fields.outcomes
@@ -73,5 +73,7 @@ module _ {A : Type 0} where
         ≤ vec_capacity fields.journal
     -- and the journal has them within its limit
     pub within : length fields.journal.items + owed (standing_of fields) ≤ fields.limit
+    -- nor is there memory for more
+    pub memory_within : vec_capacity fields.journal ≤ fields.limit
     -- a million entries at most
     pub limit : fields.limit ≤ 1000000

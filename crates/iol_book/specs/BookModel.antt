@@ -26,6 +26,8 @@ pub record BookState : Type 0 where
   pub unsure : Bool
   -- the most entries that the journal may have
   pub limit : ℕ
+  -- the most tickets that may be outstanding
+  pub queue : ℕ
 
 -- the memory that a book has: for so many entries, and so many requests that wait
 -- BOOK-12
@@ -45,7 +47,7 @@ pub record BookValue : Type 0 where
 abbrev pub IsReplayed : BookState → Type 0
 IsReplayed book = book.standing ≡ replay book.journal
 
--- what a book may be opened with
+-- what a book may be opened with, beside how many tickets may be outstanding
 -- BOOK-11
 abbrev pub AreLimits : Limits → Type 0
 AreLimits limits = (4 ≤ limits.journal) × (limits.journal ≤ 1000000) × (2 ≤ limits.busy)
@@ -60,6 +62,7 @@ opened limits =
       standing = nothing;
       unsure = false;
       limit = limits.journal;
+      queue = limits.queue;
     }
 
 -- the book after one more entry
@@ -91,7 +94,7 @@ owed standing = 3 * waiting_count standing + 2 * taken_count standing + length s
 -- BOOK-2, BOOK-3
 abbrev pub submit_refusal : BookState → Option BookFault
 submit_refusal book =
-    if nat_le 64 (outstanding book.standing) then Some Full
+    if nat_le book.queue (outstanding book.standing) then Some Full
     else if nat_lt book.limit (length book.journal + owed book.standing + 4) then Some JournalFull
     else if nat_eq (book.last + 1) (2 ^ 64) then Some TicketsSpent
     else None
@@ -126,8 +129,7 @@ next_taken standing =
 
 -- the others, once that request has left the list that it heads
 -- BOOK-4
-abbrev pub others_behind : List (Ticket × Request) → List (Ticket × Request)
-    → List (Ticket × Request)
+abbrev pub others_behind : {X : Type 0} → List (Ticket × X) → List (Ticket × X) → List (Ticket × X)
 others_behind [] waiting = drop 1 waiting
 others_behind (first ∷ urgent) waiting = waiting
 

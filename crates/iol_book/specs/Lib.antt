@@ -1,6 +1,8 @@
 pub mod Faults
+pub mod Queue
 pub mod Replay
 pub mod BookModel
+pub mod Lines
 pub mod BookInside
 pub mod Numbers
 pub mod Takings

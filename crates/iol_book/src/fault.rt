@@ -6,7 +6,8 @@ use thiserror::Error;
 /// Why a book refuses a call.
 #[derive(Clone, Copy, Debug, PartialEq, Eq, Error)]
 pub enum BookFault {
-    /// 21: 64 tickets are outstanding, those of urgent requests and of others together.
+    /// 21: as many tickets are outstanding as may be ([`QueueLimit`](crate::QueueLimit)), those of
+    /// urgent requests and of others together.
     #[error("Full")]
     Full,
     /// 22: the journal has no room for the entries of one more request, urgent or not.

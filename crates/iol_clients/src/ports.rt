@@ -2,7 +2,7 @@
 ghost use Rattle.std.specs.Prelude.{◌≡◌, All, IfOk, vec_len};
 ghost use Rattle.iol_master.specs.Tickets.{HasGiven};
 
-use iol_book::Limits;
+use iol_book::{Limits, QueueLimit};
 use iol_device::Device;
 use iol_isdu::Place;
 use iol_page::Page;
@@ -26,6 +26,7 @@ const ROOM: u32 = 1_000;
 const LIMITS: Limits = Limits {
     journal: 1_000,
     busy: 100,
+    queue: QueueLimit::MOST,
     given: 0,
 };
 

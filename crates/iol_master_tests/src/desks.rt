@@ -7,7 +7,7 @@ ghost use Rattle.iol_master.specs.Ledgers.{IsBlankFor};
 
 use crate::calls::{cancelled, collected, of_book, read, turns};
 use crate::opening::{alone, open_one};
-use iol_book::{BookFault, Limits, Ticket};
+use iol_book::{BookFault, Limits, QueueLimit, Ticket};
 use iol_cell::Handle;
 use iol_link::{Rate, Wire};
 use iol_master::{Desk, Gate, Master, MasterFault, Settled, Tally};
@@ -53,6 +53,7 @@ impl Gate for Open {
 const LIMITS: Limits = Limits {
     journal: 1_000,
     busy: 100,
+    queue: QueueLimit::MOST,
     given: 7,
 };
 
@@ -332,6 +333,7 @@ fn limits_for(fault: BookFault) -> (Limits, u32)
     let limits = Limits {
         journal,
         busy: 100,
+        queue: QueueLimit::MOST,
         given,
     };
     (limits, taken)

@@ -3,7 +3,7 @@ ghost use Rattle.std.specs.Prelude.{◌≡◌, ◌≤◌, ◌∷◌, [], All, If
 ghost use Rattle.iol_master.specs.Tickets.{HasGiven};
 ghost use Rattle.iol_master.specs.Ledgers.{IsBlankFor};
 
-use iol_book::Limits;
+use iol_book::{Limits, QueueLimit};
 use iol_cell::Handle;
 use iol_device::Device;
 use iol_isdu::Place;
@@ -22,6 +22,7 @@ use std::test::Fail;
 pub const LIMITS: Limits = Limits {
     journal: 1_000,
     busy: 100,
+    queue: QueueLimit::MOST,
     given: 0,
 };
 

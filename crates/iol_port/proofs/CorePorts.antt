@@ -500,6 +500,8 @@ module _ {W : Type 0} (facts : WireFacts W) (wire : W) where
         why = is.why;
         session_is = is.session_is;
         book = is.book;
+        places = is.places;
+        entries = is.entries;
         kept = is.kept;
         sent = is.sent;
         counters = is.counters;

@@ -19,11 +19,13 @@ use Rattle.iol_app.specs.State.{SessionState, begun_in}
 use Rattle.iol_app.specs.StationState.{StationState, StateFits as Joined, mode_in, mode_of}
 use Rattle.iol_app.specs.Core.{Ghost, BeginGives, begun_ghost, moment_of}
 use Rattle.iol_app.specs.Seen.{StandsAt, TurnGives, TurnSteps, BeginSteps, DenySteps, core_of, far_of, silence_of, session_in}
+use Rattle.iol_port.specs.declared.call.Call.{Call}
 use Rattle.iol_port.specs.declared.call.Call.TheVariants as call
+use Rattle.iol_port.specs.declared.call.Answered.{Answered}
 use Rattle.iol_port.specs.declared.call.Answered.TheVariants as answered
 use Rattle.iol_port.specs.Steps.{MayBookAll, book_after, book_through, kept_through}
 use Rattle.iol_port.specs.Run.{PortState, Pending, TurnOf, CallOf}
-use Rattle.iol_port.specs.View.{Parts, Choice, state_of, Shows, ShowsAt, Follows, BeginsNext}
+use Rattle.iol_port.specs.View.{Parts, Choice, state_of, Shows, ShowsAt, Follows, BeginsNext, BookDoes, KeepsLimits}
 use Rattle.iol_port.proofs.Filters.{book_through-filter, MayBookAll-filter, kept_through-filter, clash_free-take, clash_free-deny, may_book_said}
 use Rattle.iol_mode.specs.declared.configuration.Configuration.{Configuration}
 use Rattle.iol_port.proofs.CallLemmas.{does_by_choice, none_pending}
@@ -281,15 +283,26 @@ module _ {W : Type 0} (facts : WireFacts W) where
             ),
           )
 
--- a turn gives no ticket
-last_after : (step : Step) (b : BookState) → (book_after step b).last ≡ b.last
-last_after step b = grind (arith, common_steps)
+-- a turn gives no ticket, and keeps the limits
+abbrev GivesNone : BookState → BookState → Type 0
+GivesNone b next = (next.last ≡ b.last) × KeepsLimits b next
 
-last_through : (steps : List Step) (b : BookState) → (book_through steps b).last ≡ b.last
-last_through [] b = refl
-last_through (step ∷ steps) b = last_through steps (book_after step b) ∙ last_after step b
+none_after : (step : Step) (b : BookState) → GivesNone b (book_after step b)
+none_after step b = grind (arith, common_steps)
+
+none_through : (steps : List Step) (b : BookState) → GivesNone b (book_through steps b)
+none_through [] b = (refl, (refl, refl))
+none_through (step ∷ steps) b =
+    let first = none_after step b in
+    let rest = none_through steps (book_after step b) in
+    (rest.0 ∙ first.0, (rest.1.0 ∙ first.1.0, rest.1.1 ∙ first.1.1))
 
 module _ {W : Type 0} where
   pub turn_gives_none : (s next : StationState W) (b mid after : BookState) (steps : List Step)
-      → BeginsNext s b next mid → after ≡ book_through steps mid → after.last ≡ b.last
-  turn_gives_none s next b mid after steps given given2 = grind (arith, common_steps, last_through)
+      → BeginsNext s b next mid → after ≡ book_through steps mid → GivesNone b after
+  turn_gives_none s next b mid after steps given given2 = grind (arith, common_steps, none_through)
+
+-- each call keeps the limits
+pub book_limits : (c : Call) (reply : Answered) (b next : BookState) → BookDoes c reply b next
+    → KeepsLimits b next
+book_limits c reply b next given = grind (arith, common_steps, none_through)

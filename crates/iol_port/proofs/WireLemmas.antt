@@ -19,13 +19,21 @@ use Rattle.iol_port.specs.declared.call.Answered.{Answered}
 use Rattle.iol_port.specs.declared.call.Answered.TheVariants as answered
 use Rattle.iol_port.specs.declared.fault.PortFault.{PortFault}
 use Rattle.iol_port.specs.Asks.{asks_of}
+use Rattle.iol_book.specs.BookModel as book
+use Rattle.iol_book.specs.BookModel.{BookState}
 use Rattle.iol_port.specs.Run.{opened}
 use Rattle.iol_port.specs.WireCalls.{ComesFrom, AreCalls}
-use Rattle.iol_port.specs.View.{Parts, Opening, OpensWell, StandsFor, Does, IsPort}
+use Rattle.iol_port.specs.View.{Parts, Opening, OpensWell, StandsFor, Does, IsPort, KeepsLimits}
 use Rattle.iol_port.specs.EveryWire.{CallGives, RunGives}
 use Rattle.iol_port.specs.CorePort.{CoreDoes, parts_over}
 use Rattle.iol_port.proofs.CorePorts.{call_over}
 use Rattle.iol_port.proofs.RunLemmas.{run_kept, run_new}
+use Rattle.iol_port.proofs.TurnLemmas.{book_limits}
+
+-- the limits of the opening stay, call by call
+limits_on : (first b next : BookState) → KeepsLimits b next → KeepsLimits first b
+    → KeepsLimits first next
+limits_on first b next now before = (now.0 ∙ before.0, now.1 ∙ before.1)
 
 -- what each call but a turn leaves of the link: it stays, or it is down
 pub record Leaves (p next : Parts (Unit {0})) : Type 0 where
@@ -114,12 +122,17 @@ module _ {W : Type 0} (facts : WireFacts W) where
   pub call_kept : {o : Opening W} {wire : W} {p next : Parts (Unit {0})} {c : Call}
       {reply : Answered} → IsPort facts o (parts_over wire p) → CoreDoes p c reply next
       → Leaves p next → IsPort facts o (parts_over wire next)
-  call_kept {wire = wire} {p = p} {next = next} is does leaves = record {
-    run = run_kept facts _ _ _ _ _ is.run (call_over facts wire p next _ _ does);
-    wire = is.wire;
-    free = leaves.sent ∙ is.free;
-    stands = λ h. stands_on wire p next leaves.link (is.stands h);
-  }
+  call_kept {o = o} {wire = wire} {p = p} {next = next} {c = c} {reply = reply} is does leaves =
+      let does_over : Does facts (parts_over wire p) c reply (parts_over wire next) =
+      call_over facts wire p next c reply does in
+      record {
+        run = run_kept facts _ _ _ _ _ is.run does_over;
+        wire = is.wire;
+        limits = limits_on (book.opened o.limits) p.book.state next.book.state
+            (book_limits c reply p.book.state next.book.state does_over.book) is.limits;
+        free = leaves.sent ∙ is.free;
+        stands = λ h. stands_on wire p next leaves.link (is.stands h);
+      }
 
   pub port_turned : (o : Opening W) (p next : Parts W) → IsPort facts o p
       → Does facts p call.Turn answered.Nothing next
@@ -129,6 +142,7 @@ module _ {W : Type 0} (facts : WireFacts W) where
   port_turned o p next is does one free stands = record {
     run = run_kept facts o p next call.Turn answered.Nothing is.run does;
     wire = comes_more o.wire _ _ (asks_of p) one is.wire;
+    limits = limits_on (book.opened o.limits) p.book.state next.book.state does.book.1 is.limits;
     free = free;
     stands = stands;
   }
@@ -136,12 +150,14 @@ module _ {W : Type 0} (facts : WireFacts W) where
   -- a new port
   pub port_new : (o : Opening W) (p : Parts W)
       → (OpensWell o → StandsFor facts p (opened o.limits o.far o.silence))
-      → wire_of p.station.link ≡ o.wire → p.sent ≡ false → mode_of p.station.link ≡ Down
+      → wire_of p.station.link ≡ o.wire → p.book.state ≡ book.opened o.limits → p.sent ≡ false
+      → mode_of p.station.link ≡ Down
       → IsPort facts o p
-  port_new o p stands same free down =
+  port_new o p stands same is free down =
       record {
         run = run_new facts o p stands;
         wire = ([], same);
+        limits = (ap (λ (b : BookState). b.limit) is, ap (λ (b : BookState). b.queue) is);
         free = free;
         stands = λ h. down_stands p.station.link.state _ _ down;
       }

@@ -4,6 +4,7 @@ ghost use Rattle.std.specs.Vec.{vec_capacity};
 ghost use Rattle.std.specs.Option.{option_copied};
 ghost use Rattle.std.specs.Result.{result_map_both};
 ghost use Rattle.iol_book.specs.declared.fault.BookFault.TheVariants.{OutOfMemory};
+ghost use Rattle.iol_book.specs.BookModel as book;
 ghost use Rattle.iol_book.specs.BookModel.{AreLimits, IsReplayed, submitted, submitted_urgent};
 ghost use Rattle.iol_port.specs.declared.fault.PortFault.TheVariants as fault;
 ghost use Rattle.iol_port.specs.declared.call.Call.TheVariants as call;
@@ -18,7 +19,7 @@ ghost use Rattle.iol_port.specs.EveryWire.{TurnGives, CallGives, RunGives};
 ghost use Rattle.iol_port.specs.EveryWire.{ExpectGives, SetCycleGives, page_shown};
 ghost use Rattle.iol_port.specs.RightDevice.{IsForRightDevice};
 ghost use Rattle.iol_port.specs.WireCalls.{ComesFrom};
-ghost use Rattle.iol_port.specs.View.{Does, Runs, StandsFor, IsOpened, IsRun, OpensWell, opening_of};
+ghost use Rattle.iol_port.specs.View.{Does, Runs, StandsFor, IsOpened, IsRun, KeepsLimits, OpensWell, opening_of};
 ghost use Rattle.iol_port.specs.View.{KeepsRecord, shown_in, status_of};
 ghost use Rattle.iol_port.specs.Clean.{CleanTurn, CleanRuns, CleanServes, IsLevelBetween};
 ghost use Rattle.iol_port.specs.Replies.{ticket_reply, outcome_reply, nothing_reply, event_reply, reply_of};
@@ -105,9 +106,9 @@ impl<W: Wire, A: Handle> Port<W, A> {
     /// Enters a request and answers its ticket. The request then waits behind all
     /// that wait already; an urgent one that is submitted later goes before it.
     ///
-    /// Refused, with nothing changed, by the first of 21 where 64 tickets are
-    /// outstanding, 22 where the journal has no room for the request's entries, 23
-    /// where the last ticket was 2^64 - 1, and 24 where a growth was refused.
+    /// Refused, with nothing changed, by the first of 21 where as many tickets are outstanding
+    /// as the limit of the opening says, 22 where the journal has no room for the request's
+    /// entries, 23 where the last ticket was 2^64 - 1, and 24 where a growth was refused.
     pub fn submit(&mut self, request: Request) -> Result<Ticket, PortFault>
         ensures does { Does W.facts
             self.old.parts (call.Submit request) (ticket_reply result) self.new.parts }
@@ -521,8 +522,9 @@ impl<W: Wire, A: Handle> Port<W, A> {
 
     /// A law of each port, without code: at every moment the journal says where each
     /// ticket stands, and the wire is what the one at the opening became by wakes and
-    /// exchanges, and by nothing else; and the device's record fits the journal, if the wire
-    /// was honest and the device had been handed no request when the port was opened.
+    /// exchanges, and by nothing else; its book has the limits of the opening; and the device's
+    /// record fits the journal, if the wire was honest and the device had been handed no request
+    /// when the port was opened.
     ///
     /// Rule PORT-2.
     pub fn keeps_record(&self)
@@ -530,6 +532,8 @@ impl<W: Wire, A: Handle> Port<W, A> {
         ensures run { IsRun W.facts self.now.opening self.now.parts }
         ensures wire { ComesFrom W.facts
             self.now.opening.wire (wire_of self.now.parts.station.link) }
+        ensures limits { KeepsLimits (book.opened self.now.opening.limits)
+            self.now.parts.book.state }
         ensures record_fits { OpensWell self.now.opening → KeepsRecord W.facts self.now.parts }
         ensures level { OpensWell self.now.opening → IsLevelBetween W.facts self.now.parts }
     {

@@ -131,9 +131,9 @@ impl<A: Allocator + Copy> PortCore<A> {
     /// Enters a request and answers its ticket. The request then waits behind all
     /// that wait already; an urgent one that is submitted later goes before it.
     ///
-    /// Refused, with nothing changed, by the first of 21 where 64 tickets are
-    /// outstanding, 22 where the journal has no room for the request's entries, 23
-    /// where the last ticket was 2^64 - 1, and 24 where a growth was refused.
+    /// Refused, with nothing changed, by the first of 21 where as many tickets are outstanding
+    /// as the limit of the opening says, 22 where the journal has no room for the request's
+    /// entries, 23 where the last ticket was 2^64 - 1, and 24 where a growth was refused.
     ///
     /// Rule PORT-7.
     pub fn submit(&mut self, request: Request) -> Result<Ticket, PortFault>

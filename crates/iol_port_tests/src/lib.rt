@@ -37,4 +37,6 @@ mod ports;
 #[cfg(test)]
 mod sim;
 #[cfg(test)]
+mod small;
+#[cfg(test)]
 mod tap;

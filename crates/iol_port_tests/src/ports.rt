@@ -1,6 +1,6 @@
 //! Ports over the simulated wire.
 use crate::device::device;
-use iol_book::{Limits, Outcome, Ticket};
+use iol_book::{Limits, Outcome, QueueLimit, Ticket};
 use iol_cell::{Handle, ImageSeat, image_cell};
 use iol_image::Image;
 use iol_isdu::{Answer, Cause, Octets, Place, Request};
@@ -22,6 +22,7 @@ pub fn opened<W: Wire + Drop, A: Handle>(
     let limits = Limits {
         journal: 1_000,
         busy: 100,
+        queue: QueueLimit::MOST,
         given,
     };
     Port::open(alloc, wire, &limits).map_err(|(fault, _)| Fail::from(fault))

@@ -24,14 +24,14 @@
 //! join requests|answers      join take FLOW OCTETS   join whole|request|answer read|write
 //! memory new|raise QQ CCCC|octet AA|confirm|other|clear|flag
 //! reader new|address|take OO                         image OCTETS
-//! book open JOURNAL BUSY GIVEN
+//! book open JOURNAL BUSY GIVEN [QUEUE]
 //! book submit|urgent REQUEST|take|deny|next|post T OUTCOME|collect T|withdraw T|flight T
 //! book reset|archive|journal
 //! device param INDEX SUB ro|rw WORD
 //! device open|apart ROOM OCTETS                      device bare OCTETS
 //! device hear OCTETS|raise QQ CCCC|input OCTETS|clear|wake|work|power|silence
 //! device handed|answer N ANSWER (where apart)|output|record|page|mode|cycle
-//! port open JOURNAL BUSY GIVEN
+//! port open JOURNAL BUSY GIVEN [QUEUE]
 //! port send|asks|awaits|receive OCTETS|silence|woken com1|com2|com3|none
 //! port submit|urgent REQUEST|collect T|withdraw T|cancel T|archive
 //! port restart|output OCTETS|clear|image|event|status|counters

@@ -61,6 +61,12 @@ impl<'a> Line<'a> {
         !self.is_bad && (self.is_read || self.words.next().is_none())
     }
 
+    /// Whether no word is left.
+    pub fn is_at_end(&self) -> bool {
+        let mut words = self.words;
+        self.is_read || words.next().is_none()
+    }
+
     pub fn word(&mut self) -> &'a [u8] {
         match self.words.next() {
             Some(word) => word,

@@ -3,11 +3,12 @@ ghost use Rattle.iol_book.specs.BookModel.{AreLimits};
 
 use crate::printing::{print_answer, print_ok, print_refused, print_request};
 use crate::reading::Line;
-use iol_book::{Entry, Limits, Outcome, Ticket};
+use iol_book::{Entry, Limits, Outcome, QueueLimit, Ticket};
 use iol_port::PortFault;
 use std::alloc::AllocError;
 
-/// The limits of a book: entries of the journal, busy replies, tickets given before.
+/// The limits of a book: entries of the journal, busy replies, tickets given before, and then
+/// how many may be outstanding, 64 where no word says it.
 pub(crate) fn limits(line: &mut Line<'_>) -> Limits
     ensures { AreLimits result }
 {
@@ -15,6 +16,20 @@ pub(crate) fn limits(line: &mut Line<'_>) -> Limits
         journal: line.between(4, 1_000_000) as u32,
         busy: line.between(2, 65_535) as u16,
         given: line.number(u64::MAX),
+        queue: queue_limit(line),
+    }
+}
+
+fn queue_limit(line: &mut Line<'_>) -> QueueLimit {
+    if line.is_at_end() {
+        return QueueLimit::MOST;
+    }
+    match QueueLimit::new(line.small()) {
+        Some(limit) => limit,
+        None => {
+            line.refuse();
+            QueueLimit::MOST
+        }
     }
 }
 

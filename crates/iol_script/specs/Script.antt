@@ -70,10 +70,12 @@ with_setting draft (setting.Page octets) =
     if is_none draft.page then Some (record draft { page = Some octets }) else None
 with_setting draft (setting.Other octets) =
     if is_none draft.other then Some (record draft { other = Some octets }) else None
-with_setting draft (setting.Limits busy journal) =
+with_setting draft (setting.Limits busy journal queue) =
     if is_none draft.limits
     then Some
-    (record draft { limits = Some (record { journal = journal; busy = busy; given = 0 }) })
+    (record draft {
+      limits = Some (record { journal = journal; busy = busy; queue = queue; given = 0 });
+    })
     else None
 with_setting draft (setting.Param place writable value) =
     if takes_param draft.params place
@@ -130,7 +132,7 @@ abbrev pub default_page : List ℕ
 default_page = 0x17 ∷ 0x2D ∷ 0x11 ∷ 0x00 ∷ 0x00 ∷ 0x12 ∷ 0x34 ∷ 0x00 ∷ 0x01 ∷ 0x07 ∷ []
 
 abbrev pub default_limits : Limits
-default_limits = record { journal = 1000; busy = 100; given = 0 }
+default_limits = record { journal = 1000; busy = 100; queue = 64; given = 0 }
 
 -- a draft with what no line gave
 abbrev pub script_of : Draft → ScriptValue

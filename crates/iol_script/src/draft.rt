@@ -18,7 +18,7 @@ use crate::parts::Words;
 use crate::script::Script;
 use crate::setting::{limits_of, page_of, param_of};
 use crate::wire_line::{WireLine, parse_wire};
-use iol_book::Limits;
+use iol_book::{Limits, QueueLimit};
 use iol_isdu::Place;
 use iol_page::Page;
 use iol_sim::{Entry, Fate, Step};
@@ -41,6 +41,7 @@ const PAGE: [u8; 10] = [0x17, 0x2D, 0x11, 0x00, 0x00, 0x12, 0x34, 0x00, 0x01, 0x
 const LIMITS: Limits = Limits {
     journal: 1000,
     busy: 100,
+    queue: QueueLimit::MOST,
     given: 0,
 };
 
@@ -172,15 +173,11 @@ impl<A: Allocator> Draft<A> {
         ensures { option_map (λ _. self.new) result
             ≡ after_setting self.old (limits_form (words_left words.entry)) }
     {
-        let (busy, journal) = limits_of(words)?;
+        let limits = limits_of(words)?;
         if self.begun || self.limits.is_some() {
             return None;
         }
-        self.limits = Some(Limits {
-            journal,
-            busy,
-            given: 0,
-        });
+        self.limits = Some(limits);
         Some(())
     }
 

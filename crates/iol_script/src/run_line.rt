@@ -47,8 +47,12 @@ fn parse_words(mut words: Words) -> Option<RunLine>
     } else if is(name, b"other") {
         Some(RunLine::Setting(Setting::Other(page_of(words)?)))
     } else if is(name, b"limits") {
-        let (busy, journal) = limits_of(words)?;
-        Some(RunLine::Setting(Setting::Limits { busy, journal }))
+        let limits = limits_of(words)?;
+        Some(RunLine::Setting(Setting::Limits {
+            busy: limits.busy,
+            journal: limits.journal,
+            queue: limits.queue,
+        }))
     } else if is(name, b"param") {
         let param = param_of(words)?;
         Some(RunLine::Setting(Setting::Param {

@@ -2,7 +2,7 @@
 ghost use Rattle.std.specs.Prelude.{◌≡◌, IfSome, IsOk, option_map};
 ghost use Rattle.iol_book.specs.BookModel.{AreLimits};
 ghost use Rattle.iol_page.specs.Page.{layouts_of};
-ghost use Rattle.iol_script.specs.RunLines.{access_of, limits_form, page_octets, param_form};
+ghost use Rattle.iol_script.specs.RunLines.{access_of, limits_form, page_octets, param_form, queue_form};
 ghost use Rattle.iol_script.specs.declared.setting.Setting.{Setting};
 ghost use Rattle.iol_script.specs.Text.{words_left};
 
@@ -10,6 +10,7 @@ use crate::fields::{end_of, place_of, value_of};
 use crate::numerals::{decimal_number, parted_octets};
 use crate::parts::Words;
 use arrayvec::ArrayVec;
+use iol_book::{Limits, QueueLimit};
 use iol_isdu::{Octets, Place};
 use iol_page::Page;
 use iol_sim::Entry;
@@ -27,6 +28,8 @@ pub enum Setting {
         busy: u16,
         /// The most entries that the journal may have: 4 to 1,000,000.
         journal: u32,
+        /// How many tickets may be outstanding: 1 to 64.
+        queue: QueueLimit,
     },
     /// One more parameter of the device.
     Param {
@@ -52,17 +55,34 @@ pub(crate) fn page_of(words: Words) -> Option<Page>
     }
 }
 
-/// The words behind `limits`: the limit of busy replies and that of the journal, each in its range.
-pub(crate) fn limits_of(mut words: Words) -> Option<(u16, u32)>
-    ensures form { option_map (λ limits. Setting.Limits limits.0 limits.1) result
-        ≡ limits_form (words_left words.entry) }
-    ensures range { IfSome result (λ limits.
-        AreLimits (record { journal = limits.1; busy = limits.0; given = 0 })) }
+/// The words behind `limits`: that of busy replies, that of the journal, and that of outstanding
+/// tickets, which may be missing.
+pub(crate) fn limits_of(mut words: Words) -> Option<Limits>
+    ensures form { option_map (λ limits. Setting.Limits limits.busy limits.journal limits.queue)
+        result ≡ limits_form (words_left words.entry) }
+    ensures range { IfSome result AreLimits }
+    ensures given { IfSome result (λ limits. limits.given ≡ 0) }
 {
     let busy = decimal_number(words.next()?, 2, 65_535)? as u16;
     let journal = decimal_number(words.next()?, 4, 1_000_000)? as u32;
+    let queue = queue_of(words)?;
+    Some(Limits {
+        journal,
+        busy,
+        queue,
+        given: 0,
+    })
+}
+
+/// The word of outstanding tickets, 1 to 64, or none for 64.
+fn queue_of(mut words: Words) -> Option<QueueLimit>
+    ensures { result ≡ queue_form (words_left words.entry) }
+{
+    let Some(word) = words.next() else {
+        return Some(QueueLimit::MOST);
+    };
     end_of(words)?;
-    Some((busy, journal))
+    QueueLimit::new(decimal_number(word, 1, 64)? as u8)
 }
 
 /// The words behind `param`: a place, whether it may be written, its octets.

@@ -1,3 +1,4 @@
+pub mod Opening
 pub mod Calls
 pub mod Shown
 pub mod LineCalls

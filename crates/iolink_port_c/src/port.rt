@@ -1,13 +1,13 @@
 //! Opening and closing.
 ghost use Rattle.std.specs.Prelude.{◌≡◌, true, false, IsTrue, IsFalse};
-ghost use Rattle.iol_book.specs.BookModel.{AreLimits};
 ghost use Rattle.iol_port.specs.CorePort.{IsNew, CoreOpens};
 ghost use Rattle.iolink_port_c.specs.Calls.{parts_of, IsRefused};
+ghost use Rattle.iolink_port_c.specs.Opening.{AreInRange, limits_of};
 ghost use Rattle.iolink_port_c.specs.JournalCalls.{KeepsNone};
 
 use crate::held::{IolPort, Master};
 use core::mem::replace_with;
-use iol_book::Limits;
+use iol_book::{Limits, QueueLimit};
 use iol_port::PortCore;
 use iolink_handle::{CLOSED, IS_OPEN, OUT_OF_MEMORY, OUT_OF_RANGE};
 use std::alloc::Global;
@@ -21,29 +21,31 @@ const LEAST_BUSY: u16 = 2;
 /// Opens a port, whose link is down. The first ticket is `given` + 1.
 ///
 /// 0, or the first of 253 where the handle is open already, 254 where the journal
-/// isn't 4 to 1,000,000 entries or the busy limit isn't 2 to 65,535, and 24 where
-/// there is no memory. Where it is refused, nothing changed.
+/// isn't 4 to 1,000,000 entries, the busy limit isn't 2 to 65,535 or the limit of
+/// outstanding tickets isn't 1 to 64, and 24 where there is no memory. Where it is
+/// refused, nothing changed.
 #[unsafe(no_mangle)]
 pub extern "C" fn iol_port_open(
     alloc: Global,
     handle: &mut IolPort,
     journal: u32,
     busy: u16,
+    queue: u8,
     given: u64,
 ) -> u8
     ensures once { IsTrue handle.old.is_open → (result ≡ 253) × (handle.new ≡ handle.old) }
     ensures range { IsFalse handle.old.is_open →
-        ¬ AreLimits (record { journal = journal; busy = busy; given = given }) →
+        ¬ AreInRange (limits_of journal busy queue given) →
         (result ≡ 254) × (handle.new ≡ handle.old) }
     ensures lacks { IsFalse handle.old.is_open →
-        AreLimits (record { journal = journal; busy = busy; given = given }) →
+        AreInRange (limits_of journal busy queue given) →
         ¬ (result ≡ 0) → result ≡ 24 }
     ensures refused { ¬ (result ≡ 0) → handle.new ≡ handle.old }
     ensures opened { result ≡ 0 → handle.new.is_open ≡ true }
     ensures parts { result ≡ 0 →
-        IsNew (record { journal = journal; busy = busy; given = given }) (parts_of handle.new) }
+        IsNew (limits_of journal busy queue given) (parts_of handle.new) }
     ensures opens { result ≡ 0 →
-        CoreOpens (record { journal = journal; busy = busy; given = given }) (parts_of handle.new) }
+        CoreOpens (limits_of journal busy queue given) (parts_of handle.new) }
     ensures journal { result ≡ 0 → KeepsNone handle.new }
 {
     if handle.is_open {
@@ -52,9 +54,13 @@ pub extern "C" fn iol_port_open(
     if journal < LEAST_JOURNAL || journal > MOST_JOURNAL || busy < LEAST_BUSY {
         return OUT_OF_RANGE;
     }
+    let Some(queue) = QueueLimit::new(queue) else {
+        return OUT_OF_RANGE;
+    };
     let limits = Limits {
         journal,
         busy,
+        queue,
         given,
     };
     let port = match PortCore::open(alloc, &limits) {

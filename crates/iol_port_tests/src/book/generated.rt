@@ -1,6 +1,6 @@
 //! Lists of pseudo-random calls, made of a book and of a plain one.
 use super::plain::{PlainBook, read};
-use iol_book::{Book, Limits, Outcome, Ticket};
+use iol_book::{Book, Limits, Outcome, QueueLimit, Ticket};
 use iol_isdu::{Answer, Cause};
 use std::alloc::AllocError;
 use std::test::Fail;
@@ -116,6 +116,7 @@ fn a_thousand_lists_of_calls(rt: HostRuntime) -> Result<(), Fail> {
         let limits = Limits {
             journal: if is_quiet { 40 } else { 1000 },
             busy: 2,
+            queue: QueueLimit::MOST,
             given: 0,
         };
         let mut book = Book::open(rt.alloc(), &limits)?;

@@ -1,6 +1,7 @@
 //! The requests of a port, from their tickets to their outcomes.
 
 use crate::isdu::{Answer, Cause, Request};
+use crate::port::Limits;
 use crate::refusal::Refusal;
 use std::collections::VecDeque;
 
@@ -26,11 +27,10 @@ pub enum Entry {
     Collected(Ticket),
 }
 
-/// The most tickets that are outstanding.
-const MOST: usize = 64;
-
 pub struct Book {
     limit: usize,
+    /// The most tickets that are outstanding.
+    queue: usize,
     journal: Vec<Entry>,
     last: Ticket,
     urgent: VecDeque<(Ticket, Request)>,
@@ -42,13 +42,14 @@ pub struct Book {
 }
 
 impl Book {
-    pub fn open(limit: usize) -> Book {
+    pub fn open(limits: &Limits) -> Book {
         Book {
-            limit,
+            limit: limits.journal,
+            queue: limits.queue,
             journal: Vec::new(),
             last: 0,
-            urgent: VecDeque::with_capacity(MOST),
-            waiting: VecDeque::with_capacity(MOST),
+            urgent: VecDeque::with_capacity(limits.queue),
+            waiting: VecDeque::with_capacity(limits.queue),
             taken: None,
             outcomes: Vec::new(),
             unsure: false,
@@ -84,7 +85,7 @@ impl Book {
 
     /// The ticket of one more request.
     fn admit(&mut self) -> Result<Ticket, Refusal> {
-        if self.outstanding() >= MOST {
+        if self.outstanding() >= self.queue {
             return Err(Refusal::Full);
         }
         if self.journal.len() + self.owed() + 4 > self.limit {

@@ -11,7 +11,7 @@ use crate::message::{
 };
 use crate::page::{PLAIN, Page, command};
 use crate::params::Params;
-use crate::port::{Limits, Port};
+use crate::port::{Limits, Port, QUEUE};
 use crate::refusal::Refusal;
 use crate::script::Script;
 use crate::station::Mode;
@@ -26,6 +26,7 @@ const ROOM: usize = 10_000;
 const LIMITS: Limits = Limits {
     busy: 100,
     journal: 50_000,
+    queue: QUEUE,
 };
 
 /// How many turns a start-up takes.

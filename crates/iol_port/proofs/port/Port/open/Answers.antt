@@ -11,7 +11,7 @@ invariant_of-result g c =
     rw (c.of.ensures, c.of-wire_then.ensures)
     (port_new facts (opening_of facts limits c.args.wire) _
     (opens_over facts c.args.wire limits c.in-Ok.core c.in-Ok.ensures.opens) new.wire_is
-    new.sent new.mode)
+    new.book new.sent new.mode)
 
 pub returns-in-Ok-clause-parts : goal.returns-in-Ok-clause-parts
 returns-in-Ok-clause-parts g c = rw (c.of.ensures, c.of-wire_then.ensures)
