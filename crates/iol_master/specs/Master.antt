@@ -32,8 +32,8 @@ WasOpened port (Err (Port why)) = ⊥
 WasOpened port (Err OutOfMemory) = ⊥
 WasOpened port (Err NoThread) = ⊥
 
--- why a port refuses a submit: 64 tickets are outstanding, the journal has no room,
--- the tickets are spent, memory is lacking
+-- why a port refuses a submit: as many tickets are outstanding as may be, the journal has no
+-- room, the tickets are spent, memory is lacking
 abbrev pub IsSubmitRefusal : PortFault → Type 0
 IsSubmitRefusal why = (why ≡ Book Full) ⊎ (why ≡ Book JournalFull) ⊎ (why ≡ Book TicketsSpent)
     ⊎ (why ≡ Book NoMemory)

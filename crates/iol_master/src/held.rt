@@ -35,6 +35,10 @@ use std::marker::Model;
 use std::sync::Wait;
 use std::sync::ledger::{Ledger, Share};
 
+/// How many octets part what one port counts from the next one's lock: two lines of a cache,
+/// which are fetched in pairs.
+const APART: usize = 128;
+
 /// Before which requests one waits.
 #[derive(Clone, Copy, PartialEq, Eq, Debug)]
 pub(crate) enum Urgency {
@@ -71,6 +75,8 @@ pub struct Held<W: Wire, K: Ledger, A: Handle = Global> {
     tickets: u64,
     /// One part of the ledger of the tickets; its amount is that number.
     share: Share<K>,
+    /// Nothing reads it. The ports of a master lie side by side, and each has a worker.
+    apart: [u8; APART],
 }
 
 impl<W: Wire, K: Ledger, A: Handle> Model for Held<W, K, A> {
@@ -97,6 +103,7 @@ impl<W: Wire, K: Ledger, A: Handle> Held<W, K, A> {
             port,
             tickets: 0,
             share,
+            apart: [0; APART],
         }
     }
 
@@ -122,6 +129,7 @@ impl<W: Wire, K: Ledger, A: Handle> Held<W, K, A> {
             port,
             tickets,
             share,
+            apart: _,
         } = self;
         match submit_as(port, urgency, request) {
             Ok(ticket) => {
@@ -375,6 +383,7 @@ impl<W: Wire, K: Ledger, A: Handle> Held<W, K, A> {
             port: _,
             tickets,
             share,
+            apart: _,
         } = self;
         (share, tickets)
     }

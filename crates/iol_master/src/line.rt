@@ -108,9 +108,9 @@ impl<K: Ledger, A: Allocator + Copy> LinePort<K, A> {
     /// Enters a request and answers its ticket. The request then waits behind all that wait
     /// already; an urgent one that is submitted later goes before it.
     ///
-    /// Refused, with nothing changed, by the first of 21 where 64 tickets are outstanding, 22 where
-    /// the journal has no room for the request's entries, 23 where the last ticket was 2^64 - 1,
-    /// and 24 where a growth was refused.
+    /// Refused, with nothing changed, by the first of 21 where as many tickets are outstanding as
+    /// the limit of the opening says, 22 where the journal has no room for the request's entries,
+    /// 23 where the last ticket was 2^64 - 1, and 24 where a growth was refused.
     pub fn submit(&mut self, request: Request) -> Result<Ticket, PortFault>
         ensures does { CoreDoes self.old.parts
             (call.Submit request) (ticket_reply result) self.new.parts }

@@ -126,9 +126,10 @@ impl<W: Wire, L: Ledger, K: Ledger, A: Handle> Master<W, L, K, A> {
     ///
     /// Memory is asked for by the port's book alone, for the ticket's place and its entries.
     /// Refused, with nothing changed, by the first of 31 where there is no such port, 23 where the
-    /// master's ports gave 2^64 - 1 tickets, and then as the port refuses it: 21 where 64 tickets
-    /// are outstanding there, 22 where its journal has no room for the request's entries, 23 where
-    /// its last ticket was 2^64 - 1, and 24 where a growth was refused.
+    /// master's ports gave 2^64 - 1 tickets, and then as the port refuses it: 21 where as many
+    /// tickets are outstanding there as it was opened for, 22 where its journal has no room for
+    /// the request's entries, 23 where its last ticket was 2^64 - 1, and 24 where a growth was
+    /// refused.
     pub fn submit<R: Wait>(
         &self,
         rt: &R,
