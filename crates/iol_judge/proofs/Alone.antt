@@ -1,54 +1,88 @@
 -- What the far end does by itself, and at a wake-up, leaves of what a state says.
-use Rattle.std.proofs.Common.{◌≡◌, ℕ, Bool, true, false, List, [], ◌∷◌, ◌++◌, refl, sym, ◌∙◌, ap, subst, ◌⊎◌, inl, inr}
+use Rattle.std.proofs.Common.{◌≡◌, ℕ, Bool, true, false, List, [], ◌∷◌, refl, sym, ◌∙◌, subst, ◌⊎◌, inl, inr}
 use Rattle.std.specs.Prelude.{Option, Some, None, IfSome, if◌then◌else◌, ◌&&◌}
 use Rattle.iol_isdu.specs.declared.values.Answer.{Answer}
-use Rattle.iol_isdu.specs.declared.values.Request.{Request}
 use Rattle.iol_far.specs.Isdu.{IsduState, Empty, Receiving, Whole, Handed, Answered, fits}
 use Rattle.iol_far.specs.Far.{Far}
-use Rattle.iol_far.specs.Level.{Link, link_of, grown_by}
+use Rattle.iol_far.specs.Level.{link_of, grown_by}
 use Rattle.iol_far.specs.Local.{LocalStep, Carry, Raise, Input, NoInput, Power, local, locals, carried_by, has_room, is_input, woken}
-use Rattle.iol_judge.specs.State.{State, woken_state}
-use Rattle.iol_judge.specs.Admitted.{Admits, AdmitsOne, Agrees}
+use Rattle.iol_judge.specs.declared.events.Shown.{Shown}
+use Rattle.iol_judge.specs.declared.events.Shown.TheVariants.{Fresh}
+use Rattle.iol_judge.specs.State.{State, woken_state, powered_state}
+use Rattle.iol_judge.specs.Admitted.{Admits, AdmitsOne, Agrees, AreShown}
+use Rattle.iol_judge.proofs.Shown.{raised_shown, released_shown, none_shown}
+use Rattle.iol_judge.proofs.Transferring.{transfer_kept}
 
--- the parts that a state and the page's octets speak of are the same
+-- the parts that a state and the page's octets speak of are the same, and what is known of its
+-- events holds
 pub record Alike (far new : Far) : Type 0 where
   pub link : link_of new ≡ link_of far
   pub cycle : new.cycle_time ≡ far.cycle_time
   pub page : new.page ≡ far.page
+  pub events : (known : Shown) → AreShown (if far.awake then known else Fresh) far.events
+      → AreShown (if new.awake then known else Fresh) new.events
+  pub isdu : far.isdu ≡ Empty → new.isdu ≡ Empty
 
 itself : (far : Far) → Alike far far
-itself far = record { link = refl; cycle = refl; page = refl }
+itself far =
+    record { link = refl; cycle = refl; page = refl; events = λ known s. s; isdu = λ e. e }
 
 alike_if : (b : Bool) (far x y : Far) → Alike far x → Alike far y → Alike far (if b then x else y)
 alike_if true far x y l r = l
 alike_if false far x y l r = r
 
-carried_alike : (state : IsduState) (far : Far) (answer : Answer)
+carried_alike : (state : IsduState) (far : Far) (answer : Answer) → far.isdu ≡ state
     → Alike far (carried_by state far answer)
-carried_alike (Handed request) far answer =
+carried_alike (Handed request) far answer is =
     alike_if (has_room far && fits request answer) far
     (record far {
       isdu = Answered request answer None;
       carried = grown_by far.carried request answer;
     })
-    far (record { link = refl; cycle = refl; page = refl }) (itself far)
-carried_alike Empty far answer = itself far
-carried_alike (Receiving text last) far answer = itself far
-carried_alike (Whole request last) far answer = itself far
-carried_alike (Answered request a last) far answer = itself far
+    far (record {
+      link = refl;
+      cycle = refl;
+      page = refl;
+      events = λ known s. s;
+      isdu = λ e. absurd (let no : Handed request ≡ Empty = sym is ∙ e in cc);
+    }) (itself far)
+carried_alike Empty far answer is = itself far
+carried_alike (Receiving text last) far answer is = itself far
+carried_alike (Whole request last) far answer is = itself far
+carried_alike (Answered request a last) far answer is = itself far
 
 local_alike : (far : Far) (step : LocalStep) → Alike far (local far step)
-local_alike far (Carry answer) = carried_alike far.isdu far answer
-local_alike far (Raise event) = record { link = refl; cycle = refl; page = refl }
+local_alike far (Carry answer) = carried_alike far.isdu far answer refl
+local_alike far (Raise event) = record {
+  link = refl;
+  cycle = refl;
+  page = refl;
+  events = λ known s. raised_shown (if far.awake then known else Fresh) far.events event s;
+  isdu = λ e. e;
+}
 local_alike far (Input image) =
     alike_if (is_input far image) far (record far { input = Some image }) far
-    (record { link = refl; cycle = refl; page = refl }) (itself far)
-local_alike far NoInput = record { link = refl; cycle = refl; page = refl }
-local_alike far Power = record { link = refl; cycle = refl; page = refl }
+    (record { link = refl; cycle = refl; page = refl; events = λ known s. s; isdu = λ e. e })
+    (itself far)
+local_alike far NoInput =
+    record { link = refl; cycle = refl; page = refl; events = λ known s. s; isdu = λ e. e }
+local_alike far Power = record {
+  link = refl;
+  cycle = refl;
+  page = refl;
+  events = λ known s. none_shown;
+  isdu = λ e. refl;
+}
 
 then_alike : (a b c : Far) → Alike a b → Alike b c → Alike a c
 then_alike a b c l r =
-    record { link = r.link ∙ l.link; cycle = r.cycle ∙ l.cycle; page = r.page ∙ l.page }
+    record {
+      link = r.link ∙ l.link;
+      cycle = r.cycle ∙ l.cycle;
+      page = r.page ∙ l.page;
+      events = λ known s. r.events known (l.events known s);
+      isdu = λ e. r.isdu (l.isdu e);
+    }
 
 pub locals_alike : (far : Far) (steps : List LocalStep) → Alike far (locals far steps)
 locals_alike far [] = itself far
@@ -66,6 +100,8 @@ pub admits_alike : (state : State) (far new : Far) → Alike far new → Admits 
 admits_alike state far new same h = record {
   link = same.link ∙ h.link;
   cycle = cycle_kept state.cycle far.cycle_time new.cycle_time same.cycle h.cycle;
+  events = same.events state.events h.events;
+  isdu = transfer_kept state.transfer far.isdu new.isdu same.isdu h.isdu;
 }
 
 pub one_alike : (states : List State) (far new : Far) → Alike far new → AdmitsOne states far
@@ -82,5 +118,26 @@ pub agrees_alike : (seen : List (Option ℕ)) (far new : Far) → Alike far new 
 agrees_alike seen far new same h = subst (λ (page : List ℕ). Agrees seen page) (sym same.page) h
 
 pub woken_admits : (state : State) (far : Far) → Admits state far
-    → Admits (woken_state state) (woken far)
-woken_admits state far h = record { link = refl; cycle = h.cycle }
+    → AdmitsOne (woken_state state ∷ powered_state state ∷ []) (woken far)
+woken_admits state far h = split far.awake refl
+  where
+    split : (b : Bool) → far.awake ≡ b
+        → Admits (woken_state state) (woken far) ⊎ (Admits (powered_state state) (woken far) ⊎ ⊥)
+    split true e =
+        let s : AreShown state.events far.events =
+        subst (λ (b : Bool). AreShown (if b then state.events else Fresh) far.events) e h.events in
+        inl (record {
+          link = refl;
+          cycle = h.cycle;
+          events = released_shown state.events far.events s;
+          isdu = refl;
+        })
+    split false e =
+        let s : AreShown Fresh far.events =
+        subst (λ (b : Bool). AreShown (if b then state.events else Fresh) far.events) e h.events in
+        inr (inl (record {
+          link = refl;
+          cycle = h.cycle;
+          events = released_shown Fresh far.events s;
+          isdu = refl;
+        }))

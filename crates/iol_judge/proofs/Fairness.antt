@@ -1,13 +1,10 @@
 -- The law of the judge.
-use Rattle.std.proofs.Common.{◌≡◌, ◌⊎◌, inl, inr, ℕ, zero, suc, ◌+◌, ◌^◌, ◌-◌, min, Bool, true, false, List, [], ◌∷◌, length, map, refl, sym, ◌∙◌, ap, subst, get_or}
-use Rattle.std.specs.Prelude.{Option, Some, None, IfSome, Result, Ok, Err, slice_index, slice_index_or, if◌then◌else◌, option_map, ◌≢◌}
-use Rattle.iol_mseq.specs.Shape.{Shape}
-use Rattle.iol_mseq.specs.Replies.{reply_in}
+use Rattle.std.proofs.Common.{◌≡◌, ◌⊎◌, inl, inr, ℕ, zero, suc, Bool, true, false, List, [], ◌∷◌, refl, sym, ◌∙◌, ap, subst}
+use Rattle.std.specs.Prelude.{Option, Some, None, Result, Ok, Err, slice_index, if◌then◌else◌, option_map, ◌≢◌}
 use Rattle.iol_mseq.specs.declared.master.MasterMsg.{MasterMsg}
-use Rattle.iol_mseq.specs.declared.reply.Reply.{Reply}
 use Rattle.iol_page.specs.Page.{PagesAskForLayouts}
 use Rattle.iol_page.specs.declared.page.Layouts.{Layouts}
-use Rattle.iol_event.specs.Memory.{Events, IsEventMemory}
+use Rattle.iol_event.specs.Memory.{IsEventMemory}
 use Rattle.iol_far.specs.Codec.{message_in, octets_of}
 use Rattle.iol_far.specs.Far.{Far, Heard, layout_of, accepted, accepted_by, hear, heard_as, replied, worked, reply_to}
 use Rattle.iol_far.specs.Local.{LocalStep, local, locals, woken}
@@ -26,14 +23,15 @@ use Rattle.iol_judge.specs.declared.verdict.Wake.{Wake}
 use Rattle.iol_judge.specs.declared.verdict.Wake.TheVariants.{Answered, Unanswered}
 use Rattle.iol_judge.specs.Numbers.{later}
 use Rattle.iol_judge.specs.Seen.{nothing_seen, whole_page, layouts_seen}
-use Rattle.iol_judge.specs.State.{State, startup_state, woken_state}
+use Rattle.iol_judge.specs.State.{State, first_state}
 use Rattle.iol_judge.specs.Taking.{taken_by}
 use Rattle.iol_judge.specs.Replies.{is_readable, explained, learned}
-use Rattle.iol_judge.specs.Judged.{Judged, new_judge, added, added_taken, lost_with, lost_into, all_lost, next_states, explained_into, replied_taken, replied_into, all_replied, concluded_lost, concluded_with, concluded_replied, no_next, noted, unanswered, answered, counted, judged_by, exchanged, woken_with, woken_into, all_woken, woke_by, woke}
+use Rattle.iol_judge.specs.Judged.{Judged, added, added_taken, lost_with, lost_into, all_lost, next_states, explained_into, replied_taken, replied_into, all_replied, concluded_lost, concluded_with, concluded_replied, no_next, unanswered, answered, counted, judged_by, exchanged, woken_states, woken_into, all_woken, woke_by, woke}
 use Rattle.iol_judge.specs.Judged as judging
 use Rattle.iol_judge.specs.Admitted.{Agrees, Admits, AdmitsOne, IsPossible, IsFair, Passing, Wakes, Passes, told, told_all, is_answered, IsHonest, IsHonestRun, NeverBlamed}
-use Rattle.iol_judge.proofs.Turns.{each_admits}
-use Rattle.iol_judge.proofs.Alone.{Alike, locals_alike, admits_alike, one_alike, agrees_alike, woken_admits}
+use Rattle.iol_judge.proofs.Turns.{each_admits, each_keeps}
+use Rattle.iol_judge.proofs.Shown.{nothing_known, released_free}
+use Rattle.iol_judge.proofs.Alone.{Alike, locals_alike, one_alike, agrees_alike, woken_admits}
 use Rattle.iol_judge.proofs.Sets.{added_keeps, added_admits}
 use Rattle.iol_judge.proofs.Layouts.{Knows, knows}
 use Rattle.iol_judge.proofs.Hearing.{Accepting, accepting, Fits, state_fits}
@@ -207,9 +205,10 @@ module _ (law : PagesAskForLayouts) (judged : Judged) (honest : judged.verdict �
 -- With one
 
 module _ (law : PagesAskForLayouts) (reads : RepliesAreRead) (judged : Judged)
-    (honest : judged.verdict ≡ Honest) (far : Far) (memory : IsEventMemory far.events)
+    (honest : judged.verdict ≡ Honest) (far : Far)
     (agrees : Agrees judged.seen far.page) (admits : AdmitsOne judged.states far) (sent : List ℕ)
-    (work : Works far sent) (sized : IsSized (worked work.there sent work.message)) where
+    (work : Works far sent) (sized : IsSized (worked work.there sent work.message))
+    (memory : IsEventMemory (worked work.there sent work.message).events) where
   worked_far : Far
   worked_far = worked work.there sent work.message
 
@@ -255,9 +254,6 @@ module _ (law : PagesAskForLayouts) (reads : RepliesAreRead) (judged : Judged)
       outer (Ok found) h = inner (explained judged.seen found its_reply) h
       outer (Err why) h = absurd (cc)
 
-  there_memory : IsEventMemory work.there.events
-  there_memory = subst IsEventMemory (sym work.accepting.events) memory
-
   there_agrees : Agrees judged.seen work.there.page
   there_agrees = subst (λ (p : List ℕ). Agrees judged.seen p) (sym work.accepting.page) agrees
 
@@ -276,8 +272,8 @@ module _ (law : PagesAskForLayouts) (reads : RepliesAreRead) (judged : Judged)
           work.message in
           let by : explained judged.seen (Some found) its_reply
           ≡ By (learned found.kept work.message.mc answer) =
-          explains judged.seen found work.there sent work.message its_reply there_memory
-          there_agrees
+          explains judged.seen found work.there sent work.message its_reply work.accepting.awake
+          memory there_agrees
           fits.0 fits.1 fits.2 (reads (worked work.there sent work.message) work.message sized) in
           let state_after = learned found.kept work.message.mc answer in
           let ok : next_states next (added next.states.items
@@ -288,7 +284,7 @@ module _ (law : PagesAskForLayouts) (reads : RepliesAreRead) (judged : Judged)
           (λ out e. added_admits next.states.items (learned found.kept work.message.mc answer) out
           (worked work.there sent work.message) e
           (learned_admits found.kept (worked work.there sent work.message) (layout_of work.there)
-          work.message fits.2)) ok
+          work.message work.accepting.awake memory fits.2)) ok
 
       outer : (taken : Result (Option Taken) Open) → taken_by (layouts_seen judged.seen) state sent
           ≡ taken
@@ -373,8 +369,8 @@ module _ (law : PagesAskForLayouts) (stays : RegularStays) (much : MuchStays)
           (octets_of (reply_to (worked work.there sent work.message) (layout_of work.there)
           work.message)) else unanswered judged sent)
           (worked work.there sent work.message)
-      split true = replied_fair law reads judged honest far regular.memory agrees admits sent work
-          new_regular.sized
+      split true = replied_fair law reads judged honest far agrees admits sent work
+          new_regular.sized new_regular.memory
       split false = unanswered_fair law judged honest far agrees admits sent
           (worked work.there sent work.message)
           (inr (work, refl)) work.accepting.page
@@ -469,44 +465,29 @@ module _ (wake : Wake) (far new : Far)
     (follows : (new ≡ woken far) ⊎ ((wake ≡ Unanswered) × (new ≡ far))) where
   woken_keeps : (next : List State) (state : State) (more : List State)
       → woken_into wake next state ≡ Ok more → AdmitsOne next new → AdmitsOne more new
-  woken_keeps next state more h admits = split wake h
-    where
-      lost_too : (r : Result (List State) Open)
-          → ((mid : List State) → r ≡ Ok mid → AdmitsOne mid new)
-          → woken_with state r ≡ Ok more → AdmitsOne more new
-      lost_too (Ok mid) a h = added_keeps mid (woken_state state) more new h (a mid refl)
-      lost_too (Err why) a h = absurd (cc)
+  woken_keeps next state more h admits =
+      each_keeps added (λ (s : List State). AdmitsOne s new)
+      (λ n item m e a. added_keeps n item m new e a) (woken_states wake state) next more h admits
 
-      split : (w : Wake) → woken_into w next state ≡ Ok more → AdmitsOne more new
-      split Answered h = added_keeps next (woken_state state) more new h admits
-      split Unanswered h = lost_too (added next state)
-          (λ mid e. added_keeps next state mid new e admits) h
+  -- the device after the wake-up request is one of those that are added
+  woken_one : (state : State) → Admits state far → AdmitsOne (woken_states wake state) new
+  woken_one state admits = elim follows [
+    | inl is ↦ subst (λ (g : Far). AdmitsOne (woken_states wake state) g) (sym is) (took wake)
+    | inr quiet ↦ subst (λ (w : Wake). AdmitsOne (woken_states w state) new) (sym quiet.0)
+        (inl (subst (λ (g : Far). Admits state g) (sym quiet.1) admits))
+  ]
+    where
+      took : (w : Wake) → AdmitsOne (woken_states w state) (woken far)
+      took Answered = woken_admits state far admits
+      took Unanswered = inr (woken_admits state far admits)
 
   woken_gains : (next : List State) (state : State) (more : List State)
       → woken_into wake next state ≡ Ok more → Admits state far → AdmitsOne more new
-  woken_gains next state more h admits = elim follows [
-    | inl is ↦ subst (λ (g : Far). AdmitsOne more g) (sym is) (took wake h)
-    | inr quiet ↦ subst (λ (g : Far). AdmitsOne more g) (sym quiet.1)
-        (stays (added next state) refl (subst (λ (w : Wake). woken_into w next state ≡ Ok more)
-        quiet.0 h))
-  ]
-    where
-      stays : (r : Result (List State) Open) → added next state ≡ r → woken_with state r ≡ Ok more
-          → AdmitsOne more far
-      stays (Ok mid) e h = added_keeps mid (woken_state state) more far h
-          (added_admits next state mid far e admits)
-      stays (Err why) e h = absurd (cc)
-
-      lost_too : (r : Result (List State) Open) → woken_with state r ≡ Ok more
-          → AdmitsOne more (woken far)
-      lost_too (Ok mid) h = added_admits mid (woken_state state) more (woken far) h
-          (woken_admits state far admits)
-      lost_too (Err why) h = absurd (cc)
-
-      took : (w : Wake) → woken_into w next state ≡ Ok more → AdmitsOne more (woken far)
-      took Answered h = added_admits next (woken_state state) more (woken far) h
-          (woken_admits state far admits)
-      took Unanswered h = lost_too (added next state) h
+  woken_gains next state more h admits =
+      each_admits added new (λ (s : List State). AdmitsOne s new)
+      (λ n item m e a. added_keeps n item m new e a)
+      (λ n item m e a. added_admits n item m new e a) (woken_states wake state) next more h
+      (woken_one state admits)
 
   all_woken_admits : (states out : List State) → all_woken wake [] states ≡ Ok out
       → AdmitsOne states far → AdmitsOne out new
@@ -549,8 +530,14 @@ wake_fair judged far wake new h fair = split judged.verdict refl
     first Answered follows e = record {
       page = agrees;
       state = elim follows [
-        | inl is ↦ inl (subst (λ (g : Far). Admits (startup_state None) g) (sym is)
-            (record { link = refl; cycle = tt }))
+        | inl is ↦ inl (subst (λ (g : Far). Admits first_state g) (sym is)
+            (record {
+              link = refl;
+              cycle = tt;
+              events = released_free (locals far h.steps).events.frozen
+                  (locals far h.steps).events.waiting (locals far h.steps).events.held;
+              isdu = refl;
+            }))
         | inr quiet ↦ absurd (let no : Answered ≡ Unanswered = quiet.0 in cc)
       ];
     }
@@ -576,17 +563,7 @@ wake_fair judged far wake new h fair = split judged.verdict refl
 -- The page
 
 none_seen : (far : Far) → Agrees nothing_seen far.page
-none_seen far zero = tt
-none_seen far (suc zero) = tt
-none_seen far (suc (suc zero)) = tt
-none_seen far (suc (suc (suc zero))) = tt
-none_seen far (suc (suc (suc (suc zero)))) = tt
-none_seen far (suc (suc (suc (suc (suc zero))))) = tt
-none_seen far (suc (suc (suc (suc (suc (suc zero)))))) = tt
-none_seen far (suc (suc (suc (suc (suc (suc (suc zero))))))) = tt
-none_seen far (suc (suc (suc (suc (suc (suc (suc (suc zero)))))))) = tt
-none_seen far (suc (suc (suc (suc (suc (suc (suc (suc (suc zero))))))))) = tt
-none_seen far (suc (suc (suc (suc (suc (suc (suc (suc (suc (suc k)))))))))) = tt
+none_seen far place = nothing_known 10 place (λ octet. slice_index far.page place ≡ octet)
 
 whole_agrees : (page : List ℕ) → Agrees (whole_page page) page
 whole_agrees page zero = refl

@@ -1,23 +1,29 @@
 -- What a state makes of octets is what the device makes of them that it stands for.
-use Rattle.std.proofs.Common.{◌≡◌, ℕ, Bool, true, false, List, [], ◌∷◌, refl, sym, ◌∙◌, ap, subst}
-use Rattle.std.specs.Prelude.{Option, Some, None, IfSome, Result, Ok, Err, slice_index, if◌then◌else◌, ◌==◌, bytes_eq, option_map}
+use Rattle.std.proofs.Common.{◌≡◌, ℕ, Bool, true, false, List, refl, sym, ◌∙◌, ap, subst}
+use Rattle.std.specs.Prelude.{Option, Some, None, IfSome, Result, Ok, Err, slice_index, if◌then◌else◌, ◌==◌, bytes_eq}
 use Rattle.iol_octets.specs.declared.control.Channel.{Channel}
 use Rattle.iol_octets.specs.declared.control.Channel.TheVariants.{Process, Page, Diagnosis, Isdu}
 use Rattle.iol_mseq.specs.Shape.{Shape}
 use Rattle.iol_mseq.specs.declared.master.MasterMsg.{MasterMsg}
+use Rattle.iol_page.specs.Page.{knows_isdu}
 use Rattle.iol_page.specs.declared.page.Layouts.{Layouts}
 use Rattle.iol_event.specs.Memory.{Events}
 use Rattle.iol_far.specs.declared.mode.Mode.{Mode}
-use Rattle.iol_far.specs.Codec.{layout_in, message_in}
-use Rattle.iol_far.specs.Far.{Far, WaitingCommand, Heard, layout_of, accepted, accepted_by, accepted_now, moved, hear, heard_as, replied, worked, command_in, mode_asked, known_mode, waits_after, cycle_time_after}
+use Rattle.iol_far.specs.Codec.{flow_of, layout_in, message_in}
+use Rattle.iol_far.specs.Isdu.{Empty}
+use Rattle.iol_far.specs.Far.{Far, WaitingCommand, layout_of, accepted, accepted_by, accepted_now, moved, worked, command_in, mode_asked, known_mode, waits_after, cycle_time_after, events_after, is_confirm}
 use Rattle.iol_far.specs.Level.{Link, link_of, taken, taken_by}
 use Rattle.iol_judge.specs.declared.open.Open.{Open}
 use Rattle.iol_judge.specs.declared.taken.Taken.{Taken}
+use Rattle.iol_judge.specs.declared.events.Shown.TheVariants.{Fresh}
+use Rattle.iol_judge.specs.Events.{shown_after}
 use Rattle.iol_judge.specs.State.{State}
 use Rattle.iol_judge.specs.Taking as take
 use Rattle.iol_judge.specs.Taking.{mode_layout, mode_known, cycle_after, state_after, taken_in, taken_message, taken_asked}
-use Rattle.iol_judge.specs.Admitted.{Admits}
+use Rattle.iol_judge.specs.Admitted.{Admits, AreShown, IsUnderWay}
 use Rattle.iol_judge.proofs.Layouts.{Knows}
+use Rattle.iol_judge.proofs.Shown.{worked_shown}
+use Rattle.iol_judge.proofs.Transferring.{transfer_kept, transfer_worked}
 
 -- the device as it accepts the octets, if it does
 pub record Accepting (far there : Far) (octets : List ℕ) : Type 0 where
@@ -25,6 +31,9 @@ pub record Accepting (far there : Far) (octets : List ℕ) : Type 0 where
   pub page : there.page ≡ far.page
   pub cycle : there.cycle_time ≡ far.cycle_time
   pub events : there.events ≡ far.events
+  pub isdu : far.isdu ≡ Empty → there.isdu ≡ Empty
+  pub hears : far.awake ≡ true
+  pub awake : there.awake ≡ true
   pub accepts : accepted far octets ≡ accepted_now there octets
 
 record AcceptingBy (waits : Option WaitingCommand) (far there : Far) (octets : List ℕ) : Type 0
@@ -33,12 +42,24 @@ record AcceptingBy (waits : Option WaitingCommand) (far there : Far) (octets : L
     pub page : there.page ≡ far.page
     pub cycle : there.cycle_time ≡ far.cycle_time
     pub events : there.events ≡ far.events
+    pub isdu : far.isdu ≡ Empty → there.isdu ≡ Empty
+    pub awake : there.awake ≡ far.awake
     pub accepts : accepted_by waits far octets ≡ accepted_now there octets
 
 accepting_by : (waits : Option WaitingCommand) (far : Far) (octets : List ℕ)
     → (there : Far) × AcceptingBy waits far there octets
-accepting_by None far octets =
-    (far, record { link = refl; page = refl; cycle = refl; events = refl; accepts = refl })
+accepting_by None far octets = (
+  far,
+  record {
+    link = refl;
+    page = refl;
+    cycle = refl;
+    events = refl;
+    isdu = λ e. e;
+    awake = refl;
+    accepts = refl;
+  },
+)
 accepting_by (Some command) far octets = split (bytes_eq octets command.octets) refl
   where
     split : (b : Bool) → bytes_eq octets command.octets ≡ b
@@ -51,6 +72,8 @@ accepting_by (Some command) far octets = split (bytes_eq octets command.octets) 
         page = refl;
         cycle = refl;
         events = refl;
+        isdu = λ e. e;
+        awake = refl;
         accepts = ap (λ (b : Bool). if b then accepted_now far octets else accepted_now
             (moved far command.into) octets) e;
       },
@@ -63,6 +86,8 @@ accepting_by (Some command) far octets = split (bytes_eq octets command.octets) 
         page = refl;
         cycle = refl;
         events = refl;
+        isdu = λ e. refl;
+        awake = refl;
         accepts = ap (λ (b : Bool). if b then accepted_now far octets else accepted_now
             (moved far command.into) octets) e;
       },
@@ -78,6 +103,9 @@ accepting far octets awake =
         page = found.1.page;
         cycle = found.1.cycle;
         events = found.1.events;
+        isdu = found.1.isdu;
+        hears = awake;
+        awake = found.1.awake ∙ awake;
         accepts = ap (λ (b : Bool). if b then accepted_by far.waits far octets else None) awake
             ∙ found.1.accepts;
       },
@@ -120,18 +148,28 @@ worked_link there link octets asked message at finds =
     at
 
 module _ (known : Result Layouts Open) (page : List ℕ) (knows : Knows known page) (there : Far)
-    (link : Link) (cycle : Option ℕ) (octets : List ℕ) (there_page : there.page ≡ page)
-    (at : link_of there ≡ link) (admits : IfSome cycle (λ o. there.cycle_time ≡ o)) where
+    (link : Link) (state : State) (octets : List ℕ) (there_page : there.page ≡ page)
+    (at : link_of there ≡ link) (admits : IfSome state.cycle (λ o. there.cycle_time ≡ o))
+    (awake : there.awake ≡ true) (shown : AreShown state.events there.events)
+    (under_way : IsUnderWay state.transfer there.isdu) where
+  shown_worked : (confirm : Bool)
+      → AreShown (if there.awake then shown_after state.events confirm else Fresh)
+      (events_after there.events confirm)
+  shown_worked confirm =
+      subst (λ (b : Bool). AreShown (if b then shown_after state.events confirm else Fresh)
+      (events_after there.events confirm)) (sym awake)
+      (worked_shown state.events there.events confirm shown)
+
   fits_asked : (layout : Shape) (message : MasterMsg) (asked : Result (Option Mode) Open)
       → mode_known known (mode_asked (command_in message)) ≡ asked → layout ≡ layout_of there
-      → (found : Option Taken) → taken_asked link cycle octets layout message asked ≡ Ok found
+      → (found : Option Taken) → taken_asked link state octets layout message asked ≡ Ok found
       → Fits there octets (Some message) found
   unfolding Fits
   fits_asked layout message (Err why) e l found h = absurd (cc)
   fits_asked layout message (Ok asked) e l None h = absurd (cc)
   fits_asked layout message (Ok asked) e l (Some found) h =
       let is : ◌≡◌ {A = Taken} (record {
-        kept = state_after link cycle octets message asked;
+        kept = state_after link state octets message asked;
         layout
             = layout;
         message = message;
@@ -141,21 +179,26 @@ module _ (known : Result Layouts Open) (page : List ℕ) (knows : Knows known pa
       (sym there_page)
       (knows.mode (mode_asked (command_in message)) asked e) in
       let all : (message ≡ message) × (layout ≡ layout_of there)
-      × Admits (state_after link cycle octets message asked) (worked there octets message) = (
+      × Admits (state_after link state octets message asked) (worked there octets message) = (
         refl,
         l,
         record {
           link = worked_link there link octets asked message at finds;
-          cycle = cycle_admits there.cycle_time cycle message.mc.channel message.mc.read
+          cycle = cycle_admits there.cycle_time state.cycle message.mc.channel message.mc.read
               message.mc.address
               (slice_index message.od.items 0) admits;
+          events = shown_worked
+              (is_confirm message.mc.channel message.mc.read message.mc.address);
+          isdu = transfer_worked state.transfer (knows_isdu there.page) (layout_of there).od
+              there.isdu message.mc.channel message.mc.read (flow_of message.mc.address)
+              message.od.items under_way;
         },
       ) in
       subst (λ (t : Taken). (t.message ≡ message) × (t.layout ≡ layout_of there) × Admits t.kept
       (worked there octets message)) is all
 
   fits_message : (layout : Shape) (message : Option MasterMsg) → layout ≡ layout_of there
-      → (found : Option Taken) → taken_message known link cycle octets layout message ≡ Ok found
+      → (found : Option Taken) → taken_message known link state octets layout message ≡ Ok found
       → Fits there octets message found
   unfolding Fits
   fits_message layout None l found h = cc
@@ -163,7 +206,7 @@ module _ (known : Result Layouts Open) (page : List ℕ) (knows : Knows known pa
       fits_asked layout message (mode_known known (mode_asked (command_in message))) refl l found h
 
   fits_layout : (layout : Result Shape Open) → mode_layout known link.mode ≡ layout
-      → (found : Option Taken) → taken_in known link cycle octets layout ≡ Ok found
+      → (found : Option Taken) → taken_in known link state octets layout ≡ Ok found
       → Fits there octets (message_in (layout_of there) octets) found
   fits_layout (Err why) e found h = absurd (cc)
   fits_layout (Ok layout) e found h =
@@ -181,10 +224,15 @@ pub state_fits : (known : Result Layouts Open) (far there : Far) (octets : List 
     → take.taken_by known state octets ≡ Ok found
     → Fits there octets (message_in (layout_of there) octets) found
 state_fits known far there octets state found knows accepting admits h =
+    let shown : AreShown state.events far.events =
+    subst (λ (b : Bool). AreShown (if b then state.events else Fresh) far.events) accepting.hears
+    admits.events in
     let at : link_of there ≡ taken state.link octets =
     accepting.link ∙ ap (λ (l : Link). taken l octets) admits.link in
-    fits_layout known far.page knows there (taken state.link octets) state.cycle octets
+    fits_layout known far.page knows there (taken state.link octets) state octets
     accepting.page
     at (let P : ℕ → Type 0 = λ c. IfSome state.cycle (λ o. c ≡ o) in subst P (sym accepting.cycle)
     admits.cycle)
+    accepting.awake (subst (λ (m : Events). AreShown state.events m) (sym accepting.events) shown)
+    (transfer_kept state.transfer far.isdu there.isdu accepting.isdu admits.isdu)
     (mode_layout known (taken state.link octets).mode) refl found h

@@ -1,4 +1,6 @@
 mod Turns
+mod Shown
+mod Transferring
 mod Alone
 mod Sets
 mod Layouts

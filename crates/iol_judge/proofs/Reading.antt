@@ -1,5 +1,5 @@
 -- A reply that can be read wasn't damaged.
-use Rattle.std.proofs.Common.{◌≡◌, ℕ, ◌+◌, ◌-◌, ◌≤◌, min, Bool, true, false, List, length, refl, sym, ◌∙◌, ap, subst, leb-true}
+use Rattle.std.proofs.Common.{◌≡◌, ℕ, ◌+◌, ◌-◌, min, Bool, true, false, List, length, refl, sym, ◌∙◌, ap, subst, leb-true}
 use Rattle.std.specs.Prelude.{Option, Some, None, is_some, Result, Ok, Err, ◌&&◌, ◌||◌, nat_le, slice_index, if◌then◌else◌, IsTrue}
 use Rattle.iol_mseq.specs.Shape.{Shape, IsLayout, is_size, shape, operate_shape}
 use Rattle.iol_mseq.specs.Master.{master_in}
@@ -8,7 +8,7 @@ use Rattle.iol_mseq.specs.declared.fault.MseqFault.{MseqFault}
 use Rattle.iol_mseq.specs.declared.fault.MseqFault.TheVariants.{BadLength}
 use Rattle.iol_mseq.specs.declared.master.MasterMsg.{MasterMsg}
 use Rattle.iol_link.specs.Honest.{IsUnread}
-use Rattle.iol_judge.specs.Replies.{is_read_as, is_read_in, is_read_by, is_read_with, is_readable}
+use Rattle.iol_judge.specs.Replies.{is_read_as, is_read_by, is_read_with, is_readable}
 
 module _ (sent reply : List ℕ) (unread : IsUnread sent (Some reply)) where
   not_as : (layout : Shape) → IsLayout layout → (message : Option MasterMsg)

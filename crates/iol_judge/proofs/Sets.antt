@@ -1,7 +1,7 @@
--- A set of states, each state once.
-use Rattle.std.proofs.Common.{◌≡◌, ℕ, Bool, true, false, List, [], ◌∷◌, ◌++◌, length, refl, sym, ◌∙◌, ap, subst, eqb-true, arith, ◌⊎◌, inl, inr}
+-- A set of states, none of which an earlier one covers.
+use Rattle.std.proofs.Common.{◌≡◌, ℕ, Bool, true, false, List, [], ◌∷◌, ◌++◌, length, refl, sym, ◌∙◌, ap, subst, arith, ◌⊎◌, inl, inr}
 use Rattle.std.proofs.lemmas.Grind.{common_steps}
-use Rattle.std.specs.Prelude.{Option, Some, None, Result, Ok, Err, if◌then◌else◌, ◌&&◌, ◌||◌, ◌==◌, bytes_eq}
+use Rattle.std.specs.Prelude.{Option, Some, None, Ok, Err, if◌then◌else◌, ◌&&◌, ◌||◌, ◌==◌, bytes_eq}
 use Rattle.std.specs.List.{list_any}
 use Rattle.std.proofs.lemmas.Slice.Eq.{bytes_eq-Decides}
 use Rattle.iol_far.specs.declared.mode.Mode.{Mode}
@@ -9,16 +9,16 @@ use Rattle.iol_far.specs.declared.mode.Mode.TheVariants.{Startup, Preoperate, Op
 use Rattle.iol_far.specs.Far.{Far, WaitingCommand, is_mode}
 use Rattle.iol_far.specs.Level.{Link}
 use Rattle.iol_judge.specs.declared.taken.TheConstants.{MAX_STATES}
-use Rattle.iol_judge.specs.declared.open.Open.{Open}
 use Rattle.iol_judge.specs.declared.open.Open.TheVariants.{TooManyStates}
-use Rattle.iol_judge.specs.State.{State, same_state, same_octet, same_waiting}
+use Rattle.iol_judge.specs.declared.events.Shown.TheVariants.{Fresh}
+use Rattle.iol_judge.specs.Octets.{is_known_in}
+use Rattle.iol_judge.specs.Events.{covers_events}
+use Rattle.iol_judge.specs.Transfers.{covers_transfer}
+use Rattle.iol_judge.specs.State.{State, covers, same_waiting}
 use Rattle.iol_judge.specs.Judged.{added, has_state}
-use Rattle.iol_judge.specs.Admitted.{Admits, AdmitsOne}
-
-both : (a b : Bool) → (a && b) ≡ true → (a ≡ true) × (b ≡ true)
-both true true h = (refl, refl)
-both true false h = absurd (cc)
-both false b h = absurd (cc)
+use Rattle.iol_judge.specs.Admitted.{Admits, AdmitsOne, AreShown}
+use Rattle.iol_judge.proofs.Shown.{both, known_in_keeps, covers_shown}
+use Rattle.iol_judge.proofs.Transferring.{covers_under_way}
 
 same_mode : (a b : Mode) → is_mode a b ≡ true → a ≡ b
 same_mode Startup Startup h = refl
@@ -31,12 +31,6 @@ same_mode Operate Startup h = absurd (cc)
 same_mode Operate Preoperate h = absurd (cc)
 same_mode Operate Operate h = refl
 
-octets_same : (a b : Option ℕ) → same_octet a b ≡ true → a ≡ b
-octets_same None None h = refl
-octets_same (Some a) (Some b) h = ap Some (eqb-true a b h)
-octets_same None (Some b) h = absurd (cc)
-octets_same (Some a) None h = absurd (cc)
-
 bytes_same : (a b : List ℕ) → bytes_eq a b ≡ true → a ≡ b
 bytes_same a b same = grind (arith, common_steps, bytes_eq-Decides a b)
 
@@ -46,14 +40,11 @@ same_commands m n x y e f =
     ap (λ (k : Mode). record { into = k; octets = x }) e
     ∙ ap (λ (o : List ℕ). record { into = n; octets = o }) f
 
-same_parts : (m n : Mode) (v w : Option WaitingCommand) (c d : Option ℕ) → m ≡ n → v ≡ w → c ≡ d
-    → ◌≡◌ {A = State} (record { link = record { mode = m; waits = v }; cycle = c })
-    (record { link = record { mode = n; waits = w }; cycle = d })
-same_parts m n v w c d e f g =
-    ap (λ (k : Mode). record { link = record { mode = k; waits = v }; cycle = c }) e
-    ∙ ap (λ (k : Option WaitingCommand). record
-    { link = record { mode = n; waits = k }; cycle = c }) f
-    ∙ ap (λ (k : Option ℕ). record { link = record { mode = n; waits = w }; cycle = k }) g
+same_links : (m n : Mode) (v w : Option WaitingCommand) → m ≡ n → v ≡ w
+    → ◌≡◌ {A = Link} (record { mode = m; waits = v }) (record { mode = n; waits = w })
+same_links m n v w e f =
+    ap (λ (k : Mode). record { mode = k; waits = v }) e
+    ∙ ap (λ (k : Option WaitingCommand). record { mode = n; waits = k }) f
 
 waiting_same : (a b : Option WaitingCommand) → same_waiting a b ≡ true → a ≡ b
 waiting_same None None h = refl
@@ -65,28 +56,44 @@ waiting_same (Some a) (Some b) h =
     let octets : a.octets ≡ b.octets = bytes_same a.octets b.octets parts.1 in
     ap Some (same_commands a.into b.into a.octets b.octets into octets)
 
-states_same : (a b : State) → same_state a b ≡ true → a ≡ b
-states_same a b h =
-    let outer = both (is_mode a.link.mode b.link.mode && same_octet a.cycle b.cycle)
-    (same_waiting a.link.waits b.link.waits) h in
-    let inner = both (is_mode a.link.mode b.link.mode) (same_octet a.cycle b.cycle) outer.0 in
+covers_admits : (a b : State) (far : Far) → covers a b ≡ true → Admits b far → Admits a far
+covers_admits a b far h s =
+    let whole = both (((is_mode a.link.mode b.link.mode && is_known_in a.cycle b.cycle)
+    && same_waiting a.link.waits b.link.waits) && covers_events a.events b.events)
+    (covers_transfer a.transfer b.transfer) h in
+    let all = both ((is_mode a.link.mode b.link.mode && is_known_in a.cycle b.cycle)
+    && same_waiting a.link.waits b.link.waits) (covers_events a.events b.events) whole.0 in
+    let outer = both (is_mode a.link.mode b.link.mode && is_known_in a.cycle b.cycle)
+    (same_waiting a.link.waits b.link.waits) all.0 in
+    let inner = both (is_mode a.link.mode b.link.mode) (is_known_in a.cycle b.cycle) outer.0 in
     let mode : a.link.mode ≡ b.link.mode = same_mode a.link.mode b.link.mode inner.0 in
-    let cycle : a.cycle ≡ b.cycle = octets_same a.cycle b.cycle inner.1 in
     let waits : a.link.waits ≡ b.link.waits = waiting_same a.link.waits b.link.waits outer.1 in
-    same_parts a.link.mode b.link.mode a.link.waits b.link.waits a.cycle b.cycle mode waits cycle
+    let link : a.link ≡ b.link =
+    same_links a.link.mode b.link.mode a.link.waits b.link.waits mode waits in
+    record {
+      link = s.link ∙ sym link;
+      cycle = known_in_keeps a.cycle b.cycle (λ octet. far.cycle_time ≡ octet) inner.1 s.cycle;
+      events = events far.awake s.events all.1;
+      isdu = covers_under_way a.transfer b.transfer far.isdu whole.1 s.isdu;
+    }
+  where
+    events : (awake : Bool) → AreShown (if awake then b.events else Fresh) far.events
+        → covers_events a.events b.events ≡ true
+        → AreShown (if awake then a.events else Fresh) far.events
+    events true s g = covers_shown a.events b.events far.events g s
+    events false s g = s
 
 has_admits : (states : List State) (state : State) (far : Far) → has_state states state ≡ true
     → Admits state far → AdmitsOne states far
 has_admits [] state far h admits = absurd (cc)
 has_admits (x ∷ states) state far h admits =
-    split (same_state x state) refl h (λ rest. has_admits states state far rest admits)
+    split (covers x state) refl h (λ rest. has_admits states state far rest admits)
   where
-    split : (b : Bool) → same_state x state ≡ b
-        → (b || list_any (λ other. same_state other state) states) ≡ true
-        → (list_any (λ other. same_state other state) states ≡ true → AdmitsOne states far)
+    split : (b : Bool) → covers x state ≡ b
+        → (b || list_any (λ other. covers other state) states) ≡ true
+        → (list_any (λ other. covers other state) states ≡ true → AdmitsOne states far)
         → Admits x far ⊎ AdmitsOne states far
-    split true e h rest = inl (subst (λ (s : State). Admits s far) (sym (states_same x state e))
-        admits)
+    split true e h rest = inl (covers_admits x state far e admits)
     split false e h rest = inr (rest h)
 
 -- the one at the end

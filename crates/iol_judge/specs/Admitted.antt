@@ -1,9 +1,17 @@
 -- Which devices a kept state stands for, and the law of the judge.
-use Rattle.std.specs.Prelude.{◌≡◌, ◌≢◌, ◌⊎◌, ℕ, Bool, true, false, List, [], ◌∷◌, slice_index, slice_index_or, Option, Some, None, IfSome}
+use Rattle.std.specs.Prelude.{◌≡◌, ◌≢◌, ◌⊎◌, ◌≤◌, ℕ, suc, Bool, true, false, if◌then◌else◌, List, [], ◌∷◌, length, slice_index, slice_index_or, Option, None, IfSome}
+use Rattle.iol_event.specs.declared.event.Event.{Event}
+use Rattle.iol_event.specs.Memory.{Events, event_octet}
 use Rattle.iol_far.specs.Far.{Far}
+use Rattle.iol_far.specs.Isdu.{IsduState, Empty}
 use Rattle.iol_far.specs.Level.{link_of}
 use Rattle.iol_link.specs.Honest.{HonestExchange, HonestWake}
+use Rattle.iol_judge.specs.declared.events.Places.{Places}
+use Rattle.iol_judge.specs.declared.events.Shown.{Shown}
+use Rattle.iol_judge.specs.declared.events.Shown.TheVariants.{Held, Any, Fresh, Filled}
 use Rattle.iol_judge.specs.declared.reason.Reason.{Reason}
+use Rattle.iol_judge.specs.declared.transfer.Transfer.{Transfer}
+use Rattle.iol_judge.specs.declared.transfer.Transfer.TheVariants.{Quiet, Free}
 use Rattle.iol_judge.specs.declared.verdict.Verdict.{Verdict}
 use Rattle.iol_judge.specs.declared.verdict.Verdict.TheVariants.{Unjudged, Honest, NotHonest, CantSay}
 use Rattle.iol_judge.specs.declared.verdict.Wake.{Wake}
@@ -18,11 +26,42 @@ abbrev pub Agrees : List (Option ℕ) → List ℕ → Type 0
 Agrees seen page = (place : ℕ)
     → IfSome (slice_index_or seen place None) (λ octet. slice_index page place ≡ octet)
 
--- A state stands for each device in its mode, with its mode command waiting and its octet at page
--- address 0x01. All else is free: whether it sleeps, its ISDU state, events, process data, record
+-- the hold is over, and only during it events wait while none is frozen
+-- EVT-1, EVT-3
+pub record IsReleased (memory : Events) : Type 0 where
+  pub free : memory.held ≡ false
+  pub waits : memory.frozen ≡ [] → memory.waiting ≡ []
+
+-- so many events are frozen, with these octets
+-- EVT-4
+pub record AreIn (places : Places) (frozen : List Event) : Type 0 where
+  pub least : places.least ≤ length frozen
+  pub most : length frozen ≤ places.most
+  pub octets : (place : ℕ) → IfSome (slice_index_or places.octets place None)
+      (λ octet. event_octet frozen (suc place) ≡ octet)
+
+-- the events of a device that is awake are as known
+abbrev pub AreShown : Shown → Events → Type 0
+AreShown Held memory = (memory.held ≡ true) × (memory.frozen ≡ [])
+AreShown Any memory = IsReleased memory
+AreShown Fresh memory = IsReleased memory × (length memory.frozen ≤ 1)
+AreShown (Filled places) memory =
+    IsReleased memory × (1 ≤ length memory.frozen) × AreIn places memory.frozen
+
+-- the ISDU state of a device is as known
+-- DEV-11, DEV-14
+abbrev pub IsUnderWay : Transfer → IsduState → Type 0
+IsUnderWay Quiet state = state ≡ Empty
+IsUnderWay Free state = Unit {0}
+
+-- A state stands for each device in its mode, with its mode command waiting, its octet at page
+-- address 0x01, its events and its ISDU transfer. One that sleeps had a power cycle, and has at
+-- most one event. All else is free: whether it sleeps, process data, record
 pub record Admits (state : State) (far : Far) : Type 0 where
   pub link : link_of far ≡ state.link
   pub cycle : IfSome state.cycle (λ octet. far.cycle_time ≡ octet)
+  pub events : AreShown (if far.awake then state.events else Fresh) far.events
+  pub isdu : IsUnderWay state.transfer far.isdu
 
 -- one of the states stands for it
 abbrev pub AdmitsOne : List State → Far → Type 0

@@ -1,5 +1,5 @@
 -- The judge: the states of a device that a capture so far admits, and the verdict.
-use Rattle.std.specs.Prelude.{ℕ, ◌+◌, ◌-◌, ◌^◌, min, Bool, true, false, ◌||◌, ◌==◌, if◌then◌else◌, List, [], ◌∷◌, ◌++◌, length, slice_index, Option, Some, None, Result, Ok, Err}
+use Rattle.std.specs.Prelude.{ℕ, ◌+◌, ◌-◌, ◌^◌, min, Bool, true, ◌==◌, if◌then◌else◌, List, [], ◌∷◌, ◌++◌, length, slice_index, Option, Some, None, Result, Ok, Err}
 use Rattle.std.specs.List.{list_any}
 use Rattle.iol_octets.specs.Control.{control_of}
 use Rattle.iol_octets.specs.declared.control.Mc.{Mc}
@@ -21,7 +21,7 @@ use Rattle.iol_judge.specs.declared.verdict.Wake.{Wake}
 use Rattle.iol_judge.specs.declared.verdict.Wake.TheVariants.{Answered, Unanswered}
 use Rattle.iol_judge.specs.Numbers.{later}
 use Rattle.iol_judge.specs.Seen.{nothing_seen, layouts_seen, page_noted}
-use Rattle.iol_judge.specs.State.{State, startup_state, woken_state, same_state}
+use Rattle.iol_judge.specs.State.{State, first_state, woken_state, powered_state, covers}
 use Rattle.iol_judge.specs.Taking.{taken_by}
 use Rattle.iol_judge.specs.Replies.{is_readable, explained}
 
@@ -37,10 +37,10 @@ pub record Judged : Type 0 where
 abbrev pub new_judge : Judged
 new_judge = record { seen = nothing_seen; states = []; verdict = Unjudged; exchanges = 0 }
 
--- Sets of states, each state once
+-- Sets of states, none of which an earlier one covers
 
 abbrev pub has_state : List State → State → Bool
-has_state states state = list_any (λ other. same_state other state) states
+has_state states state = list_any (λ other. covers other state) states
 
 abbrev pub added : List State → State → Result (List State) Open
 added states state =
@@ -170,22 +170,22 @@ exchanged judged sent answer = judged_by judged.verdict (counted judged) sent an
 
 -- A wake-up request
 
-abbrev pub woken_with : State → Result (List State) Open → Result (List State) Open
-woken_with state (Ok next) = added next (woken_state state)
-woken_with state (Err why) = Err why
+-- a state as woken, as it is or after a power cycle, and where the request wasn't answered as it
+-- was too
+-- DEV-1, DEV-16, WIRE-3
+abbrev pub woken_states : Wake → State → List State
+woken_states Answered state = woken_state state ∷ powered_state state ∷ []
+woken_states Unanswered state = state ∷ woken_state state ∷ powered_state state ∷ []
 
--- a state as woken, and where the request wasn't answered as it was too
--- DEV-1, WIRE-3
 abbrev pub woken_into : Wake → List State → State → Result (List State) Open
-woken_into Answered next state = added next (woken_state state)
-woken_into Unanswered next state = woken_with state (added next state)
+woken_into wake next state = each_in_turn added next (woken_states wake state)
 
 abbrev pub all_woken : Wake → List State → List State → Result (List State) Open
 all_woken wake next states = each_in_turn (woken_into wake) next states
 
 abbrev pub woke_by : Verdict → Judged → Wake → Judged
 woke_by Unjudged judged Answered =
-    record judged { states = startup_state None ∷ []; verdict = Honest }
+    record judged { states = first_state ∷ []; verdict = Honest }
 woke_by Honest judged wake = concluded_lost judged (all_woken wake [] judged.states)
 woke_by verdict judged wake = judged
 

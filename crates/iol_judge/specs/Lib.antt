@@ -1,4 +1,7 @@
 pub mod Numbers
+pub mod Octets
+pub mod Events
+pub mod Transfers
 pub mod State
 pub mod Seen
 pub mod Taking

@@ -1,7 +1,7 @@
 -- The number of each reason.
 use Rattle.std.specs.Prelude.{ℕ, nat_lt, if◌then◌else◌}
 use Rattle.iol_judge.specs.declared.reason.Reason.{Reason}
-use Rattle.iol_judge.specs.declared.reason.Reason.TheVariants.{NotTaken, ReplyLength, StatusWithoutData, InvalidNotZero, FlagAtConfirm, PageChanged, PageZero, CycleTime, ProcessNotZero, RestNotZero}
+use Rattle.iol_judge.specs.declared.reason.Reason.TheVariants.{NotTaken, ReplyLength, StatusWithoutData, InvalidNotZero, FlagAtConfirm, FlagGone, StatusCode, EventOctet, PageChanged, PageZero, CycleTime, ProcessNotZero, RestNotZero, NoAnswerDue}
 use Rattle.iol_judge.specs.declared.open.Open.{Open}
 use Rattle.iol_judge.specs.declared.open.Open.TheVariants.{PageUnread, PageRefused, TooManyStates}
 
@@ -11,11 +11,15 @@ reason_number ReplyLength = 2
 reason_number StatusWithoutData = 3
 reason_number InvalidNotZero = 4
 reason_number FlagAtConfirm = 5
+reason_number FlagGone = 6
+reason_number StatusCode = 7
+reason_number EventOctet = 8
 reason_number PageChanged = 9
 reason_number PageZero = 10
 reason_number CycleTime = 11
 reason_number ProcessNotZero = 12
 reason_number RestNotZero = 13
+reason_number NoAnswerDue = 14
 
 abbrev pub open_number : Open → ℕ
 open_number PageUnread = 1

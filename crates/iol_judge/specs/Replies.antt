@@ -1,6 +1,7 @@
 -- Which replies a device in a kept state may have sent.
-use Rattle.std.specs.Prelude.{ℕ, ◌+◌, ◌-◌, min, Bool, true, false, not, ◌&&◌, ◌||◌, ◌==◌, nat_le, nat_lt, if◌then◌else◌, List, length, drop, slice_index, Option, Some, None, is_some, Result, Ok, Err}
+use Rattle.std.specs.Prelude.{ℕ, ◌+◌, ◌-◌, min, Bool, true, false, not, ◌&&◌, ◌||◌, ◌==◌, nat_le, if◌then◌else◌, List, length, drop, slice_index, Option, Some, None, is_some, Result, Ok, Err}
 use Rattle.std.specs.List.{list_all}
+use Rattle.std.specs.Option.{option_or}
 use Rattle.iol_octets.specs.declared.control.Channel.{Channel}
 use Rattle.iol_octets.specs.declared.control.Channel.TheVariants.{Process, Page, Diagnosis, Isdu}
 use Rattle.iol_octets.specs.declared.control.Mc.{Mc}
@@ -10,12 +11,16 @@ use Rattle.iol_mseq.specs.Replies.{reply_in}
 use Rattle.iol_mseq.specs.declared.fault.MseqFault.{MseqFault}
 use Rattle.iol_mseq.specs.declared.master.MasterMsg.{MasterMsg}
 use Rattle.iol_mseq.specs.declared.reply.Reply.{Reply}
-use Rattle.iol_far.specs.Far.{is_confirm}
 use Rattle.iol_judge.specs.declared.reason.Reason.{Reason}
-use Rattle.iol_judge.specs.declared.reason.Reason.TheVariants.{NotTaken, ReplyLength, StatusWithoutData, InvalidNotZero, FlagAtConfirm, PageChanged, PageZero, CycleTime, ProcessNotZero, RestNotZero}
+use Rattle.iol_judge.specs.declared.reason.Reason.TheVariants.{NotTaken, ReplyLength, StatusWithoutData, InvalidNotZero, PageChanged, PageZero, CycleTime, ProcessNotZero, RestNotZero, NoAnswerDue}
 use Rattle.iol_judge.specs.declared.taken.Taken.{Taken}
 use Rattle.iol_judge.specs.declared.taken.Explained.{Explained}
 use Rattle.iol_judge.specs.declared.taken.Explained.TheVariants.{By, Not}
+use Rattle.iol_judge.specs.declared.events.Shown.{Shown}
+use Rattle.iol_judge.specs.declared.transfer.Transfer.{Transfer}
+use Rattle.iol_judge.specs.declared.transfer.Transfer.TheVariants.{Quiet, Free}
+use Rattle.iol_judge.specs.Octets.{is_other}
+use Rattle.iol_judge.specs.Events.{flag_fault, flag_told, events_fault, events_told}
 use Rattle.iol_judge.specs.Seen.{octet_seen}
 use Rattle.iol_judge.specs.State.{State}
 
@@ -65,50 +70,68 @@ page_reason address =
 abbrev pub octet_known : List (Option ℕ) → Option ℕ → ℕ → Option ℕ
 octet_known seen cycle address = if address == 1 then cycle else octet_seen seen address
 
-abbrev pub is_other : Option ℕ → ℕ → Bool
-is_other None octet = false
-is_other (Some known) octet = not (octet == known)
+-- MSG-6
+abbrev pub rest_fault : List ℕ → Option Reason
+rest_fault od = if are_zeros (drop 1 od) then None else Some RestNotZero
 
 -- DEV-7, MSG-6
 abbrev pub page_fault : List (Option ℕ) → Option ℕ → ℕ → List ℕ → Option Reason
 page_fault seen cycle address od =
     if is_other (octet_known seen cycle address) (slice_index od 0)
     then Some (page_reason address) else
-    if are_zeros (drop 1 od) then None else Some RestNotZero
+    rest_fault od
 
--- the on-request data of the reply to a read
+-- DEV-7, EVT-4, MSG-6
+abbrev pub diagnosis_fault : Shown → ℕ → List ℕ → Option Reason
+diagnosis_fault events address od =
+    option_or (events_fault events address (slice_index od 0)) (rest_fault od)
+
+-- where no transfer is under way there is no answer
+-- DEV-14
+abbrev pub isdu_fault : Transfer → List ℕ → Option Reason
+isdu_fault Quiet od = if are_zeros od then None else Some NoAnswerDue
+isdu_fault Free od = None
+
+-- the on-request data of the reply to a read, once its Event flag was had
 -- DEV-7, MSG-6
-abbrev pub data_fault : List (Option ℕ) → Option ℕ → Channel → ℕ → List ℕ → Option Reason
-data_fault seen cycle Process address od = if are_zeros od then None else Some ProcessNotZero
-data_fault seen cycle Page address od = page_fault seen cycle address od
-data_fault seen cycle Diagnosis address od =
-    if are_zeros (drop 1 od) then None else Some RestNotZero
-data_fault seen cycle Isdu address od = None
+abbrev pub data_fault : List (Option ℕ) → State → Bool → Channel → ℕ → List ℕ → Option Reason
+data_fault seen state flag Process address od =
+    if are_zeros od then None else Some ProcessNotZero
+data_fault seen state flag Page address od = page_fault seen state.cycle address od
+data_fault seen state flag Diagnosis address od =
+    diagnosis_fault (flag_told state.events flag) address od
+data_fault seen state flag Isdu address od = isdu_fault state.transfer od
 
--- DEV-8, EVT-2, DEV-7
+-- DEV-7, DEV-8, EVT-2
 abbrev pub reply_fault : List (Option ℕ) → State → Shape → Mc → Reply → Option Reason
 reply_fault seen state layout mc reply =
     if reply.invalid && (layout.pd_in == 0) then Some StatusWithoutData else
     if reply.invalid && not (are_zeros reply.input.items) then Some InvalidNotZero else
-    if is_confirm mc.channel mc.read mc.address && reply.event
-    then Some FlagAtConfirm else
-    if mc.read
-    then data_fault seen state.cycle mc.channel mc.address reply.od.items
-    else None
+    option_or (flag_fault state.events reply.event)
+    (if mc.read
+    then data_fault seen state reply.event mc.channel mc.address reply.od.items
+    else None)
 
 -- What a reply tells
 
--- a read of page address 0x01
-abbrev pub is_cycle_read : Bool → Channel → ℕ → Bool
-is_cycle_read true Page address = address == 1
-is_cycle_read read channel address = false
+-- page address 0x01, where it was read as this octet
+abbrev pub cycle_told : Option ℕ → Bool → Channel → ℕ → ℕ → Option ℕ
+cycle_told old true Page address octet = if address == 1 then Some octet else old
+cycle_told old read channel address octet = old
+
+abbrev pub shown_told : Shown → Bool → Channel → ℕ → ℕ → Shown
+shown_told events true Diagnosis address octet = events_told events address octet
+shown_told events read channel address octet = events
 
 -- the state, once its reply to that message was had
 abbrev pub learned : State → Mc → Reply → State
-learned state mc reply =
-    if is_cycle_read mc.read mc.channel mc.address
-    then record state { cycle = Some (slice_index reply.od.items 0) }
-    else state
+learned state mc reply = record state {
+  cycle =
+      cycle_told state.cycle mc.read mc.channel mc.address (slice_index reply.od.items 0);
+  events =
+      shown_told (flag_told state.events reply.event) mc.read mc.channel mc.address
+      (slice_index reply.od.items 0);
+}
 
 abbrev pub explained_if : State → Mc → Reply → Option Reason → Explained
 explained_if state mc reply None = By (learned state mc reply)

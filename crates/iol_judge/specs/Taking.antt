@@ -1,5 +1,5 @@
 -- What a message makes of a kept state.
-use Rattle.std.specs.Prelude.{ℕ, Bool, true, false, ◌==◌, if◌then◌else◌, List, slice_index, Option, Some, None, is_some, unwrap_or, Result, Ok, Err}
+use Rattle.std.specs.Prelude.{ℕ, Bool, false, ◌==◌, if◌then◌else◌, List, slice_index, Option, Some, None, is_some, unwrap_or, Result, Ok, Err}
 use Rattle.iol_octets.specs.declared.control.Channel.{Channel}
 use Rattle.iol_octets.specs.declared.control.Channel.TheVariants.{Page}
 use Rattle.iol_mseq.specs.Shape.{Shape, startup_shape}
@@ -7,11 +7,13 @@ use Rattle.iol_mseq.specs.declared.master.MasterMsg.{MasterMsg}
 use Rattle.iol_page.specs.declared.page.Layouts.{Layouts}
 use Rattle.iol_far.specs.declared.mode.Mode.{Mode}
 use Rattle.iol_far.specs.declared.mode.Mode.TheVariants.{Startup, Preoperate, Operate}
-use Rattle.iol_far.specs.Codec.{message_in}
-use Rattle.iol_far.specs.Far.{command_in, mode_asked, waits_after}
+use Rattle.iol_far.specs.Codec.{flow_of, message_in}
+use Rattle.iol_far.specs.Far.{command_in, is_confirm, mode_asked, waits_after}
 use Rattle.iol_far.specs.Level.{Link, taken}
 use Rattle.iol_judge.specs.declared.open.Open.{Open}
 use Rattle.iol_judge.specs.declared.taken.Taken.{Taken}
+use Rattle.iol_judge.specs.Events.{shown_after}
+use Rattle.iol_judge.specs.Transfers.{transfer_after}
 use Rattle.iol_judge.specs.State.{State}
 
 -- the layout of a mode, where it is known
@@ -39,39 +41,43 @@ cycle_after old Page false address octet = if address == 1 then Some octet else 
 cycle_after old channel read address octet = old
 
 -- the state once the message was worked, by the link in which it was taken and the mode asked for
--- DEV-3, DEV-9
-abbrev pub state_after : Link → Option ℕ → List ℕ → MasterMsg → Option Mode → State
-state_after link cycle octets message asked = record {
+-- DEV-3, DEV-9, DEV-11, EVT-2
+abbrev pub state_after : Link → State → List ℕ → MasterMsg → Option Mode → State
+state_after link state octets message asked = record {
   link = record { mode = link.mode; waits = waits_after link.mode link.waits octets asked };
-  cycle = cycle_after cycle message.mc.channel message.mc.read message.mc.address
+  cycle = cycle_after state.cycle message.mc.channel message.mc.read message.mc.address
       (slice_index message.od.items 0);
+  events = shown_after state.events
+      (is_confirm message.mc.channel message.mc.read message.mc.address);
+  transfer = transfer_after state.transfer message.mc.channel message.mc.read
+      (flow_of message.mc.address);
 }
 
-abbrev pub taken_asked : Link → Option ℕ → List ℕ → Shape → MasterMsg → Result (Option Mode) Open
+abbrev pub taken_asked : Link → State → List ℕ → Shape → MasterMsg → Result (Option Mode) Open
     → Result (Option Taken) Open
-taken_asked link cycle octets layout message (Ok asked) = Ok (Some (record {
-  kept = state_after link cycle octets message asked;
+taken_asked link state octets layout message (Ok asked) = Ok (Some (record {
+  kept = state_after link state octets message asked;
   layout = layout;
   message = message;
 }))
-taken_asked link cycle octets layout message (Err why) = Err why
+taken_asked link state octets layout message (Err why) = Err why
 
-abbrev pub taken_message : Result Layouts Open → Link → Option ℕ → List ℕ → Shape
+abbrev pub taken_message : Result Layouts Open → Link → State → List ℕ → Shape
     → Option MasterMsg → Result (Option Taken) Open
-taken_message known link cycle octets layout None = Ok None
-taken_message known link cycle octets layout (Some message) =
-    taken_asked link cycle octets layout message
+taken_message known link state octets layout None = Ok None
+taken_message known link state octets layout (Some message) =
+    taken_asked link state octets layout message
     (mode_known known (mode_asked (command_in message)))
 
-abbrev pub taken_in : Result Layouts Open → Link → Option ℕ → List ℕ → Result Shape Open
+abbrev pub taken_in : Result Layouts Open → Link → State → List ℕ → Result Shape Open
     → Result (Option Taken) Open
-taken_in known link cycle octets (Ok layout) =
-    taken_message known link cycle octets layout (message_in layout octets)
-taken_in known link cycle octets (Err why) = Err why
+taken_in known link state octets (Ok layout) =
+    taken_message known link state octets layout (message_in layout octets)
+taken_in known link state octets (Err why) = Err why
 
 -- what a state makes of octets, none where it doesn't take them; open where the page's layouts
 -- would have to be known
 -- DEV-2
 abbrev pub taken_by : Result Layouts Open → State → List ℕ → Result (Option Taken) Open
-taken_by known state octets = taken_in known (taken state.link octets) state.cycle octets
+taken_by known state octets = taken_in known (taken state.link octets) state octets
     (mode_layout known (taken state.link octets).mode)

@@ -99,19 +99,19 @@ impl Judge {
 }
 
 impl Judge {
-    ghost use Rattle.std.specs.Prelude.{◌∷◌, None};
+    ghost use Rattle.std.specs.Prelude.{◌∷◌};
     ghost use Rattle.iol_judge.specs.Seen.{layouts_seen};
-    ghost use Rattle.iol_judge.specs.State.{startup_state};
+    ghost use Rattle.iol_judge.specs.State.{first_state};
     ghost use Rattle.iol_judge.specs.Judged.{all_woken, replied, unanswered};
     ghost use Rattle.iol_judge.specs.declared.verdict.Verdict.TheVariants.{Honest};
 
     /// The first answered wake-up request.
     fn begin(&mut self)
         ensures { self.new
-            ≡ record self.old { states = startup_state None ∷ []; verdict = Honest } }
+            ≡ record self.old { states = first_state ∷ []; verdict = Honest } }
     {
         let mut states = States::new();
-        states.push(Kept::startup());
+        states.push(Kept::first());
         self.states = states;
         self.verdict = Verdict::Honest;
     }

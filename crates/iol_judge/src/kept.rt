@@ -1,7 +1,9 @@
 //! What is kept of a device.
 ghost use Rattle.std.specs.Prelude.{◌≡◌, None, Some, Option};
-ghost use Rattle.iol_judge.specs.State.{startup_state};
+ghost use Rattle.iol_judge.specs.State.{first_state, startup_state};
 
+use crate::events::{Shown, is_known_in};
+use crate::transfer::Transfer;
 use iol_far::Mode;
 use iol_mseq::Message;
 use std::marker::Model;
@@ -51,6 +53,8 @@ pub(crate) struct Kept {
     pub waits: Option<Waiting>,
     /// The octet of page address 0x01, where it is known.
     pub cycle: Option<u8>,
+    pub events: Shown,
+    pub transfer: Transfer,
 }
 
 impl Model for Kept {
@@ -61,50 +65,65 @@ impl Model for Kept {
     ghost view = { λ k. record {
       link = record { mode = k.mode; waits = k.waits };
       cycle = k.cycle;
+      events = k.events;
+      transfer = k.transfer;
     } };
 
     ghost inverse = { λ s. record {
       mode = s.link.mode;
       waits = s.link.waits;
       cycle = s.cycle;
+      events = s.events;
+      transfer = s.transfer;
     } };
 }
 
 impl Default for Kept {
     fn default() -> Kept {
-        Kept::startup()
+        Kept::first()
     }
 }
 
 impl Kept {
-    ghost use Rattle.iol_judge.specs.State.{woken_state, same_state, same_waiting};
+    ghost use Rattle.iol_judge.specs.State.{powered_state, woken_state, covers, same_waiting};
 
     /// A device right after the first answered wake-up request.
     ///
     /// Rule DEV-1.
-    pub fn startup() -> Kept
-        ensures { result ≡ startup_state None }
+    pub fn first() -> Kept
+        ensures { result ≡ first_state }
     {
-        Kept::started(None)
+        Kept::started(None, Shown::Any)
     }
 
-    fn started(cycle: Option<u8>) -> Kept
-        ensures { result ≡ startup_state cycle }
+    fn started(cycle: Option<u8>, events: Shown) -> Kept
+        ensures { result ≡ startup_state cycle events }
     {
         Kept {
             mode: Mode::Startup,
             waits: None,
             cycle,
+            events,
+            transfer: Transfer::Quiet,
         }
     }
 
-    /// The state after a wake-up request.
+    /// The state after a wake-up request, of a device that was awake.
     ///
-    /// Rule DEV-1.
+    /// Rules DEV-1, EVT-3.
     pub fn woken(&self) -> Kept
         ensures { result ≡ woken_state self.now }
     {
-        Kept::started(self.cycle)
+        Kept::started(self.cycle, self.events.after(false))
+    }
+
+    /// The state after a wake-up request, of a device that had a power cycle.
+    ///
+    /// Rules DEV-1, DEV-16.
+    pub fn powered(&self) -> Kept
+        ensures { result ≡ powered_state self.now }
+    {
+        Kept::started(self.cycle, Shown::Fresh)
     }
 
     pub fn copy(&self) -> Kept
@@ -114,6 +133,8 @@ impl Kept {
             mode: self.mode,
             waits: self.waits_copy(),
             cycle: self.cycle,
+            events: self.events,
+            transfer: self.transfer,
         }
     }
 
@@ -126,11 +147,15 @@ impl Kept {
         }
     }
 
-    /// Whether the states are the same.
-    pub fn is(&self, other: &Kept) -> bool
-        ensures { result ≡ same_state self.now other.now }
+    /// Whether it stands for each device that the other does.
+    pub fn covers(&self, other: &Kept) -> bool
+        ensures { result ≡ covers self.now other.now }
     {
-        self.mode == other.mode && self.cycle == other.cycle && self.waits_as(other)
+        self.mode == other.mode
+            && is_known_in(&self.cycle, &other.cycle)
+            && self.waits_as(other)
+            && self.events.covers(&other.events)
+            && self.transfer.covers(other.transfer)
     }
 
     fn waits_as(&self, other: &Kept) -> bool

@@ -5,15 +5,16 @@
 //! admit. Where none is left, no device by the rules could have brought the last reply over a
 //! lossy line, and the verdict says why.
 //!
-//! It judges the start-up, direct parameter page 1, modes and the layouts of replies. Events and
-//! ISDU transfers are free: whatever a reply brings of them is admitted.
+//! It judges the start-up, direct parameter page 1, modes, the layouts of replies, and events. ISDU
+//! transfers are free once a request was begun: whatever a reply brings of them is admitted.
 //!
-//! Definitions begin in `specs/State`, what is kept of a device, and `Taking`, what a message makes
-//! of it; then `Replies`, which replies it may have sent, and `Judged`, the judge. `Admitted` says
-//! which devices a kept state stands for, and the law: a capture that a device by the rules brings
-//! over a lossy line is never called not honest.
+//! Definitions begin in `specs/State`, what is kept of a device, with `Events` and `Transfers`, and
+//! `Taking`, what a message makes of it; then `Replies`, which replies it may have sent, and
+//! `Judged`, the judge. `Admitted` says which devices a kept state stands for, and the law: a
+//! capture that a device by the rules brings over a lossy line is never called not honest.
 #![tactic(auto)]
 
+mod events;
 mod judge;
 mod kept;
 mod laws;
@@ -25,6 +26,7 @@ mod reply;
 mod seen;
 mod take;
 mod taken;
+mod transfer;
 mod verdict;
 
 pub use judge::Judge;

@@ -12,7 +12,7 @@ use crate::seen::{Known, Seen};
 use crate::taken::{Explained, MAX_STATES, Next, States};
 use crate::verdict::Wake;
 
-/// Puts a state to the others, once.
+/// Puts a state to the others, where none of them covers it.
 pub(crate) fn add(states: &mut States, kept: Kept) -> Result<(), Open>
     ensures { result_with result states.new.items ≡ added states.old.items kept }
 {
@@ -26,11 +26,11 @@ pub(crate) fn add(states: &mut States, kept: Kept) -> Result<(), Open>
     Ok(())
 }
 
-/// Whether a state is among the others.
+/// Whether one of the others covers a state.
 fn has_state(states: &[Kept], kept: &Kept) -> bool
     ensures { result ≡ has_state states.now kept.now }
 {
-    states.iter().any(|other| other.is(kept))
+    states.iter().any(|other| other.covers(kept))
 }
 
 /// The states after an exchange without a reply that can be read: each as it was, for the message
@@ -121,10 +121,10 @@ fn reply_one(
     }
 }
 
-/// The states after a wake-up request: each as woken, and, where it wasn't answered, as it was
-/// too, for the request may be lost.
+/// The states after a wake-up request: each as woken, as it is or after a power cycle, and, where
+/// it wasn't answered, as it was too, for the request may be lost.
 ///
-/// Rule WIRE-3.
+/// Rules DEV-16, WIRE-3.
 pub(crate) fn wake(states: &[Kept], wake: Wake, next: &mut States) -> Result<(), Open>
     ensures { result_with result next.new.items ≡ all_woken wake next.old.items states.now }
 {
@@ -141,5 +141,6 @@ fn wake_one(kept: &Kept, wake: Wake, next: &mut States) -> Result<(), Open>
     if wake == Wake::Unanswered {
         add(next, kept.copy())?;
     }
-    add(next, kept.woken())
+    add(next, kept.woken())?;
+    add(next, kept.powered())
 }

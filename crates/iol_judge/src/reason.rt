@@ -21,6 +21,16 @@ pub enum Reason {
     /// 5: the Event flag is 1 in the reply to the confirm of events (EVT-2).
     #[error("FlagAtConfirm")]
     FlagAtConfirm,
+    /// 6: the Event flag is 0, and the events weren't confirmed (EVT-2).
+    #[error("FlagGone")]
+    FlagGone,
+    /// 7: the StatusCode doesn't mark as many places as the device shows (EVT-4).
+    #[error("StatusCode")]
+    StatusCode,
+    /// 8: an octet of an event isn't the one that was read before, or of an empty place isn't 0
+    /// (EVT-2, EVT-4).
+    #[error("EventOctet")]
+    EventOctet,
     /// 9: an octet of the page isn't the one that was read before (PAGE-1).
     #[error("PageChanged")]
     PageChanged,
@@ -36,6 +46,9 @@ pub enum Reason {
     /// 13: the octets behind the first, of a page or diagnosis read, aren't zeros (MSG-6).
     #[error("RestNotZero")]
     RestNotZero,
+    /// 14: a read of the ISDU channel doesn't bring zeros, and no request was begun (DEV-14).
+    #[error("NoAnswerDue")]
+    NoAnswerDue,
 }
 
 impl Reason {
@@ -51,11 +64,15 @@ impl Reason {
             Reason::StatusWithoutData => 3,
             Reason::InvalidNotZero => 4,
             Reason::FlagAtConfirm => 5,
+            Reason::FlagGone => 6,
+            Reason::StatusCode => 7,
+            Reason::EventOctet => 8,
             Reason::PageChanged => 9,
             Reason::PageZero => 10,
             Reason::CycleTime => 11,
             Reason::ProcessNotZero => 12,
             Reason::RestNotZero => 13,
+            Reason::NoAnswerDue => 14,
         }
     }
 

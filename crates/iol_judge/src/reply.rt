@@ -1,13 +1,14 @@
 //! Which replies a device in a kept state may have sent.
 ghost use Rattle.std.specs.Prelude.{◌≡◌, ◌<◌, drop, option_map, if◌then◌else◌, true, IfNone};
-ghost use Rattle.iol_far.specs.Far.{is_confirm};
-ghost use Rattle.iol_judge.specs.Replies.{are_zeros, data_fault, explained, explained_by, is_cycle_read, is_other, learned, octet_known, page_fault, page_reason, reply_fault};
+ghost use Rattle.iol_judge.specs.Replies.{are_zeros, data_fault, diagnosis_fault, explained, explained_by, learned, octet_known, page_fault, page_reason, reply_fault, rest_fault};
 
+use crate::events::Shown;
 use crate::kept::Kept;
 use crate::readable::first_octet;
 use crate::reason::Reason;
 use crate::seen::Seen;
 use crate::taken::{Explained, Taken};
+use crate::transfer::Transfer;
 use iol_mseq::{Layout, MasterView, ReplyView, view_reply};
 use iol_octets::{Channel, Mc};
 
@@ -48,8 +49,12 @@ fn learned(kept: Kept, mc: Mc, reply: &ReplyView<'_>) -> Kept
     ensures { result ≡ learned kept mc reply.now }
 {
     let mut kept = kept;
-    if mc.read && mc.channel == Channel::Page && mc.address == 1 {
-        kept.cycle = Some(first_octet(reply.od()));
+    kept.events = kept.events.flag_told(reply.event());
+    let octet = first_octet(reply.od());
+    match mc.channel {
+        Channel::Page if mc.read && mc.address == 1 => kept.cycle = Some(octet),
+        Channel::Diagnosis if mc.read => kept.events = kept.events.told(mc.address, octet),
+        _ => {}
     }
     kept
 }
@@ -72,18 +77,56 @@ fn fault_of(
     if reply.invalid() && !are_zeros(reply.input()) {
         return Some(Reason::InvalidNotZero);
     }
-    if is_confirm(mc) && reply.event() {
-        return Some(Reason::FlagAtConfirm);
+    if let Some(reason) = kept.events.flag_fault(reply.event()) {
+        return Some(reason);
     }
-    if !mc.read {
-        return None;
+    if mc.read {
+        data_fault(seen, kept, mc, reply)
+    } else {
+        None
     }
+}
+
+/// Why the on-request data can't be those of the reply to a read.
+///
+/// Rules DEV-7, DEV-14.
+fn data_fault(seen: &Seen, kept: &Kept, mc: Mc, reply: &ReplyView<'_>) -> Option<Reason>
+    ensures { result ≡ data_fault seen.now kept.now reply.now.event mc.channel mc.address
+        reply.now.od.items }
+{
     match mc.channel {
         Channel::Process => zeros_or(reply.od(), Reason::ProcessNotZero),
         Channel::Page => page_fault(seen, kept, mc.address, reply.od()),
-        Channel::Diagnosis => zeros_or(rest_of(reply.od()), Reason::RestNotZero),
+        Channel::Diagnosis => {
+            let events = kept.events.flag_told(reply.event());
+            diagnosis_fault(&events, mc.address, reply.od())
+        }
+        Channel::Isdu if kept.transfer == Transfer::Quiet => {
+            zeros_or(reply.od(), Reason::NoAnswerDue)
+        }
         Channel::Isdu => None,
     }
+}
+
+/// Why these can't be the octets of a diagnosis address.
+///
+/// Rules DEV-7, EVT-4, MSG-6.
+fn diagnosis_fault(events: &Shown, address: u8, od: &[u8]) -> Option<Reason>
+    ensures { result ≡ diagnosis_fault events.now address od.now }
+{
+    match events.fault(address, first_octet(od)) {
+        Some(reason) => Some(reason),
+        None => rest_fault(od),
+    }
+}
+
+/// The reason that octets behind the first aren't zeros.
+///
+/// Rule MSG-6.
+fn rest_fault(od: &[u8]) -> Option<Reason>
+    ensures { result ≡ rest_fault od.now }
+{
+    zeros_or(rest_of(od), Reason::RestNotZero)
 }
 
 /// Why these can't be the octets of a page address.
@@ -99,7 +142,7 @@ fn page_fault(seen: &Seen, kept: &Kept, address: u8, od: &[u8]) -> Option<Reason
     };
     match known {
         Some(octet) if octet != first_octet(od) => Some(page_reason(address)),
-        _ => zeros_or(rest_of(od), Reason::RestNotZero),
+        _ => rest_fault(od),
     }
 }
 
@@ -140,13 +183,4 @@ fn rest_of(octets: &[u8]) -> &[u8]
         [_, rest @ ..] => rest,
         [] => octets,
     }
-}
-
-/// Whether a message is the confirm of events.
-///
-/// Rule EVT-2.
-fn is_confirm(mc: Mc) -> bool
-    ensures { result ≡ is_confirm mc.channel mc.read mc.address }
-{
-    mc.channel == Channel::Diagnosis && !mc.read && mc.address == 0
 }

@@ -1,7 +1,7 @@
 //! What a message makes of a kept state.
 ghost use Rattle.std.specs.Prelude.{◌≡◌, ◌≤◌, length, slice_index, OnSome};
 ghost use Rattle.iol_far.specs.Codec.{message_in};
-ghost use Rattle.iol_far.specs.Far.{command_in, mode_asked, waits_after};
+ghost use Rattle.iol_far.specs.Far.{command_in, is_confirm, mode_asked, waits_after};
 ghost use Rattle.iol_far.specs.Level.{taken};
 ghost use Rattle.iol_judge.specs.Taking.{cycle_after, mode_known, mode_layout, taken_by};
 
@@ -34,7 +34,7 @@ impl Kept {
     /// What it makes of octets, none where it doesn't take them; open where the page's layouts
     /// would have to be known.
     ///
-    /// Rules DEV-2 to DEV-5, DEV-9.
+    /// Rules DEV-2 to DEV-5, DEV-9, DEV-11 to DEV-14, EVT-2.
     pub fn take<'a>(&self, layouts: &Known, octets: &'a [u8]) -> Result<Option<Taken<'a>>, Open>
         ensures { result ≡ taken_by layouts.now self.now octets.now }
     {
@@ -48,6 +48,8 @@ impl Kept {
             mode,
             waits: waits_after(mode, waits, octets, asked),
             cycle: cycle_after(self.cycle, &message),
+            events: self.events.after(is_confirm(&message)),
+            transfer: self.transfer.after(message.mc()),
         };
         Ok(Some(Taken {
             kept,
@@ -159,4 +161,15 @@ fn cycle_after(old: Option<u8>, message: &MasterView<'_>) -> Option<u8>
     } else {
         old
     }
+}
+
+/// Whether a message is the confirm of events.
+///
+/// Rule EVT-2.
+fn is_confirm(message: &MasterView<'_>) -> bool
+    ensures { result ≡ is_confirm message.now.mc.channel message.now.mc.read
+        message.now.mc.address }
+{
+    let mc = message.mc();
+    mc.channel == Channel::Diagnosis && !mc.read && mc.address == 0
 }

@@ -8,7 +8,7 @@ use iol_mseq::{Layout, MasterView};
 /// The most states that are kept.
 pub(crate) const MAX_STATES: usize = 64;
 
-/// The states of a device that the exchanges so far admit, each once.
+/// The states of a device that the exchanges so far admit.
 pub(crate) type States = ArrayVec<Kept, MAX_STATES>;
 
 /// What a state makes of a message that it takes.

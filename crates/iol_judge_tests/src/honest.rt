@@ -53,21 +53,34 @@ struct Line {
     device: Device<Refuses, Unkept>,
     judge: Judge,
     random: Random,
+    /// The M-sequence type of the last message that was answered.
+    kind: u8,
 }
 
 /// The control octets that a master sends, the writes of page address 0x00 more often.
-const CONTROLS: [u8; 16] = [
-    0xA2, 0xA3, 0xA4, 0xA5, 0xA6, 0xA1, 0xAC, 0x21, 0x20, 0x20, 0x20, 0x20, 0x40, 0xC0, 0x80, 0xF1,
+const CONTROLS: [u8; 30] = [
+    0xA2, 0xA3, 0xA4, 0xA5, 0xA6, 0xA1, 0xAC, 0x21, 0x20, 0x20, 0x20, 0x20, 0x40, 0x40, 0xC0, 0xC0,
+    0xC1, 0xC2, 0xC3, 0xC4, 0xD2, 0xD3, 0x80, 0xF1, 0x70, 0x70, 0xF0, 0xF0, 0xF0, 0xE1,
 ];
+
+/// A START write on the ISDU channel.
+const START_WRITE: u8 = 0x70;
+
+/// The request to read Index 16, in a segment.
+const REQUEST: [u8; 8] = [0x93, 0x10, 0x83, 0, 0, 0, 0, 0];
 
 /// The commands that ask for a mode.
 const COMMANDS: [u8; 3] = [0x97, 0x99, 0x9A];
 
 impl Line {
-    /// Octets that are a message in some layout, and often in the device's.
-    fn message(&mut self) -> Message {
-        let control = CONTROLS[self.random.below(16) as usize];
-        let kind = self.random.below(3) as u8;
+    /// Octets that are a message in some layout, and often in the device's, with their M-sequence
+    /// type.
+    fn message(&mut self) -> (Message, u8) {
+        let control = CONTROLS[self.random.below(30) as usize];
+        let mut kind = self.kind;
+        if self.random.below(3) == 0 {
+            kind = self.random.below(3) as u8;
+        }
         let mut sent = Message::new();
         sent.push(control);
         sent.push(kind << 6);
@@ -75,22 +88,24 @@ impl Line {
             sent.push(self.random.octet());
         }
         if control < 128 {
-            sent.push(COMMANDS[self.random.below(3) as usize]);
-            if kind == 1 {
-                sent.try_extend_from_slice(&[0; 7]).unwrap();
+            let mut data = [COMMANDS[self.random.below(3) as usize], 0, 0, 0, 0, 0, 0, 0];
+            if control == START_WRITE {
+                data = REQUEST;
             }
+            let size = if kind == 1 { 8 } else { 1 };
+            sent.try_extend_from_slice(&data[..size]).unwrap();
         }
         let sum = checksum6(&sent);
         sent[1] |= sum;
-        sent
+        (sent, kind)
     }
 
     /// Something that the device does by itself.
     fn step(&mut self) {
         match self.random.below(24) {
-            0 => {
+            0 | 6 => {
                 let _ = self.device.raise(Event {
-                    qualifier: 0x54,
+                    qualifier: self.random.octet(),
                     code: 0x1000,
                 });
             }
@@ -123,8 +138,8 @@ impl Line {
 
     /// An exchange, of which the message may be lost, and the reply lost or damaged.
     fn exchange(&mut self) {
-        let sent = self.message();
-        match self.random.below(6) {
+        let (sent, kind) = self.message();
+        match self.random.below(10) {
             0 => self.judge.exchange(&sent, None),
             1 => {
                 self.device.hear(&sent);
@@ -135,7 +150,10 @@ impl Line {
                 self.damaged(&sent, reply);
             }
             _ => match self.device.hear(&sent) {
-                Some(reply) => self.judge.exchange(&sent, Some(&reply)),
+                Some(reply) => {
+                    self.kind = kind;
+                    self.judge.exchange(&sent, Some(&reply));
+                }
                 None => self.judge.exchange(&sent, None),
             },
         }
@@ -181,17 +199,33 @@ fn line_of(page: &[u8; 10], seed: u64) -> Line
         device,
         judge,
         random: Random(seed),
+        kind: 0,
     }
 }
 
-/// Each of many random captures of devices by the rules is honest.
+/// What a judge says of a random capture, as long as that, of a device of each page.
+fn verdicts_of(seed: u64, exchanges: u32) -> [Verdict; 3] {
+    [
+        line_of(&PLAIN, seed).run(exchanges),
+        line_of(&PROCESS_DATA, seed).run(exchanges),
+        line_of(&ONE_OCTET, seed).run(exchanges),
+    ]
+}
+
+/// None of many random captures of devices by the rules is blamed, and nearly all are honest,
+/// though many messages aren't answered. The others come to too many states.
 #[test]
 fn devices_by_the_rules_are_honest(rt: HostRuntime) -> Result<(), Fail> {
     honest_lines_are_never_blamed();
+    let mut honest: u32 = 0;
     for seed in 0..40 {
-        assert!(rt; line_of(&PLAIN, seed).run(500) == Verdict::Honest);
-        assert!(rt; line_of(&PROCESS_DATA, seed).run(500) == Verdict::Honest);
-        assert!(rt; line_of(&ONE_OCTET, seed).run(500) == Verdict::Honest);
+        for verdict in &verdicts_of(seed, 500) {
+            assert!(rt; !matches!(verdict, Verdict::NotHonest(..)));
+            if *verdict == Verdict::Honest {
+                honest = honest.saturating_add(1);
+            }
+        }
     }
+    assert!(rt; honest > 100);
     Ok(())
 }

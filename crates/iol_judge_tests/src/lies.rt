@@ -40,6 +40,39 @@ const INVALID: [Exchange; 3] = [
 /// The Event flag in the reply to a confirm.
 const FLAG: [Exchange; 1] = [(&[0x40, 0x35, 0x00], &[0x85])];
 
+/// No Event flag, and no confirm since the one before.
+const GONE: [Exchange; 2] = [
+    (&[0xA2, 0x00], &[0x17, 0xB3]),
+    (&[0xA2, 0x00], &[0x17, 0x1B]),
+];
+
+/// A StatusCode that marks no place, with the Event flag.
+const UNMARKED: [Exchange; 1] = [(&[0xC0, 0x1D], &[0x80, 0xAD])];
+
+/// Another StatusCode, and no confirm between.
+const MARKED: [Exchange; 2] = [
+    (&[0xC0, 0x1D], &[0x81, 0xBC]),
+    (&[0xC0, 0x1D], &[0x83, 0x9D]),
+];
+
+/// Another EventQualifier, and no confirm between.
+const QUALIFIER: [Exchange; 2] = [
+    (&[0xC1, 0x0C], &[0x54, 0x9B]),
+    (&[0xC1, 0x0C], &[0x55, 0x8A]),
+];
+
+/// An octet in a place that isn't marked.
+const UNFILLED: [Exchange; 2] = [
+    (&[0xC0, 0x1D], &[0x81, 0xBC]),
+    (&[0xC4, 0x0F], &[0x54, 0x9B]),
+];
+
+/// A StatusCode that doesn't mark the place of which an octet was read.
+const FEWER: [Exchange; 2] = [
+    (&[0xC4, 0x0F], &[0x54, 0x9B]),
+    (&[0xC0, 0x1D], &[0x81, 0xBC]),
+];
+
 /// Another MinCycleTime, with the same checksum.
 const CHANGED: [Exchange; 2] = [
     (&[0xA2, 0x00], &[0x17, 0x1B]),
@@ -72,6 +105,24 @@ const REST: [Exchange; 3] = [
     (&[0xA2, 0x58], &[0x17, 1, 0, 0, 0, 0, 0, 0, 0x0A]),
 ];
 
+/// The first octet of a request to read.
+const START_WRITE: [u8; 3] = [0x70, 0x09, 0x93];
+
+const START_READ: [u8; 2] = [0xF0, 0x2D];
+
+const IDLE_READ: [u8; 2] = [0xF1, 0x3C];
+
+/// Busy, where no request was begun.
+const NO_ANSWER: [Exchange; 2] = [(&START_READ, &[0x00, 0x2D]), (&START_READ, &[0x01, 0x3C])];
+
+/// The same behind an IDLE, which ends the request.
+const ENDED: [Exchange; 4] = [
+    (&START_WRITE, &[0x2D]),
+    (&START_READ, &[0x01, 0x3C]),
+    (&IDLE_READ, &[0x00, 0x2D]),
+    (&START_READ, &[0x01, 0x3C]),
+];
+
 /// Each lie is found at its exchange, for its reason.
 #[test]
 fn lies_are_found(rt: HostRuntime) -> Result<(), Fail> {
@@ -89,6 +140,49 @@ fn lies_are_found(rt: HostRuntime) -> Result<(), Fail> {
     assert!(rt; verdict_of(None, &CYCLE) == Verdict::NotHonest(3, Reason::CycleTime));
     assert!(rt; verdict_of(None, &PROCESS) == Verdict::NotHonest(2, Reason::ProcessNotZero));
     assert!(rt; verdict_of(Some(&PLAIN), &REST) == Verdict::NotHonest(3, Reason::RestNotZero));
+    Ok(())
+}
+
+/// So are those about ISDUs.
+#[test]
+fn lies_about_isdus_are_found(rt: HostRuntime) -> Result<(), Fail> {
+    assert!(rt; verdict_of(None, &NO_ANSWER) == Verdict::NotHonest(2, Reason::NoAnswerDue));
+    assert!(rt; verdict_of(None, &ENDED) == Verdict::NotHonest(4, Reason::NoAnswerDue));
+    Ok(())
+}
+
+/// So are those about events.
+#[test]
+fn lies_about_events_are_found(rt: HostRuntime) -> Result<(), Fail> {
+    assert!(rt; verdict_of(None, &GONE) == Verdict::NotHonest(2, Reason::FlagGone));
+    assert!(rt; verdict_of(None, &UNMARKED) == Verdict::NotHonest(1, Reason::StatusCode));
+    assert!(rt; verdict_of(None, &MARKED) == Verdict::NotHonest(2, Reason::StatusCode));
+    assert!(rt; verdict_of(None, &QUALIFIER) == Verdict::NotHonest(2, Reason::EventOctet));
+    assert!(rt; verdict_of(None, &UNFILLED) == Verdict::NotHonest(2, Reason::EventOctet));
+    assert!(rt; verdict_of(None, &FEWER) == Verdict::NotHonest(2, Reason::StatusCode));
+    Ok(())
+}
+
+/// Once a confirm may have come, other events may be shown, or none.
+#[test]
+fn confirmed_events_may_change(rt: HostRuntime) -> Result<(), Fail> {
+    let mut judge = Judge::new();
+    judge.wake(Wake::Answered);
+    judge.exchange(&[0xC1, 0x0C], Some(&[0x54, 0x9B]));
+    judge.exchange(&[0x40, 0x35, 0x00], None);
+    judge.exchange(&[0xC1, 0x0C], Some(&[0x55, 0x8A]));
+    judge.exchange(&[0x40, 0x35, 0x00], Some(&[0x2D]));
+    judge.exchange(&[0xC0, 0x1D], Some(&[0x83, 0x9D]));
+    judge.exchange(&[0x40, 0x35, 0x00], None);
+    judge.exchange(&[0xA2, 0x00], Some(&[0x17, 0x1B]));
+    judge.exchange(&[0xC0, 0x1D], Some(&[0x81, 0xBC]));
+    assert!(rt; judge.verdict() == Verdict::Honest);
+    // Where none was shown, one is raised at a time.
+    let mut raised = Judge::new();
+    raised.wake(Wake::Answered);
+    raised.exchange(&[0xA2, 0x00], Some(&[0x17, 0x1B]));
+    raised.exchange(&[0xC0, 0x1D], Some(&[0x83, 0x9D]));
+    assert!(rt; raised.verdict() == Verdict::NotHonest(2, Reason::StatusCode));
     Ok(())
 }
 

@@ -1,0 +1,268 @@
+//! What is known of a device's events.
+ghost use Rattle.std.specs.Prelude.{◌≡◌, ◌≤◌};
+ghost use Rattle.iol_judge.specs.Events.{covers_events, events_fault, events_told, first_places, flag_fault, flag_told, places_of, shown_after};
+
+use crate::reason::Reason;
+
+/// The most events that a device shows.
+const PLACES: u8 = 6;
+
+/// What is known of the events of a device that is awake.
+#[derive(Clone, Copy, Debug, PartialEq, Eq)]
+pub(crate) enum Shown {
+    /// None is shown, for the last message was their confirm.
+    Held,
+    /// Any may be.
+    Any,
+    /// None is, or one that was raised since the last reply.
+    Fresh,
+    /// Some are.
+    Filled(Places),
+}
+
+/// The filled places of an event memory.
+#[derive(Clone, Copy, Debug, PartialEq, Eq)]
+pub(crate) struct Places {
+    /// How many they are at least.
+    pub least: u8,
+    /// How many they are at most.
+    pub most: u8,
+    /// The octets of diagnosis addresses 0x01 to 0x12, as far as they were read.
+    pub octets: [Option<u8>; 18],
+}
+
+impl Shown {
+    /// Whether it allows all that the other does.
+    pub fn covers(&self, other: &Shown) -> bool
+        ensures { result ≡ covers_events self.now other.now }
+    {
+        match (self, other) {
+            (Shown::Held, Shown::Held) | (Shown::Fresh, Shown::Fresh) => true,
+            (Shown::Any, Shown::Any | Shown::Fresh | Shown::Filled(_)) => true,
+            (Shown::Filled(a), Shown::Filled(b)) => a.covers(b),
+            _ => false,
+        }
+    }
+
+    /// Once a message was worked, their confirm or another. A wake-up request does what another
+    /// message does.
+    ///
+    /// Rules EVT-2, EVT-3.
+    pub fn after(&self, confirm: bool) -> Shown
+        ensures { result ≡ shown_after self.now confirm }
+    {
+        match self {
+            _ if confirm => Shown::Held,
+            Shown::Held => Shown::Any,
+            _ => *self,
+        }
+    }
+
+    /// Why the reply to that can't have this Event flag, none where it can.
+    ///
+    /// Rules DEV-8, EVT-2.
+    pub fn flag_fault(&self, flag: bool) -> Option<Reason>
+        ensures { result ≡ flag_fault self.now flag }
+    {
+        match (self, flag) {
+            (Shown::Held, true) => Some(Reason::FlagAtConfirm),
+            (Shown::Filled(_), false) => Some(Reason::FlagGone),
+            _ => None,
+        }
+    }
+
+    /// Once a reply had this Event flag.
+    ///
+    /// Rule DEV-8.
+    pub fn flag_told(&self, flag: bool) -> Shown
+        ensures { result ≡ flag_told self.now flag }
+    {
+        match (self, flag) {
+            (Shown::Any, true) => Shown::first(PLACES),
+            (Shown::Fresh, true) => Shown::first(1),
+            (Shown::Any, false) => Shown::Fresh,
+            _ => *self,
+        }
+    }
+
+    /// Some places are filled, at most so many, and none was read.
+    fn first(most: u8) -> Shown
+        ensures { result ≡ first_places most }
+    {
+        Shown::Filled(Places {
+            least: 1,
+            most,
+            octets: [None; 18],
+        })
+    }
+
+    /// Why a diagnosis address can't read as this octet, none where it can.
+    ///
+    /// Rule EVT-4.
+    pub fn fault(&self, address: u8, octet: u8) -> Option<Reason>
+        ensures { result ≡ events_fault self.now address octet }
+    {
+        self.places().fault(address, octet)
+    }
+
+    /// The filled places, of which there are none but where some are known to be.
+    fn places(&self) -> Places
+        ensures { result ≡ places_of self.now }
+    {
+        match self {
+            Shown::Filled(places) => *places,
+            _ => Places::none(),
+        }
+    }
+
+    /// Once a diagnosis address was read as this octet.
+    ///
+    /// Rule EVT-4.
+    pub fn told(&self, address: u8, octet: u8) -> Shown
+        ensures { result ≡ events_told self.now address octet }
+    {
+        match self {
+            Shown::Filled(places) => Shown::Filled(places.told(address, octet)),
+            _ => *self,
+        }
+    }
+}
+
+impl Places {
+    ghost use Rattle.iol_judge.specs.Events.{covers_places, fills, marked, marks_told, no_places, octet_told, place_known, places_fault, places_told, status_fault};
+
+    /// No place is filled.
+    fn none() -> Places
+        ensures { result ≡ no_places }
+    {
+        Places {
+            least: 0,
+            most: 0,
+            octets: [None; 18],
+        }
+    }
+
+    /// Whether they allow all that the others do.
+    fn covers(&self, other: &Places) -> bool
+        ensures { result ≡ covers_places self.now other.now }
+    {
+        self.least <= other.least && other.most <= self.most && self.octets == other.octets
+    }
+
+    /// The octet of a diagnosis address, where it was read.
+    fn octet(&self, address: u8) -> Option<u8>
+        ensures { result ≡ place_known self.now.octets address }
+    {
+        match address {
+            0x01..=0x12 => self.octets[address as usize - 1],
+            _ => None,
+        }
+    }
+
+    /// Why a diagnosis address can't read as this octet, none where it can.
+    ///
+    /// Rule EVT-4.
+    fn fault(&self, address: u8, octet: u8) -> Option<Reason>
+        ensures { result ≡ places_fault self.now address octet }
+    {
+        if address == 0 {
+            self.status_fault(marked(octet))
+        } else if self.fills(address, octet) {
+            None
+        } else {
+            Some(Reason::EventOctet)
+        }
+    }
+
+    /// Why the StatusCode can't mark so many places.
+    fn status_fault(&self, count: Option<u8>) -> Option<Reason>
+        ensures { result ≡ status_fault self.now count }
+    {
+        match count {
+            Some(count) if self.least <= count && count <= self.most => None,
+            _ => Some(Reason::StatusCode),
+        }
+    }
+
+    /// Whether an address of a place may read as this octet: one that isn't 0 stands in a filled
+    /// place, and none changes.
+    ///
+    /// Rules EVT-2, EVT-4.
+    fn fills(&self, address: u8, octet: u8) -> bool
+        requires { 1 ≤ address }
+        ensures { result ≡ fills self.now address octet }
+    {
+        let filled = octet == 0 || (address - 1) / 3 < self.most;
+        match self.octet(address) {
+            Some(known) => filled && known == octet,
+            None => filled,
+        }
+    }
+
+    /// Once a diagnosis address was read as this octet.
+    fn told(&self, address: u8, octet: u8) -> Places
+        ensures { result ≡ places_told self.now address octet }
+    {
+        match address {
+            0x00 => self.marks_told(marked(octet)),
+            0x01..=0x12 => self.octet_told(address, octet),
+            _ => *self,
+        }
+    }
+
+    /// Once the StatusCode marked so many.
+    fn marks_told(&self, count: Option<u8>) -> Places
+        ensures { result ≡ marks_told self.now count }
+    {
+        match count {
+            Some(count) => Places {
+                least: count,
+                most: count,
+                octets: self.octets,
+            },
+            None => *self,
+        }
+    }
+
+    /// Once an address of a place was read as this octet: one that isn't 0 stands in a filled one.
+    fn octet_told(&self, address: u8, octet: u8) -> Places
+        requires above { 1 ≤ address }
+        requires below { address ≤ 18 }
+        ensures { result ≡ octet_told self.now address octet }
+    {
+        let mut places = *self;
+        places.octets[address as usize - 1] = Some(octet);
+        if octet != 0 {
+            places.least = self.least.max((address - 1) / 3 + 1);
+        }
+        places
+    }
+}
+
+ghost use Rattle.iol_judge.specs.Events.{marked};
+ghost use Rattle.iol_judge.specs.Octets.{is_known_in};
+
+/// How many places a StatusCode marks, the first ones; none where it marks others.
+///
+/// Rule EVT-4.
+fn marked(status: u8) -> Option<u8>
+    ensures { result ≡ marked status }
+{
+    match status {
+        0x80 => Some(0),
+        0x81 => Some(1),
+        0x83 => Some(2),
+        0x87 => Some(3),
+        0x8F => Some(4),
+        0x9F => Some(5),
+        0xBF => Some(6),
+        _ => None,
+    }
+}
+
+/// Whether what is known in the first is known in the second.
+pub(crate) fn is_known_in(a: &Option<u8>, b: &Option<u8>) -> bool
+    ensures { result ≡ is_known_in a.now b.now }
+{
+    a.is_none() || a == b
+}
