@@ -15,13 +15,11 @@ use Rattle.iol_app.specs.StationState.{wire_of}
 use Rattle.iol_port.specs.declared.call.Call.{Call}
 use Rattle.iol_port.specs.declared.call.Call.TheVariants as call
 use Rattle.iol_port.specs.declared.call.Answered.{Answered}
-use Rattle.iol_port.specs.declared.call.Answered.TheVariants as answered
 use Rattle.iol_port.specs.Asks.{IsWireCall}
 use Rattle.iol_port.specs.Promises.{RunsJoin}
 use Rattle.iol_port.specs.Run.{PortState, Run}
 use Rattle.iol_port.specs.View.{Parts, Opening, Follows, Runs, StandsFor, IsOpened, opening_of, status_of}
 use Rattle.iol_port.specs.EveryWire.{CallGives, page_shown}
-use Rattle.iol_far.specs.declared.carried.Carried.{Carried}
 use Rattle.iol_sim.specs.Params.{Stores}
 use Rattle.iol_sim.specs.Sim.{Simulated, sim_facts}
 use Rattle.iol_sim.specs.declared.params.Entry.{Entry}
@@ -43,11 +41,6 @@ pub flows_printed : (at : Option (List ℕ)) (waits left text : List ℕ) → le
     → Flows at at waits left text
 flows_printed at waits left text is =
     record { written = []; appends = Appends-nil at; rest = sym is }
-
-pub flows_written : (old new : Option (List ℕ)) (waits left : List ℕ) → Appends old new waits
-    → left ≡ [] → Flows old new waits left []
-flows_written old new waits left all none =
-    record { written = waits; appends = all; rest = ap (λ (l : List ℕ). waits ++ l) (sym none) }
 
 pub flows_join : (a b c : Option (List ℕ)) (x y z text later : List ℕ) → Flows a b x y text
     → Flows b c y z later → Flows a c x z (text ++ later)

@@ -8,3 +8,4 @@ pub mod RunPlayed
 pub mod ManyPrinted
 pub mod Passing
 pub mod TracePrinted
+pub mod JudgePrinted

@@ -1,5 +1,5 @@
 -- What `trace` prints for one call of the wire.
-use Rattle.std.specs.Prelude.{◌≡◌, ℕ, ◌+◌, Bool, nat_le, Option, Some, None, List, [], ◌++◌, slice_index, codes}
+use Rattle.std.specs.Prelude.{◌≡◌, ℕ, Bool, nat_le, Option, Some, None, List, ◌++◌, slice_index, codes}
 use Rattle.std.specs.Fmt.{decimal}
 use Rattle.iol_mseq.specs.Shape.{Shape}
 use Rattle.iol_far.specs.Octets.{octets_in}

@@ -1,17 +1,19 @@
 //! The commands of the program `iolink`, each from a reader to a writer: [`check`],
-//! [`run`], [`trace`] and [`many`].
+//! [`run`], [`trace`], [`many`] and [`judge`].
 //!
-//! Each reads its input whole, up to 1,048,576 bytes, judges its lines from first
+//! Each but the last reads its input whole, up to 1,048,576 bytes, judges its lines from first
 //! to last (crate iol_script), and prints what it makes of them; the clauses of
-//! each say which input is refused, by which fault, and what text is printed.
+//! each say which input is refused, by which fault, and what text is printed. `judge` reads a
+//! capture of any length (crate iol_capture).
 //!
-//! Definitions begin in `specs/Input`; then `Checked`, `RunPlayed`, `TracePrinted` and
-//! `ManyPrinted`.
+//! Definitions begin in `specs/Input`; then `Checked`, `RunPlayed`, `TracePrinted`, `ManyPrinted`
+//! and `JudgePrinted`.
 #![tactic(auto)]
 
 mod check_command;
 mod counters_printing;
 mod fault;
+mod judge_command;
 mod many_command;
 mod many_printing;
 mod passing;
@@ -25,6 +27,7 @@ mod tracing;
 
 pub use check_command::check;
 pub use fault::ProgramFault;
+pub use judge_command::{JudgeFault, judge};
 pub use many_command::many;
 pub use run_command::run;
 pub use streams::LIMIT;

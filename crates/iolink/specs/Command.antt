@@ -1,6 +1,8 @@
 -- The commands by their names.
-use Rattle.std.specs.Prelude.{ℕ, Option, Some, None, List, if◌then◌else◌, codes}
+use Rattle.std.specs.Prelude.{ℕ, Option, Some, None, option_map, List, if◌then◌else◌, codes}
 use Rattle.std.specs.Str.{bytes_eq}
+use Rattle.iolink.specs.declared.command.Asked.{Asked}
+use Rattle.iolink.specs.declared.command.Asked.TheVariants as asked
 use Rattle.iolink.specs.declared.command.Mode.{Mode}
 use Rattle.iolink.specs.declared.command.Mode.TheVariants.{Check, Run, Trace, Many}
 
@@ -11,3 +13,9 @@ mode_named name =
     if bytes_eq name (codes "run") then Some Run else
     if bytes_eq name (codes "trace") then Some Trace else
     if bytes_eq name (codes "many") then Some Many else None
+
+-- what a name asks for
+abbrev pub asked_named : List ℕ → Option Asked
+asked_named name =
+    if bytes_eq name (codes "judge") then Some asked.Judge else
+    option_map asked.Mode (mode_named name)

@@ -5,11 +5,14 @@ use Rattle.clap.specs.declared.error.Error.{Error}
 use Rattle.clap.specs.declared.error.ErrorKind.TheVariants as kind
 use Rattle.iol_commands.specs.declared.fault.ProgramFault.TheVariants as fault
 use Rattle.iolink.specs.declared.ending.Ending.{Ending}
-use Rattle.iolink.specs.declared.ending.Ending.TheVariants.{Failed, Refused, NoText}
+use Rattle.iolink.specs.declared.ending.Ending.TheVariants.{Failed, NotHonest, NotJudged, Refused, NoText}
 
--- the status of an ending: 1 where the command failed, 2 where the command line is refused
+-- the status of an ending: 1 where the command failed, or the capture isn't honest; 2 where the
+-- capture isn't judged, or the command line is refused
 abbrev pub status_of : Ending → ℕ
 status_of (Failed e) = 1
+status_of NotHonest = 1
+status_of (NotJudged e) = 2
 status_of (Refused error) = 2
 status_of NoText = 2
 

@@ -6,7 +6,7 @@ use clap::{Command, Error};
 use std::alloc::{AllocError, Global};
 use std::convert::AsStr;
 
-/// A command of the program.
+/// A command that ends well where all is printed.
 #[derive(Clone, Copy, Debug, PartialEq, Eq)]
 pub(crate) enum Mode {
     /// Prints what each line of its input says.
@@ -36,12 +36,35 @@ impl Mode {
     }
 }
 
-/// The command that the words name, the program's own name first.
-pub(crate) fn mode_of<'a, S: AsStr>(alloc: Global, words: &'a [S]) -> Result<Mode, Error> {
+/// What the command line asks for.
+#[derive(Clone, Copy, Debug, PartialEq, Eq)]
+pub(crate) enum Asked {
+    /// A command that ends well where all is printed.
+    Mode(Mode),
+    /// Says whether a device by the rules could have brought a capture.
+    Judge,
+}
+
+impl Asked {
+    ghost use Rattle.iolink.specs.Command.{asked_named};
+
+    /// What this name asks for.
+    fn named(name: &str) -> Option<Asked>
+        ensures { result ≡ asked_named name.now }
+    {
+        match name.as_bytes() {
+            b"judge" => Some(Asked::Judge),
+            _ => Some(Asked::Mode(Mode::named(name)?)),
+        }
+    }
+}
+
+/// What the words ask for, the program's own name first.
+pub(crate) fn asked_by<'a, S: AsStr>(alloc: Global, words: &'a [S]) -> Result<Asked, Error> {
     let matches = command(alloc)?.try_get_matches_from(words)?;
-    // One of the four is named, since clap refuses all other words.
+    // One of the five is named, since clap refuses all other words.
     let name = matches.subcommand_name().unwrap_or("check");
-    Ok(Mode::named(name).unwrap_or(Mode::Check))
+    Ok(Asked::named(name).unwrap_or(Asked::Mode(Mode::Check)))
 }
 
 /// The command line of the program.
@@ -62,6 +85,11 @@ fn command<'a>(alloc: Global) -> Result<Command<'a>, AllocError> {
             "Reads a plan, lets the clients of its ports submit reads, and prints what became of them",
         )
         .after_help(help::MANY);
+    let judge = Command::new(alloc, "judge")
+        .about(
+            "Reads what trace prints, and says whether a device by the rules could have brought it",
+        )
+        .after_help(help::JUDGE);
     Command::new(alloc, "iolink")
         .about("IO-Link master and device")
         .version(help::VERSION)
@@ -70,5 +98,6 @@ fn command<'a>(alloc: Global) -> Result<Command<'a>, AllocError> {
         .subcommand(check)?
         .subcommand(run)?
         .subcommand(trace)?
-        .subcommand(many)
+        .subcommand(many)?
+        .subcommand(judge)
 }

@@ -6,7 +6,7 @@ ghost use Rattle.iolink.specs.Ending.{status_after};
 
 use clap::Error;
 use clap::error::ErrorKind;
-use iol_commands::ProgramFault;
+use iol_commands::{JudgeFault, ProgramFault};
 use std::fmt;
 use std::process::ExitCode;
 
@@ -15,6 +15,10 @@ use std::process::ExitCode;
 pub(crate) enum Ending {
     /// The command failed.
     Failed(ProgramFault),
+    /// The capture isn't honest, or nothing can be said. What was found is printed.
+    NotHonest,
+    /// The capture isn't judged.
+    NotJudged(JudgeFault),
     /// The command line is refused, or asks for help.
     Refused(Error),
     /// A word of the command line is no text.
@@ -29,8 +33,8 @@ impl Ending {
         ensures { result ≡ status_of self.now }
     {
         match self {
-            Ending::Failed(_) => 1,
-            Ending::Refused(_) | Ending::NoText => 2,
+            Ending::Failed(_) | Ending::NotHonest => 1,
+            Ending::NotJudged(_) | Ending::Refused(_) | Ending::NoText => 2,
         }
     }
 }
@@ -39,6 +43,8 @@ impl fmt::Display for Ending {
     fn fmt<W: fmt::Write>(&self, f: &mut fmt::Formatter<W>) -> fmt::Result {
         match self {
             Ending::Failed(fault) => writeln!(f, "iolink: {fault}"),
+            Ending::NotHonest => Ok(()),
+            Ending::NotJudged(fault) => writeln!(f, "iolink: {fault}"),
             Ending::Refused(error) => write!(f, "{error}"),
             Ending::NoText => writeln!(f, "error: an argument is no text"),
         }
@@ -52,6 +58,16 @@ impl From<ProgramFault> for Ending {
 
     fn from(fault: ProgramFault) -> Ending {
         Ending::Failed(fault)
+    }
+}
+
+impl From<JudgeFault> for Ending {
+    ghost use Rattle.iolink.specs.declared.ending.Ending.TheVariants.{NotJudged};
+
+    ghost from_gives = { λ fault ending. ending ≡ NotJudged fault };
+
+    fn from(fault: JudgeFault) -> Ending {
+        Ending::NotJudged(fault)
     }
 }
 

@@ -35,7 +35,7 @@ pub(crate) const RUN: &str = "\
 Reads standard input to its end, a line at a time. First the device and the port:
   page OCTET ..                           direct parameter page 1 of the device, 0x02 to 0x0B
   other OCTET ..                          that of a second device, not plugged in, with the same parameters
-  limits BUSY JOURNAL                     the busy replies that end a request, the entries of the journal
+  limits BUSY JOURNAL [QUEUE]             the busy replies that end a request, the entries of the journal, the tickets
   param INDEX SUB ro H                    a parameter that is read; rw: and written
 Then what happens on the wire, and the calls of the port, in any order:
   wire clean N                            N calls of the wire; also outlost, backlost, outdamaged, backdamaged, nowake
@@ -69,7 +69,7 @@ prints
   carried read 16 0: read 41 42
 
 Limits: 1,048,576 bytes of input, 1,024 bytes a line, 32 parameters, N up to 100,000, 1,000,000 steps of the wire and
-1,000,000 calls in all, 64 tickets at a time, 232 octets a value, 32 octets of process data.
+1,000,000 calls in all, QUEUE up to 64, 64 without it, 232 octets a value, 32 octets of process data.
 
 Exit status: 0, all is printed; 1, the command failed, and a line on standard error says why; 2, the words of
 the command line are wrong, or ask for this help. After 1 and 2 nothing is printed, but where a write failed.
@@ -124,5 +124,31 @@ a line.
 
 Exit status: 0, all is printed; 1, the command failed, and a line on standard error says why; 2, the words of
 the command line are wrong, or ask for this help. After 1 and 2 nothing is printed, but where a write failed.
+
+Every line, and what is printed for it: docs/guide.md.";
+
+pub(crate) const JUDGE: &str = "\
+Reads standard input to its end: the lines that 'iolink trace' prints.
+  N wake COM2             a wake-up request, and the rate that was answered, or none
+  N > OCTET ..            a message as the master sent it; what stands behind a colon isn't read
+  N < OCTET ..            what came back, or none
+  page OCTET ..           before the first of these: direct parameter page 1 of the device, 0x02 to 0x0B
+  ..                      a line that begins otherwise is passed over
+N is any number at first, and then the next. It prints one of these lines:
+  honest COUNT exchanges, COUNT lost
+  not honest at N: NUMBER NAME: TEXT (RULE)
+  can't say from N on: NUMBER NAME: TEXT
+  can't say: no wake-up request was answered
+and before it 'unjudged COUNT', if exchanges came before the first wake-up request that was answered.
+
+Example:
+  printf '1 wake COM2\\n2 > A2 00\\n2 < 17 1B\\n3 > A2 00\\n3 < 18 1B\\n' | iolink judge
+prints
+  not honest at 3: 9 PageChanged: an octet of the page that was another before (PAGE-1)
+
+Limits: 1,024 bytes a line, 128 octets a message. The input may have any length.
+
+Exit status: 0, honest; 1, not honest, or it can't say; 2, the input is bad, and a line on standard error says why, or
+the words of the command line are wrong, or ask for this help.
 
 Every line, and what is printed for it: docs/guide.md.";

@@ -1,8 +1,10 @@
-//! The program `iolink`: it reads standard input whole, and prints what its command makes of it.
+//! The program `iolink`: it reads standard input to its end, and prints what its command makes of
+//! it.
 //!
 //! It ends with status 0; with status 1 and one line on standard error where the
 //! command fails; or with status 2 and the text of `clap` on standard error where
-//! the command line is refused, or asks for help or the version.
+//! the command line is refused, or asks for help or the version. `judge` ends with status 1
+//! where the capture isn't honest, or it can't say, and with status 2 where it fails.
 //!
 //! Definitions: `specs/Command`, `specs/Performed` and `specs/Ending`.
 #![tactic(auto)]
@@ -12,9 +14,9 @@ mod ending;
 mod help;
 mod performing;
 
-use crate::command::mode_of;
+use crate::command::{Asked, asked_by};
 use crate::ending::{Ending, exit_of};
-use crate::performing::perform;
+use crate::performing::{perform, perform_judge};
 use iol_commands::ProgramFault;
 use std::alloc::Global;
 use std::process::ExitCode;
@@ -35,8 +37,11 @@ fn work<R: Runtime<A = Global> + Threads + Wait + Sync>(rt: &R) -> Result<(), En
     let words: Vec<String> = words
         .collect(rt.alloc())
         .map_err(|_| ProgramFault::OutOfMemory)?;
-    let mode = mode_of(rt.alloc(), words.as_slice())?;
-    perform(rt, rt.alloc(), mode, &mut rt.reader(), &mut io::writer(rt))?;
+    let (mut reader, mut writer) = (rt.reader(), io::writer(rt));
+    match asked_by(rt.alloc(), words.as_slice())? {
+        Asked::Mode(mode) => perform(rt, rt.alloc(), mode, &mut reader, &mut writer)?,
+        Asked::Judge => perform_judge(rt.alloc(), &mut reader, &mut writer)?,
+    }
     Ok(())
 }
 

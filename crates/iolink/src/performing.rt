@@ -7,7 +7,9 @@ ghost use Rattle.iolink.specs.Performed.{IsBadAt, IsGood, Prints};
 ghost use Rattle.iol_commands.specs.Input.{IsTooLong, OfLines, TakesInput, Writes};
 
 use crate::command::Mode;
-use iol_commands::{ProgramFault, check, many, run, trace};
+use crate::ending::Ending;
+use iol_capture::Finding;
+use iol_commands::{ProgramFault, check, judge, many, run, trace};
 use std::alloc::Global;
 use std::io::{Read, Write};
 use std::sync::Wait;
@@ -42,5 +44,46 @@ pub(crate) fn perform<T: Threads + Wait + Sync, R: Read, W: Write>(
         Mode::Run => run(alloc, reader, writer),
         Mode::Trace => trace(alloc, reader, writer),
         Mode::Many => many(rt, alloc, reader, writer),
+    }
+}
+
+ghost use Rattle.std.specs.Prelude.{List, IfSome};
+ghost use Rattle.std.specs.Io.KnownBytes.{Appends};
+ghost use Rattle.iol_capture.specs.Capture.{capture_judged};
+ghost use Rattle.iol_capture.specs.declared.fault.CaptureFault.TheVariants as capture_fault;
+ghost use Rattle.iol_capture.specs.declared.fault.LineFault.{LineFault};
+ghost use Rattle.iol_capture.specs.declared.printing.Finding.{Finding};
+ghost use Rattle.iol_capture.specs.declared.printing.Finding.TheVariants.{Honest};
+ghost use Rattle.iolink.specs.declared.ending.Ending.TheVariants.{NotHonest, NotJudged};
+ghost use Rattle.iol_commands.specs.declared.judge_command.JudgeFault.TheVariants as judge_fault;
+ghost use Rattle.iol_commands.specs.JudgePrinted.{Judges};
+
+/// Judges a capture. It ends well where nothing was found.
+pub(crate) fn perform_judge<R: Read, W: Write>(
+    alloc: Global,
+    reader: &mut R,
+    writer: &mut W,
+) -> Result<(), Ending>
+    // What is read.
+    ensures bad_line { (n : ℕ) → (why : LineFault)
+        → result ≡ Err (NotJudged (judge_fault.Capture (capture_fault.Line n why)))
+        → IfSome (R.remaining reader.old)
+        (λ capture. capture_judged capture ≡ Err (capture_fault.Line n why)) }
+
+    // What is written.
+    ensures honest { OnOk result ((text : List ℕ)
+        × Appends (W.contents writer.old) (W.contents writer.new) text
+        × IfSome (R.remaining reader.old) (λ capture. Judges capture Honest text)) }
+    ensures not_honest { result ≡ Err NotHonest
+        → (finding : Finding) × (text : List ℕ) × (finding ≢ Honest)
+        × Appends (W.contents writer.old) (W.contents writer.new) text
+        × IfSome (R.remaining reader.old) (λ capture. Judges capture finding text) }
+    ensures nothing { OnErr result
+        (result ≢ Err NotHonest → result ≢ Err (NotJudged judge_fault.WriteFailed)
+        → Keeps (W.contents writer.old) (W.contents writer.new)) }
+{
+    match judge(alloc, reader, writer)? {
+        Finding::Honest => Ok(()),
+        Finding::NotHonest | Finding::CantSay => Err(Ending::NotHonest),
     }
 }

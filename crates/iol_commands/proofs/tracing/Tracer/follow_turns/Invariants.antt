@@ -1,4 +1,4 @@
-use Rattle.std.proofs.Common.{◌≡◌, ◌≤◌, ◌+◌, replicate}
+use Rattle.std.proofs.Common.{◌≤◌, ◌+◌, replicate}
 use Rattle.std.specs.String.{string_bytes}
 use Rattle.iol_port.specs.declared.call.Call.TheVariants.{Turn}
 use Rattle.iol_commands.proofs.TraceLemmas.{Goes}

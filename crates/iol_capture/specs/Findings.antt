@@ -1,0 +1,94 @@
+-- What is printed of a judged capture.
+use Rattle.std.specs.Prelude.{ℕ, ◌==◌, List, [], ◌++◌, if◌then◌else◌, codes}
+use Rattle.std.specs.Fmt.{decimal}
+use Rattle.iol_judge.specs.declared.open.Open.{Open}
+use Rattle.iol_judge.specs.declared.open.Open.TheVariants as «open»
+use Rattle.iol_judge.specs.declared.reason.Reason.{Reason}
+use Rattle.iol_judge.specs.declared.reason.Reason.TheVariants as reason
+use Rattle.iol_judge.specs.declared.verdict.Verdict.{Verdict}
+use Rattle.iol_judge.specs.declared.verdict.Verdict.TheVariants.{Unjudged, Honest, NotHonest, CantSay}
+use Rattle.iol_judge.specs.Numbers.{open_number, reason_number}
+use Rattle.iol_capture.specs.declared.judgement.Counts.{Counts}
+use Rattle.iol_capture.specs.declared.printing.Finding.{Finding}
+use Rattle.iol_capture.specs.declared.printing.Finding.TheVariants as found
+use Rattle.iol_capture.specs.Judging.{Judging}
+
+-- the name of a reason, what a device by the rules doesn't send, and the rule
+abbrev pub reason_text : Reason → List ℕ
+reason_text reason.NotTaken = codes
+    "NotTaken: a reply to a message that the device doesn't take in its mode (DEV-2)"
+reason_text reason.ReplyLength = codes
+    "ReplyLength: a reply of another length than the layout of its mode gives (MSG-4)"
+reason_text reason.StatusWithoutData = codes
+    "StatusWithoutData: PD status 1 in a layout without process data in (DEV-8)"
+reason_text reason.InvalidNotZero = codes
+    "InvalidNotZero: PD status 1 with process data in that isn't zeros (DEV-8)"
+reason_text reason.FlagAtConfirm = codes
+    "FlagAtConfirm: Event flag 1 in the reply to the confirm of events (EVT-2)"
+reason_text reason.FlagGone = codes
+    "FlagGone: Event flag 0 before the events were confirmed (EVT-2)"
+reason_text reason.StatusCode = codes
+    "StatusCode: another StatusCode than that of the events that the device shows (EVT-4)"
+reason_text reason.EventOctet = codes
+    "EventOctet: an octet of an event that is another than before, or of none and not 0 (EVT-4)"
+reason_text reason.PageChanged = codes
+    "PageChanged: an octet of the page that was another before (PAGE-1)"
+reason_text reason.PageZero = codes
+    "PageZero: a page address outside 01 to 0B that isn't 0 (PAGE-1)"
+reason_text reason.CycleTime = codes
+    "CycleTime: page address 01 isn't what was written or read there (DEV-9)"
+reason_text reason.ProcessNotZero = codes
+    "ProcessNotZero: a read of the process channel that isn't zeros (DEV-7)"
+reason_text reason.RestNotZero = codes
+    "RestNotZero: octets behind the first that aren't zeros (MSG-6)"
+reason_text reason.NoAnswerDue = codes "NoAnswerDue: an answer where no request was begun (DEV-14)"
+
+-- why nothing can be said
+abbrev pub open_text : Open → List ℕ
+open_text «open».PageUnread = codes
+    "PageUnread: a mode was asked for before the page's octets 03 to 06 were read (PAGE-5)"
+open_text «open».PageRefused = codes
+    "PageRefused: the page's octets 03 to 06 ask for no layouts (PAGE-5)"
+open_text «open».TooManyStates = codes
+    "TooManyStates: too many states of a device are possible"
+
+-- a call of the wire, and the number of a reason, with its text
+abbrev pub because_text : ℕ → List ℕ → ℕ → List ℕ → List ℕ
+because_text call joint number text =
+    decimal call ++ joint ++ decimal number ++ codes " " ++ text ++ codes "\n"
+
+-- how many exchanges were judged, and in how many of them nothing came back
+abbrev pub judged_text : ℕ → List ℕ
+judged_text count = codes "honest " ++ decimal count ++ codes " exchanges"
+
+abbrev pub lost_text : ℕ → List ℕ
+lost_text count = codes ", " ++ decimal count ++ codes " lost\n"
+
+abbrev pub honest_text : ℕ → ℕ → List ℕ
+honest_text judged lost = judged_text judged ++ lost_text lost
+
+-- the verdict, with the call on which it rests
+abbrev pub verdict_text : Verdict → ℕ → Counts → List ℕ
+verdict_text Unjudged call counts = codes "can't say: no wake-up request was answered\n"
+verdict_text Honest call counts = honest_text counts.judged counts.lost
+verdict_text (NotHonest exchange reason) call counts = codes "not honest at "
+    ++ because_text call (codes ": ") (reason_number reason) (reason_text reason)
+verdict_text (CantSay exchange why) call counts = codes "can't say from "
+    ++ because_text call (codes " on: ") (open_number why) (open_text why)
+
+-- the exchanges before the first answered wake-up request, where there are any
+abbrev pub unjudged_text : ℕ → List ℕ
+unjudged_text count =
+    if count == 0 then [] else codes "unjudged " ++ decimal count ++ codes "\n"
+
+-- what is printed
+abbrev pub finding_text : Judging → List ℕ
+finding_text judging = unjudged_text judging.counts.unjudged
+    ++ verdict_text judging.judged.verdict judging.decided judging.counts
+
+-- what was found
+abbrev pub finding_of : Verdict → Finding
+finding_of Unjudged = found.CantSay
+finding_of Honest = found.Honest
+finding_of (NotHonest exchange reason) = found.NotHonest
+finding_of (CantSay exchange why) = found.CantSay

@@ -1,0 +1,104 @@
+-- A judge, told the lines of a trace.
+use Rattle.std.specs.Prelude.{ℕ, ◌+◌, ◌-◌, ◌^◌, min, Bool, true, false, ◌==◌, ◌||◌, Option, Some, None, is_some, Result, Ok, Err, List, if◌then◌else◌}
+use Rattle.iol_far.specs.Octets.{octets_in}
+use Rattle.iol_judge.specs.declared.verdict.Verdict.{Verdict}
+use Rattle.iol_judge.specs.declared.verdict.Verdict.TheVariants.{Unjudged, Honest, NotHonest, CantSay}
+use Rattle.iol_judge.specs.declared.verdict.Wake.{Wake as WakeAnswer}
+use Rattle.iol_judge.specs.Seen.{whole_page}
+use Rattle.iol_judge.specs.Judged.{Judged, new_judge, exchanged, woke}
+use Rattle.iol_capture.specs.declared.fault.LineFault.{LineFault}
+use Rattle.iol_capture.specs.declared.fault.LineFault.TheVariants.{WrongNumber, ReplyMissing, MessageMissing}
+use Rattle.iol_capture.specs.declared.judgement.Counts.{Counts}
+use Rattle.iol_capture.specs.declared.trace_line.TraceLine.{TraceLine}
+use Rattle.iol_capture.specs.declared.trace_line.TraceLine.TheVariants.{Other, Page, Wake, Sent, Came}
+
+pub record Judging : Type 0 where
+  -- what the judge was told
+  pub judged : Judged
+  -- the number of the last call of the wire, 0 before the first
+  pub call : ℕ
+  -- what was sent in it, until it's told what came back
+  pub sent : Option (List ℕ)
+  -- the call on which the verdict rests: the last that began while the verdict was open
+  pub decided : ℕ
+  pub counts : Counts
+
+abbrev pub no_counts : Counts
+no_counts = record { unjudged = 0; judged = 0; lost = 0 }
+
+abbrev pub new_judging : Judging
+new_judging =
+    record { judged = new_judge; call = 0; sent = None; decided = 0; counts = no_counts }
+
+-- Counts
+
+-- one more, up to the largest that is shown
+abbrev pub one_more : ℕ → ℕ
+one_more count = min (count + 1) (2 ^ 64 - 1)
+
+abbrev pub counted_by : Verdict → Counts → Option (List ℕ) → Counts
+counted_by Unjudged counts came = record counts { unjudged = one_more counts.unjudged }
+counted_by Honest counts None =
+    record counts { judged = one_more counts.judged; lost = one_more counts.lost }
+counted_by Honest counts (Some octets) = record counts { judged = one_more counts.judged }
+counted_by verdict counts came = counts
+
+-- Calls of the wire
+
+-- whether more can change a verdict
+abbrev pub is_open : Verdict → Bool
+is_open Unjudged = true
+is_open Honest = true
+is_open (NotHonest exchange reason) = false
+is_open (CantSay exchange why) = false
+
+-- a call may have this number: the first any, each other the next
+abbrev pub is_next : ℕ → ℕ → Bool
+is_next call number = (call == 0) || (number == call + 1)
+
+-- a call begins, where the one before has ended
+abbrev pub begun : Judging → ℕ → Result Judging LineFault
+begun judging number =
+    if is_some judging.sent then Err ReplyMissing else
+    if is_next judging.call number
+    then Ok (record judging {
+      call = number;
+      decided = if is_open judging.judged.verdict then number else judging.decided;
+    })
+    else Err WrongNumber
+
+abbrev pub woken : WakeAnswer → Result Judging LineFault → Result Judging LineFault
+woken wake (Ok judging) = Ok (record judging { judged = woke judging.judged wake })
+woken wake (Err fault) = Err fault
+
+abbrev pub sending : List ℕ → Result Judging LineFault → Result Judging LineFault
+sending octets (Ok judging) = Ok (record judging { sent = Some octets })
+sending octets (Err fault) = Err fault
+
+-- a message and what came back are an exchange
+abbrev pub answered : Judging → List ℕ → Option (List ℕ) → Judging
+answered judging sent came = record judging {
+  judged = exchanged judging.judged sent came;
+  sent = None;
+  counts = counted_by judging.judged.verdict judging.counts came;
+}
+
+abbrev pub came_to : Option (List ℕ) → Judging → ℕ → Option (List ℕ) → Result Judging LineFault
+came_to None judging number came = Err MessageMissing
+came_to (Some sent) judging number came =
+    if number == judging.call then Ok (answered judging sent came) else Err WrongNumber
+
+-- the page counts before the first call alone: later it is what a port read
+abbrev pub paged : Judging → List ℕ → Judging
+paged judging octets =
+    if judging.call == 0
+    then record judging { judged = record judging.judged { seen = whole_page octets } }
+    else judging
+
+-- the judge, told what a line says
+abbrev pub told : Judging → TraceLine → Result Judging LineFault
+told judging Other = Ok judging
+told judging (Page octets) = Ok (paged judging octets)
+told judging (Wake number answer) = woken answer (begun judging number)
+told judging (Sent number octets) = sending octets.items (begun judging number)
+told judging (Came number came) = came_to judging.sent judging number (octets_in came)

@@ -1,0 +1,86 @@
+-- The lines of a trace.
+use Rattle.std.specs.Prelude.{ℕ, ◌-◌, ◌^◌, Bool, false, ◌==◌, ◌||◌, ◌&&◌, nat_le, Option, Some, None, option_map, option_and_then, List, [], ◌∷◌, length, take, if◌then◌else◌, codes}
+use Rattle.std.specs.List.{position}
+use Rattle.std.specs.Str.{bytes_eq}
+use Rattle.arrayvec.specs.ArrayVec.{ArrayVec}
+use Rattle.iol_judge.specs.declared.verdict.Wake.{Wake as WakeAnswer}
+use Rattle.iol_judge.specs.declared.verdict.Wake.TheVariants as wake
+use Rattle.iol_script.specs.Numerals.{octets_of, number_in, within}
+use Rattle.iol_script.specs.Text.{text_words}
+use Rattle.iol_capture.specs.declared.trace_line.TraceLine.{TraceLine}
+use Rattle.iol_capture.specs.declared.trace_line.TraceLine.TheVariants.{Other, Page, Wake, Sent, Came}
+
+-- Octets
+
+abbrev pub line_octets : List ℕ → ArrayVec ℕ
+line_octets octets = record { items = octets }
+
+-- words of two digits each, up to 128
+abbrev pub octets_form : List (List ℕ) → Option (ArrayVec ℕ)
+octets_form words = option_map line_octets (option_and_then (within 0 128) (octets_of words))
+
+-- the one word `none`
+abbrev pub are_none : List (List ℕ) → Bool
+are_none (word ∷ []) = bytes_eq word (codes "none")
+are_none words = false
+
+-- The words of a line
+
+-- the words behind `page`: ten octets; without them the line says nothing of a page
+abbrev pub page_of : ArrayVec ℕ → Option TraceLine
+page_of octets = if length octets.items == 10 then Some (Page octets.items) else None
+
+abbrev pub page_form : List (List ℕ) → Option TraceLine
+page_form words =
+    if are_none words then Some Other else option_and_then page_of (octets_form words)
+
+-- whether a wake-up request was answered, by the rate
+abbrev pub rate_form : List (List ℕ) → Option WakeAnswer
+rate_form (rate ∷ []) =
+    if bytes_eq rate (codes "none") then Some wake.Unanswered else
+    if bytes_eq rate (codes "COM1") || bytes_eq rate (codes "COM2")
+    || bytes_eq rate (codes "COM3") then Some wake.Answered else None
+rate_form words = None
+
+-- what came back
+abbrev pub came_form : List (List ℕ) → Option (Option (ArrayVec ℕ))
+came_form words = if are_none words then Some None else option_map Some (octets_form words)
+
+-- the words behind the number of a call
+abbrev pub call_form : ℕ → List (List ℕ) → Option TraceLine
+call_form number (way ∷ words) =
+    if bytes_eq way (codes "wake") then option_map (Wake number) (rate_form words) else
+    if bytes_eq way (codes ">") then option_map (Sent number) (octets_form words) else
+    if bytes_eq way (codes "<") then option_map (Came number) (came_form words) else None
+call_form number [] = None
+
+-- a line that begins with a digit is of a call; each other than `page` says nothing of the line
+abbrev pub begins_with_digit : List ℕ → Bool
+begins_with_digit [] = false
+begins_with_digit (c ∷ word) = nat_le 48 c && nat_le c 57
+
+abbrev pub named_form : List ℕ → List (List ℕ) → Option TraceLine
+named_form name words =
+    if bytes_eq name (codes "page") then page_form words else
+    if begins_with_digit name
+    then option_and_then (λ number. call_form number words) (number_in 1 (2 ^ 64 - 1) name)
+    else Some Other
+
+abbrev pub words_form : List (List ℕ) → Option TraceLine
+words_form [] = Some Other
+words_form (name ∷ words) = named_form name words
+
+-- A line
+
+abbrev pub cut_at : List ℕ → Option ℕ → List ℕ
+cut_at line None = line
+cut_at line (Some place) = take place line
+
+-- behind a colon the octets are only explained
+abbrev pub before_colon : List ℕ → List ℕ
+before_colon line = cut_at line (position (λ b. b == 58) line)
+
+-- what a line says, where it fits a form
+abbrev pub trace_form : List ℕ → Option TraceLine
+trace_form line =
+    if nat_le (length line) 1024 then words_form (text_words (before_colon line)) else None

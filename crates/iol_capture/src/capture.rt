@@ -1,0 +1,69 @@
+//! A capture, read from a reader to its end.
+ghost use Rattle.std.specs.Prelude.{◌≡◌, ◌≢◌, ℕ, Err, Ok, IfOk, IfErr, IfSome};
+ghost use Rattle.iol_capture.specs.Capture.{capture_judged};
+ghost use Rattle.iol_capture.specs.declared.fault.CaptureFault.TheVariants.{ReadFailed};
+
+use crate::fault::CaptureFault;
+use crate::judgement::Judgement;
+use crate::opened::Opened;
+use std::io::Read;
+
+/// How many bytes are asked for at once.
+const PIECE: usize = 4096;
+
+/// Reads a capture to its end, line by line, and tells a judge what its lines say.
+///
+/// It takes no memory, and keeps one line at a time. The first bad line ends it; of the text behind
+/// that, part may be read. No read follows one that failed.
+pub fn judge_capture<R: Read>(reader: &mut R) -> Result<Judgement, CaptureFault>
+    ensures judged { IfOk result (λ judgement. IfSome (R.remaining reader.old)
+        (λ text. capture_judged text ≡ Ok judgement)) }
+    ensures bad { IfErr result (λ fault. fault ≢ ReadFailed → IfSome (R.remaining reader.old)
+        (λ text. capture_judged text ≡ Err fault)) }
+{
+    let mut opened = Opened::new();
+    let mut piece = [0u8; PIECE];
+    for _ in 0..u64::MAX {
+        let Ok(count) = reader.read(&mut piece) else {
+            return Err(CaptureFault::ReadFailed);
+        };
+        if count == 0 {
+            return opened.finish();
+        }
+        opened.take(&piece[..count])?;
+    }
+    Err(CaptureFault::ReadFailed)
+}
+
+#[cfg(test)]
+mod tests {
+    use super::judge_capture;
+    use std::alloc::AllocError;
+    use std::test::Fail;
+
+    /// A trace of a device that answers its page, up to a lost reply.
+    const HONEST: &[u8] = b"\
+1 wake COM2
+2 > A2 00: read page 02
+2 < 17 1B: od 17 event 0 pd valid
+3 > A3 11: read page 03
+3 < none
+status startup
+record 0
+";
+
+    /// What is printed of a capture that is judged.
+    fn is_found(rt: &HostRuntime, input: &[u8], wanted: &str) -> Result<bool, AllocError> {
+        let mut reader = input;
+        match judge_capture(&mut reader) {
+            Ok(judgement) => Ok(judgement.text(rt.alloc())?.as_str() == wanted),
+            Err(_) => Ok(false),
+        }
+    }
+
+    #[test]
+    fn a_capture_is_judged(rt: HostRuntime) -> Result<(), Fail> {
+        assert!(&rt; is_found(&rt, HONEST, "honest 2 exchanges, 1 lost\n")?);
+        Ok(())
+    }
+}

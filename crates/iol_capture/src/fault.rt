@@ -1,0 +1,30 @@
+//! Why a text is no capture.
+use thiserror::Error;
+
+/// What is wrong with a line of a capture.
+#[derive(Clone, Copy, Debug, PartialEq, Eq, Error)]
+pub enum LineFault {
+    /// It fits no form, or has more than 1,024 bytes.
+    #[error("bad line")]
+    BadForm,
+    /// Its number isn't that of the next call, or of the message that waits for a reply.
+    #[error("wrong number")]
+    WrongNumber,
+    /// No line says what came back to the message before.
+    #[error("no reply line")]
+    ReplyMissing,
+    /// It says what came back, and no line before it what was sent.
+    #[error("no message line")]
+    MessageMissing,
+}
+
+/// Why a capture isn't judged.
+#[derive(Clone, Copy, Debug, PartialEq, Eq, Error)]
+pub enum CaptureFault {
+    /// The line of this number, counted from 1. Lines past 2^64 - 1 have that number.
+    #[error("line {0}: {1}")]
+    Line(u64, LineFault),
+    /// A read failed.
+    #[error("read failed")]
+    ReadFailed,
+}

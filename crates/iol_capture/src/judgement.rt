@@ -1,0 +1,194 @@
+//! A judge, told the lines of a trace.
+ghost use Rattle.std.specs.Prelude.{◌≡◌, ◌≤◌, ◌<◌, Ok, Err, IfErr, OnOk, is_some};
+ghost use Rattle.iol_far.specs.Octets.{octets_in};
+ghost use Rattle.iol_capture.specs.Judging.{answered, begun, came_to, counted_by, is_next, is_open, new_judging, no_counts, one_more, paged, told};
+
+use crate::fault::LineFault;
+use crate::trace_line::TraceLine;
+use iol_judge::{Judge, Verdict};
+use iol_script::LineOctets;
+use std::marker::Model;
+
+/// How many exchanges there were. Each count stops at 2^64 - 1.
+#[derive(Clone, Copy, Debug, PartialEq, Eq)]
+pub(crate) struct Counts {
+    /// Those before the first answered wake-up request.
+    pub unjudged: u64,
+    /// Those that were judged.
+    pub judged: u64,
+    /// Of these, those in which nothing came back.
+    pub lost: u64,
+}
+
+impl Counts {
+    /// None.
+    fn none() -> Counts
+        ensures { result ≡ no_counts }
+    {
+        Counts {
+            unjudged: 0,
+            judged: 0,
+            lost: 0,
+        }
+    }
+
+    /// One more exchange, while the verdict was this.
+    fn with(self, verdict: Verdict, came: &Option<LineOctets>) -> Counts
+        ensures { result ≡ counted_by verdict self (octets_in came.now) }
+    {
+        let mut counts = self;
+        match verdict {
+            Verdict::Unjudged => counts.unjudged = one_more(self.unjudged),
+            Verdict::Honest => {
+                counts.judged = one_more(self.judged);
+                if came.is_none() {
+                    counts.lost = one_more(self.lost);
+                }
+            }
+            Verdict::NotHonest(..) | Verdict::CantSay(..) => {}
+        }
+        counts
+    }
+}
+
+/// One more, up to the largest number.
+pub(crate) fn one_more(count: u64) -> u64
+    ensures { result ≡ one_more count }
+{
+    count.saturating_add(1)
+}
+
+/// What a judge makes of the lines of a trace.
+#[derive(Drop)]
+pub struct Judgement {
+    pub(crate) judge: Judge,
+    /// The number of the last call of the wire, 0 before the first.
+    call: u64,
+    /// What was sent in it, until it's told what came back.
+    sent: Option<LineOctets>,
+    /// The call on which the verdict rests.
+    pub(crate) decided: u64,
+    pub(crate) counts: Counts,
+}
+
+impl Model for Judgement {
+    ghost use Rattle.iol_capture.specs.Judging.{Judging};
+    ghost use Rattle.iol_far.specs.Octets.{octets_in};
+
+    ghost Value = { Judging };
+
+    ghost view = { λ j. record {
+      judged = j.judge;
+      call = j.call;
+      sent = octets_in j.sent;
+      decided = j.decided;
+      counts = j.counts;
+    } };
+}
+
+impl Judgement {
+    /// Nothing was told.
+    pub(crate) fn new() -> Judgement
+        ensures { result ≡ new_judging }
+    {
+        Judgement {
+            judge: Judge::new(),
+            call: 0,
+            sent: None,
+            decided: 0,
+            counts: Counts::none(),
+        }
+    }
+
+    /// Whether a message waits for what came back.
+    pub(crate) fn waits(&self) -> bool
+        ensures { result ≡ is_some self.now.sent }
+    {
+        self.sent.is_some()
+    }
+
+    /// What one more line says.
+    pub(crate) fn tell(&mut self, line: TraceLine) -> Result<(), LineFault>
+        ensures good { OnOk result (told self.old line ≡ Ok self.new) }
+        ensures bad { IfErr result (λ fault. told self.old line ≡ Err fault) }
+    {
+        match line {
+            TraceLine::Other => Ok(()),
+            TraceLine::Page(octets) => {
+                self.tell_page(&octets);
+                Ok(())
+            }
+            TraceLine::Wake(number, answer) => {
+                self.begin(number)?;
+                self.judge.wake(answer);
+                Ok(())
+            }
+            TraceLine::Sent(number, octets) => {
+                self.begin(number)?;
+                self.sent = Some(octets);
+                Ok(())
+            }
+            TraceLine::Came(number, came) => self.tell_came(number, came),
+        }
+    }
+
+    /// The page counts before the first call alone: later it is what a port read.
+    fn tell_page(&mut self, octets: &[u8; 10])
+        ensures { self.new ≡ paged self.old octets.now }
+    {
+        if self.call == 0 {
+            self.judge.page(octets);
+        }
+    }
+
+    /// A call of the wire begins.
+    fn begin(&mut self, number: u64) -> Result<(), LineFault>
+        ensures good { OnOk result (begun self.old number ≡ Ok self.new) }
+        ensures bad { IfErr result (λ fault. begun self.old number ≡ Err fault) }
+    {
+        if self.sent.is_some() {
+            return Err(LineFault::ReplyMissing);
+        }
+        if !is_next(self.call, number) {
+            return Err(LineFault::WrongNumber);
+        }
+        self.call = number;
+        if is_open(self.judge.verdict()) {
+            self.decided = number;
+        }
+        Ok(())
+    }
+
+    /// What came back to the message that waits.
+    fn tell_came(&mut self, number: u64, came: Option<LineOctets>) -> Result<(), LineFault>
+        ensures good { OnOk result (came_to self.old.sent self.old number (octets_in came)
+            ≡ Ok self.new) }
+        ensures bad { IfErr result (λ fault. came_to self.old.sent self.old number (octets_in came)
+            ≡ Err fault) }
+    {
+        let Some(sent) = self.sent.take() else {
+            return Err(LineFault::MessageMissing);
+        };
+        if number != self.call {
+            return Err(LineFault::WrongNumber);
+        }
+        self.counts = self.counts.with(self.judge.verdict(), &came);
+        let reply = came.as_ref().map(|octets| octets.as_slice());
+        self.judge.exchange(sent.as_slice(), reply);
+        Ok(())
+    }
+}
+
+/// Whether more can change a verdict.
+fn is_open(verdict: Verdict) -> bool
+    ensures { result ≡ is_open verdict }
+{
+    matches!(verdict, Verdict::Unjudged | Verdict::Honest)
+}
+
+/// Whether a call may have this number: the first any, each other the next.
+fn is_next(call: u64, number: u64) -> bool
+    ensures { result ≡ is_next call number }
+{
+    call == 0 || call.checked_add(1) == Some(number)
+}

@@ -1,0 +1,121 @@
+//! A capture that is read in pieces: the lines that ended, and the line that is open.
+ghost use Rattle.std.specs.Prelude.{◌≡◌, ◌≤◌, ◌∷◌, ◌++◌, [], ℕ, List, Err, Ok, IfErr, IfOk, OnOk};
+ghost use Rattle.iol_capture.specs.Capture.{ended, judged_with, line_read, new_opened};
+ghost use Rattle.iol_capture.specs.OpenLine.{IsOpenLine};
+
+use crate::fault::{CaptureFault, LineFault};
+use crate::judgement::{Judgement, one_more};
+use crate::trace_line::{LONGEST, TraceLine};
+use arrayvec::ArrayVec;
+use std::marker::Model;
+
+/// A capture, as far as it is read.
+#[derive(Drop)]
+pub(crate) struct Opened {
+    /// How many lines ended.
+    lines: u64,
+    judgement: Judgement,
+    /// The bytes of the line that is open.
+    line: ArrayVec<u8, LONGEST>,
+}
+
+impl Model for Opened {
+    ghost use Rattle.iol_capture.specs.Capture.{Opened};
+    ghost use Rattle.iol_capture.specs.OpenLine.{IsOpenLine};
+
+    ghost Value = { Opened };
+
+    ghost view = { λ o. record {
+      reading = record { lines = o.lines; judging = o.judgement };
+      line = o.line.items;
+    } };
+
+    ghost invariant = { λ o. IsOpenLine o.line.items };
+}
+
+impl Opened {
+    /// Nothing is read.
+    pub(crate) fn new() -> Opened
+        ensures { result ≡ new_opened }
+    {
+        Opened {
+            lines: 0,
+            judgement: Judgement::new(),
+            line: ArrayVec::new(),
+        }
+    }
+
+    /// More of the text is read.
+    pub(crate) fn take(&mut self, text: &[u8]) -> Result<(), CaptureFault>
+        ensures good { OnOk result ((rest : List ℕ)
+            → judged_with self.old (text.now ++ rest) ≡ judged_with self.new rest) }
+        ensures bad { IfErr result (λ fault. (rest : List ℕ)
+            → judged_with self.old (text.now ++ rest) ≡ Err fault) }
+    {
+        for octet in text {
+            self.take_octet(*octet)?;
+        }
+        Ok(())
+    }
+
+    /// One more octet is read.
+    fn take_octet(&mut self, octet: u8) -> Result<(), CaptureFault>
+        ensures good { OnOk result ((rest : List ℕ)
+            → judged_with self.old (octet ∷ rest) ≡ judged_with self.new rest) }
+        ensures bad { IfErr result (λ fault. (rest : List ℕ)
+            → judged_with self.old (octet ∷ rest) ≡ Err fault) }
+    {
+        if octet == b'\n' {
+            return self.end_line();
+        }
+        if self.line.is_full() {
+            return Err(CaptureFault::Line(one_more(self.lines), LineFault::BadForm));
+        }
+        self.line.push(octet);
+        Ok(())
+    }
+
+    /// The open line ends.
+    fn end_line(&mut self) -> Result<(), CaptureFault>
+        ensures good { OnOk result (line_read (Ok self.old.reading) self.old.line
+            ≡ Ok self.new.reading) }
+        ensures bad { IfErr result (λ fault. line_read (Ok self.old.reading) self.old.line
+            ≡ Err fault) }
+        ensures empty { OnOk result (self.new.line ≡ []) }
+        ensures no_feed { IsOpenLine self.old.line }
+    {
+        let number = one_more(self.lines);
+        let Some(line) = TraceLine::parse(self.line.as_slice()) else {
+            return Err(CaptureFault::Line(number, LineFault::BadForm));
+        };
+        if let Err(fault) = self.judgement.tell(line) {
+            return Err(CaptureFault::Line(number, fault));
+        }
+        self.lines = number;
+        self.line.clear();
+        Ok(())
+    }
+
+    /// The text has ended.
+    pub(crate) fn finish(mut self) -> Result<Judgement, CaptureFault>
+        ensures { result ≡ judged_with self [] }
+    {
+        if self.line.is_empty() {
+            return self.judged();
+        }
+        match self.end_line() {
+            Ok(()) => self.judged(),
+            Err(fault) => Err(fault),
+        }
+    }
+
+    /// What is judged once the last line has ended.
+    fn judged(self) -> Result<Judgement, CaptureFault>
+        ensures { result ≡ ended (Ok self.reading) }
+    {
+        if self.judgement.waits() {
+            return Err(CaptureFault::Line(one_more(self.lines), LineFault::ReplyMissing));
+        }
+        Ok(self.judgement)
+    }
+}

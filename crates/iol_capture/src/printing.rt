@@ -1,0 +1,163 @@
+//! What is printed of a judged capture.
+ghost use Rattle.std.specs.Prelude.{◌≡◌, ◌++◌, IfOk, OnOk};
+ghost use Rattle.std.specs.String.{string_bytes};
+ghost use Rattle.iol_capture.specs.Findings.{because_text, finding_of, finding_text, honest_text, open_text, reason_text, unjudged_text, verdict_text};
+
+use crate::judgement::{Counts, Judgement};
+use iol_judge::{Open, Reason, Verdict};
+use std::alloc::{AllocError, Allocator};
+
+/// What a judge found in a capture.
+#[derive(Clone, Copy, Debug, PartialEq, Eq)]
+pub enum Finding {
+    /// Nothing speaks against a device by the rules.
+    Honest,
+    /// No device by the rules could have brought it.
+    NotHonest,
+    /// From some call on nothing can be said, or nothing was judged.
+    CantSay,
+}
+
+impl Judgement {
+    /// What was found.
+    pub fn finding(&self) -> Finding
+        ensures { result ≡ finding_of self.now.judged.verdict }
+    {
+        match self.judge.verdict() {
+            Verdict::Honest => Finding::Honest,
+            Verdict::NotHonest(..) => Finding::NotHonest,
+            Verdict::Unjudged | Verdict::CantSay(..) => Finding::CantSay,
+        }
+    }
+
+    /// What was found, in a line of text; before it how many exchanges aren't judged, where some
+    /// aren't.
+    pub fn text<A: Allocator>(&self, alloc: A) -> Result<String<A>, AllocError>
+        ensures { IfOk result (λ text. string_bytes text ≡ finding_text self.now) }
+    {
+        let mut output = String::new(alloc);
+        print_unjudged(&mut output, self.counts.unjudged)?;
+        print_verdict(
+            &mut output,
+            self.judge.verdict(),
+            self.decided,
+            &self.counts,
+        )?;
+        Ok(output)
+    }
+}
+
+/// The exchanges before the first answered wake-up request, where there are any.
+fn print_unjudged<A: Allocator>(output: &mut String<A>, count: u64) -> Result<(), AllocError>
+    ensures { OnOk result (string_bytes output.new
+        ≡ string_bytes output.old ++ unjudged_text count) }
+{
+    if count == 0 {
+        return Ok(());
+    }
+    writeln!(output, "unjudged {count}")
+}
+
+/// The verdict, with the call on which it rests.
+fn print_verdict<A: Allocator>(
+    output: &mut String<A>,
+    verdict: Verdict,
+    call: u64,
+    counts: &Counts,
+) -> Result<(), AllocError>
+    ensures { OnOk result (string_bytes output.new
+        ≡ string_bytes output.old ++ verdict_text verdict call counts.now) }
+{
+    match verdict {
+        Verdict::Unjudged => output.push_str("can't say: no wake-up request was answered\n"),
+        Verdict::Honest => print_honest(output, counts.judged, counts.lost),
+        Verdict::NotHonest(_, reason) => {
+            output.push_str("not honest at ")?;
+            print_because(output, call, ": ", reason.code(), reason_text(reason))
+        }
+        Verdict::CantSay(_, why) => {
+            output.push_str("can't say from ")?;
+            print_because(output, call, " on: ", why.code(), open_text(why))
+        }
+    }
+}
+
+/// How many exchanges were judged, and in how many of them nothing came back.
+fn print_honest<A: Allocator>(
+    output: &mut String<A>,
+    judged: u64,
+    lost: u64,
+) -> Result<(), AllocError>
+    ensures { OnOk result (string_bytes output.new
+        ≡ string_bytes output.old ++ honest_text judged lost) }
+{
+    write!(output, "honest {judged} exchanges")?;
+    writeln!(output, ", {lost} lost")
+}
+
+/// A call of the wire, and the number of a reason, with its text.
+fn print_because<A: Allocator>(
+    output: &mut String<A>,
+    call: u64,
+    joint: &str,
+    number: u8,
+    text: &str,
+) -> Result<(), AllocError>
+    ensures { OnOk result (string_bytes output.new
+        ≡ string_bytes output.old ++ because_text call joint.now number text.now) }
+{
+    writeln!(output, "{call}{joint}{number} {text}")
+}
+
+/// The name of a reason, what a device by the rules doesn't send, and the rule.
+fn reason_text(reason: Reason) -> &'static str
+    ensures { result.now ≡ reason_text reason }
+{
+    match reason {
+        Reason::NotTaken => {
+            "NotTaken: a reply to a message that the device doesn't take in its mode (DEV-2)"
+        }
+        Reason::ReplyLength => {
+            "ReplyLength: a reply of another length than the layout of its mode gives (MSG-4)"
+        }
+        Reason::StatusWithoutData => {
+            "StatusWithoutData: PD status 1 in a layout without process data in (DEV-8)"
+        }
+        Reason::InvalidNotZero => {
+            "InvalidNotZero: PD status 1 with process data in that isn't zeros (DEV-8)"
+        }
+        Reason::FlagAtConfirm => {
+            "FlagAtConfirm: Event flag 1 in the reply to the confirm of events (EVT-2)"
+        }
+        Reason::FlagGone => "FlagGone: Event flag 0 before the events were confirmed (EVT-2)",
+        Reason::StatusCode => {
+            "StatusCode: another StatusCode than that of the events that the device shows (EVT-4)"
+        }
+        Reason::EventOctet => {
+            "EventOctet: an octet of an event that is another than before, or of none and not 0 (EVT-4)"
+        }
+        Reason::PageChanged => "PageChanged: an octet of the page that was another before (PAGE-1)",
+        Reason::PageZero => "PageZero: a page address outside 01 to 0B that isn't 0 (PAGE-1)",
+        Reason::CycleTime => {
+            "CycleTime: page address 01 isn't what was written or read there (DEV-9)"
+        }
+        Reason::ProcessNotZero => {
+            "ProcessNotZero: a read of the process channel that isn't zeros (DEV-7)"
+        }
+        Reason::RestNotZero => "RestNotZero: octets behind the first that aren't zeros (MSG-6)",
+        Reason::NoAnswerDue => { "NoAnswerDue: an answer where no request was begun (DEV-14)" }
+    }
+}
+
+/// Why nothing can be said.
+fn open_text(why: Open) -> &'static str
+    ensures { result.now ≡ open_text why }
+{
+    match why {
+        Open::PageUnread => {
+            "PageUnread: a mode was asked for before the page's octets 03 to 06 were read (PAGE-5)"
+        }
+        Open::PageRefused => "PageRefused: the page's octets 03 to 06 ask for no layouts (PAGE-5)",
+        Open::TooManyStates => "TooManyStates: too many states of a device are possible",
+    }
+}
