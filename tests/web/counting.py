@@ -49,3 +49,25 @@ def cut_off_and_carried(text):
     if many(FORMS["requests"], lines) != many(OUTCOME, lines):
         return None
     return many(FORMS["carried"], lines) - many(DONE, lines)
+
+
+VERDICT = r"not honest at (\d+): .*|can't say from (\d+) on: .*|(can't say): .*|honest .*"
+
+
+def findings(text):
+    """What a verdict says of each number of a trace: judged, guilty, unjudged, or open, from where on it can't say."""
+    lines = text.splitlines()
+    guilty, open_from, unheard = next(filter(None, (re.fullmatch(VERDICT, it) for it in lines))).groups()
+    early = sum(int(it.split()[1]) for it in lines if it.startswith("unjudged "))
+    end = int(guilty or open_from or (0 if unheard else 10**9))
+    said, exchanges = {}, 0
+    for line in lines:
+        number, _, rest = line.partition(" ")
+        if not number.isdecimal() or rest.startswith("<"):
+            continue
+        is_early = exchanges < early
+        exchanges += rest.startswith(">")
+        said[int(number)] = "unjudged" if is_early or int(number) >= end else "judged"
+        if int(number) == end:
+            said[int(number)] = "guilty" if guilty else "open"
+    return said

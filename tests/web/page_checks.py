@@ -7,25 +7,18 @@ import xml.etree.ElementTree
 from counting import counted, cut_off_and_carried
 from large import check_large
 from records import check_records
-from trace_page import ROOT, read
+from trace_page import ROOT, missing, read, unlike
+from verdicts import CHECKS as VERDICTS
 
 IDS = r"\b(?:OCT|CHK|MSG|LAY|PAGE|ISDU|SEG|DEV|EVT|WIRE|LINK|REQ|PD|BOOK|PORT)-\d+\b"
 LEAST_CONTRAST = 4.5
 PAIRS = [
     ("ink", "paper"), ("soft", "paper"), ("link", "paper"), ("bad", "paper"), ("ink", "page"),
     ("ink", "isdu"), ("ink", "diagnosis"), ("ink", "process"), ("ink", "came"), ("ink", "chosen"),
-    ("doubt", "doubt-fill"), ("did", "did-fill"), ("good", "good-fill"),
+    ("doubt", "doubt-fill"), ("did", "did-fill"), ("good", "good-fill"), ("ink", "panel"),
 ]
 PICTURES = ["trace_cable_pulled.png", "trace_one_read.png"]
 MOST_OCTETS = 150_000
-
-
-def unlike(is_there, wanted):
-    return "" if is_there == wanted else f"is {is_there!r}, and not {wanted!r}"
-
-
-def missing(part, text):
-    return "" if part in text else f"{part!r} is not in {text!r}"
 
 
 def check_examples(room):
@@ -408,5 +401,5 @@ def check_silence(room):
 CHECKS = [
     check_examples, check_traces, check_records, check_broken, check_odd_lines, check_story, check_details, check_keys,
     check_pointer, check_touch, check_find, check_paste_and_drop, check_picture_file, check_table, check_rules,
-    check_contrast, check_pictures, check_large, check_silence,
+    check_contrast, check_pictures, *VERDICTS, check_large, check_silence,
 ]

@@ -12,6 +12,14 @@ def read(path):
         return it.read()
 
 
+def unlike(is_there, wanted):
+    return "" if is_there == wanted else f"is {is_there!r}, and not {wanted!r}"
+
+
+def missing(part, text):
+    return "" if part in text else f"{part!r} is not in {text!r}"
+
+
 class Room:
     """The open page, the program, and a folder for files."""
 
