@@ -1,7 +1,7 @@
--- A set of states, none of which an earlier one covers.
+-- A set of states, none of which another one covers.
 use Rattle.std.proofs.Common.{◌≡◌, ℕ, Bool, true, false, List, [], ◌∷◌, ◌++◌, length, refl, sym, ◌∙◌, ap, subst, arith, ◌⊎◌, inl, inr}
 use Rattle.std.proofs.lemmas.Grind.{common_steps}
-use Rattle.std.specs.Prelude.{Option, Some, None, Ok, Err, if◌then◌else◌, ◌&&◌, ◌||◌, ◌==◌, bytes_eq}
+use Rattle.std.specs.Prelude.{Option, Some, None, Ok, Err, if◌then◌else◌, not, ◌&&◌, ◌||◌, ◌==◌, bytes_eq}
 use Rattle.std.specs.List.{list_any}
 use Rattle.std.proofs.lemmas.Slice.Eq.{bytes_eq-Decides}
 use Rattle.iol_far.specs.declared.mode.Mode.{Mode}
@@ -15,7 +15,7 @@ use Rattle.iol_judge.specs.Octets.{is_known_in}
 use Rattle.iol_judge.specs.Events.{covers_events}
 use Rattle.iol_judge.specs.Transfers.{covers_transfer}
 use Rattle.iol_judge.specs.State.{State, covers, same_waiting}
-use Rattle.iol_judge.specs.Judged.{added, has_state}
+use Rattle.iol_judge.specs.Judged.{added, has_state, uncovered}
 use Rattle.iol_judge.specs.Admitted.{Admits, AdmitsOne, AreShown}
 use Rattle.iol_judge.proofs.Shown.{both, known_in_keeps, covers_shown}
 use Rattle.iol_judge.proofs.Transferring.{covers_under_way}
@@ -102,41 +102,54 @@ last_admits : (states : List State) (state : State) (far : Far) → Admits state
 last_admits [] state far h = inl h
 last_admits (x ∷ states) state far h = inr (last_admits states state far h)
 
+-- a state takes the place of those that it covers
 front_admits : (states : List State) (state : State) (far : Far) → AdmitsOne states far
-    → AdmitsOne (states ++ state ∷ []) far
+    → AdmitsOne (uncovered states state ++ state ∷ []) far
 front_admits [] state far h = absurd h
 front_admits (x ∷ states) state far h =
-    elim h [ inl here ↦ inl here | inr there ↦ inr (front_admits states state far there) ]
+    split (covers state x) refl h (λ rest. front_admits states state far rest)
+  where
+    split : (b : Bool) → covers state x ≡ b → Admits x far ⊎ AdmitsOne states far
+        → (AdmitsOne states far → AdmitsOne (uncovered states state ++ state ∷ []) far)
+        → AdmitsOne ((if not b then x ∷ uncovered states state else uncovered states state)
+        ++ state ∷ []) far
+    split true e (inl here) go =
+        last_admits (uncovered states state) state far (covers_admits state x far e here)
+    split true e (inr there) go = go there
+    split false e (inl here) go = inl here
+    split false e (inr there) go = inr (go there)
 
 -- what was admitted still is
 pub added_keeps : (states : List State) (state : State) (next : List State) (far : Far)
     → added states state ≡ Ok next → AdmitsOne states far → AdmitsOne next far
 added_keeps states state next far h admits =
-    split (has_state states state) (length states == MAX_STATES) h
+    split (has_state states state) (length (uncovered states state) == MAX_STATES) h
   where
     split : (b c : Bool) → (if b then Ok states else if c then Err TooManyStates else Ok
-        (states ++ state ∷ [])) ≡ Ok next
+        (uncovered states state ++ state ∷ [])) ≡ Ok next
         → AdmitsOne next far
     split true c h = let e : states ≡ next = cc in subst (λ (s : List State). AdmitsOne s far) e
         admits
     split false true h = absurd (cc)
     split false false h =
-        let e : (states ++ state ∷ []) ≡ next = cc in
+        let e : (uncovered states state ++ state ∷ []) ≡ next = cc in
         subst (λ (s : List State). AdmitsOne s far) e (front_admits states state far admits)
 
 -- and so is what the state admits that is added
 pub added_admits : (states : List State) (state : State) (next : List State) (far : Far)
     → added states state ≡ Ok next → Admits state far → AdmitsOne next far
 added_admits states state next far h admits =
-    split (has_state states state) (length states == MAX_STATES) refl h
+    split (has_state states state) (length (uncovered states state) == MAX_STATES) refl h
   where
     split : (b c : Bool) → has_state states state ≡ b
-        → (if b then Ok states else if c then Err TooManyStates else Ok (states ++ state ∷ []))
+        → (if b then Ok states else if c then Err TooManyStates else Ok
+        (uncovered states state ++ state ∷ []))
         ≡ Ok next
         → AdmitsOne next far
     split true c has h = let e : states ≡ next = cc in
         subst (λ (s : List State). AdmitsOne s far) e (has_admits states state far has admits)
     split false true has h = absurd (cc)
     split false false has h =
-        let e : (states ++ state ∷ []) ≡ next = cc in
-        subst (λ (s : List State). AdmitsOne s far) e (last_admits states state far admits)
+        let e : (uncovered states state ++ state ∷ []) ≡ next = cc in
+        subst (λ (s : List State). AdmitsOne s far) e
+        (last_admits (uncovered states state) state far admits)

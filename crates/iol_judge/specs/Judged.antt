@@ -1,5 +1,5 @@
 -- The judge: the states of a device that a capture so far admits, and the verdict.
-use Rattle.std.specs.Prelude.{ℕ, ◌+◌, ◌-◌, ◌^◌, min, Bool, true, ◌==◌, if◌then◌else◌, List, [], ◌∷◌, ◌++◌, length, slice_index, Option, Some, None, Result, Ok, Err}
+use Rattle.std.specs.Prelude.{ℕ, ◌+◌, ◌-◌, ◌^◌, min, Bool, true, not, ◌==◌, if◌then◌else◌, List, [], ◌∷◌, ◌++◌, length, filter, slice_index, Option, Some, None, Result, Ok, Err}
 use Rattle.std.specs.List.{list_any}
 use Rattle.iol_octets.specs.Control.{control_of}
 use Rattle.iol_octets.specs.declared.control.Mc.{Mc}
@@ -37,15 +37,21 @@ pub record Judged : Type 0 where
 abbrev pub new_judge : Judged
 new_judge = record { seen = nothing_seen; states = []; verdict = Unjudged; exchanges = 0 }
 
--- Sets of states, none of which an earlier one covers
+-- Sets of states, none of which another one covers
 
 abbrev pub has_state : List State → State → Bool
 has_state states state = list_any (λ other. covers other state) states
 
+-- those that a state doesn't cover
+abbrev pub uncovered : List State → State → List State
+uncovered states state = filter (λ other. not (covers state other)) states
+
+-- a new state takes the place of those that it covers
 abbrev pub added : List State → State → Result (List State) Open
 added states state =
     if has_state states state then Ok states else
-    if length states == MAX_STATES then Err TooManyStates else Ok (states ++ state ∷ [])
+    if length (uncovered states state) == MAX_STATES then Err TooManyStates else
+    Ok (uncovered states state ++ state ∷ [])
 
 -- a step for each item in turn, until one fails
 abbrev pub each_in_turn : {S A : Type 0} → (A → S → Result A Open) → A → List S → Result A Open

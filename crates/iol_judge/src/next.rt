@@ -2,7 +2,7 @@
 ghost use Rattle.std.specs.Prelude.{◌≡◌, [], Ok, Err, ◌≤◌, ◌++◌, ◌∷◌, length, drop};
 ghost use Rattle.std.specs.Result.{result_err};
 ghost use Rattle.arrayvec.specs.ArrayVec.{array_vec_len};
-ghost use Rattle.iol_judge.specs.Judged.{added, has_state, all_lost, all_replied, lost_into, all_woken, replied_into, result_with, woken_into};
+ghost use Rattle.iol_judge.specs.Judged.{added, has_state, uncovered, all_lost, all_replied, lost_into, all_woken, replied_into, result_with, woken_into};
 
 use crate::kept::Kept;
 use crate::open::Open;
@@ -12,13 +12,14 @@ use crate::seen::{Known, Seen};
 use crate::taken::{Explained, MAX_STATES, Next, States};
 use crate::verdict::Wake;
 
-/// Puts a state to the others, where none of them covers it.
+/// Puts a state to the others, in the place of those that it covers, where none of them covers it.
 pub(crate) fn add(states: &mut States, kept: Kept) -> Result<(), Open>
     ensures { result_with result states.new.items ≡ added states.old.items kept }
 {
     if has_state(states, &kept) {
         return Ok(());
     }
+    remove_covered(states, &kept);
     if states.len() == MAX_STATES {
         return Err(Open::TooManyStates);
     }
@@ -31,6 +32,13 @@ fn has_state(states: &[Kept], kept: &Kept) -> bool
     ensures { result ≡ has_state states.now kept.now }
 {
     states.iter().any(|other| other.covers(kept))
+}
+
+/// Takes out those that a state covers.
+fn remove_covered(states: &mut States, kept: &Kept)
+    ensures { states.new.items ≡ uncovered states.old.items kept.now }
+{
+    states.retain(|other| !kept.covers(other));
 }
 
 /// The states after an exchange without a reply that can be read: each as it was, for the message

@@ -212,20 +212,15 @@ fn verdicts_of(seed: u64, exchanges: u32) -> [Verdict; 3] {
     ]
 }
 
-/// None of many random captures of devices by the rules is blamed, and nearly all are honest,
-/// though many messages aren't answered. The others come to too many states.
+/// Many random captures of devices by the rules are all honest, though many messages aren't
+/// answered.
 #[test]
 fn devices_by_the_rules_are_honest(rt: HostRuntime) -> Result<(), Fail> {
     honest_lines_are_never_blamed();
-    let mut honest: u32 = 0;
     for seed in 0..40 {
         for verdict in &verdicts_of(seed, 500) {
-            assert!(rt; !matches!(verdict, Verdict::NotHonest(..)));
-            if *verdict == Verdict::Honest {
-                honest = honest.saturating_add(1);
-            }
+            assert!(rt; *verdict == Verdict::Honest);
         }
     }
-    assert!(rt; honest > 100);
     Ok(())
 }
