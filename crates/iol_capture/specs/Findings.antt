@@ -42,6 +42,12 @@ reason_text reason.ProcessNotZero = codes
 reason_text reason.RestNotZero = codes
     "RestNotZero: octets behind the first that aren't zeros (MSG-6)"
 reason_text reason.NoAnswerDue = codes "NoAnswerDue: an answer where no request was begun (DEV-14)"
+reason_text reason.NotBusy = codes
+    "NotBusy: a first reply behind a whole request that isn't busy (DEV-12)"
+reason_text reason.BusyAgain = codes
+    "BusyAgain: busy, though the answer's first segment was read (DEV-13)"
+reason_text reason.SegmentChanged = codes
+    "SegmentChanged: a segment of an answer that was another before (DEV-13)"
 
 -- why nothing can be said
 abbrev pub open_text : Open → List ℕ

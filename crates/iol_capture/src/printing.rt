@@ -146,6 +146,15 @@ fn reason_text(reason: Reason) -> &'static str
         }
         Reason::RestNotZero => "RestNotZero: octets behind the first that aren't zeros (MSG-6)",
         Reason::NoAnswerDue => { "NoAnswerDue: an answer where no request was begun (DEV-14)" }
+        Reason::NotBusy => {
+            "NotBusy: a first reply behind a whole request that isn't busy (DEV-12)"
+        }
+        Reason::BusyAgain => {
+            "BusyAgain: busy, though the answer's first segment was read (DEV-13)"
+        }
+        Reason::SegmentChanged => {
+            "SegmentChanged: a segment of an answer that was another before (DEV-13)"
+        }
     }
 }
 

@@ -3,15 +3,18 @@ use Rattle.std.proofs.Common.{◌≡◌, ℕ, Bool, true, false, List, [], ◌�
 use Rattle.std.specs.Prelude.{Option, Some, None, IfSome, if◌then◌else◌, ◌&&◌}
 use Rattle.iol_isdu.specs.declared.values.Answer.{Answer}
 use Rattle.iol_far.specs.Isdu.{IsduState, Empty, Receiving, Whole, Handed, Answered, fits}
-use Rattle.iol_far.specs.Far.{Far}
+use Rattle.iol_far.specs.Far.{Far, layout_of}
 use Rattle.iol_far.specs.Level.{link_of, grown_by}
 use Rattle.iol_far.specs.Local.{LocalStep, Carry, Raise, Input, NoInput, Power, local, locals, carried_by, has_room, is_input, woken}
 use Rattle.iol_judge.specs.declared.events.Shown.{Shown}
 use Rattle.iol_judge.specs.declared.events.Shown.TheVariants.{Fresh}
+use Rattle.iol_judge.specs.declared.transfer.Transfer.{Transfer}
+use Rattle.iol_judge.specs.declared.transfer.Transfer.TheVariants.{Quiet}
+use Rattle.iol_judge.specs.UnderWay.{IsUnderWay}
 use Rattle.iol_judge.specs.State.{State, woken_state, powered_state}
 use Rattle.iol_judge.specs.Admitted.{Admits, AdmitsOne, Agrees, AreShown}
 use Rattle.iol_judge.proofs.Shown.{raised_shown, released_shown, none_shown}
-use Rattle.iol_judge.proofs.Transferring.{transfer_kept}
+use Rattle.iol_judge.proofs.Covering.{handed_answers}
 
 -- the parts that a state and the page's octets speak of are the same, and what is known of its
 -- events holds
@@ -21,11 +24,13 @@ pub record Alike (far new : Far) : Type 0 where
   pub page : new.page ≡ far.page
   pub events : (known : Shown) → AreShown (if far.awake then known else Fresh) far.events
       → AreShown (if new.awake then known else Fresh) new.events
-  pub isdu : far.isdu ≡ Empty → new.isdu ≡ Empty
+  pub isdu : (known : Transfer)
+      → IsUnderWay (layout_of far).od (if far.awake then known else Quiet) far.isdu
+      → IsUnderWay (layout_of new).od (if new.awake then known else Quiet) new.isdu
 
 itself : (far : Far) → Alike far far
 itself far =
-    record { link = refl; cycle = refl; page = refl; events = λ known s. s; isdu = λ e. e }
+    record { link = refl; cycle = refl; page = refl; events = λ known s. s; isdu = λ known h. h }
 
 alike_if : (b : Bool) (far x y : Far) → Alike far x → Alike far y → Alike far (if b then x else y)
 alike_if true far x y l r = l
@@ -34,18 +39,24 @@ alike_if false far x y l r = r
 carried_alike : (state : IsduState) (far : Far) (answer : Answer) → far.isdu ≡ state
     → Alike far (carried_by state far answer)
 carried_alike (Handed request) far answer is =
-    alike_if (has_room far && fits request answer) far
-    (record far {
-      isdu = Answered request answer None;
-      carried = grown_by far.carried request answer;
-    })
-    far (record {
+    split (has_room far) (fits request answer) refl
+  where
+    split : (room fit : Bool) → fits request answer ≡ fit
+        → Alike far (if (room && fit) then record far {
+          isdu = Answered request answer None;
+          carried = grown_by far.carried request answer;
+        } else far)
+    split true true e = record {
       link = refl;
       cycle = refl;
       page = refl;
       events = λ known s. s;
-      isdu = λ e. absurd (let no : Handed request ≡ Empty = sym is ∙ e in cc);
-    }) (itself far)
+      isdu = λ known h. handed_answers (layout_of far).od (if far.awake then known else Quiet)
+          request answer e (subst (λ (s : IsduState). IsUnderWay (layout_of far).od
+          (if far.awake then known else Quiet) s) is h);
+    }
+    split true false e = itself far
+    split false fit e = itself far
 carried_alike Empty far answer is = itself far
 carried_alike (Receiving text last) far answer is = itself far
 carried_alike (Whole request last) far answer is = itself far
@@ -58,20 +69,20 @@ local_alike far (Raise event) = record {
   cycle = refl;
   page = refl;
   events = λ known s. raised_shown (if far.awake then known else Fresh) far.events event s;
-  isdu = λ e. e;
+  isdu = λ known h. h;
 }
 local_alike far (Input image) =
     alike_if (is_input far image) far (record far { input = Some image }) far
-    (record { link = refl; cycle = refl; page = refl; events = λ known s. s; isdu = λ e. e })
+    (record { link = refl; cycle = refl; page = refl; events = λ known s. s; isdu = λ known h. h })
     (itself far)
 local_alike far NoInput =
-    record { link = refl; cycle = refl; page = refl; events = λ known s. s; isdu = λ e. e }
+    record { link = refl; cycle = refl; page = refl; events = λ known s. s; isdu = λ known h. h }
 local_alike far Power = record {
   link = refl;
   cycle = refl;
   page = refl;
   events = λ known s. none_shown;
-  isdu = λ e. refl;
+  isdu = λ known h. refl;
 }
 
 then_alike : (a b c : Far) → Alike a b → Alike b c → Alike a c
@@ -81,7 +92,7 @@ then_alike a b c l r =
       cycle = r.cycle ∙ l.cycle;
       page = r.page ∙ l.page;
       events = λ known s. r.events known (l.events known s);
-      isdu = λ e. r.isdu (l.isdu e);
+      isdu = λ known h. r.isdu known (l.isdu known h);
     }
 
 pub locals_alike : (far : Far) (steps : List LocalStep) → Alike far (locals far steps)
@@ -101,7 +112,7 @@ admits_alike state far new same h = record {
   link = same.link ∙ h.link;
   cycle = cycle_kept state.cycle far.cycle_time new.cycle_time same.cycle h.cycle;
   events = same.events state.events h.events;
-  isdu = transfer_kept state.transfer far.isdu new.isdu same.isdu h.isdu;
+  isdu = same.isdu state.transfer h.isdu;
 }
 
 pub one_alike : (states : List State) (far new : Far) → Alike far new → AdmitsOne states far

@@ -1,5 +1,5 @@
 -- A state explains each reply of a device that it stands for.
-use Rattle.std.proofs.Common.{◌≡◌, ℕ, zero, suc, ◌-◌, ◌≤◌, length, Bool, true, false, List, [], refl, sym, ◌∙◌, ap, subst, replicate, eqb-true}
+use Rattle.std.proofs.Common.{◌≡◌, ℕ, ◌-◌, ◌≤◌, length, Bool, true, false, List, [], refl, sym, ◌∙◌, ap, subst, replicate, eqb-true}
 use Rattle.std.specs.Prelude.{Option, Some, None, IfSome, is_some, unwrap_or, not, ◌&&◌, ◌==◌, nat_le, slice_index, slice_index_or, slice_set, if◌then◌else◌}
 use Rattle.std.specs.Option.{option_or}
 use Rattle.iol_octets.specs.Control.{control_of}
@@ -13,31 +13,31 @@ use Rattle.iol_mseq.specs.declared.master.MasterMsg.{MasterMsg}
 use Rattle.iol_mseq.specs.declared.reply.Reply.{Reply}
 use Rattle.iol_page.specs.Page as sheet
 use Rattle.iol_event.specs.Memory.{IsEventMemory, is_empty, event_octet}
-use Rattle.iol_far.specs.Codec.{message_in, octets_of}
-use Rattle.iol_far.specs.Isdu.{IsduState, isdu_data}
+use Rattle.iol_page.specs.Page.{knows_isdu}
+use Rattle.iol_far.specs.Codec.{flow_of, message_in, octets_of}
 use Rattle.iol_far.specs.Far.{Far, layout_of, worked, reply_to, data_of, page_octet}
 use Rattle.iol_judge.specs.declared.reason.Reason.{Reason}
-use Rattle.iol_judge.specs.declared.reason.Reason.TheVariants.{StatusWithoutData, InvalidNotZero, ProcessNotZero, RestNotZero, NoAnswerDue}
+use Rattle.iol_judge.specs.declared.reason.Reason.TheVariants.{StatusWithoutData, InvalidNotZero, ProcessNotZero, RestNotZero}
 use Rattle.iol_judge.specs.declared.taken.Taken.{Taken}
 use Rattle.iol_judge.specs.declared.taken.Explained.TheVariants.{By}
 use Rattle.iol_judge.specs.declared.events.Shown.{Shown}
 use Rattle.iol_judge.specs.declared.events.Shown.TheVariants.{Fresh}
 use Rattle.iol_judge.specs.declared.transfer.Transfer.{Transfer}
-use Rattle.iol_judge.specs.declared.transfer.Transfer.TheVariants.{Quiet, Free}
-use Rattle.iol_judge.specs.Octets.{is_other}
+use Rattle.iol_judge.specs.declared.transfer.Transfer.TheVariants.{Quiet}
+use Rattle.iol_judge.specs.Octets.{are_zeros, is_other}
+use Rattle.iol_judge.specs.Transfers.{transfer_told}
+use Rattle.iol_judge.specs.UnderWay.{IsUnderWay}
 use Rattle.iol_judge.specs.Events.{flag_fault, flag_told, events_fault}
 use Rattle.iol_judge.specs.Seen.{octet_seen, page_noted}
 use Rattle.iol_judge.specs.State.{State}
-use Rattle.iol_judge.specs.Replies.{are_zeros, cycle_told, data_fault, explained, explained_by, explained_if, isdu_fault, learned, octet_known, page_reason, reply_fault, shown_told}
+use Rattle.iol_judge.specs.Replies.{cycle_told, data_fault, explained, explained_by, explained_if, learned, octet_known, page_reason, reply_fault, shown_told}
 use Rattle.iol_judge.specs.Judged.{noted, noted_at}
-use Rattle.iol_judge.specs.Admitted.{Admits, Agrees, AreShown, IsUnderWay}
+use Rattle.iol_judge.specs.Admitted.{Admits, Agrees, AreShown}
+use Rattle.iol_judge.proofs.Transferring.{AreTexts}
+use Rattle.iol_judge.proofs.Telling.{IsSentBy, isdu_fits, told_under_way, worked_sent, zeros_are}
 use Rattle.iol_judge.proofs.Shown.{events_fit, flag_fits, flagged_shown, same_known, set_agrees, told_shown}
 
 -- The checks of a reply
-
-zeros_are : (n : ℕ) → are_zeros (replicate n 0) ≡ true
-zeros_are zero = refl
-zeros_are (suc n) = zeros_are n
 
 none_by : (a b : Bool) (x y : Reason) → a ≡ false → b ≡ true
     → (if a then Some x else if b then None else Some y) ≡ None
@@ -95,37 +95,31 @@ not_other seen cycle far address agrees at = split (address == 1)
     split true = same_known cycle far.cycle_time at
     split false = inner (nat_le 2 address && nat_le address 11)
 
-isdu_fits : (known : Transfer) (state : IsduState) (size : ℕ) → IsUnderWay known state
-    → isdu_fault known (isdu_data size state) ≡ None
-isdu_fits Quiet state size h =
-    ap (λ (s : IsduState). isdu_fault Quiet (isdu_data size s)) h
-    ∙ ap (λ (b : Bool). if b then None else Some NoAnswerDue) (zeros_are size)
-isdu_fits Free state size h = refl
-
 data_fits : (seen : List (Option ℕ)) (state : State) (far : Far) (size : ℕ) (read : Bool)
-    (channel : Channel) (address : ℕ) → Agrees seen far.page
+    (channel : Channel) (address : ℕ) → AreTexts size → Agrees seen far.page
     → IfSome state.cycle (λ o. far.cycle_time ≡ o) → length far.events.frozen ≤ 6
-    → AreShown state.events far.events → IsUnderWay state.transfer far.isdu
+    → AreShown state.events far.events → IsUnderWay size state.transfer far.isdu
+    → IsSentBy read channel far.isdu
     → (if read
     then data_fault seen state (not (is_empty far.events.frozen)) channel address
     (if read then data_of far size channel address else [])
     else None) ≡ None
-data_fits seen state far size false channel address agrees at six shown under_way = refl
-data_fits seen state far size true Process address agrees at six shown under_way =
+data_fits seen state far size false channel address law agrees at six shown under_way sent = refl
+data_fits seen state far size true Process address law agrees at six shown under_way sent =
     ap (λ (b : Bool). if b then None else Some ProcessNotZero) (zeros_are size)
-data_fits seen state far size true Page address agrees at six shown under_way =
+data_fits seen state far size true Page address law agrees at six shown under_way sent =
     none_by (is_other (octet_known seen state.cycle address) (page_octet far address))
     (are_zeros (replicate (size - 1) 0)) (page_reason address) RestNotZero
     (not_other seen state.cycle far address agrees at) (zeros_are (size - 1))
-data_fits seen state far size true Diagnosis address agrees at six shown under_way =
+data_fits seen state far size true Diagnosis address law agrees at six shown under_way sent =
     or_none
     (events_fault (flag_told state.events (not (is_empty far.events.frozen))) address
     (event_octet far.events.frozen address))
     (if are_zeros (replicate (size - 1) 0) then None else Some RestNotZero)
     (events_fit state.events far.events six shown address)
     (ap (λ (b : Bool). if b then None else Some RestNotZero) (zeros_are (size - 1)))
-data_fits seen state far size true Isdu address agrees at six shown under_way =
-    isdu_fits state.transfer far.isdu size under_way
+data_fits seen state far size true Isdu address law agrees at six shown under_way sent =
+    isdu_fits size law state.transfer far.isdu under_way sent
 
 -- the events of a device that is awake
 shown_awake : (state : State) (far : Far) → far.awake ≡ true → Admits state far
@@ -134,14 +128,21 @@ shown_awake state far awake admits =
     subst (λ (b : Bool). AreShown (if b then state.events else Fresh) far.events) awake
     admits.events
 
+-- and its transfer
+under_way_awake : (state : State) (far : Far) → far.awake ≡ true → Admits state far
+    → IsUnderWay (layout_of far).od state.transfer far.isdu
+under_way_awake state far awake admits =
+    subst (λ (b : Bool). IsUnderWay (layout_of far).od (if b then state.transfer else Quiet)
+    far.isdu) awake admits.isdu
+
 -- of the device that worked the message
 no_fault : (seen : List (Option ℕ)) (state : State) (there : Far) (octets : List ℕ)
-    (message : MasterMsg)
+    (message : MasterMsg) → AreTexts (layout_of there).od
     → there.awake ≡ true → IsEventMemory (worked there octets message).events
     → Agrees seen there.page → Admits state (worked there octets message)
     → reply_fault seen state (layout_of there) message.mc
     (reply_to (worked there octets message) (layout_of there) message) ≡ None
-no_fault seen state there octets message awake memory agrees admits =
+no_fault seen state there octets message law awake memory agrees admits =
     let far = worked there octets message in
     let size = (layout_of there).pd_in in
     let shown : AreShown state.events (worked there octets message).events =
@@ -162,10 +163,13 @@ no_fault seen state there octets message awake memory agrees admits =
     (invalid_zeros there.input size)
     (flag_fits state.events (worked there octets message).events shown)
     (data_fits seen state far (layout_of there).od message.mc.read message.mc.channel
-    message.mc.address agrees admits.cycle memory.frozen shown admits.isdu)
+    message.mc.address law agrees admits.cycle memory.frozen shown
+    (under_way_awake state (worked there octets message) awake admits)
+    (worked_sent (knows_isdu there.page) (layout_of there).od there.isdu message.mc.channel
+    message.mc.read (flow_of message.mc.address) message.od.items))
 
 pub explains : (seen : List (Option ℕ)) (found : Taken) (there : Far) (octets : List ℕ)
-    (message : MasterMsg) (reply : List ℕ) → there.awake ≡ true
+    (message : MasterMsg) (reply : List ℕ) → AreTexts (layout_of there).od → there.awake ≡ true
     → IsEventMemory (worked there octets message).events → Agrees seen there.page
     → found.message ≡ message → found.layout ≡ layout_of there
     → Admits found.kept (worked there octets message)
@@ -174,7 +178,7 @@ pub explains : (seen : List (Option ℕ)) (found : Taken) (there : Far) (octets 
     → explained seen (Some found) reply
     ≡ By (learned found.kept message.mc (reply_to (worked there octets message) (layout_of there)
     message))
-explains seen found there octets message reply awake memory agrees same_message same_layout admits
+explains seen found there octets message reply law awake memory agrees same_message same_layout admits
     reads =
     let answer = reply_to (worked there octets message) (layout_of there) message in
     ap (λ (m : MasterMsg). explained_by seen found.kept found.layout m
@@ -183,7 +187,7 @@ explains seen found there octets message reply awake memory agrees same_message 
     same_layout
     ∙ ap (λ (r : Option Reply). explained_by seen found.kept (layout_of there) message r) reads
     ∙ ap (λ (r : Option Reason). explained_if found.kept message.mc answer r)
-    (no_fault seen found.kept there octets message awake memory agrees admits)
+    (no_fault seen found.kept there octets message law awake memory agrees admits)
 
 -- What a reply tells
 
@@ -215,26 +219,46 @@ events_said events far size true Isdu address six s = s
 events_said events far size true Diagnosis address six s =
     told_shown events far.events six s address
 
-pub learned_admits : (state : State) (far : Far) (layout : Shape) (message : MasterMsg)
-    → far.awake ≡ true → IsEventMemory far.events → Admits state far
-    → Admits (learned state message.mc (reply_to far layout message)) far
-learned_admits state far layout message awake memory h =
+isdu_said : (size : ℕ) → AreTexts size → (transfer : Transfer) (far : Far) (read : Bool)
+    (channel : Channel) (address : ℕ) → IsUnderWay size transfer far.isdu
+    → IsSentBy read channel far.isdu
+    → IsUnderWay size (transfer_told transfer read channel
+    (if read then data_of far size channel address else [])) far.isdu
+isdu_said size law transfer far false channel address h sent = h
+isdu_said size law transfer far true Process address h sent = h
+isdu_said size law transfer far true Page address h sent = h
+isdu_said size law transfer far true Diagnosis address h sent = h
+isdu_said size law transfer far true Isdu address h sent =
+    told_under_way size law transfer far.isdu h sent
+
+pub learned_admits : (state : State) (far : Far) (message : MasterMsg)
+    → AreTexts (layout_of far).od → far.awake ≡ true → IsEventMemory far.events
+    → IsSentBy message.mc.read message.mc.channel far.isdu → Admits state far
+    → Admits (learned state message.mc (reply_to far (layout_of far) message)) far
+learned_admits state far message law awake memory sent h =
     let shown : AreShown state.events far.events = shown_awake state far awake h in
     let flag = not (is_empty far.events.frozen) in
-    let said = events_said (flag_told state.events flag) far layout.od message.mc.read
+    let size = (layout_of far).od in
+    let said = events_said (flag_told state.events flag) far size message.mc.read
     message.mc.channel message.mc.address memory.frozen
     (flagged_shown state.events far.events memory.frozen shown) in
+    let isdu = isdu_said (layout_of far).od law state.transfer far message.mc.read
+    message.mc.channel message.mc.address (under_way_awake state far awake h) sent in
     record {
       link = h.link;
-      cycle = cycle_said state.cycle far layout.od message.mc.read message.mc.channel
+      cycle = cycle_said state.cycle far (layout_of far).od message.mc.read message.mc.channel
           message.mc.address h.cycle;
       events = subst (λ (b : Bool). AreShown
           (if b
           then shown_told (flag_told state.events (not (is_empty far.events.frozen)))
           message.mc.read message.mc.channel message.mc.address
-          (slice_index (reply_to far layout message).od.items 0)
+          (slice_index (reply_to far (layout_of far) message).od.items 0)
           else Fresh) far.events) (sym awake) said;
-      isdu = h.isdu;
+      isdu = subst (λ (b : Bool). IsUnderWay (layout_of far).od
+          (if b
+          then transfer_told state.transfer message.mc.read message.mc.channel
+          (reply_to far (layout_of far) message).od.items
+          else Quiet) far.isdu) (sym awake) isdu;
     }
 
 page_told : (seen : List (Option ℕ)) (far : Far) (address : ℕ) → Agrees seen far.page

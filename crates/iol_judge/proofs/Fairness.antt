@@ -2,10 +2,10 @@
 use Rattle.std.proofs.Common.{◌≡◌, ◌⊎◌, inl, inr, ℕ, zero, suc, Bool, true, false, List, [], ◌∷◌, refl, sym, ◌∙◌, ap, subst}
 use Rattle.std.specs.Prelude.{Option, Some, None, Result, Ok, Err, slice_index, if◌then◌else◌, option_map, ◌≢◌}
 use Rattle.iol_mseq.specs.declared.master.MasterMsg.{MasterMsg}
-use Rattle.iol_page.specs.Page.{PagesAskForLayouts}
+use Rattle.iol_page.specs.Page.{PagesAskForLayouts, knows_isdu}
 use Rattle.iol_page.specs.declared.page.Layouts.{Layouts}
 use Rattle.iol_event.specs.Memory.{IsEventMemory}
-use Rattle.iol_far.specs.Codec.{message_in, octets_of}
+use Rattle.iol_far.specs.Codec.{flow_of, message_in, octets_of}
 use Rattle.iol_far.specs.Far.{Far, Heard, layout_of, accepted, accepted_by, hear, heard_as, replied, worked, reply_to}
 use Rattle.iol_far.specs.Local.{LocalStep, local, locals, woken}
 use Rattle.iol_far.specs.Laws.{IsRegular, IsSized, MuchStays, RepliesAreRead}
@@ -36,7 +36,14 @@ use Rattle.iol_judge.proofs.Sets.{added_keeps, added_admits}
 use Rattle.iol_judge.proofs.Layouts.{Knows, knows}
 use Rattle.iol_judge.proofs.Hearing.{Accepting, accepting, Fits, state_fits}
 use Rattle.iol_judge.proofs.Answering.{explains, learned_admits, noted_agrees}
+use Rattle.iol_judge.proofs.Transferring.{AllTexts}
+use Rattle.iol_judge.proofs.Telling.{IsSentBy, worked_sent}
 use Rattle.iol_judge.proofs.Reading.{readable_is_unaltered}
+
+-- what the crates below say
+pub record Laws : Type 0 where
+  pub pages : PagesAskForLayouts
+  pub texts : AllTexts
 
 -- What hearing does: nothing, or the message is worked
 
@@ -103,7 +110,7 @@ follows_heard far sent = elim (hears far sent) [
 -- Without a reply that can be read
 
 module _ (known : Result Layouts Open) (sent : List ℕ) (far new : Far)
-    (knows : Knows known far.page)
+    (texts : AllTexts) (knows : Knows known far.page)
     (follows : Follows far sent new) where
   lost_keeps : (next : List State) (state : State) (more : List State)
       → lost_into known sent next state ≡ Ok more → AdmitsOne next new → AdmitsOne more new
@@ -131,7 +138,7 @@ module _ (known : Result Layouts Open) (sent : List ℕ) (far new : Far)
   worked_in state admits work is found e mid more h =
       let fits : Fits work.there sent (Some work.message) found =
       subst (λ (m : Option MasterMsg). Fits work.there sent m found) work.spells
-      (state_fits known far work.there sent state found knows work.accepting admits e) in
+      (state_fits known far work.there sent state found texts knows work.accepting admits e) in
       subst (λ (g : Far). AdmitsOne more g) (sym is) (split found fits h)
     where
       split : (found : Option Taken) → Fits work.there sent (Some work.message) found
@@ -191,7 +198,7 @@ concluded_fair judged new (Ok out) honest agrees admits =
     record { page = agrees; state = possible judged.verdict out new honest (admits out refl) }
 concluded_fair judged new (Err why) honest agrees admits = record { page = agrees; state = tt }
 
-module _ (law : PagesAskForLayouts) (judged : Judged) (honest : judged.verdict ≡ Honest)
+module _ (law : Laws) (judged : Judged) (honest : judged.verdict ≡ Honest)
     (far : Far) (agrees : Agrees judged.seen far.page) (admits : AdmitsOne judged.states far)
     (sent : List ℕ) where
   unanswered_fair : (new : Far) → Follows far sent new → new.page ≡ far.page
@@ -199,12 +206,12 @@ module _ (law : PagesAskForLayouts) (judged : Judged) (honest : judged.verdict �
   unanswered_fair new follows page =
       concluded_fair judged new (all_lost (layouts_seen judged.seen) sent [] judged.states) honest
       (subst (λ (p : List ℕ). Agrees judged.seen p) (sym page) agrees)
-      (λ out e. lost_admits (layouts_seen judged.seen) sent far new
-      (knows law judged.seen far.page agrees) follows judged.states out e admits)
+      (λ out e. lost_admits (layouts_seen judged.seen) sent far new law.texts
+      (knows law.pages judged.seen far.page agrees) follows judged.states out e admits)
 
 -- With one
 
-module _ (law : PagesAskForLayouts) (reads : RepliesAreRead) (judged : Judged)
+module _ (law : Laws) (reads : RepliesAreRead) (judged : Judged)
     (honest : judged.verdict ≡ Honest) (far : Far)
     (agrees : Agrees judged.seen far.page) (admits : AdmitsOne judged.states far) (sent : List ℕ)
     (work : Works far sent) (sized : IsSized (worked work.there sent work.message))
@@ -218,6 +225,12 @@ module _ (law : PagesAskForLayouts) (reads : RepliesAreRead) (judged : Judged)
 
   known : Result Layouts Open
   known = layouts_seen judged.seen
+
+  its_sent : IsSentBy work.message.mc.read work.message.mc.channel
+      (worked work.there sent work.message).isdu
+  its_sent = worked_sent (knows_isdu work.there.page) (layout_of work.there).od work.there.isdu
+      work.message.mc.channel work.message.mc.read (flow_of work.message.mc.address)
+      work.message.od.items
 
   AdmitsNext : Next → Type 0
   AdmitsNext next = AdmitsOne next.states.items (worked work.there sent work.message)
@@ -272,7 +285,8 @@ module _ (law : PagesAskForLayouts) (reads : RepliesAreRead) (judged : Judged)
           work.message in
           let by : explained judged.seen (Some found) its_reply
           ≡ By (learned found.kept work.message.mc answer) =
-          explains judged.seen found work.there sent work.message its_reply work.accepting.awake
+          explains judged.seen found work.there sent work.message its_reply (law.texts work.there)
+          work.accepting.awake
           memory there_agrees
           fits.0 fits.1 fits.2 (reads (worked work.there sent work.message) work.message sized) in
           let state_after = learned found.kept work.message.mc answer in
@@ -283,8 +297,8 @@ module _ (law : PagesAskForLayouts) (reads : RepliesAreRead) (judged : Judged)
           more
           (λ out e. added_admits next.states.items (learned found.kept work.message.mc answer) out
           (worked work.there sent work.message) e
-          (learned_admits found.kept (worked work.there sent work.message) (layout_of work.there)
-          work.message work.accepting.awake memory fits.2)) ok
+          (learned_admits found.kept (worked work.there sent work.message) work.message
+          (law.texts work.there) work.accepting.awake memory its_sent fits.2)) ok
 
       outer : (taken : Result (Option Taken) Open) → taken_by (layouts_seen judged.seen) state sent
           ≡ taken
@@ -292,8 +306,8 @@ module _ (law : PagesAskForLayouts) (reads : RepliesAreRead) (judged : Judged)
           → AdmitsOne more.states.items (worked work.there sent work.message)
       outer (Ok found) e h = inner found
           (subst (λ (m : Option MasterMsg). Fits work.there sent m found) work.spells
-          (state_fits (layouts_seen judged.seen) far work.there sent state found
-          (knows law judged.seen far.page agrees) work.accepting a e)) h
+          (state_fits (layouts_seen judged.seen) far work.there sent state found law.texts
+          (knows law.pages judged.seen far.page agrees) work.accepting a e)) h
       outer (Err why) e h = absurd (cc)
 
   concluded_next : (found : Result Next Open) → ((out : Next) → found ≡ Ok out → AdmitsNext out)
@@ -329,7 +343,7 @@ regular_all law far [] h = h
 regular_all law far (step ∷ steps) h = regular_all law (local far step) steps (law.steps far step h)
 
 -- whatever came, where the device answered nothing or the reply was lost
-lost_fair : (law : PagesAskForLayouts) (judged : Judged) → judged.verdict ≡ Honest → (far : Far)
+lost_fair : (law : Laws) (judged : Judged) → judged.verdict ≡ Honest → (far : Far)
     → Agrees judged.seen far.page → AdmitsOne judged.states far → (sent : List ℕ) (new : Far)
     → Follows far sent new → new.page ≡ far.page → (answer : Option (List ℕ))
     → IsUnread sent answer → IsFair (answered judged sent answer) new
@@ -343,7 +357,7 @@ lost_fair law judged honest far agrees admits sent new follows page (Some reply)
     split true e = absurd (readable_is_unaltered sent reply unread e)
     split false e = unanswered_fair law judged honest far agrees admits sent new follows page
 
-module _ (law : PagesAskForLayouts) (stays : RegularStays) (much : MuchStays)
+module _ (law : Laws) (stays : RegularStays) (much : MuchStays)
     (reads : RepliesAreRead) where
   heard_page : (far : Far) (sent : List ℕ) → (hear far sent).far.page ≡ far.page
   heard_page far sent = much.page_heard far sent
@@ -580,7 +594,7 @@ whole_agrees page (suc (suc (suc (suc (suc (suc (suc (suc (suc (suc k)))))))))) 
 
 -- A capture
 
-module _ (law : PagesAskForLayouts) (stays : RegularStays) (much : MuchStays)
+module _ (law : Laws) (stays : RegularStays) (much : MuchStays)
     (reads : RepliesAreRead) where
   told_fair : (judged : Judged) (far : Far) (silence : ℕ) (passing : Passing) (new : Far)
       (silence_new : ℕ)

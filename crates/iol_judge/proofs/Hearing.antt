@@ -17,13 +17,17 @@ use Rattle.iol_judge.specs.declared.open.Open.{Open}
 use Rattle.iol_judge.specs.declared.taken.Taken.{Taken}
 use Rattle.iol_judge.specs.declared.events.Shown.TheVariants.{Fresh}
 use Rattle.iol_judge.specs.Events.{shown_after}
+use Rattle.iol_judge.specs.declared.transfer.Transfer.{Transfer}
+use Rattle.iol_judge.specs.declared.transfer.Transfer.TheVariants.{Quiet}
+use Rattle.iol_judge.specs.Transfers.{isdu_known, transfer_in}
 use Rattle.iol_judge.specs.State.{State}
 use Rattle.iol_judge.specs.Taking as take
 use Rattle.iol_judge.specs.Taking.{mode_layout, mode_known, cycle_after, state_after, taken_in, taken_message, taken_asked}
-use Rattle.iol_judge.specs.Admitted.{Admits, AreShown, IsUnderWay}
+use Rattle.iol_judge.specs.Admitted.{Admits, AreShown}
+use Rattle.iol_judge.specs.UnderWay.{IsUnderWay}
 use Rattle.iol_judge.proofs.Layouts.{Knows}
 use Rattle.iol_judge.proofs.Shown.{worked_shown}
-use Rattle.iol_judge.proofs.Transferring.{transfer_kept, transfer_worked}
+use Rattle.iol_judge.proofs.Transferring.{AllTexts, AreTexts, transfer_worked}
 
 -- the device as it accepts the octets, if it does
 pub record Accepting (far there : Far) (octets : List ℕ) : Type 0 where
@@ -31,7 +35,8 @@ pub record Accepting (far there : Far) (octets : List ℕ) : Type 0 where
   pub page : there.page ≡ far.page
   pub cycle : there.cycle_time ≡ far.cycle_time
   pub events : there.events ≡ far.events
-  pub isdu : far.isdu ≡ Empty → there.isdu ≡ Empty
+  pub isdu : (transfer : Transfer) → IsUnderWay (layout_of far).od transfer far.isdu
+      → IsUnderWay (layout_of there).od (transfer_in far.waits octets transfer) there.isdu
   pub hears : far.awake ≡ true
   pub awake : there.awake ≡ true
   pub accepts : accepted far octets ≡ accepted_now there octets
@@ -42,7 +47,8 @@ record AcceptingBy (waits : Option WaitingCommand) (far there : Far) (octets : L
     pub page : there.page ≡ far.page
     pub cycle : there.cycle_time ≡ far.cycle_time
     pub events : there.events ≡ far.events
-    pub isdu : far.isdu ≡ Empty → there.isdu ≡ Empty
+    pub isdu : (transfer : Transfer) → IsUnderWay (layout_of far).od transfer far.isdu
+        → IsUnderWay (layout_of there).od (transfer_in waits octets transfer) there.isdu
     pub awake : there.awake ≡ far.awake
     pub accepts : accepted_by waits far octets ≡ accepted_now there octets
 
@@ -55,7 +61,7 @@ accepting_by None far octets = (
     page = refl;
     cycle = refl;
     events = refl;
-    isdu = λ e. e;
+    isdu = λ transfer h. h;
     awake = refl;
     accepts = refl;
   },
@@ -72,7 +78,8 @@ accepting_by (Some command) far octets = split (bytes_eq octets command.octets) 
         page = refl;
         cycle = refl;
         events = refl;
-        isdu = λ e. e;
+        isdu = λ transfer h. subst (λ (b : Bool). IsUnderWay (layout_of far).od
+            (if b then transfer else Quiet) far.isdu) (sym e) h;
         awake = refl;
         accepts = ap (λ (b : Bool). if b then accepted_now far octets else accepted_now
             (moved far command.into) octets) e;
@@ -86,7 +93,8 @@ accepting_by (Some command) far octets = split (bytes_eq octets command.octets) 
         page = refl;
         cycle = refl;
         events = refl;
-        isdu = λ e. refl;
+        isdu = λ transfer h. subst (λ (b : Bool). IsUnderWay (layout_in far.page command.into).od
+            (if b then transfer else Quiet) Empty) (sym e) refl;
         awake = refl;
         accepts = ap (λ (b : Bool). if b then accepted_now far octets else accepted_now
             (moved far command.into) octets) e;
@@ -151,7 +159,9 @@ module _ (known : Result Layouts Open) (page : List ℕ) (knows : Knows known pa
     (link : Link) (state : State) (octets : List ℕ) (there_page : there.page ≡ page)
     (at : link_of there ≡ link) (admits : IfSome state.cycle (λ o. there.cycle_time ≡ o))
     (awake : there.awake ≡ true) (shown : AreShown state.events there.events)
-    (under_way : IsUnderWay state.transfer there.isdu) where
+    (under_way : IsUnderWay (layout_of there).od
+    (transfer_in state.link.waits octets state.transfer) there.isdu)
+    (texts : AreTexts (layout_of there).od) where
   shown_worked : (confirm : Bool)
       → AreShown (if there.awake then shown_after state.events confirm else Fresh)
       (events_after there.events confirm)
@@ -160,16 +170,33 @@ module _ (known : Result Layouts Open) (page : List ℕ) (knows : Knows known pa
       (events_after there.events confirm)) (sym awake)
       (worked_shown state.events there.events confirm shown)
 
+  transfer_after_it : (layout : Shape) (message : MasterMsg) → layout ≡ layout_of there
+      → IsUnderWay (layout_of there).od (if there.awake
+      then (state_after known link state octets layout message None).transfer else Quiet)
+      (worked there octets message).isdu
+  transfer_after_it layout message l =
+      subst (λ (b : Bool). IsUnderWay (layout_of there).od (if b
+      then (state_after known link state octets layout message None).transfer else Quiet)
+      (worked there octets message).isdu) (sym awake)
+      (subst (λ (s : Shape). IsUnderWay (layout_of there).od
+      (state_after known link state octets s message None).transfer
+      (worked there octets message).isdu) (sym l)
+      (transfer_worked (isdu_known known) (knows_isdu there.page) (layout_of there).od texts
+      (subst (λ (p : List ℕ). IfSome (isdu_known known) (λ b. knows_isdu p ≡ b)) (sym there_page)
+      knows.isdu)
+      (transfer_in state.link.waits octets state.transfer) there.isdu message.mc.channel
+      message.mc.read (flow_of message.mc.address) message.od.items under_way))
+
   fits_asked : (layout : Shape) (message : MasterMsg) (asked : Result (Option Mode) Open)
       → mode_known known (mode_asked (command_in message)) ≡ asked → layout ≡ layout_of there
-      → (found : Option Taken) → taken_asked link state octets layout message asked ≡ Ok found
+      → (found : Option Taken) → taken_asked known link state octets layout message asked ≡ Ok found
       → Fits there octets (Some message) found
   unfolding Fits
   fits_asked layout message (Err why) e l found h = absurd (cc)
   fits_asked layout message (Ok asked) e l None h = absurd (cc)
   fits_asked layout message (Ok asked) e l (Some found) h =
       let is : ◌≡◌ {A = Taken} (record {
-        kept = state_after link state octets message asked;
+        kept = state_after known link state octets layout message asked;
         layout
             = layout;
         message = message;
@@ -179,7 +206,7 @@ module _ (known : Result Layouts Open) (page : List ℕ) (knows : Knows known pa
       (sym there_page)
       (knows.mode (mode_asked (command_in message)) asked e) in
       let all : (message ≡ message) × (layout ≡ layout_of there)
-      × Admits (state_after link state octets message asked) (worked there octets message) = (
+      × Admits (state_after known link state octets layout message asked) (worked there octets message) = (
         refl,
         l,
         record {
@@ -189,9 +216,7 @@ module _ (known : Result Layouts Open) (page : List ℕ) (knows : Knows known pa
               (slice_index message.od.items 0) admits;
           events = shown_worked
               (is_confirm message.mc.channel message.mc.read message.mc.address);
-          isdu = transfer_worked state.transfer (knows_isdu there.page) (layout_of there).od
-              there.isdu message.mc.channel message.mc.read (flow_of message.mc.address)
-              message.od.items under_way;
+          isdu = transfer_after_it layout message l;
         },
       ) in
       subst (λ (t : Taken). (t.message ≡ message) × (t.layout ≡ layout_of there) × Admits t.kept
@@ -220,13 +245,17 @@ module _ (known : Result Layouts Open) (page : List ℕ) (knows : Knows known pa
 
 -- a state that stands for the device makes of the octets what it makes of them
 pub state_fits : (known : Result Layouts Open) (far there : Far) (octets : List ℕ) (state : State)
-    (found : Option Taken) → Knows known far.page → Accepting far there octets → Admits state far
+    (found : Option Taken) → AllTexts → Knows known far.page → Accepting far there octets
+    → Admits state far
     → take.taken_by known state octets ≡ Ok found
     → Fits there octets (message_in (layout_of there) octets) found
-state_fits known far there octets state found knows accepting admits h =
+state_fits known far there octets state found texts knows accepting admits h =
     let shown : AreShown state.events far.events =
     subst (λ (b : Bool). AreShown (if b then state.events else Fresh) far.events) accepting.hears
     admits.events in
+    let before : IsUnderWay (layout_of far).od state.transfer far.isdu =
+    subst (λ (b : Bool). IsUnderWay (layout_of far).od (if b then state.transfer else Quiet) far.isdu)
+    accepting.hears admits.isdu in
     let at : link_of there ≡ taken state.link octets =
     accepting.link ∙ ap (λ (l : Link). taken l octets) admits.link in
     fits_layout known far.page knows there (taken state.link octets) state octets
@@ -234,5 +263,8 @@ state_fits known far there octets state found knows accepting admits h =
     at (let P : ℕ → Type 0 = λ c. IfSome state.cycle (λ o. c ≡ o) in subst P (sym accepting.cycle)
     admits.cycle)
     accepting.awake (subst (λ (m : Events). AreShown state.events m) (sym accepting.events) shown)
-    (transfer_kept state.transfer far.isdu there.isdu accepting.isdu admits.isdu)
+    (subst (λ (l : Link). IsUnderWay (layout_of there).od
+    (transfer_in l.waits octets state.transfer) there.isdu) admits.link
+    (accepting.isdu state.transfer before))
+    (texts there)
     (mode_layout known (taken state.link octets).mode) refl found h

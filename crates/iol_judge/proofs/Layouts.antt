@@ -2,7 +2,7 @@
 use Rattle.std.proofs.Common.{◌≡◌, ℕ, Bool, true, false, List, [], ◌∷◌, refl, sym, ◌∙◌, ap, subst}
 use Rattle.std.specs.Prelude.{Option, Some, None, IfSome, IfOk, Result, Ok, Err, is_some, not, slice_index, slice_index_or, if◌then◌else◌}
 use Rattle.iol_mseq.specs.Shape.{Shape}
-use Rattle.iol_page.specs.Page.{layouts_of, is_old, IsAskedBy, PagesAskForLayouts}
+use Rattle.iol_page.specs.Page.{layouts_of, is_old, knows_isdu, IsAskedBy, PagesAskForLayouts}
 use Rattle.iol_page.specs.declared.page.Layouts.{Layouts}
 use Rattle.iol_page.specs.declared.fault.PageFault.{PageFault}
 use Rattle.iol_far.specs.declared.mode.Mode.{Mode}
@@ -12,6 +12,7 @@ use Rattle.iol_far.specs.Far.{known_mode}
 use Rattle.iol_judge.specs.declared.open.Open.{Open}
 use Rattle.iol_judge.specs.Seen.{asked_for, layouts_by, layouts_known, layouts_seen}
 use Rattle.iol_judge.specs.Taking.{mode_layout, mode_known}
+use Rattle.iol_judge.specs.Transfers.{isdu_known}
 use Rattle.iol_judge.specs.Admitted.{Agrees}
 
 pub record Knows (known : Result Layouts Open) (page : List ℕ) : Type 0 where
@@ -19,6 +20,7 @@ pub record Knows (known : Result Layouts Open) (page : List ℕ) : Type 0 where
       → layout_in page mode ≡ layout
   pub mode : (asked found : Option Mode) → mode_known known asked ≡ Ok found
       → known_mode page asked ≡ found
+  pub isdu : IfSome (isdu_known known) (λ there. knows_isdu page ≡ there)
 
 asked_ok : (asked : Result Layouts PageFault) (layouts : Layouts) → asked_for asked ≡ Ok layouts
     → asked ≡ Ok layouts
@@ -101,11 +103,12 @@ unfolding layout_in
 knows_ok page layouts asks by = record {
   layout = layout_known page layouts asks;
   mode = mode_found page layouts by;
+  isdu = sym by.isdu;
 }
 
 knows_none : (page : List ℕ) (why : Open) → Knows (Err why) page
 unfolding layout_in
-knows_none page why = record { layout = layouts; mode = modes }
+knows_none page why = record { layout = layouts; mode = modes; isdu = tt }
   where
     layouts : (mode : Mode) (layout : Shape) → mode_layout (Err why) mode ≡ Ok layout
         → layout_by mode (layouts_of page) ≡ layout

@@ -1,6 +1,9 @@
 mod Turns
 mod Shown
+mod Segments
+mod Covering
 mod Transferring
+mod Telling
 mod Alone
 mod Sets
 mod Layouts

@@ -6,11 +6,13 @@ use Rattle.std.specs.List.{list_any}
 use Rattle.std.proofs.lemmas.Slice.Eq.{bytes_eq-Decides}
 use Rattle.iol_far.specs.declared.mode.Mode.{Mode}
 use Rattle.iol_far.specs.declared.mode.Mode.TheVariants.{Startup, Preoperate, Operate}
-use Rattle.iol_far.specs.Far.{Far, WaitingCommand, is_mode}
+use Rattle.iol_far.specs.Far.{Far, WaitingCommand, is_mode, layout_of}
 use Rattle.iol_far.specs.Level.{Link}
 use Rattle.iol_judge.specs.declared.taken.TheConstants.{MAX_STATES}
 use Rattle.iol_judge.specs.declared.open.Open.TheVariants.{TooManyStates}
 use Rattle.iol_judge.specs.declared.events.Shown.TheVariants.{Fresh}
+use Rattle.iol_judge.specs.declared.transfer.Transfer.TheVariants.{Quiet}
+use Rattle.iol_judge.specs.UnderWay.{IsUnderWay}
 use Rattle.iol_judge.specs.Octets.{is_known_in}
 use Rattle.iol_judge.specs.Events.{covers_events}
 use Rattle.iol_judge.specs.Transfers.{covers_transfer}
@@ -18,7 +20,7 @@ use Rattle.iol_judge.specs.State.{State, covers, same_waiting}
 use Rattle.iol_judge.specs.Judged.{added, has_state, uncovered}
 use Rattle.iol_judge.specs.Admitted.{Admits, AdmitsOne, AreShown}
 use Rattle.iol_judge.proofs.Shown.{both, known_in_keeps, covers_shown}
-use Rattle.iol_judge.proofs.Transferring.{covers_under_way}
+use Rattle.iol_judge.proofs.Covering.{covers_under_way}
 
 same_mode : (a b : Mode) → is_mode a b ≡ true → a ≡ b
 same_mode Startup Startup h = refl
@@ -74,7 +76,7 @@ covers_admits a b far h s =
       link = s.link ∙ sym link;
       cycle = known_in_keeps a.cycle b.cycle (λ octet. far.cycle_time ≡ octet) inner.1 s.cycle;
       events = events far.awake s.events all.1;
-      isdu = covers_under_way a.transfer b.transfer far.isdu whole.1 s.isdu;
+      isdu = isdu far.awake s.isdu whole.1;
     }
   where
     events : (awake : Bool) → AreShown (if awake then b.events else Fresh) far.events
@@ -82,6 +84,13 @@ covers_admits a b far h s =
         → AreShown (if awake then a.events else Fresh) far.events
     events true s g = covers_shown a.events b.events far.events g s
     events false s g = s
+
+    isdu : (awake : Bool)
+        → IsUnderWay (layout_of far).od (if awake then b.transfer else Quiet) far.isdu
+        → covers_transfer a.transfer b.transfer ≡ true
+        → IsUnderWay (layout_of far).od (if awake then a.transfer else Quiet) far.isdu
+    isdu true s g = covers_under_way (layout_of far).od a.transfer b.transfer far.isdu g s
+    isdu false s g = s
 
 has_admits : (states : List State) (state : State) (far : Far) → has_state states state ≡ true
     → Admits state far → AdmitsOne states far

@@ -1,8 +1,7 @@
 -- What is known of a device's events holds through all that it does, and explains what it shows.
 use Rattle.std.proofs.Common.{◌≡◌, ℕ, zero, suc, ◌+◌, ◌-◌, ◌/◌, ◌%◌, ◌^◌, ◌<◌, ◌≤◌, max, Bool, true, false, List, [], ◌∷◌, ◌++◌, length, take, drop, replicate, get_or, set, refl, sym, ◌∙◌, ap, subst, arith, eq-eqb, eqb-true, leb-true, le-leb, lt-ltb, ltb-true, ltb-false}
-use Rattle.std.specs.Prelude.{Option, Some, None, IfSome, not, ◌&&◌, ◌||◌, ◌==◌, nat_eq, nat_le, nat_lt, if◌then◌else◌, slice_get, slice_index_or}
+use Rattle.std.specs.Prelude.{Option, Some, None, IfSome, not, ◌&&◌, ◌||◌, ◌==◌, nat_le, nat_lt, if◌then◌else◌, slice_get, slice_index_or}
 use Rattle.std.specs.Cmp.Lexicographic.{pointwise}
-use Rattle.std.specs.Option.{option_eq}
 use Rattle.iol_event.specs.declared.event.Event.{Event}
 use Rattle.iol_event.specs.Memory.{Events, is_empty, raised, confirmed, released, event_octet, place_octet, status_code}
 use Rattle.iol_far.specs.Far.{events_after}
@@ -149,36 +148,30 @@ known_in_keeps None b P h s = tt
 known_in_keeps (Some a) (Some b) P h s = subst P (sym (eqb-true a b h)) s
 known_in_keeps (Some a) None P h s = absurd (cc)
 
-same_octet : (a b : Option ℕ) → option_eq nat_eq a b ≡ true → a ≡ b
-same_octet None None h = refl
-same_octet (Some a) (Some b) h = ap Some (eqb-true a b h)
-same_octet None (Some b) h = absurd (cc)
-same_octet (Some a) None h = absurd (cc)
-
-same_octets : (a b : List (Option ℕ)) → pointwise (option_eq nat_eq) a b ≡ true → a ≡ b
-same_octets [] [] h = refl
-same_octets [] (y ∷ b) h = absurd (cc)
-same_octets (x ∷ a) [] h = absurd (cc)
-same_octets (x ∷ a) (y ∷ b) h =
-    let each = both (option_eq nat_eq x y) (pointwise (option_eq nat_eq) a b) h in
-    let first : x ≡ y = same_octet x y each.0 in
-    let others : a ≡ b = same_octets a b each.1 in cc
+known_in_all : (a b : List (Option ℕ)) (k : ℕ) (P : ℕ → Type 0) → pointwise is_known_in a b ≡ true
+    → IfSome (slice_index_or b k None) P → IfSome (slice_index_or a k None) P
+known_in_all [] [] k P h p = p
+known_in_all [] (y ∷ b) k P h p = absurd (cc)
+known_in_all (x ∷ a) [] k P h p = absurd (cc)
+known_in_all (x ∷ a) (y ∷ b) zero P h p =
+    known_in_keeps x y P (both (is_known_in x y) (pointwise is_known_in a b) h).0 p
+known_in_all (x ∷ a) (y ∷ b) (suc k) P h p =
+    known_in_all a b k P (both (is_known_in x y) (pointwise is_known_in a b) h).1 p
 
 covers_in : (a b : Places) (f : List Event) → covers_places a b ≡ true → AreIn b f → AreIn a f
 covers_in a b f h s =
     let outer = both (nat_le a.least b.least && nat_le b.most a.most)
-    (pointwise (option_eq nat_eq) a.octets b.octets) h in
+    (pointwise is_known_in a.octets b.octets) h in
     let inner = both (nat_le a.least b.least) (nat_le b.most a.most) outer.0 in
     let least : a.least ≤ b.least = leb-true a.least b.least inner.0 in
     let most : b.most ≤ a.most = leb-true b.most a.most inner.1 in
     let more : b.least ≤ length f = s.least in
     let fewer : length f ≤ b.most = s.most in
-    let same : a.octets ≡ b.octets = same_octets a.octets b.octets outer.1 in
     record {
       least = omega (arith, least, more);
       most = omega (arith, most, fewer);
-      octets = subst (λ (o : List (Option ℕ)). (k : ℕ) → IfSome (slice_index_or o k None)
-          (λ octet. event_octet f (suc k) ≡ octet)) (sym same) s.octets;
+      octets = λ k. known_in_all a.octets b.octets k (λ octet. event_octet f (suc k) ≡ octet)
+          outer.1 (s.octets k);
     }
 
 pub covers_shown : (a b : Shown) (memory : Events) → covers_events a b ≡ true → AreShown b memory

@@ -2,22 +2,21 @@
 use Rattle.std.specs.Prelude.{◌≡◌, ◌≢◌, ◌⊎◌, ◌≤◌, ℕ, suc, Bool, true, false, if◌then◌else◌, List, [], ◌∷◌, length, slice_index, slice_index_or, Option, None, IfSome}
 use Rattle.iol_event.specs.declared.event.Event.{Event}
 use Rattle.iol_event.specs.Memory.{Events, event_octet}
-use Rattle.iol_far.specs.Far.{Far}
-use Rattle.iol_far.specs.Isdu.{IsduState, Empty}
+use Rattle.iol_far.specs.Far.{Far, layout_of}
 use Rattle.iol_far.specs.Level.{link_of}
 use Rattle.iol_link.specs.Honest.{HonestExchange, HonestWake}
 use Rattle.iol_judge.specs.declared.events.Places.{Places}
 use Rattle.iol_judge.specs.declared.events.Shown.{Shown}
 use Rattle.iol_judge.specs.declared.events.Shown.TheVariants.{Held, Any, Fresh, Filled}
 use Rattle.iol_judge.specs.declared.reason.Reason.{Reason}
-use Rattle.iol_judge.specs.declared.transfer.Transfer.{Transfer}
-use Rattle.iol_judge.specs.declared.transfer.Transfer.TheVariants.{Quiet, Free}
+use Rattle.iol_judge.specs.declared.transfer.Transfer.TheVariants.{Quiet}
 use Rattle.iol_judge.specs.declared.verdict.Verdict.{Verdict}
 use Rattle.iol_judge.specs.declared.verdict.Verdict.TheVariants.{Unjudged, Honest, NotHonest, CantSay}
 use Rattle.iol_judge.specs.declared.verdict.Wake.{Wake}
 use Rattle.iol_judge.specs.declared.verdict.Wake.TheVariants.{Answered, Unanswered}
 use Rattle.iol_judge.specs.Seen.{whole_page}
 use Rattle.iol_judge.specs.State.{State}
+use Rattle.iol_judge.specs.UnderWay.{IsUnderWay}
 use Rattle.iol_judge.specs.Judged.{Judged, new_judge, exchanged, woke}
 
 -- each octet that is known is the page's
@@ -48,20 +47,14 @@ AreShown Fresh memory = IsReleased memory × (length memory.frozen ≤ 1)
 AreShown (Filled places) memory =
     IsReleased memory × (1 ≤ length memory.frozen) × AreIn places memory.frozen
 
--- the ISDU state of a device is as known
--- DEV-11, DEV-14
-abbrev pub IsUnderWay : Transfer → IsduState → Type 0
-IsUnderWay Quiet state = state ≡ Empty
-IsUnderWay Free state = Unit {0}
-
 -- A state stands for each device in its mode, with its mode command waiting, its octet at page
 -- address 0x01, its events and its ISDU transfer. One that sleeps had a power cycle, and has at
--- most one event. All else is free: whether it sleeps, process data, record
+-- most one event, and no transfer. All else is free: whether it sleeps, process data, record
 pub record Admits (state : State) (far : Far) : Type 0 where
   pub link : link_of far ≡ state.link
   pub cycle : IfSome state.cycle (λ octet. far.cycle_time ≡ octet)
   pub events : AreShown (if far.awake then state.events else Fresh) far.events
-  pub isdu : IsUnderWay state.transfer far.isdu
+  pub isdu : IsUnderWay (layout_of far).od (if far.awake then state.transfer else Quiet) far.isdu
 
 -- one of the states stands for it
 abbrev pub AdmitsOne : List State → Far → Type 0

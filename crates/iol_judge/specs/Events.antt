@@ -1,19 +1,18 @@
 -- What is known of a device's events.
-use Rattle.std.specs.Prelude.{ℕ, ◌+◌, ◌-◌, ◌/◌, max, Bool, true, false, not, ◌&&◌, ◌||◌, ◌==◌, nat_eq, nat_le, nat_lt, if◌then◌else◌, List, replicate, slice_index_or, slice_set, Option, Some, None}
+use Rattle.std.specs.Prelude.{ℕ, ◌+◌, ◌-◌, ◌/◌, max, Bool, true, false, not, ◌&&◌, ◌||◌, ◌==◌, nat_le, nat_lt, if◌then◌else◌, List, replicate, slice_index_or, slice_set, Option, Some, None}
 use Rattle.std.specs.Cmp.Lexicographic.{pointwise}
-use Rattle.std.specs.Option.{option_eq}
 use Rattle.iol_judge.specs.declared.events.Places.{Places}
 use Rattle.iol_judge.specs.declared.events.Shown.{Shown}
 use Rattle.iol_judge.specs.declared.events.Shown.TheVariants.{Held, Any, Fresh, Filled}
 use Rattle.iol_judge.specs.declared.reason.Reason.{Reason}
 use Rattle.iol_judge.specs.declared.reason.Reason.TheVariants.{FlagAtConfirm, FlagGone, StatusCode, EventOctet}
-use Rattle.iol_judge.specs.Octets.{is_other}
+use Rattle.iol_judge.specs.Octets.{is_known_in, is_other}
 
 -- What the first allows whatever the second does
 
 abbrev pub covers_places : Places → Places → Bool
 covers_places a b =
-    nat_le a.least b.least && nat_le b.most a.most && pointwise (option_eq nat_eq) a.octets b.octets
+    nat_le a.least b.least && nat_le b.most a.most && pointwise is_known_in a.octets b.octets
 
 abbrev pub covers_events : Shown → Shown → Bool
 covers_events Held Held = true

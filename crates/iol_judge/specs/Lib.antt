@@ -1,10 +1,12 @@
 pub mod Numbers
 pub mod Octets
 pub mod Events
+pub mod Answers
 pub mod Transfers
 pub mod State
 pub mod Seen
 pub mod Taking
 pub mod Replies
 pub mod Judged
+pub mod UnderWay
 pub mod Admitted

@@ -1,5 +1,9 @@
--- Octets that may be known.
-use Rattle.std.specs.Prelude.{ℕ, Bool, true, false, not, ◌==◌, Option, Some, None}
+-- Octets that may be known, and zeros.
+use Rattle.std.specs.Prelude.{ℕ, Bool, true, false, not, ◌==◌, List, Option, Some, None}
+use Rattle.std.specs.List.{list_all}
+
+abbrev pub are_zeros : List ℕ → Bool
+are_zeros octets = list_all (λ octet. octet == 0) octets
 
 -- what is known in the first is known in the second
 abbrev pub is_known_in : Option ℕ → Option ℕ → Bool

@@ -1,6 +1,5 @@
 -- Which replies a device in a kept state may have sent.
 use Rattle.std.specs.Prelude.{ℕ, ◌+◌, ◌-◌, min, Bool, true, false, not, ◌&&◌, ◌||◌, ◌==◌, nat_le, if◌then◌else◌, List, length, drop, slice_index, Option, Some, None, is_some, Result, Ok, Err}
-use Rattle.std.specs.List.{list_all}
 use Rattle.std.specs.Option.{option_or}
 use Rattle.iol_octets.specs.declared.control.Channel.{Channel}
 use Rattle.iol_octets.specs.declared.control.Channel.TheVariants.{Process, Page, Diagnosis, Isdu}
@@ -12,14 +11,13 @@ use Rattle.iol_mseq.specs.declared.fault.MseqFault.{MseqFault}
 use Rattle.iol_mseq.specs.declared.master.MasterMsg.{MasterMsg}
 use Rattle.iol_mseq.specs.declared.reply.Reply.{Reply}
 use Rattle.iol_judge.specs.declared.reason.Reason.{Reason}
-use Rattle.iol_judge.specs.declared.reason.Reason.TheVariants.{NotTaken, ReplyLength, StatusWithoutData, InvalidNotZero, PageChanged, PageZero, CycleTime, ProcessNotZero, RestNotZero, NoAnswerDue}
+use Rattle.iol_judge.specs.declared.reason.Reason.TheVariants.{NotTaken, ReplyLength, StatusWithoutData, InvalidNotZero, PageChanged, PageZero, CycleTime, ProcessNotZero, RestNotZero}
 use Rattle.iol_judge.specs.declared.taken.Taken.{Taken}
 use Rattle.iol_judge.specs.declared.taken.Explained.{Explained}
 use Rattle.iol_judge.specs.declared.taken.Explained.TheVariants.{By, Not}
 use Rattle.iol_judge.specs.declared.events.Shown.{Shown}
-use Rattle.iol_judge.specs.declared.transfer.Transfer.{Transfer}
-use Rattle.iol_judge.specs.declared.transfer.Transfer.TheVariants.{Quiet, Free}
-use Rattle.iol_judge.specs.Octets.{is_other}
+use Rattle.iol_judge.specs.Octets.{are_zeros, is_other}
+use Rattle.iol_judge.specs.Transfers.{isdu_fault, transfer_told}
 use Rattle.iol_judge.specs.Events.{flag_fault, flag_told, events_fault, events_told}
 use Rattle.iol_judge.specs.Seen.{octet_seen}
 use Rattle.iol_judge.specs.State.{State}
@@ -56,9 +54,6 @@ is_readable sent reply = is_read_with 4 1 sent reply || is_read_with 5 2 sent re
 
 -- Why a device can't have sent a reply
 
-abbrev pub are_zeros : List ℕ → Bool
-are_zeros octets = list_all (λ octet. octet == 0) octets
-
 -- which reason it is that a page address reads otherwise
 abbrev pub page_reason : ℕ → Reason
 page_reason address =
@@ -85,12 +80,6 @@ page_fault seen cycle address od =
 abbrev pub diagnosis_fault : Shown → ℕ → List ℕ → Option Reason
 diagnosis_fault events address od =
     option_or (events_fault events address (slice_index od 0)) (rest_fault od)
-
--- where no transfer is under way there is no answer
--- DEV-14
-abbrev pub isdu_fault : Transfer → List ℕ → Option Reason
-isdu_fault Quiet od = if are_zeros od then None else Some NoAnswerDue
-isdu_fault Free od = None
 
 -- the on-request data of the reply to a read, once its Event flag was had
 -- DEV-7, MSG-6
@@ -131,6 +120,7 @@ learned state mc reply = record state {
   events =
       shown_told (flag_told state.events reply.event) mc.read mc.channel mc.address
       (slice_index reply.od.items 0);
+  transfer = transfer_told state.transfer mc.read mc.channel reply.od.items;
 }
 
 abbrev pub explained_if : State → Mc → Reply → Option Reason → Explained

@@ -13,7 +13,7 @@ use Rattle.iol_far.specs.Level.{Link, taken}
 use Rattle.iol_judge.specs.declared.open.Open.{Open}
 use Rattle.iol_judge.specs.declared.taken.Taken.{Taken}
 use Rattle.iol_judge.specs.Events.{shown_after}
-use Rattle.iol_judge.specs.Transfers.{transfer_after}
+use Rattle.iol_judge.specs.Transfers.{isdu_known, transfer_after, transfer_in}
 use Rattle.iol_judge.specs.State.{State}
 
 -- the layout of a mode, where it is known
@@ -41,32 +41,34 @@ cycle_after old Page false address octet = if address == 1 then Some octet else 
 cycle_after old channel read address octet = old
 
 -- the state once the message was worked, by the link in which it was taken and the mode asked for
--- DEV-3, DEV-9, DEV-11, EVT-2
-abbrev pub state_after : Link → State → List ℕ → MasterMsg → Option Mode → State
-state_after link state octets message asked = record {
+-- DEV-3, DEV-9, DEV-10, EVT-2
+abbrev pub state_after : Result Layouts Open → Link → State → List ℕ → Shape → MasterMsg
+    → Option Mode → State
+state_after known link state octets layout message asked = record {
   link = record { mode = link.mode; waits = waits_after link.mode link.waits octets asked };
   cycle = cycle_after state.cycle message.mc.channel message.mc.read message.mc.address
       (slice_index message.od.items 0);
   events = shown_after state.events
       (is_confirm message.mc.channel message.mc.read message.mc.address);
-  transfer = transfer_after state.transfer message.mc.channel message.mc.read
-      (flow_of message.mc.address);
+  transfer = transfer_after (isdu_known known) layout.od
+      (transfer_in state.link.waits octets state.transfer) message.mc.channel message.mc.read
+      (flow_of message.mc.address) message.od.items;
 }
 
-abbrev pub taken_asked : Link → State → List ℕ → Shape → MasterMsg → Result (Option Mode) Open
-    → Result (Option Taken) Open
-taken_asked link state octets layout message (Ok asked) = Ok (Some (record {
-  kept = state_after link state octets message asked;
+abbrev pub taken_asked : Result Layouts Open → Link → State → List ℕ → Shape → MasterMsg
+    → Result (Option Mode) Open → Result (Option Taken) Open
+taken_asked known link state octets layout message (Ok asked) = Ok (Some (record {
+  kept = state_after known link state octets layout message asked;
   layout = layout;
   message = message;
 }))
-taken_asked link state octets layout message (Err why) = Err why
+taken_asked known link state octets layout message (Err why) = Err why
 
 abbrev pub taken_message : Result Layouts Open → Link → State → List ℕ → Shape
     → Option MasterMsg → Result (Option Taken) Open
 taken_message known link state octets layout None = Ok None
 taken_message known link state octets layout (Some message) =
-    taken_asked link state octets layout message
+    taken_asked known link state octets layout message
     (mode_known known (mode_asked (command_in message)))
 
 abbrev pub taken_in : Result Layouts Open → Link → State → List ℕ → Result Shape Open

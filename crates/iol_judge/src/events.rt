@@ -146,7 +146,9 @@ impl Places {
     fn covers(&self, other: &Places) -> bool
         ensures { result ≡ covers_places self.now other.now }
     {
-        self.least <= other.least && other.most <= self.most && self.octets == other.octets
+        self.least <= other.least
+            && other.most <= self.most
+            && are_known_in(&self.octets, &other.octets)
     }
 
     /// The octet of a diagnosis address, where it was read.
@@ -240,6 +242,7 @@ impl Places {
 }
 
 ghost use Rattle.iol_judge.specs.Events.{marked};
+ghost use Rattle.std.specs.Cmp.Lexicographic.{pointwise};
 ghost use Rattle.iol_judge.specs.Octets.{is_known_in};
 
 /// How many places a StatusCode marks, the first ones; none where it marks others.
@@ -257,6 +260,17 @@ fn marked(status: u8) -> Option<u8>
         0x9F => Some(5),
         0xBF => Some(6),
         _ => None,
+    }
+}
+
+/// Whether what is known of the first octets is known of the second.
+fn are_known_in(a: &[Option<u8>], b: &[Option<u8>]) -> bool
+    ensures { result ≡ pointwise is_known_in a.now b.now }
+{
+    match (a, b) {
+        ([x, xs @ ..], [y, ys @ ..]) => is_known_in(x, y) && are_known_in(xs, ys),
+        ([], []) => true,
+        _ => false,
     }
 }
 

@@ -5,8 +5,9 @@ ghost use Rattle.iol_judge.specs.Judged.{concluded_lost, concluded_replied, exch
 
 use crate::kept::Kept;
 use crate::next::{lose, reply, wake};
+use crate::octets::first_octet;
 use crate::open::Open;
-use crate::readable::{first_octet, is_readable};
+use crate::readable::is_readable;
 use crate::seen::Seen;
 use crate::taken::{Next, States};
 use crate::verdict::{Verdict, Wake};

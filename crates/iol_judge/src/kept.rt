@@ -134,7 +134,7 @@ impl Kept {
             waits: self.waits_copy(),
             cycle: self.cycle,
             events: self.events,
-            transfer: self.transfer,
+            transfer: self.transfer.copy(),
         }
     }
 
@@ -155,7 +155,7 @@ impl Kept {
             && is_known_in(&self.cycle, &other.cycle)
             && self.waits_as(other)
             && self.events.covers(&other.events)
-            && self.transfer.covers(other.transfer)
+            && self.transfer.covers(&other.transfer)
     }
 
     fn waits_as(&self, other: &Kept) -> bool

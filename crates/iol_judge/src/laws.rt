@@ -1,8 +1,12 @@
 //! The law of the judge, carried by a function that does nothing when it runs.
 ghost use Rattle.iol_judge.specs.Admitted.{NeverBlamed};
 
-use iol_far::{page_and_room_stay, parts_stay_regular, replies_are_read};
+use iol_far::{
+    modes_have_layouts, page_and_room_stay, parts_stay_regular, replies_are_read,
+    requests_are_received,
+};
 use iol_page::pages_ask_for_layouts;
+use iol_segment::{cut_is_whole, texts_join};
 
 /// Whatever device by the rules brings a capture over a line that loses messages and replies, or
 /// damages them so that it shows, it is never called not honest: in all of its states, whatever
@@ -13,6 +17,10 @@ pub fn honest_lines_are_never_blamed()
     ensures { NeverBlamed }
 {
     pages_ask_for_layouts();
+    modes_have_layouts();
+    cut_is_whole();
+    texts_join();
+    requests_are_received();
     parts_stay_regular();
     page_and_room_stay();
     replies_are_read();

@@ -5,20 +5,23 @@
 //! admit. Where none is left, no device by the rules could have brought the last reply over a
 //! lossy line, and the verdict says why.
 //!
-//! It judges the start-up, direct parameter page 1, modes, the layouts of replies, and events. ISDU
-//! transfers are free once a request was begun: whatever a reply brings of them is admitted.
+//! It judges the start-up, direct parameter page 1, modes, the layouts of replies, events, and the
+//! steps of ISDU transfers. The octets of an answer are free when they are read first.
 //!
-//! Definitions begin in `specs/State`, what is kept of a device, with `Events` and `Transfers`, and
-//! `Taking`, what a message makes of it; then `Replies`, which replies it may have sent, and
-//! `Judged`, the judge. `Admitted` says which devices a kept state stands for, and the law: a
-//! capture that a device by the rules brings over a lossy line is never called not honest.
+//! Definitions begin in `specs/State`, what is kept of a device, with `Events`, `Transfers` and
+//! `Answers`, and `Taking`, what a message makes of it; then `Replies`, which replies it may have
+//! sent, and `Judged`, the judge. `UnderWay` and `Admitted` say which devices a kept state stands
+//! for, and the law: a capture that a device by the rules brings over a lossy line is never called
+//! not honest.
 #![tactic(auto)]
 
 mod events;
+mod had;
 mod judge;
 mod kept;
 mod laws;
 mod next;
+mod octets;
 mod open;
 mod readable;
 mod reason;

@@ -2,6 +2,7 @@
 ghost use Rattle.std.specs.Prelude.{◌≡◌, nat_lt, ◌-◌, ◌≤◌, length, slice_index};
 ghost use Rattle.iol_judge.specs.Replies.{is_read_with, is_readable};
 
+use crate::octets::first_octet;
 use iol_mseq::{Layout, view_master, view_reply};
 
 /// Whether a reply can be read: there is a layout in which what was sent is a message, and this a
@@ -41,13 +42,6 @@ fn is_read_in(layout: &Layout, sent: &[u8], reply: &[u8]) -> bool
         Ok(message) => view_reply(layout, message.mc().read, reply).is_ok(),
         Err(_) => false,
     }
-}
-
-/// The first octet, 0 where there is none.
-pub(crate) fn first_octet(octets: &[u8]) -> u8
-    ensures { result ≡ slice_index octets.now 0 }
-{
-    octets.first().copied().unwrap_or(0)
 }
 
 ghost use Rattle.iol_judge.specs.Replies.{is_read_in};

@@ -49,6 +49,15 @@ pub enum Reason {
     /// 14: a read of the ISDU channel doesn't bring zeros, and no request was begun (DEV-14).
     #[error("NoAnswerDue")]
     NoAnswerDue,
+    /// 15: the first read behind a whole request doesn't bring busy (DEV-12, ISDU-11).
+    #[error("NotBusy")]
+    NotBusy,
+    /// 16: busy, though the answer's first segment was had before (DEV-13, ISDU-11).
+    #[error("BusyAgain")]
+    BusyAgain,
+    /// 21: a segment of an answer isn't the one that was read before (DEV-13).
+    #[error("SegmentChanged")]
+    SegmentChanged,
 }
 
 impl Reason {
@@ -73,6 +82,9 @@ impl Reason {
             Reason::ProcessNotZero => 12,
             Reason::RestNotZero => 13,
             Reason::NoAnswerDue => 14,
+            Reason::NotBusy => 15,
+            Reason::BusyAgain => 16,
+            Reason::SegmentChanged => 21,
         }
     }
 

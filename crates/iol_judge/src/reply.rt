@@ -1,14 +1,14 @@
 //! Which replies a device in a kept state may have sent.
 ghost use Rattle.std.specs.Prelude.{◌≡◌, ◌<◌, drop, option_map, if◌then◌else◌, true, IfNone};
-ghost use Rattle.iol_judge.specs.Replies.{are_zeros, data_fault, diagnosis_fault, explained, explained_by, learned, octet_known, page_fault, page_reason, reply_fault, rest_fault};
+ghost use Rattle.iol_judge.specs.Octets.{are_zeros};
+ghost use Rattle.iol_judge.specs.Replies.{data_fault, diagnosis_fault, explained, explained_by, learned, octet_known, page_fault, page_reason, reply_fault, rest_fault};
 
 use crate::events::Shown;
 use crate::kept::Kept;
-use crate::readable::first_octet;
+use crate::octets::{are_zeros, first_octet, rest_of};
 use crate::reason::Reason;
 use crate::seen::Seen;
 use crate::taken::{Explained, Taken};
-use crate::transfer::Transfer;
 use iol_mseq::{Layout, MasterView, ReplyView, view_reply};
 use iol_octets::{Channel, Mc};
 
@@ -54,6 +54,7 @@ fn learned(kept: Kept, mc: Mc, reply: &ReplyView<'_>) -> Kept
     match mc.channel {
         Channel::Page if mc.read && mc.address == 1 => kept.cycle = Some(octet),
         Channel::Diagnosis if mc.read => kept.events = kept.events.told(mc.address, octet),
+        Channel::Isdu if mc.read => kept.transfer = kept.transfer.told(reply.od()),
         _ => {}
     }
     kept
@@ -101,10 +102,7 @@ fn data_fault(seen: &Seen, kept: &Kept, mc: Mc, reply: &ReplyView<'_>) -> Option
             let events = kept.events.flag_told(reply.event());
             diagnosis_fault(&events, mc.address, reply.od())
         }
-        Channel::Isdu if kept.transfer == Transfer::Quiet => {
-            zeros_or(reply.od(), Reason::NoAnswerDue)
-        }
-        Channel::Isdu => None,
+        Channel::Isdu => kept.transfer.fault(reply.od()),
     }
 }
 
@@ -165,22 +163,5 @@ fn zeros_or(octets: &[u8], reason: Reason) -> Option<Reason>
         None
     } else {
         Some(reason)
-    }
-}
-
-/// Whether all octets are zeros.
-fn are_zeros(octets: &[u8]) -> bool
-    ensures { result ≡ are_zeros octets.now }
-{
-    octets.iter().all(|octet| *octet == 0)
-}
-
-/// The octets behind the first.
-fn rest_of(octets: &[u8]) -> &[u8]
-    ensures { result.now ≡ drop 1 octets.now }
-{
-    match octets {
-        [_, rest @ ..] => rest,
-        [] => octets,
     }
 }

@@ -3,12 +3,14 @@ ghost use Rattle.std.specs.Prelude.{◌≡◌, ◌≤◌, length, slice_index, O
 ghost use Rattle.iol_far.specs.Codec.{message_in};
 ghost use Rattle.iol_far.specs.Far.{command_in, is_confirm, mode_asked, waits_after};
 ghost use Rattle.iol_far.specs.Level.{taken};
+ghost use Rattle.iol_judge.specs.Transfers.{isdu_known, transfer_in};
 ghost use Rattle.iol_judge.specs.Taking.{cycle_after, mode_known, mode_layout, taken_by};
 
 use crate::kept::{Kept, Waiting};
 use crate::open::Open;
 use crate::seen::Known;
 use crate::taken::Taken;
+use crate::transfer::Transfer;
 use iol_far::Mode;
 use iol_mseq::{Layout, MasterView, Message, first, view_master};
 use iol_octets::Channel;
@@ -31,10 +33,22 @@ impl Kept {
         }
     }
 
+    /// The transfer there: a device that changes its mode drops it.
+    ///
+    /// Rule DEV-3.
+    fn transfer_in(&self, octets: &[u8]) -> Transfer
+        ensures { result ≡ transfer_in self.now.link.waits octets.now self.now.transfer }
+    {
+        match &self.waits {
+            Some(command) if octets != command.octets.as_slice() => Transfer::Quiet,
+            _ => self.transfer.copy(),
+        }
+    }
+
     /// What it makes of octets, none where it doesn't take them; open where the page's layouts
     /// would have to be known.
     ///
-    /// Rules DEV-2 to DEV-5, DEV-9, DEV-11 to DEV-14, EVT-2.
+    /// Rules DEV-2 to DEV-5, DEV-9 to DEV-14, EVT-2.
     pub fn take<'a>(&self, layouts: &Known, octets: &'a [u8]) -> Result<Option<Taken<'a>>, Open>
         ensures { result ≡ taken_by layouts.now self.now octets.now }
     {
@@ -49,13 +63,25 @@ impl Kept {
             waits: waits_after(mode, waits, octets, asked),
             cycle: cycle_after(self.cycle, &message),
             events: self.events.after(is_confirm(&message)),
-            transfer: self.transfer.after(message.mc()),
+            transfer: self
+                .transfer_in(octets)
+                .after(isdu_of(layouts), layout.od(), &message),
         };
         Ok(Some(Taken {
             kept,
             layout,
             message,
         }))
+    }
+}
+
+/// Whether the device has ISDU, where that is known.
+fn isdu_of(layouts: &Known) -> Option<bool>
+    ensures { result ≡ isdu_known layouts.now }
+{
+    match layouts {
+        Ok(layouts) => Some(layouts.isdu),
+        Err(_) => None,
     }
 }
 

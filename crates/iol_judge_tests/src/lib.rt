@@ -9,3 +9,5 @@
 mod honest;
 #[cfg(test)]
 mod lies;
+#[cfg(test)]
+mod transfers;

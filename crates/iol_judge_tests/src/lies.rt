@@ -6,7 +6,7 @@ use std::test::Fail;
 
 /// What a judge says of these exchanges, right behind an answered wake-up request, where the
 /// page is told first.
-fn verdict_of(page: Option<&[u8; 10]>, exchanges: &[Exchange]) -> Verdict {
+pub(crate) fn verdict_of(page: Option<&[u8; 10]>, exchanges: &[Exchange]) -> Verdict {
     let mut judge = Judge::new();
     if let Some(octets) = page {
         judge.page(octets);
@@ -105,24 +105,6 @@ const REST: [Exchange; 3] = [
     (&[0xA2, 0x58], &[0x17, 1, 0, 0, 0, 0, 0, 0, 0x0A]),
 ];
 
-/// The first octet of a request to read.
-const START_WRITE: [u8; 3] = [0x70, 0x09, 0x93];
-
-const START_READ: [u8; 2] = [0xF0, 0x2D];
-
-const IDLE_READ: [u8; 2] = [0xF1, 0x3C];
-
-/// Busy, where no request was begun.
-const NO_ANSWER: [Exchange; 2] = [(&START_READ, &[0x00, 0x2D]), (&START_READ, &[0x01, 0x3C])];
-
-/// The same behind an IDLE, which ends the request.
-const ENDED: [Exchange; 4] = [
-    (&START_WRITE, &[0x2D]),
-    (&START_READ, &[0x01, 0x3C]),
-    (&IDLE_READ, &[0x00, 0x2D]),
-    (&START_READ, &[0x01, 0x3C]),
-];
-
 /// Each lie is found at its exchange, for its reason.
 #[test]
 fn lies_are_found(rt: HostRuntime) -> Result<(), Fail> {
@@ -140,14 +122,6 @@ fn lies_are_found(rt: HostRuntime) -> Result<(), Fail> {
     assert!(rt; verdict_of(None, &CYCLE) == Verdict::NotHonest(3, Reason::CycleTime));
     assert!(rt; verdict_of(None, &PROCESS) == Verdict::NotHonest(2, Reason::ProcessNotZero));
     assert!(rt; verdict_of(Some(&PLAIN), &REST) == Verdict::NotHonest(3, Reason::RestNotZero));
-    Ok(())
-}
-
-/// So are those about ISDUs.
-#[test]
-fn lies_about_isdus_are_found(rt: HostRuntime) -> Result<(), Fail> {
-    assert!(rt; verdict_of(None, &NO_ANSWER) == Verdict::NotHonest(2, Reason::NoAnswerDue));
-    assert!(rt; verdict_of(None, &ENDED) == Verdict::NotHonest(4, Reason::NoAnswerDue));
     Ok(())
 }
 

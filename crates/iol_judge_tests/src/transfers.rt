@@ -1,0 +1,122 @@
+//! Lies about ISDU transfers: each exchange before it is one that a device by the rules brings.
+
+use crate::lies::verdict_of;
+use iol_judge::{Judge, Reason, Verdict, Wake};
+use iol_peers::{Exchange, PLAIN};
+use std::test::Fail;
+
+/// The first octet of a request to read.
+const START_WRITE: [u8; 3] = [0x70, 0x09, 0x93];
+
+const START_READ: [u8; 2] = [0xF0, 0x2D];
+
+const IDLE_READ: [u8; 2] = [0xF1, 0x3C];
+
+/// Busy, where no request was begun.
+const NO_ANSWER: [Exchange; 2] = [(&START_READ, &[0x00, 0x2D]), (&START_READ, &[0x01, 0x3C])];
+
+/// The same behind an IDLE, which ends the request.
+const ENDED: [Exchange; 4] = [
+    (&START_WRITE, &[0x2D]),
+    (&START_READ, &[0x01, 0x3C]),
+    (&IDLE_READ, &[0x00, 0x2D]),
+    (&START_READ, &[0x01, 0x3C]),
+];
+
+/// Where nobody knows whether the device has ISDU, only an answer to nothing is found.
+#[test]
+fn answers_to_nothing_are_found(rt: HostRuntime) -> Result<(), Fail> {
+    assert!(rt; verdict_of(None, &NO_ANSWER) == Verdict::NotHonest(2, Reason::NoAnswerDue));
+    assert!(rt; verdict_of(None, &ENDED) == Verdict::NotHonest(4, Reason::NoAnswerDue));
+    Ok(())
+}
+
+/// The move to PREOPERATE, where a segment has eight octets.
+const MOVE: Exchange = (&[0x20, 0x36, 0x9A], &[0x2D]);
+
+/// The whole request to read Index 16.
+const REQUEST: Exchange = (&[0x70, 0x5D, 0x93, 0x10, 0x83, 0, 0, 0, 0, 0], &[0x2D]);
+
+/// A START read, and COUNT 1.
+const START: [u8; 2] = [0xF0, 0x75];
+
+const COUNT: [u8; 2] = [0xE1, 0x70];
+
+const BUSY: [u8; 9] = [1, 0, 0, 0, 0, 0, 0, 0, 0x3C];
+
+const ZEROS: [u8; 9] = [0, 0, 0, 0, 0, 0, 0, 0, 0x2D];
+
+/// An answer of one octet, and another.
+const ANSWER: [u8; 9] = [0xD3, 0x41, 0x92, 0, 0, 0, 0, 0, 0x2D];
+
+const OTHER: [u8; 9] = [0xD3, 0x42, 0x91, 0, 0, 0, 0, 0, 0x2D];
+
+/// The two segments of a longer answer, and the second with another octet.
+const FIRST: [u8; 9] = [0xDC, 1, 2, 3, 4, 5, 6, 7, 0x39];
+
+const SECOND: [u8; 9] = [8, 9, 10, 0xD7, 0, 0, 0, 0, 0x39];
+
+const CHANGED: [u8; 9] = [0x55, 9, 10, 0xD7, 0, 0, 0, 0, 0x14];
+
+/// What a judge says of these replies to START reads and COUNTs behind a whole request.
+fn verdict_behind(replies: &[Exchange]) -> Verdict {
+    let mut judge = Judge::new();
+    judge.page(&PLAIN);
+    judge.wake(Wake::Answered);
+    judge.exchange(MOVE.0, Some(MOVE.1));
+    judge.exchange(REQUEST.0, Some(REQUEST.1));
+    for (sent, reply) in replies {
+        judge.exchange(sent, Some(*reply));
+    }
+    judge.verdict()
+}
+
+/// Each lie is found at its exchange, for its reason.
+#[test]
+fn lies_about_transfers_are_found(rt: HostRuntime) -> Result<(), Fail> {
+    // The first reply behind the request isn't busy.
+    let early = [(START.as_slice(), ANSWER.as_slice())];
+    assert!(rt; verdict_behind(&early) == Verdict::NotHonest(3, Reason::NotBusy));
+    // Busy behind the answer.
+    let again: [Exchange; 3] = [(&START, &BUSY), (&START, &ANSWER), (&START, &BUSY)];
+    assert!(rt; verdict_behind(&again) == Verdict::NotHonest(5, Reason::BusyAgain));
+    // The first segment read again, and the second.
+    let first: [Exchange; 3] = [(&START, &BUSY), (&START, &ANSWER), (&START, &OTHER)];
+    assert!(rt; verdict_behind(&first) == Verdict::NotHonest(5, Reason::SegmentChanged));
+    let second: [Exchange; 4] = [
+        (&START, &BUSY),
+        (&START, &FIRST),
+        (&COUNT, &SECOND),
+        (&COUNT, &CHANGED),
+    ];
+    assert!(rt; verdict_behind(&second) == Verdict::NotHonest(6, Reason::SegmentChanged));
+    // A segment behind the last.
+    let behind: [Exchange; 3] = [(&START, &BUSY), (&START, &ANSWER), (&COUNT, &SECOND)];
+    assert!(rt; verdict_behind(&behind) == Verdict::NotHonest(5, Reason::NoAnswerDue));
+    Ok(())
+}
+
+/// Segments may be read again from any, while they stay.
+#[test]
+fn answers_may_be_read_again(rt: HostRuntime) -> Result<(), Fail> {
+    let again: [Exchange; 8] = [
+        (&START, &BUSY),
+        (&START, &BUSY),
+        (&START, &FIRST),
+        (&COUNT, &SECOND),
+        (&COUNT, &SECOND),
+        (&START, &FIRST),
+        (&COUNT, &SECOND),
+        (&START, &FIRST),
+    ];
+    assert!(rt; verdict_behind(&again) == Verdict::Honest);
+    // Behind the last segment there is none.
+    let behind: [Exchange; 4] = [
+        (&START, &BUSY),
+        (&START, &ANSWER),
+        (&COUNT, &ZEROS),
+        (&START, &ZEROS),
+    ];
+    assert!(rt; verdict_behind(&behind) == Verdict::Honest);
+    Ok(())
+}
