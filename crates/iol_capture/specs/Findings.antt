@@ -46,6 +46,14 @@ reason_text reason.NotBusy = codes
     "NotBusy: a first reply behind a whole request that isn't busy (DEV-12)"
 reason_text reason.BusyAgain = codes
     "BusyAgain: busy, though the answer's first segment was read (DEV-13)"
+reason_text reason.AnswerKind = codes
+    "AnswerKind: an answer that is none to such a request (ISDU-4, ISDU-8)"
+reason_text reason.AnswerLength = codes
+    "AnswerLength: an answer of a total length that no text has (ISDU-2)"
+reason_text reason.AnswerSum = codes
+    "AnswerSum: an answer of which the XOR of all octets isn't 0 (ISDU-1)"
+reason_text reason.AnswerPadding = codes
+    "AnswerPadding: octets behind an answer that aren't zeros (SEG-1)"
 reason_text reason.SegmentChanged = codes
     "SegmentChanged: a segment of an answer that was another before (DEV-13)"
 

@@ -152,6 +152,18 @@ fn reason_text(reason: Reason) -> &'static str
         Reason::BusyAgain => {
             "BusyAgain: busy, though the answer's first segment was read (DEV-13)"
         }
+        Reason::AnswerKind => {
+            "AnswerKind: an answer that is none to such a request (ISDU-4, ISDU-8)"
+        }
+        Reason::AnswerLength => {
+            "AnswerLength: an answer of a total length that no text has (ISDU-2)"
+        }
+        Reason::AnswerSum => {
+            "AnswerSum: an answer of which the XOR of all octets isn't 0 (ISDU-1)"
+        }
+        Reason::AnswerPadding => {
+            "AnswerPadding: octets behind an answer that aren't zeros (SEG-1)"
+        }
         Reason::SegmentChanged => {
             "SegmentChanged: a segment of an answer that was another before (DEV-13)"
         }

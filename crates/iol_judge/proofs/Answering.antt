@@ -178,7 +178,8 @@ pub explains : (seen : List (Option ℕ)) (found : Taken) (there : Far) (octets 
     → explained seen (Some found) reply
     ≡ By (learned found.kept message.mc (reply_to (worked there octets message) (layout_of there)
     message))
-explains seen found there octets message reply law awake memory agrees same_message same_layout admits
+explains seen found there octets message reply law awake memory agrees same_message same_layout
+    admits
     reads =
     let answer = reply_to (worked there octets message) (layout_of there) message in
     ap (λ (m : MasterMsg). explained_by seen found.kept found.layout m

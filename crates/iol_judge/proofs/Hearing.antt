@@ -206,7 +206,8 @@ module _ (known : Result Layouts Open) (page : List ℕ) (knows : Knows known pa
       (sym there_page)
       (knows.mode (mode_asked (command_in message)) asked e) in
       let all : (message ≡ message) × (layout ≡ layout_of there)
-      × Admits (state_after known link state octets layout message asked) (worked there octets message) = (
+      × Admits (state_after known link state octets layout message asked)
+      (worked there octets message) = (
         refl,
         l,
         record {
@@ -254,7 +255,8 @@ state_fits known far there octets state found texts knows accepting admits h =
     subst (λ (b : Bool). AreShown (if b then state.events else Fresh) far.events) accepting.hears
     admits.events in
     let before : IsUnderWay (layout_of far).od state.transfer far.isdu =
-    subst (λ (b : Bool). IsUnderWay (layout_of far).od (if b then state.transfer else Quiet) far.isdu)
+    subst (λ (b : Bool). IsUnderWay (layout_of far).od (if b then state.transfer else Quiet)
+    far.isdu)
     accepting.hears admits.isdu in
     let at : link_of there ≡ taken state.link octets =
     accepting.link ∙ ap (λ (l : Link). taken l octets) admits.link in

@@ -1,13 +1,14 @@
 -- Segments that were had, one behind the other.
-use Rattle.std.proofs.Common.{◌≡◌, ℕ, zero, suc, ◌*◌, ◌<◌, ◌≤◌, ⊎_elim, Bool, true, false, List, [], ◌∷◌, length, take, drop, refl, sym, ◌∙◌, ap, subst, arith}
+use Rattle.std.proofs.Common.{◌≡◌, ℕ, zero, suc, ◌*◌, ◌<◌, ◌≤◌, ⊎_elim, Bool, true, false, List, [], ◌∷◌, length, take, drop, refl, sym, ◌∙◌, ap, subst, arith, replicate, ◌-◌, ◌+◌, ◌++◌}
 use Rattle.std.specs.Prelude.{◌&&◌, nat_eq}
 use Rattle.std.specs.Cmp.Lexicographic.{pointwise}
 use Rattle.std.proofs.lemmas.Bool.{cases_lt}
 use Rattle.std.proofs.lemmas.Bool.Decides.{nat_tests}
-use Rattle.std.proofs.lemmas.List.{length-append, length-drop, drop_at, drop-append-le, take-append-le, take_all}
+use Rattle.std.proofs.lemmas.List.{length-append, length-drop, drop_at, drop-append-le, take-append-le, take_all, drop-drop, drop-take}
 use Rattle.std.proofs.Math.Nat.{mul-le-mul_right}
 use Rattle.iol_segment.specs.Cut.{segment, SegmentsHaveSize}
 use Rattle.iol_segment.specs.TextLaws.{joined}
+use Rattle.iol_judge.specs.Octets.{are_zeros}
 
 same_number : (n : ℕ) → nat_eq n n ≡ true
 same_number n = grind (arith, nat_tests)
@@ -29,6 +30,44 @@ module _ (sized : SegmentsHaveSize) (size : ℕ) (text : List ℕ) where
       let front = length_joined last in
       let piece = sized size text (suc last) in
       omega (arith, whole, front, piece)
+
+  last_of_joined : (last : ℕ) → drop (last * size) (joined size text last) ≡ segment size text last
+  last_of_joined zero =
+      let none : 0 * size ≡ 0 = omega arith in
+      ap (λ n. drop n (segment size text 0)) none
+  last_of_joined (suc last) =
+      drop_at (joined size text last) (segment size text (suc last)) (suc last * size)
+      (length_joined last)
+
+  zeros_taken : (k n : ℕ) → are_zeros (take k (replicate n 0)) ≡ true
+  zeros_taken zero n = refl
+  zeros_taken (suc k) zero = refl
+  zeros_taken (suc k) (suc n) = zeros_taken k n
+
+  -- behind the text there are zeros
+  pub zeros_behind : (last : ℕ) → last * size ≤ length text → length text ≤ suc last * size
+      → are_zeros (drop (length text) (joined size text last)) ≡ true
+  unfolding segment
+  zeros_behind last low high =
+      let rest = length text - last * size in
+      let front = length-drop (last * size) text in
+      let sum : last * size + (length text - last * size) ≡ length text = omega (arith, low) in
+      let fits : (length text - last * size) + (size - (length text - last * size)) ≡ size =
+      omega (arith, low, high) in
+      let part : drop (length text - last * size) (segment size text last)
+      ≡ take (size - (length text - last * size)) (replicate size 0) =
+      ap (λ n. drop (length text - last * size)
+      (take n (drop (last * size) text ++ replicate size 0))) (sym fits)
+      ∙ drop-take (length text - last * size) (size - (length text - last * size))
+      (drop (last * size) text ++ replicate size 0)
+      ∙ ap (take (size - (length text - last * size)))
+      (drop_at (drop (last * size) text) (replicate size 0) (length text - last * size) front) in
+      let whole : drop (length text) (joined size text last)
+      ≡ take (size - (length text - last * size)) (replicate size 0) =
+      ap (λ n. drop n (joined size text last)) (sym sum)
+      ∙ sym (drop-drop (length text - last * size) (last * size) (joined size text last))
+      ∙ ap (drop (length text - last * size)) (last_of_joined last) ∙ part in
+      ap are_zeros whole ∙ zeros_taken (size - (length text - last * size)) size
 
   -- each of them is the segment that it was
   pub part_of_joined : (last i : ℕ) → i ≤ last

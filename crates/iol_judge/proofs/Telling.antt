@@ -1,8 +1,9 @@
 -- What is known of an ISDU transfer explains what a read of the ISDU channel brings, and holds once
 -- that was had.
-use Rattle.std.proofs.Common.{◌≡◌, ℕ, zero, suc, ◌+◌, ◌-◌, ◌*◌, ◌%◌, ◌<◌, ◌≤◌, Bool, true, false, List, [], ◌∷◌, ◌++◌, length, take, drop, replicate, refl, sym, ◌∙◌, ap, subst, arith, eqb-true}
-use Rattle.std.proofs.lemmas.Bool.{leb-false}
-use Rattle.std.specs.Prelude.{Some, None, ◌&&◌, ◌==◌, nat_eq, nat_lt, nat_le, IsTrue, if◌then◌else◌, slice_index}
+use Rattle.std.proofs.Common.{◌≡◌, ℕ, zero, suc, ◌+◌, ◌-◌, ◌*◌, ◌%◌, ◌<◌, ◌≤◌, Bool, true, false, List, [], ◌∷◌, ◌++◌, length, take, drop, replicate, refl, sym, ◌∙◌, ap, subst, arith, eqb-true, ⊎_elim}
+use Rattle.std.proofs.lemmas.Bool.{cases_lt, ltb-true, ltb-false}
+use Rattle.std.proofs.Math.Nat.{mul-le-mul_right}
+use Rattle.std.specs.Prelude.{Option, Some, None, ◌&&◌, ◌==◌, nat_eq, nat_lt, nat_le, IsTrue, if◌then◌else◌, slice_index}
 use Rattle.std.specs.Cmp.Lexicographic.{pointwise}
 use Rattle.std.specs.List.{starts_with}
 use Rattle.iol_octets.specs.declared.control.Channel.{Channel}
@@ -11,21 +12,24 @@ use Rattle.iol_octets.specs.declared.flow_control.Flow.{Flow}
 use Rattle.iol_octets.specs.declared.flow_control.Flow.TheVariants.{Start, Count}
 use Rattle.iol_isdu.specs.declared.values.Request.{Request}
 use Rattle.iol_isdu.specs.declared.values.Answer.{Answer}
-use Rattle.iol_isdu.specs.Answers.{is_read}
+use Rattle.iol_isdu.specs.Answers.{is_read, answer_fault}
 use Rattle.iol_segment.specs.Cut.{segment}
-use Rattle.iol_segment.specs.TextLaws.{joined}
+use Rattle.iol_segment.specs.TextLaws.{joined, HoldsLength}
 use Rattle.iol_far.specs.Isdu.{IsduState, Empty, Receiving, Whole, Handed, Answered, answer_text, fits, has_segment, isdu_read, isdu_data}
 use Rattle.iol_far.specs.Far.{isdu_after}
+use Rattle.std.specs.Option.{option_or}
+use Rattle.iol_isdu.specs.declared.fault.IsduFault.{IsduFault}
+use Rattle.iol_segment.specs.Join.{Stage}
 use Rattle.iol_judge.specs.declared.had.Had.{Had}
 use Rattle.iol_judge.specs.declared.had.TheConstants.{MOST_HAD}
-use Rattle.iol_judge.specs.declared.reason.Reason.TheVariants.{NoAnswerDue, NotBusy, BusyAgain, SegmentChanged}
+use Rattle.iol_judge.specs.declared.reason.Reason.TheVariants.{NoAnswerDue, NotBusy, BusyAgain, SegmentChanged, AnswerPadding}
 use Rattle.iol_judge.specs.declared.transfer.Transfer.{Transfer}
 use Rattle.iol_judge.specs.declared.transfer.Transfer.TheVariants as known
 use Rattle.iol_judge.specs.Octets.{are_zeros}
-use Rattle.iol_judge.specs.Answers.{first_had, had_with, is_busy, segment_fault}
+use Rattle.iol_judge.specs.Answers.{first_had, had_with, is_busy, segment_fault, reason_of, text_fault, text_fault_at}
 use Rattle.iol_judge.specs.Transfers.{asked_told, isdu_fault, told_by}
 use Rattle.iol_judge.specs.UnderWay.{AreHad, IsUnderWay, IsAsked}
-use Rattle.iol_judge.proofs.Segments.{length_joined, part_of_joined, pointwise_self}
+use Rattle.iol_judge.proofs.Segments.{length_joined, part_of_joined, pointwise_self, zeros_behind}
 use Rattle.iol_judge.proofs.Transferring.{AreTexts, below_by, same_by}
 
 -- Behind a read of the ISDU channel an answer was sent, if there is one
@@ -102,7 +106,41 @@ module _ (size : ℕ) (law : AreTexts size) (request : Request) (answer : Answer
       ap (λ (b : Bool). b && are_zeros (drop 1 (segment size (answer_text request answer) 0)))
       (law.texts.busy (is_read request) answer (law.fitting request answer fit))
 
-  module _ (had : Had) (sent : ℕ) (are : AreHad size had (answer_text request answer) sent) where
+  holds : HoldsLength (answer_text request answer)
+  holds = law.texts.answers (is_read request) answer (law.fitting request answer fit)
+
+  -- its segments are no fault
+  text_fits : (last : ℕ) → last * size < length (answer_text request answer)
+      → text_fault (is_read request) (joined size (answer_text request answer) last) ≡ None
+  text_fits last begins =
+      ⊎_elim before ended (cases_lt (suc last * size) (length (answer_text request answer)))
+    where
+      before : suc last * size < length (answer_text request answer)
+          → text_fault (is_read request) (joined size (answer_text request answer) last) ≡ None
+      before more = ap (λ (s : Stage). text_fault_at (is_read request) s
+          (joined size (answer_text request answer) last))
+          (law.texts.grows (answer_text request answer) last holds more)
+
+      ended : length (answer_text request answer) ≤ suc last * size
+          → text_fault (is_read request) (joined size (answer_text request answer) last) ≡ None
+      ended most =
+          let accepted : answer_fault (is_read request) (answer_text request answer) ≡ None =
+          law.texts.accepted (is_read request) answer (law.fitting request answer fit) in
+          let zeros : are_zeros (drop (length (answer_text request answer))
+          (joined size (answer_text request answer) last)) ≡ true =
+          zeros_behind law.sized size (answer_text request answer) last
+          (omega (arith, begins)) most in
+          ap (λ (s : Stage). text_fault_at (is_read request) s
+          (joined size (answer_text request answer) last))
+          (law.texts.ends (answer_text request answer) last holds (begins, most))
+          ∙ ap (λ (f : Option IsduFault). option_or (reason_of f)
+          (if are_zeros (drop (length (answer_text request answer))
+          (joined size (answer_text request answer) last)) then None else Some AnswerPadding))
+          accepted
+          ∙ ap (λ (b : Bool). if b then None else Some AnswerPadding) zeros
+
+  module _ (had : Had) (sent : ℕ) (are : AreHad size had (answer_text request answer) sent)
+      (read : is_read request ≡ had.read) where
     long : length had.text.items ≡ suc are.last * size
     long = ap (λ (l : List ℕ). length l) are.octets
         ∙ length_joined law.sized size (answer_text request answer) are.last
@@ -141,26 +179,61 @@ module _ (size : ℕ) (law : AreTexts size) (request : Request) (answer : Answer
         part
         ∙ pointwise_self (segment size (answer_text request answer) sent)
 
+    -- the next one
+    next_fits : length had.text.items ≤ had.at
+        → text_fault had.read (had.text.items ++ segment size (answer_text request answer) sent)
+        ≡ None
+    next_fits le =
+        let at = are.at in
+        let whole = long in
+        let most : suc are.last * size ≤ sent * size = omega (arith, le, at, whole) in
+        let next : sent ≡ suc are.last = next_is most in
+        let grown : (had.text.items ++ segment size (answer_text request answer) sent)
+        ≡ joined size (answer_text request answer) (suc are.last) =
+        ap (λ (l : List ℕ). l ++ segment size (answer_text request answer) sent) are.octets
+        ∙ ap (λ i. joined size (answer_text request answer) are.last
+        ++ segment size (answer_text request answer) i) next in
+        ap (λ (r : Bool). text_fault r
+        (had.text.items ++ segment size (answer_text request answer) sent)) (sym read)
+        ∙ ap (λ (l : List ℕ). text_fault (is_read request) l) grown
+        ∙ text_fits (suc are.last)
+        (subst (λ i. i * size < length (answer_text request answer)) next are.within)
+      where
+        next_is : suc are.last * size ≤ sent * size → sent ≡ suc are.last
+        next_is most = ⊎_elim under past (cases_lt sent (suc are.last))
+          where
+            under : sent < suc are.last → sent ≡ suc are.last
+            under lt =
+                let more : suc sent * size ≤ suc are.last * size = mul-le-mul_right size lt in
+                let some = law.some in
+                absurd (omega (arith, more, most, some))
+
+            past : suc are.last ≤ sent → sent ≡ suc are.last
+            past le = let most = are.most in omega (arith, le, most)
+
     segment_fits : segment_fault had (segment size (answer_text request answer) sent) ≡ None
     segment_fits = first (had.at == 0 && is_busy (segment size (answer_text request answer) sent))
         not_again
       where
-        second : (past : Bool) → nat_le (length had.text.items) had.at ≡ past
-            → (if past then None else
-            if starts_with nat_eq (drop had.at had.text.items)
+        second : (before : Bool) → nat_lt had.at (length had.text.items) ≡ before
+            → (if before then (if starts_with nat_eq (drop had.at had.text.items)
             (segment size (answer_text request answer) sent) then None
-            else Some SegmentChanged) ≡ None
-        second true e = refl
-        second false e = ap (λ (b : Bool). if b then None else Some SegmentChanged)
-            (same_again (leb-false (length had.text.items) had.at e))
+            else Some SegmentChanged) else
+            text_fault had.read (had.text.items ++ segment size (answer_text request answer) sent))
+            ≡ None
+        second true e = ap (λ (b : Bool). if b then None else Some SegmentChanged)
+            (same_again (ltb-true had.at (length had.text.items) e))
+        second false e = next_fits (ltb-false had.at (length had.text.items) e)
 
         first : (again : Bool) → again ≡ false → (if again then Some BusyAgain else
-            if nat_le (length had.text.items) had.at then None else
-            if starts_with nat_eq (drop had.at had.text.items)
+            if nat_lt had.at (length had.text.items) then
+            (if starts_with nat_eq (drop had.at had.text.items)
             (segment size (answer_text request answer) sent) then None
-            else Some SegmentChanged) ≡ None
+            else Some SegmentChanged) else
+            text_fault had.read (had.text.items ++ segment size (answer_text request answer) sent))
+            ≡ None
         first true e = absurd (cc)
-        first false e = second (nat_le (length had.text.items) had.at) refl
+        first false e = second (nat_lt had.at (length had.text.items)) refl
 
     -- and once it was had
     had_holds : AreHad size (had_with had (segment size (answer_text request answer) sent))
@@ -222,6 +295,7 @@ module _ (size : ℕ) (law : AreTexts size) (request : Request) (answer : Answer
 pub isdu_fits : (size : ℕ) → AreTexts size → (transfer : Transfer) (state : IsduState)
     → IsUnderWay size transfer state → IsSent state
     → isdu_fault transfer (isdu_data size state) ≡ None
+unfolding first_holds
 isdu_fits size law known.Quiet state h s =
     ap (λ (s : IsduState). isdu_fault known.Quiet (isdu_data size s)) h ∙ no_answer size
 isdu_fits size law (known.Receiving text last) state h s =
@@ -239,9 +313,23 @@ isdu_fits size law (known.Handed read) (Answered request answer (Some i)) h s = 
 isdu_fits size law (known.Handed read) Empty h s = absurd h
 isdu_fits size law (known.Handed read) (Receiving text a) h s = absurd h
 isdu_fits size law (known.Handed read) (Whole request a) h s = absurd h
-isdu_fits size law (known.Asked read) state h s = refl
+isdu_fits size law (known.Asked read) (Handed request) h s =
+    ap (λ (b : Bool). if b then None else text_fault read (1 ∷ replicate (size - 1) 0))
+    (busy_is size)
+isdu_fits size law (known.Asked read) (Answered request answer (Some zero)) h s =
+    ap (λ (b : Bool). if b then None else
+    text_fault read (segment size (answer_text request answer) 0))
+    (not_busy size law request answer h.1)
+    ∙ ap (λ (r : Bool). text_fault r (segment size (answer_text request answer) 0)) (sym h.0)
+    ∙ text_fits size law request answer h.1 0
+    (first_holds size law request answer h.1).begins
+isdu_fits size law (known.Asked read) (Answered request answer None) h s = absurd s
+isdu_fits size law (known.Asked read) (Answered request answer (Some (suc i))) h s = absurd h
+isdu_fits size law (known.Asked read) Empty h s = absurd h
+isdu_fits size law (known.Asked read) (Receiving text a) h s = absurd h
+isdu_fits size law (known.Asked read) (Whole request a) h s = absurd h
 isdu_fits size law (known.Answered had) (Answered request answer (Some i)) h s =
-    segment_fits size law request answer h.1 had i h.2
+    segment_fits size law request answer h.1 had i h.2 h.0
 isdu_fits size law (known.Answered had) (Answered request answer None) h s = absurd h
 isdu_fits size law (known.Answered had) Empty h s = absurd h
 isdu_fits size law (known.Answered had) (Receiving text a) h s = absurd h
@@ -293,7 +381,7 @@ told_under_way size law (known.Handed read) state h s = h
 told_under_way size law (known.Asked read) state h s = told_asked size law read state h s
 told_under_way size law (known.Answered had) (Answered request answer (Some i)) h s =
     (h.0 ∙ sym (had_read had (segment size (answer_text request answer) i)), h.1,
-    had_holds size law request answer h.1 had i h.2)
+    had_holds size law request answer h.1 had i h.2 h.0)
 told_under_way size law (known.Answered had) (Answered request answer None) h s = absurd h
 told_under_way size law (known.Answered had) Empty h s = absurd h
 told_under_way size law (known.Answered had) (Receiving text a) h s = absurd h

@@ -127,7 +127,8 @@ unfolding Writes
 count_under_way size known.Quiet state count octets h =
     ap (λ (s : IsduState). isdu_written s (Count count) octets) h
 count_under_way size (known.Receiving text last) state count octets h =
-    subst (λ (s : IsduState). IsUnderWay size (count_written (known.Receiving text last) count octets)
+    subst (λ (s : IsduState). IsUnderWay size
+    (count_written (known.Receiving text last) count octets)
     (isdu_written s (Count count) octets)) (sym h)
     (split (is_last last count) (count == next_count last))
   where
@@ -181,16 +182,19 @@ start_under_way size (known.Asked read) Empty h = absurd h
 start_under_way size (known.Asked read) (Receiving text a) h = absurd h
 start_under_way size (known.Asked read) (Whole request a) h = absurd h
 start_under_way size (known.Answered had) (Answered request answer (Some sent)) h =
-    let within = h.2.within in
-    (h.0, h.1, record {
-      last = h.2.last;
-      octets = h.2.octets;
-      begins = h.2.begins;
-      most = omega arith;
-      within = omega (arith, within);
-      at = omega arith;
-      count = refl;
-    })
+    let within = h.2.within in (
+      h.0,
+      h.1,
+      record {
+        last = h.2.last;
+        octets = h.2.octets;
+        begins = h.2.begins;
+        most = omega arith;
+        within = omega (arith, within);
+        at = omega arith;
+        count = refl;
+      },
+    )
 start_under_way size (known.Answered had) (Answered request answer None) h = absurd h
 start_under_way size (known.Answered had) (Handed request) h = absurd h
 start_under_way size (known.Answered had) Empty h = absurd h
@@ -252,16 +256,19 @@ module _ (size : ℕ) (law : AreTexts size) (request : Request) (answer : Answer
       → IsUnderWay size (known.Answered (record had { at = had.at + size; count = count }))
       (Answered request answer (Some (sent + 1)))
   next_had count e most within =
-      let at = are.at in
-      (read, fit, record {
-        last = are.last;
-        octets = are.octets;
-        begins = are.begins;
-        most = omega (arith, most);
-        within = within;
-        at = omega (arith, at);
-        count = e;
-      })
+      let at = are.at in (
+        read,
+        fit,
+        record {
+          last = are.last;
+          octets = are.octets;
+          begins = are.begins;
+          most = omega (arith, most);
+          within = within;
+          at = omega (arith, at);
+          count = e;
+        },
+      )
 
   counts : ((had.count + 1) % 16) ≡ ((sent + 1) % 16)
   counts = let count = are.count in ap (λ c. (c + 1) % 16) count ∙ counted_up sent
@@ -269,7 +276,8 @@ module _ (size : ℕ) (law : AreTexts size) (request : Request) (answer : Answer
   -- there is a next segment where the octets had are no whole text
   open_within : sent ≡ are.last → is_open (stage had.text.items) ≡ true
       → (sent + 1) * size < length (answer_text request answer)
-  open_within same e = ⊎_elim fits whole (cases_lt ((sent + 1) * size) (length (answer_text request answer)))
+  open_within same e = ⊎_elim fits whole
+      (cases_lt ((sent + 1) * size) (length (answer_text request answer)))
     where
       fits : (sent + 1) * size < length (answer_text request answer)
           → (sent + 1) * size < length (answer_text request answer)
@@ -290,7 +298,8 @@ module _ (size : ℕ) (law : AreTexts size) (request : Request) (answer : Answer
   -- and none where they are
   closed_within : sent ≡ are.last → is_open (stage had.text.items) ≡ false
       → nat_lt ((sent + 1) * size) (length (answer_text request answer)) ≡ false
-  closed_within same e = ⊎_elim fits whole (cases_lt ((sent + 1) * size) (length (answer_text request answer)))
+  closed_within same e = ⊎_elim fits whole
+      (cases_lt ((sent + 1) * size) (length (answer_text request answer)))
     where
       whole : length (answer_text request answer) ≤ (sent + 1) * size
           → nat_lt ((sent + 1) * size) (length (answer_text request answer)) ≡ false
@@ -303,7 +312,8 @@ module _ (size : ℕ) (law : AreTexts size) (request : Request) (answer : Answer
           subst (λ n. suc n * size < length (answer_text request answer)) same
           (omega (arith, lt)) in
           let grows : stage had.text.items ≡ Open =
-          ap stage are.octets ∙ law.texts.grows (answer_text request answer) are.last holds before in
+          ap stage are.octets ∙ law.texts.grows (answer_text request answer) are.last holds
+          before in
           absurd (let no : true ≡ false = sym (ap is_open grows) ∙ e in cc)
 
   Next : ℕ → Type 0
@@ -326,7 +336,8 @@ module _ (size : ℕ) (law : AreTexts size) (request : Request) (answer : Answer
   next_goes : (count : ℕ) → count ≡ (sent + 1) % 16 → Next count
   unfolding Next
   next_goes count e = split (nat_lt (length had.text.items) (had.at + size))
-      (nat_lt (had.at + size) (length had.text.items)) (is_open (stage had.text.items)) refl refl refl
+      (nat_lt (had.at + size) (length had.text.items)) (is_open (stage had.text.items)) refl
+      refl refl
     where
       at_is : had.at ≡ sent * size
       at_is = are.at
@@ -379,7 +390,8 @@ module _ (size : ℕ) (law : AreTexts size) (request : Request) (answer : Answer
   pub count_goes : (count : ℕ) → IsUnderWay size (count_read size (known.Answered had) count)
       (isdu_read size (Answered request answer (Some sent)) (Count count))
   unfolding Next
-  count_goes count = rw_same (nat_lt 0 sent && count == sent % 16) (count == (sent + 1) % 16) refl refl
+  count_goes count = rw_same (nat_lt 0 sent && count == sent % 16) (count == (sent + 1) % 16)
+      refl refl
     where
       was : was_sent had count ≡ (nat_lt 0 sent && count == sent % 16)
       was = ap (λ c. nat_lt 0 had.at && count == c) are.count

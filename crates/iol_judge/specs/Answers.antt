@@ -1,11 +1,15 @@
 -- What is known of an answer, once its first segment was had.
 use Rattle.std.specs.Prelude.{ℕ, ◌+◌, ◌%◌, Bool, true, false, ◌&&◌, ◌==◌, nat_eq, nat_lt, nat_le, bytes_eq, if◌then◌else◌, List, ◌++◌, length, drop, slice_index, Option, Some, None}
 use Rattle.std.specs.List.{starts_with}
-use Rattle.iol_segment.specs.Join.{Stage, Open, Complete, Wrong}
+use Rattle.std.specs.Option.{option_or}
+use Rattle.iol_isdu.specs.Answers.{answer_fault}
+use Rattle.iol_isdu.specs.declared.fault.IsduFault.{IsduFault}
+use Rattle.iol_isdu.specs.declared.fault.IsduFault.TheVariants.{Truncated, BadIsduLength, BadChkpdu}
+use Rattle.iol_segment.specs.Join.{Stage, Open, Complete, Wrong, stage}
 use Rattle.iol_judge.specs.declared.had.Had.{Had}
 use Rattle.iol_judge.specs.declared.had.TheConstants.{MOST_HAD}
 use Rattle.iol_judge.specs.declared.reason.Reason.{Reason}
-use Rattle.iol_judge.specs.declared.reason.Reason.TheVariants.{BusyAgain, SegmentChanged}
+use Rattle.iol_judge.specs.declared.reason.Reason.TheVariants.{BusyAgain, AnswerKind, AnswerLength, AnswerSum, AnswerPadding, SegmentChanged}
 use Rattle.iol_judge.specs.Octets.{are_zeros}
 
 abbrev pub first_had : Bool → List ℕ → Had
@@ -40,13 +44,40 @@ is_open Wrong = false
 abbrev pub is_busy : List ℕ → Bool
 is_busy od = slice_index od 0 == 1 && are_zeros (drop 1 od)
 
--- why the segment sent last can't have these octets: busy again, or others than before
+-- The text of an answer to a read, or to a write
+
+abbrev pub reason_of : Option IsduFault → Option Reason
+reason_of None = None
+reason_of (Some Truncated) = Some AnswerLength
+reason_of (Some BadIsduLength) = Some AnswerLength
+reason_of (Some BadChkpdu) = Some AnswerSum
+reason_of (Some fault) = Some AnswerKind
+
+-- why a whole text, with the octets behind it, isn't one
+-- ISDU-9, SEG-1
+abbrev pub whole_fault : Bool → List ℕ → List ℕ → Option Reason
+whole_fault read text rest =
+    option_or (reason_of (answer_fault read text))
+    (if are_zeros rest then None else Some AnswerPadding)
+
+abbrev pub text_fault_at : Bool → Stage → List ℕ → Option Reason
+text_fault_at read Open octets = None
+text_fault_at read (Complete text) octets = whole_fault read text (drop (length text) octets)
+text_fault_at read Wrong octets = Some AnswerLength
+
+-- why segments from the first on can't have these octets
+-- ISDU-9, SEG-1, SEG-5
+abbrev pub text_fault : Bool → List ℕ → Option Reason
+text_fault read octets = text_fault_at read (stage octets) octets
+
+-- why the segment sent last can't have these octets: busy again, others than before, or no text
 -- DEV-13, ISDU-11
 abbrev pub segment_fault : Had → List ℕ → Option Reason
 segment_fault had od =
     if had.at == 0 && is_busy od then Some BusyAgain else
-    if nat_le (length had.text.items) had.at then None else
-    if starts_with nat_eq (drop had.at had.text.items) od then None else Some SegmentChanged
+    if nat_lt had.at (length had.text.items) then
+    (if starts_with nat_eq (drop had.at had.text.items) od then None else Some SegmentChanged) else
+    text_fault had.read (had.text.items ++ od)
 
 -- once it had these octets
 abbrev pub had_with : Had → List ℕ → Had

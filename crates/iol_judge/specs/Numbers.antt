@@ -1,7 +1,7 @@
 -- The number of each reason.
 use Rattle.std.specs.Prelude.{ℕ, nat_lt, if◌then◌else◌}
 use Rattle.iol_judge.specs.declared.reason.Reason.{Reason}
-use Rattle.iol_judge.specs.declared.reason.Reason.TheVariants.{NotTaken, ReplyLength, StatusWithoutData, InvalidNotZero, FlagAtConfirm, FlagGone, StatusCode, EventOctet, PageChanged, PageZero, CycleTime, ProcessNotZero, RestNotZero, NoAnswerDue, NotBusy, BusyAgain, SegmentChanged}
+use Rattle.iol_judge.specs.declared.reason.Reason.TheVariants.{NotTaken, ReplyLength, StatusWithoutData, InvalidNotZero, FlagAtConfirm, FlagGone, StatusCode, EventOctet, PageChanged, PageZero, CycleTime, ProcessNotZero, RestNotZero, NoAnswerDue, NotBusy, BusyAgain, AnswerKind, AnswerLength, AnswerSum, AnswerPadding, SegmentChanged}
 use Rattle.iol_judge.specs.declared.open.Open.{Open}
 use Rattle.iol_judge.specs.declared.open.Open.TheVariants.{PageUnread, PageRefused, TooManyStates}
 
@@ -22,6 +22,10 @@ reason_number RestNotZero = 13
 reason_number NoAnswerDue = 14
 reason_number NotBusy = 15
 reason_number BusyAgain = 16
+reason_number AnswerKind = 17
+reason_number AnswerLength = 18
+reason_number AnswerSum = 19
+reason_number AnswerPadding = 20
 reason_number SegmentChanged = 21
 
 abbrev pub open_number : Open → ℕ

@@ -20,7 +20,7 @@ use Rattle.iol_judge.specs.declared.transfer.Transfer.{Transfer}
 use Rattle.iol_judge.specs.declared.transfer.Transfer.TheVariants.{Quiet, Receiving, Whole, Handed, Asked, Answered, Free}
 use Rattle.iol_judge.specs.declared.transfer.TheConstants.{LONGEST}
 use Rattle.iol_judge.specs.Octets.{are_zeros}
-use Rattle.iol_judge.specs.Answers.{first_had, had_with, is_busy, is_next, is_open, same_had, same_read, segment_fault, was_sent}
+use Rattle.iol_judge.specs.Answers.{first_had, had_with, is_busy, is_next, is_open, same_had, same_read, segment_fault, text_fault, was_sent}
 
 -- what the first allows whatever the second does
 abbrev pub covers_transfer : Transfer → Transfer → Bool
@@ -149,7 +149,7 @@ transfer_in (Some command) octets old = if bytes_eq octets command.octets then o
 -- DEV-12, DEV-14, ISDU-11
 abbrev pub isdu_fault : Transfer → List ℕ → Option Reason
 isdu_fault (Handed read) od = if is_busy od then None else Some NotBusy
-isdu_fault (Asked read) od = None
+isdu_fault (Asked read) od = if is_busy od then None else text_fault read od
 isdu_fault (Answered had) od = segment_fault had od
 isdu_fault Free od = None
 isdu_fault transfer od = if are_zeros od then None else Some NoAnswerDue

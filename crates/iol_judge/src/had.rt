@@ -1,7 +1,8 @@
 //! What is known of an answer, once its first segment was had.
-ghost use Rattle.std.specs.Prelude.{◌≡◌, ◌<◌, ◌≤◌, length, true, ◌&&◌, ◌==◌, nat_lt};
+ghost use Rattle.std.specs.Prelude.{◌≡◌, ◌<◌, ◌≤◌, ◌++◌, length, true, ◌&&◌, ◌==◌, nat_lt};
 ghost use Rattle.iol_judge.specs.Answers.{first_had, had_with, is_busy, is_next, is_open, same_had, segment_fault, was_sent};
 
+use crate::answer::text_fault;
 use crate::octets::{are_zeros, first_octet, rest_of};
 use crate::reason::Reason;
 use arrayvec::ArrayVec;
@@ -9,6 +10,9 @@ use iol_isdu::{IsduFault, total_of};
 
 /// The most octets that are kept of an answer: the longest text, and a segment.
 pub(crate) const MOST_HAD: usize = 270;
+
+/// With one segment more.
+const MOST_JOINED: usize = 302;
 
 /// Octets of an answer's segments.
 pub(crate) type Octets = ArrayVec<u8, MOST_HAD>;
@@ -113,17 +117,31 @@ impl Had {
     ///
     /// Rules DEV-13, ISDU-11.
     pub fn fault(&self, od: &[u8]) -> Option<Reason>
+        requires { length od.now ≤ 32 }
         ensures { result ≡ segment_fault self.now od.now }
     {
         if self.at == 0 && is_busy(od) {
             return Some(Reason::BusyAgain);
         }
         let at = self.at as usize;
-        if at >= self.text.len() || self.text[at..].starts_with(od) {
+        if at >= self.text.len() {
+            text_fault(self.read, &self.joined(od))
+        } else if self.text[at..].starts_with(od) {
             None
         } else {
             Some(Reason::SegmentChanged)
         }
+    }
+
+    /// The octets that were had, and these.
+    fn joined(&self, od: &[u8]) -> ArrayVec<u8, MOST_JOINED>
+        requires { length od.now ≤ 32 }
+        ensures { result.items ≡ self.now.text.items ++ od.now }
+    {
+        let mut joined = ArrayVec::new();
+        joined.try_extend_from_slice(&self.text).unwrap();
+        joined.try_extend_from_slice(od).unwrap();
+        joined
     }
 
     /// Once it had these octets.

@@ -5,8 +5,9 @@
 //! admit. Where none is left, no device by the rules could have brought the last reply over a
 //! lossy line, and the verdict says why.
 //!
-//! It judges the start-up, direct parameter page 1, modes, the layouts of replies, events, and the
-//! steps of ISDU transfers. The octets of an answer are free when they are read first.
+//! It judges the start-up, direct parameter page 1, modes, the layouts of replies, events, and ISDU
+//! transfers. Process data, events when they are shown first, and of an answer all but its kind,
+//! length, CHKPDU and padding are free.
 //!
 //! Definitions begin in `specs/State`, what is kept of a device, with `Events`, `Transfers` and
 //! `Answers`, and `Taking`, what a message makes of it; then `Replies`, which replies it may have
@@ -15,6 +16,7 @@
 //! not honest.
 #![tactic(auto)]
 
+mod answer;
 mod events;
 mod had;
 mod judge;

@@ -55,6 +55,19 @@ pub enum Reason {
     /// 16: busy, though the answer's first segment was had before (DEV-13, ISDU-11).
     #[error("BusyAgain")]
     BusyAgain,
+    /// 17: an answer that is none to such a request: its service, or the length of its text
+    /// (ISDU-4, ISDU-8).
+    #[error("AnswerKind")]
+    AnswerKind,
+    /// 18: the total length in an answer is one that no text has (ISDU-2).
+    #[error("AnswerLength")]
+    AnswerLength,
+    /// 19: the XOR of all octets of an answer isn't 0 (ISDU-1).
+    #[error("AnswerSum")]
+    AnswerSum,
+    /// 20: the octets behind an answer, in its last segment, aren't zeros (SEG-1).
+    #[error("AnswerPadding")]
+    AnswerPadding,
     /// 21: a segment of an answer isn't the one that was read before (DEV-13).
     #[error("SegmentChanged")]
     SegmentChanged,
@@ -84,6 +97,10 @@ impl Reason {
             Reason::NoAnswerDue => 14,
             Reason::NotBusy => 15,
             Reason::BusyAgain => 16,
+            Reason::AnswerKind => 17,
+            Reason::AnswerLength => 18,
+            Reason::AnswerSum => 19,
+            Reason::AnswerPadding => 20,
             Reason::SegmentChanged => 21,
         }
     }

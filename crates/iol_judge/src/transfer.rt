@@ -3,6 +3,7 @@ ghost use Rattle.std.specs.Prelude.{◌≡◌, ◌≤◌, ◌++◌, None, length
 ghost use Rattle.iol_far.specs.Codec.{flow_of};
 ghost use Rattle.iol_judge.specs.Transfers.{completed, count_read, count_written, covers_transfer, isdu_fault, next_read, received, start_read, told_by, transfer_after, transfer_on, transfer_unknown};
 
+use crate::answer::text_fault;
 use crate::had::{Had, Octets, is_busy};
 use crate::octets::are_zeros;
 use crate::reason::Reason;
@@ -186,14 +187,17 @@ impl Transfer {
 
     /// Why a read of the ISDU channel can't bring these octets, none where it can.
     ///
-    /// Rules DEV-12 to DEV-14, ISDU-11.
+    /// Rules DEV-12 to DEV-14, ISDU-9, ISDU-11.
     pub fn fault(&self, od: &[u8]) -> Option<Reason>
+        requires { length od.now ≤ 32 }
         ensures { result ≡ isdu_fault self.now od.now }
     {
         match self {
             Transfer::Handed(_) if is_busy(od) => None,
             Transfer::Handed(_) => Some(Reason::NotBusy),
-            Transfer::Asked(_) | Transfer::Free => None,
+            Transfer::Asked(_) if is_busy(od) => None,
+            Transfer::Asked(read) => text_fault(*read, od),
+            Transfer::Free => None,
             Transfer::Answered(had) => had.fault(od),
             _ if are_zeros(od) => None,
             _ => Some(Reason::NoAnswerDue),

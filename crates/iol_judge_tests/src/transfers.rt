@@ -58,6 +58,18 @@ const SECOND: [u8; 9] = [8, 9, 10, 0xD7, 0, 0, 0, 0, 0x39];
 
 const CHANGED: [u8; 9] = [0x55, 9, 10, 0xD7, 0, 0, 0, 0, 0x14];
 
+/// No answer: to a write, of an unknown service, of a length that no text has, with a wrong CHKPDU,
+/// and with an octet behind it.
+const WRITTEN: [u8; 9] = [0x52, 0x52, 0, 0, 0, 0, 0, 0, 0x2D];
+
+const UNKNOWN: [u8; 9] = [0x22, 0x22, 0, 0, 0, 0, 0, 0, 0x2D];
+
+const LENGTH: [u8; 9] = [0xD1, 0x10, 0, 0, 0, 0, 0, 0, 0x0C];
+
+const SUM: [u8; 9] = [0xD3, 0x41, 0x93, 0, 0, 0, 0, 0, 0x3C];
+
+const PADDING: [u8; 9] = [0xD3, 0x41, 0x92, 0, 0, 0, 0, 7, 0x0F];
+
 /// What a judge says of these replies to START reads and COUNTs behind a whole request.
 fn verdict_behind(replies: &[Exchange]) -> Verdict {
     let mut judge = Judge::new();
@@ -93,6 +105,28 @@ fn lies_about_transfers_are_found(rt: HostRuntime) -> Result<(), Fail> {
     // A segment behind the last.
     let behind: [Exchange; 3] = [(&START, &BUSY), (&START, &ANSWER), (&COUNT, &SECOND)];
     assert!(rt; verdict_behind(&behind) == Verdict::NotHonest(5, Reason::NoAnswerDue));
+    Ok(())
+}
+
+/// So is an answer that is none to a read.
+#[test]
+fn lies_about_answers_are_found(rt: HostRuntime) -> Result<(), Fail> {
+    let lies: [(&[u8], Reason); 5] = [
+        (&WRITTEN, Reason::AnswerKind),
+        (&UNKNOWN, Reason::AnswerKind),
+        (&LENGTH, Reason::AnswerLength),
+        (&SUM, Reason::AnswerSum),
+        (&PADDING, Reason::AnswerPadding),
+    ];
+    for (lie, reason) in &lies {
+        let replies: [Exchange; 2] = [(&START, &BUSY), (&START, *lie)];
+        assert!(rt; verdict_behind(&replies) == Verdict::NotHonest(4, *reason));
+    }
+    // In the last of two segments.
+    let last: [Exchange; 3] = [(&START, &BUSY), (&START, &FIRST), (&COUNT, &CHANGED)];
+    assert!(rt; verdict_behind(&last) == Verdict::NotHonest(5, Reason::AnswerSum));
+    let none: [Exchange; 3] = [(&START, &BUSY), (&START, &FIRST), (&COUNT, &ZEROS)];
+    assert!(rt; verdict_behind(&none) == Verdict::NotHonest(5, Reason::AnswerSum));
     Ok(())
 }
 
