@@ -1,7 +1,6 @@
 -- What is known of an ISDU transfer.
-use Rattle.std.specs.Prelude.{ℕ, ◌+◌, Bool, true, false, ◌&&◌, ◌==◌, nat_lt, nat_le, bytes_eq, if◌then◌else◌, List, ◌++◌, length, Option, Some, None, Result, Ok, Err}
+use Rattle.std.specs.Prelude.{ℕ, ◌+◌, Bool, true, false, ◌&&◌, ◌==◌, nat_eq, nat_lt, nat_le, bytes_eq, if◌then◌else◌, List, ◌++◌, length, Option, Some, None, Result, Ok, Err}
 use Rattle.std.specs.Option.{option_eq}
-use Rattle.std.specs.Prelude.{nat_eq}
 use Rattle.iol_octets.specs.declared.control.Channel.{Channel}
 use Rattle.iol_octets.specs.declared.control.Channel.TheVariants.{Isdu}
 use Rattle.iol_octets.specs.declared.flow_control.Flow.{Flow}
@@ -95,6 +94,7 @@ count_read size (Answered had) count =
     if was_sent had count then Answered had else
     if is_next had count then next_read had count (had.at + size) else
     Quiet
+-- where the answer's first segment was sent, and not had, there may be a second
 count_read size (Asked read) count = if count == 1 then Free else Quiet
 count_read size Free count = Free
 count_read size old count = Quiet

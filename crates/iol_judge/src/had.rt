@@ -1,5 +1,6 @@
 //! What is known of an answer, once its first segment was had.
 ghost use Rattle.std.specs.Prelude.{◌≡◌, ◌<◌, ◌≤◌, ◌++◌, length, true, ◌&&◌, ◌==◌, nat_lt};
+ghost use Rattle.iol_segment.specs.Join.{stage};
 ghost use Rattle.iol_judge.specs.Answers.{first_had, had_with, is_busy, is_next, is_open, same_had, segment_fault, was_sent};
 
 use crate::answer::text_fault;
@@ -18,7 +19,7 @@ const MOST_JOINED: usize = 302;
 pub(crate) type Octets = ArrayVec<u8, MOST_HAD>;
 
 /// What is known of an answer that is sent.
-#[derive(Debug, PartialEq, Eq, Drop)]
+#[derive(Debug, Drop)]
 pub(crate) struct Had {
     /// Whether it is one to a read.
     pub read: bool,
@@ -165,5 +166,3 @@ pub(crate) fn is_busy(od: &[u8]) -> bool
 {
     first_octet(od) == 1 && are_zeros(rest_of(od))
 }
-
-ghost use Rattle.iol_segment.specs.Join.{stage};

@@ -9,7 +9,7 @@ use iol_mseq::Message;
 use std::marker::Model;
 
 /// A command into another mode, with its octets, until a message comes in that mode's layout.
-#[derive(Debug, PartialEq, Eq, Drop)]
+#[derive(Debug, Drop)]
 pub(crate) struct Waiting {
     pub into: Mode,
     pub octets: Message,
@@ -47,7 +47,7 @@ impl Waiting {
 }
 
 /// A state of a device that the exchanges so far admit.
-#[derive(Debug, PartialEq, Eq, Drop)]
+#[derive(Debug, Drop)]
 pub(crate) struct Kept {
     pub mode: Mode,
     pub waits: Option<Waiting>,

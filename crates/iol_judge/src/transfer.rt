@@ -1,7 +1,9 @@
 //! What is known of an ISDU transfer.
-ghost use Rattle.std.specs.Prelude.{◌≡◌, ◌≤◌, ◌++◌, None, length};
+ghost use Rattle.std.specs.Prelude.{◌≡◌, ◌≤◌, ◌+◌, ◌++◌, None, Some, length};
+ghost use Rattle.iol_isdu.specs.Parse.{request_of};
+ghost use Rattle.iol_segment.specs.Join.{next_count};
 ghost use Rattle.iol_far.specs.Codec.{flow_of};
-ghost use Rattle.iol_judge.specs.Transfers.{completed, count_read, count_written, covers_transfer, isdu_fault, next_read, received, start_read, told_by, transfer_after, transfer_on, transfer_unknown};
+ghost use Rattle.iol_judge.specs.Transfers.{completed, count_read, count_written, covers_transfer, is_quiet, isdu_fault, next_read, received, receiving, start_read, told_by, transfer_after, transfer_on, transfer_unknown};
 
 use crate::answer::text_fault;
 use crate::had::{Had, Octets, is_busy};
@@ -18,7 +20,7 @@ const START: u8 = 0x10;
 pub(crate) const LONGEST: usize = 238;
 
 /// What is known of the ISDU transfer of a device. A request is a read, or a write.
-#[derive(Debug, PartialEq, Eq, Drop)]
+#[derive(Debug, Drop)]
 pub(crate) enum Transfer {
     /// None is under way.
     Quiet,
@@ -296,8 +298,3 @@ fn completed(text: &[u8], last: Option<u8>) -> Transfer
         Err(_) => Transfer::Quiet,
     }
 }
-
-ghost use Rattle.std.specs.Prelude.{Some, ◌+◌};
-ghost use Rattle.iol_isdu.specs.Parse.{request_of};
-ghost use Rattle.iol_segment.specs.Join.{next_count};
-ghost use Rattle.iol_judge.specs.Transfers.{is_quiet, receiving};
