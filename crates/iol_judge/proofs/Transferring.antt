@@ -338,12 +338,6 @@ module _ (size : ℕ) (law : AreTexts size) (request : Request) (answer : Answer
       (nat_lt (had.at + size) (length had.text.items)) (is_open (stage had.text.items)) refl
       refl refl
     where
-      at_is : had.at ≡ sent * size
-      at_is = are.at
-
-      long : length had.text.items ≡ suc are.last * size
-      long = length_had
-
       -- by where the next segment begins
       earlier : had.at + size < length had.text.items → sent < are.last
       earlier lt =
