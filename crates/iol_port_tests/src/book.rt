@@ -1,14 +1,10 @@
-//! Tests of a book: a thousand lists of calls, laws, and memory refused in turn.
-mod generated;
-mod plain;
-
+//! Tests of a book: laws, and memory refused in turn. What it answers to a thousand lists of calls
+//! is in `tests/books`.
 use crate::limits::LIMITS;
 use iol_book::{Book, BookFault, Entry, Ticket, records_fit, takings_of_calls};
-use plain::read;
+use iol_cell::Handle;
+use iol_isdu::{Place, Request};
 use refusing_alloc::{Refusal, RefusingAlloc};
-use std::alloc::Global;
-use std::process::Abort;
-use std::test::Fail;
 
 #[test]
 fn laws_speak_of_each_journal() {
@@ -16,72 +12,95 @@ fn laws_speak_of_each_journal() {
     records_fit();
 }
 
-#[derive(Clone, Copy, Drop)]
+fn read() -> Request {
+    Request::Read(Place { index: 16, sub: 0 })
+}
+
+#[derive(Clone, Copy)]
 enum Kind {
     Ordinary,
     Urgent,
 }
 
 impl Kind {
-    fn submit(self, book: &mut Book<&RefusingAlloc<Global>>) -> Result<Ticket, BookFault> {
+    fn submit<A: Handle>(self, book: &mut Book<A>) -> Result<Ticket, BookFault> {
         match self {
-            Kind::Ordinary => book.submit(read(16)),
-            Kind::Urgent => book.submit_urgent(read(16)),
+            Kind::Ordinary => book.submit(read()),
+            Kind::Urgent => book.submit_urgent(read()),
         }
     }
 
     fn entry(self, ticket: Ticket) -> Entry {
         match self {
-            Kind::Ordinary => Entry::Submitted(ticket, read(16)),
-            Kind::Urgent => Entry::Urgent(ticket, read(16)),
+            Kind::Ordinary => Entry::Submitted(ticket, read()),
+            Kind::Urgent => Entry::Urgent(ticket, read()),
         }
     }
 }
 
 /// Whether a journal has these submits of one kind and nothing else, from the first ticket on.
-fn are_submits(journal: &[Entry], kind: Kind, count: usize) -> bool {
+fn are_submits(journal: &[Entry], kind: Kind, count: u64) -> bool {
     let mut number = 0u64;
-    let mut is_right = journal.len() == count;
+    let mut is_right = true;
     for entry in journal {
         number = number.saturating_add(1);
         is_right &= *entry == kind.entry(Ticket(number));
+    }
+    is_right && number == count
+}
+
+/// Which of the first eight submits is refused for want of memory; none where another one is, or
+/// none.
+fn refused_at<A: Handle>(book: &mut Book<A>, kind: Kind) -> Option<u64> {
+    for number in 1..=8u64 {
+        match kind.submit(book) {
+            Ok(ticket) if ticket == Ticket(number) => {}
+            Err(BookFault::OutOfMemory) => return Some(number),
+            _ => return None,
+        }
+    }
+    None
+}
+
+/// Whether the submits from this one to the eighth go through.
+fn go_through<A: Handle>(book: &mut Book<A>, kind: Kind, first: u64) -> bool {
+    let mut is_right = true;
+    for number in first..=8u64 {
+        is_right &= kind.submit(book) == Ok(Ticket(number));
     }
     is_right
 }
 
 /// Eight requests of one kind are submitted. The one that is refused leaves the book as it was,
 /// and goes through once memory is there.
-fn eight_go_through(
-    rt: &impl Abort,
-    refusing: &RefusingAlloc<Global>,
+fn eight_go_through<A: Handle>(
+    alloc: A,
+    refusing: &RefusingAlloc,
     kind: Kind,
     refusal: Refusal,
-) -> Result<(), Fail> {
+) -> bool {
     refusing.order(Refusal::Never);
-    let mut book = Book::open(refusing, &LIMITS)?;
+    let Ok(mut book) = Book::open(alloc, &LIMITS) else {
+        return false;
+    };
     refusing.order(refusal);
-    let mut is_refused = false;
-    for before in 0..8u8 {
-        let mut submitted = kind.submit(&mut book);
-        if submitted == Err(BookFault::OutOfMemory) {
-            is_refused = refusing.has_refused();
-            assert!(rt; are_submits(book.journal(), kind, usize::from(before)));
-            refusing.order(Refusal::Never);
-            submitted = kind.submit(&mut book);
-        }
-        assert!(rt; submitted == Ok(Ticket(u64::from(before) + 1)));
-    }
-    assert!(rt; is_refused);
-    assert!(rt; are_submits(book.journal(), kind, 8));
-    assert!(rt; book.take() == Some((Ticket(1), read(16))));
-    Ok(())
+    let Some(number) = refused_at(&mut book, kind) else {
+        return false;
+    };
+    let is_as_it_was = refusing.has_refused()
+        && are_submits(book.journal(), kind, number.saturating_sub(1));
+    refusing.order(Refusal::Never);
+    is_as_it_was
+        && go_through(&mut book, kind, number)
+        && are_submits(book.journal(), kind, 8)
+        && book.take() == Some((Ticket(1), read()))
 }
 
 /// How many requests for memory the first eight submits make.
 const AT_SUBMITS: u64 = 6;
 
 #[test]
-fn each_request_for_memory_is_refused(rt: HostRuntime) -> Result<(), Fail> {
+fn each_request_for_memory_is_refused(rt: HostRuntime) {
     let refusing = RefusingAlloc::new(rt.alloc());
     for refusal in [Refusal::Only(0), Refusal::Only(1)] {
         refusing.order(refusal);
@@ -90,9 +109,8 @@ fn each_request_for_memory_is_refused(rt: HostRuntime) -> Result<(), Fail> {
     }
     for number in 0..AT_SUBMITS {
         for refusal in [Refusal::Only(number), Refusal::From(number)] {
-            eight_go_through(&rt, &refusing, Kind::Ordinary, refusal)?;
-            eight_go_through(&rt, &refusing, Kind::Urgent, refusal)?;
+            assert!(rt; eight_go_through(&refusing, &refusing, Kind::Ordinary, refusal));
+            assert!(rt; eight_go_through(&refusing, &refusing, Kind::Urgent, refusal));
         }
     }
-    Ok(())
 }

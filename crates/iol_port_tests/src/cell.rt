@@ -1,6 +1,6 @@
 //! Tests of the cell: what seats read, memory that is refused, and readers beside a writer in
 //! threads.
-use iol_cell::{CellFault, ImageSeat, ImageWriter, image_cell};
+use iol_cell::{CellFault, Handle, ImageSeat, ImageWriter, image_cell};
 use iol_image::Image;
 use refusing_alloc::{Refusal, RefusingAlloc};
 use std::sync::Wait;
@@ -10,45 +10,75 @@ use std::thread::{Threads, join};
 /// How many requests for memory a cell of two seats makes.
 const AT_OPENING: u64 = 6;
 
+/// Octets that differ.
+const OCTETS: [u8; 32] = [
+    0, 1, 2, 3, 4, 5, 6, 7, 8, 9, 10, 11, 12, 13, 14, 15, 16, 17, 18, 19, 20, 21, 22, 23, 24, 25,
+    26, 27, 28, 29, 30, 31,
+];
+
+/// Whether each seat reads this.
+fn all_read<R: Wait, A: Handle>(
+    rt: &R,
+    seats: &mut [ImageSeat<A>],
+    wanted: Option<&Image>,
+) -> bool {
+    for seat in seats.iter_mut() {
+        if seat.read(rt).as_ref() != wanted {
+            return false;
+        }
+    }
+    true
+}
+
 /// Images of each length, whose octets differ, and none.
 #[test]
 fn each_seat_reads_the_last_image(rt: HostRuntime) -> Result<(), Fail> {
     let (mut writer, mut seats) = image_cell(&rt, rt.alloc(), 2)?;
-    let octets: [u8; 32] = std::array::from_fn(|at| at as u8);
     for length in 1..33 {
-        let image = Image::new(&octets[..length])?;
+        let image = Image::new(&OCTETS[..length])?;
         writer.publish(&rt, Some(&image));
-        for seat in seats.iter_mut() {
-            assert!(rt; seat.read(&rt).as_ref() == Some(&image));
-        }
+        assert!(rt; all_read(&rt, &mut seats, Some(&image)));
     }
     writer.publish(&rt, None);
-    for seat in seats.iter_mut() {
-        assert!(rt; seat.read(&rt).is_none());
-    }
+    assert!(rt; all_read(&rt, &mut seats, None));
     Ok(())
+}
+
+/// Whether there is no memory for a cell under this order.
+fn is_refused<R: Wait, A: Handle>(
+    rt: &R,
+    alloc: A,
+    refusing: &RefusingAlloc,
+    refusal: Refusal,
+) -> bool {
+    refusing.order(refusal);
+    match image_cell(rt, alloc, 2) {
+        Ok(_) => false,
+        Err(fault) => fault == CellFault::OutOfMemory && refusing.has_refused(),
+    }
+}
+
+/// Whether there are two seats, which read nothing, where no more requests are granted than a
+/// cell makes.
+fn is_granted<R: Wait, A: Handle>(rt: &R, alloc: A, refusing: &RefusingAlloc) -> bool {
+    refusing.order(Refusal::From(AT_OPENING));
+    match image_cell(rt, alloc, 2) {
+        Ok((_writer, mut seats)) => seats.len() == 2 && all_read(rt, &mut seats, None),
+        Err(_) => false,
+    }
 }
 
 /// No clause counts the requests: this test alone refuses a cell that asks again where it was
 /// refused.
 #[test]
-fn each_refused_request_is_out_of_memory(rt: HostRuntime) -> Result<(), Fail> {
+fn each_refused_request_is_out_of_memory(rt: HostRuntime) {
     let refusing = RefusingAlloc::new(rt.alloc());
     for number in 0..AT_OPENING {
         for refusal in [Refusal::Only(number), Refusal::From(number)] {
-            refusing.order(refusal);
-            let refused = image_cell(&rt, &refusing, 2).err();
-            assert!(rt; refused == Some(CellFault::OutOfMemory));
-            assert!(rt; refusing.has_refused());
+            assert!(rt; is_refused(&rt, &refusing, &refusing, refusal));
         }
     }
-    refusing.order(Refusal::From(AT_OPENING));
-    let (_writer, mut seats) = image_cell(&rt, &refusing, 2)?;
-    assert!(rt; seats.len() == 2);
-    for seat in seats.iter_mut() {
-        assert!(rt; seat.read(&rt).is_none());
-    }
-    Ok(())
+    assert!(rt; is_granted(&rt, &refusing, &refusing));
 }
 
 const IMAGES: u16 = 10_000;
@@ -62,14 +92,14 @@ fn uniform_image(number: u16) -> Option<Image> {
     Image::new(&[octet; 32]).ok()
 }
 
-fn publish_all<R: Wait>(rt: &R, mut writer: ImageWriter) {
+fn publish_all<R: Wait>(rt: &R, writer: &mut ImageWriter) {
     for number in 0..IMAGES {
         writer.publish(rt, uniform_image(number).as_ref());
     }
 }
 
 /// An octet of the last image, or none once one was mixed of two, or older than the one before.
-fn read_all<R: Wait>(rt: &R, mut seat: ImageSeat) -> Option<u8> {
+fn read_all<R: Wait>(rt: &R, seat: &mut ImageSeat) -> Option<u8> {
     let mut last = 0;
     for _ in 0..1_000_000_000u32 {
         if last == 249 {
@@ -88,22 +118,22 @@ fn read_all<R: Wait>(rt: &R, mut seat: ImageSeat) -> Option<u8> {
 
 fn read_twice<R: Threads + Wait + Sync>(
     rt: &R,
-    seat: ImageSeat,
-    other: ImageSeat,
+    seat: &mut ImageSeat,
+    other: &mut ImageSeat,
 ) -> (Option<u8>, Option<u8>) {
-    join(rt, move || read_all(rt, seat), move || read_all(rt, other))
+    join(rt, || read_all(rt, seat), || read_all(rt, other))
 }
 
 fn publish_and_read<R: Threads + Wait + Sync>(
     rt: &R,
-    writer: ImageWriter,
-    seat: ImageSeat,
-    other: ImageSeat,
+    writer: &mut ImageWriter,
+    seat: &mut ImageSeat,
+    other: &mut ImageSeat,
 ) -> (Option<u8>, Option<u8>) {
     let (_, last) = join(
         rt,
-        move || publish_all(rt, writer),
-        move || read_twice(rt, seat, other),
+        || publish_all(rt, writer),
+        || read_twice(rt, seat, other),
     );
     last
 }
@@ -112,10 +142,10 @@ fn publish_and_read<R: Threads + Wait + Sync>(
 /// ever where another thread publishes.
 #[test]
 fn no_read_mixes_two_images(rt: HostRuntime) -> Result<(), Fail> {
-    let (writer, mut seats) = image_cell(&rt, rt.alloc(), 2)?;
-    let seat = seats.pop().ok_or("a seat")?;
-    let other = seats.pop().ok_or("another seat")?;
-    let last = publish_and_read(&rt, writer, seat, other);
+    let (mut writer, mut seats) = image_cell(&rt, rt.alloc(), 2)?;
+    let mut seat = seats.pop().ok_or("a seat")?;
+    let mut other = seats.pop().ok_or("another seat")?;
+    let last = publish_and_read(&rt, &mut writer, &mut seat, &mut other);
     assert!(rt; last == (Some(249), Some(249)));
     Ok(())
 }

@@ -1,8 +1,10 @@
-//! A device behind a simulated wire.
-use iol_device::{Device, Kept};
-use iol_isdu::Place;
+//! A device with one parameter, and a simulated wire to it.
+ghost use Rattle.std.specs.Prelude.{⊤};
+
+use iol_device::{App, Device, Kept};
+use iol_isdu::{Answer, Octets, Place, Request};
 use iol_page::Page;
-use iol_sim::{Params, Sim, Step};
+use iol_sim::{Sim, Step};
 use std::alloc::{Allocator, Global};
 use std::test::Fail;
 
@@ -12,28 +14,58 @@ pub const ROOM: u32 = 8;
 /// Where the parameter of each device here stands.
 pub const PLACE: Place = Place { index: 16, sub: 0 };
 
-/// A parameter 16/0 that is read only, which is `41 42`.
-pub fn params() -> Result<Params, Fail> {
-    let mut params = Params::new();
-    params.add(PLACE, false, &[0x41, 0x42])?;
-    Ok(params)
+/// The application of a device: its one parameter, an octet that is read only.
+#[derive(PartialEq, Drop)]
+pub struct Parameter(pub u8);
+
+impl App for Parameter {
+    ghost carry_out_gives = { λ before request answer after. ⊤ };
+
+    fn carry_out(&mut self, request: &Request) -> Answer {
+        match request {
+            Request::Read(PLACE) => Answer::Read(octets_of(self.0)),
+            Request::Read(_) => INDEX_NOT_AVAILABLE,
+            Request::Write(..) => ACCESS_DENIED,
+        }
+    }
 }
 
-/// A device of this page with that parameter.
-pub fn open_device<A: Allocator + Copy>(
+const INDEX_NOT_AVAILABLE: Answer = Answer::Refused(0x80, 0x11);
+
+const ACCESS_DENIED: Answer = Answer::Refused(0x80, 0x23);
+
+/// One octet.
+pub fn octets_of(octet: u8) -> Octets {
+    let mut octets = Octets::new();
+    octets.push(octet);
+    octets
+}
+
+/// A device of this page; none where its page has no layouts, or there is no memory.
+pub fn open_device<P: App, A: Allocator + Copy>(
     alloc: A,
+    app: P,
     page: &[u8; 10],
-) -> Result<Device<Params, Kept<A>>, Fail> {
+) -> Option<Device<P, Kept<A>>> {
     let page = Page::from_octets(page);
     if page.layouts().is_err() {
-        return Err("a page without layouts")?;
+        return None;
     }
-    Device::open(alloc, params()?, page, ROOM).map_err(|(fault, _)| Fail::from(fault))
+    Device::open(alloc, app, page, ROOM).ok()
 }
 
-/// The same behind a wire of this script.
-pub fn device(alloc: Global, page: &[u8; 10], steps: &[Step]) -> Result<Sim<Params>, Fail> {
-    let device = open_device(alloc, page)?;
-    let steps = Vec::from_clones(alloc, steps)?;
-    Sim::new(alloc, device, steps).map_err(|(fault, _, _)| Fail::from(fault))
+/// A wire of this script to a device of this page.
+pub fn device<P: App>(
+    alloc: Global,
+    app: P,
+    page: &[u8; 10],
+    steps: Vec<Step>,
+) -> Result<Sim<P>, Fail> {
+    let Some(device) = open_device(alloc, app, page) else {
+        return Err("no device")?;
+    };
+    match Sim::new(alloc, device, steps) {
+        Ok(wire) => Ok(wire),
+        Err(_) => Err("no wire")?,
+    }
 }

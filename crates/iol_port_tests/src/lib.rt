@@ -27,9 +27,9 @@ mod cell;
 #[cfg(test)]
 mod device;
 #[cfg(test)]
-mod limits;
+mod honest;
 #[cfg(test)]
-mod lines;
+mod limits;
 #[cfg(test)]
 mod links;
 #[cfg(test)]

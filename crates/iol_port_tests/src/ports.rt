@@ -1,91 +1,70 @@
 //! Ports over the simulated wire.
-use crate::device::device;
-use iol_book::{Limits, Outcome, QueueLimit, Ticket};
-use iol_cell::{Handle, ImageSeat, image_cell};
+use crate::device::{Parameter, device, octets_of};
+use crate::limits::LIMITS;
+use iol_book::{Limits, Outcome, Ticket};
+use iol_cell::{Handle, ImageSeat, ImageWriter, image_cell};
+use iol_device::App;
 use iol_image::Image;
-use iol_isdu::{Answer, Cause, Octets, Place, Request};
+use iol_isdu::{Answer, Cause, Place, Request};
 use iol_link::Wire;
 use iol_peers::{PLAIN, PROCESS_DATA};
-use iol_port::Port;
-use iol_sim::{Fate, Params, Sim, Step};
+use iol_port::{Answered, Call, Port};
+use iol_sim::{Fate, Sim, Step};
 use std::alloc::Global;
-use std::process::Abort;
 use std::sync::Wait;
 use std::test::Fail;
 
-/// A port over this wire, which gave so many tickets before.
-pub fn opened<W: Wire + Drop, A: Handle>(
-    alloc: A,
-    wire: W,
-    given: u64,
-) -> Result<Port<W, A>, Fail> {
-    let limits = Limits {
-        journal: 1_000,
-        busy: 100,
-        queue: QueueLimit::MOST,
-        given,
-    };
-    Port::open(alloc, wire, &limits).map_err(|(fault, _)| Fail::from(fault))
+/// What most tests ask of a port. It has no clauses, since they only look at what is answered: so
+/// they are proved without what a port promises.
+pub trait Calls {
+    fn call(&mut self, call: &Call) -> Answered;
+
+    fn turn(&mut self);
+}
+
+impl<W: Wire, A: Handle> Calls for Port<W, A> {
+    fn call(&mut self, call: &Call) -> Answered {
+        Port::call(self, call)
+    }
+
+    fn turn(&mut self) {
+        Port::turn(self);
+    }
 }
 
 pub fn read() -> Request {
     Request::read(Place { index: 16, sub: 0 })
 }
 
-pub fn turn<W: Wire, A: Handle>(port: &mut Port<W, A>, turns: u32) {
+pub fn turn<P: Calls>(port: &mut P, turns: u32) {
     for _ in 0..turns {
         port.turn();
     }
 }
 
-/// What comes of a read in so many turns; answers its ticket.
-fn comes_to<W: Wire>(
-    rt: &impl Abort,
-    port: &mut Port<W>,
+/// Whether a read gets this ticket, and comes to this in so many turns.
+fn comes_to<P: Calls>(port: &mut P, ticket: Ticket, turns: u32, outcome: Outcome) -> bool {
+    let is_given = port.call(&Call::Submit(read())) == Answered::Ticket(ticket);
+    turn(port, turns);
+    is_given && port.call(&Call::Collect(ticket)) == Answered::Outcome(outcome)
+}
+
+/// The wire of a port that gave so many tickets before, over which a read comes to this in so
+/// many turns; none where it doesn't.
+fn handed_back<W: Wire + Drop>(
+    alloc: Global,
+    wire: W,
+    given: u64,
     turns: u32,
     outcome: Outcome,
-) -> Result<Ticket, Fail> {
-    let ticket = port.submit(read())?;
-    turn(port, turns);
-    assert!(rt; port.collect(ticket) == Ok(outcome));
-    Ok(ticket)
-}
-
-/// A request of a port over this wire is cut off; its wire.
-fn is_cut_off<W: Wire + Drop>(rt: &impl Abort, alloc: Global, wire: W) -> Result<W, Fail> {
-    let mut port = opened(alloc, wire, 0)?;
-    comes_to(rt, &mut port, 30, Outcome::Unknown(Cause::LinkLost))?;
-    Ok(port.into_wire())
-}
-
-/// A port over this wire gave one ticket before; a read is done. Its wire.
-fn is_read<W: Wire + Drop>(rt: &impl Abort, alloc: Global, wire: W) -> Result<W, Fail> {
-    let value = Octets::try_from([0x41, 0x42].as_slice()).map_err(|_| "too long")?;
-    let done = Outcome::Done(Answer::Read(value));
-    let mut port = opened(alloc, wire, 1)?;
-    assert!(rt; comes_to(rt, &mut port, 18, done)? == Ticket(2));
-    Ok(port.into_wire())
-}
-
-/// A wire that falls silent in turn 17.
-fn falling_silent(alloc: Global) -> Result<Sim<Params>, Fail> {
-    let mut steps = Vec::new(alloc);
-    for _ in 0..16 {
-        steps.push(Step::Fate(Fate::Clean))?;
+) -> Option<W> {
+    let Ok(mut port) = Port::open(alloc, wire, &Limits { given, ..LIMITS }) else {
+        return None;
+    };
+    if !comes_to(&mut port, Ticket(given.saturating_add(1)), turns, outcome) {
+        return None;
     }
-    steps.push(Step::Fate(Fate::Silent))?;
-    device(alloc, &PLAIN, &steps)
-}
-
-/// A request is cut off when the wire falls silent; the next port over that wire,
-/// mended, has its own carried out, and nothing else.
-#[test]
-fn a_wire_that_is_given_back_serves_another_port(rt: HostRuntime) -> Result<(), Fail> {
-    let mut wire = is_cut_off(&rt, rt.alloc(), falling_silent(rt.alloc())?)?;
-    wire.mend();
-    let wire = is_read(&rt, rt.alloc(), wire)?;
-    assert!(rt; wire.device().carried().len() == 1);
-    Ok(())
+    Some(port.into_wire())
 }
 
 /// What changes on the wire: its device's input, or what becomes of a call.
@@ -106,6 +85,44 @@ impl Change {
     }
 }
 
+/// The script of these changes, each so many times.
+fn script(alloc: Global, changes: &[(u32, Change)]) -> Result<Vec<Step>, Fail> {
+    let mut steps = Vec::new(alloc);
+    for (count, change) in changes {
+        for _ in 0..*count {
+            steps.push(change.step()?)?;
+        }
+    }
+    Ok(steps)
+}
+
+/// The wire falls silent in turn 17.
+const SILENT: [(u32, Change); 2] = [
+    (16, Change::Call(Fate::Clean)),
+    (1, Change::Call(Fate::Silent)),
+];
+
+/// How many requests a device carried out whose wire two ports had: a request of the first one is
+/// cut off where the wire falls silent; that of the next one, over the wire mended, is answered.
+fn carried_out<P: App>(alloc: Global, wire: Sim<P>, done: Outcome) -> Option<usize> {
+    let cut_off = Outcome::Unknown(Cause::LinkLost);
+    let mut wire = handed_back(alloc, wire, 0, 30, cut_off)?;
+    wire.mend();
+    let wire = handed_back(alloc, wire, 1, 18, done)?;
+    Some(wire.device().carried().len())
+}
+
+/// A request is cut off when the wire falls silent; the next port over that wire,
+/// mended, has its own carried out, and nothing else.
+#[test]
+fn a_wire_that_is_given_back_serves_another_port(rt: HostRuntime) -> Result<(), Fail> {
+    let steps = script(rt.alloc(), &SILENT)?;
+    let wire = device(rt.alloc(), Parameter(0x41), &PLAIN, steps)?;
+    let done = Outcome::Done(Answer::Read(octets_of(0x41)));
+    assert!(rt; carried_out(rt.alloc(), wire, done) == Some(1));
+    Ok(())
+}
+
 /// Input 12 34 for 17 calls of the wire, none for one, 56 78 from then on; the last
 /// three replies are lost.
 const CHANGES: [(u32, Change); 8] = [
@@ -119,16 +136,6 @@ const CHANGES: [(u32, Change); 8] = [
     (3, Change::Call(Fate::OutLost)),
 ];
 
-fn changing_input(alloc: Global) -> Result<Vec<Step>, Fail> {
-    let mut steps = Vec::new(alloc);
-    for (count, change) in CHANGES {
-        for _ in 0..count {
-            steps.push(change.step()?)?;
-        }
-    }
-    Ok(steps)
-}
-
 /// What the port shows after turn 16 and on.
 static SHOWN: [Option<&[u8]>; 7] = [
     Some(&[0x12, 0x34]),
@@ -140,48 +147,87 @@ static SHOWN: [Option<&[u8]>; 7] = [
     None,
 ];
 
-fn octets_of(image: Option<&Image>) -> Option<&[u8]> {
-    image.map(|image| image.octets())
+/// A port that publishes its image. It has no clauses, as [`Calls`].
+trait Shows {
+    fn image(&self) -> Option<&Image>;
+
+    fn turn_shown<R: Wait>(&mut self, rt: &R);
+
+    fn restart_shown<R: Wait>(&mut self, rt: &R);
+}
+
+impl<W: Wire, A: Handle> Shows for Port<W, A> {
+    fn image(&self) -> Option<&Image> {
+        Port::image(self)
+    }
+
+    fn turn_shown<R: Wait>(&mut self, rt: &R) {
+        Port::turn_shown(self, rt);
+    }
+
+    fn restart_shown<R: Wait>(&mut self, rt: &R) {
+        Port::restart_shown(self, rt);
+    }
+}
+
+fn is_image(image: Option<&Image>, wanted: Option<&[u8]>) -> bool {
+    match image {
+        Some(image) => wanted == Some(image.octets()),
+        None => wanted.is_none(),
+    }
 }
 
 /// Whether a seat reads this.
 fn reads<R: Wait>(rt: &R, seat: &mut ImageSeat, wanted: Option<&[u8]>) -> bool {
-    octets_of(seat.read(rt).as_ref()) == wanted
+    is_image(seat.read(rt).as_ref(), wanted)
 }
 
-/// The port and the seat show what is wanted at each turn, and the last of it up to a restart.
-fn is_shown<W: Wire, R: Wait + Abort>(rt: &R, port: &mut Port<W>, seat: &mut ImageSeat) {
+/// Whether the port and the seat show what is wanted at each turn.
+fn is_shown<P: Shows, R: Wait>(rt: &R, port: &mut P, seat: &mut ImageSeat) -> bool {
+    let mut is_right = true;
     for wanted in SHOWN {
         port.turn_shown(rt);
-        assert!(rt; octets_of(port.image()) == wanted);
-        assert!(rt; reads(rt, seat, wanted));
+        is_right &= is_image(port.image(), wanted) && reads(rt, seat, wanted);
     }
+    is_right
+}
+
+/// Whether they show the last input up to a restart, and none then.
+fn is_shown_up_to_restart<P: Shows, R: Wait>(rt: &R, port: &mut P, seat: &mut ImageSeat) -> bool {
     for _ in 0..16 {
         port.turn_shown(rt);
     }
-    assert!(rt; reads(rt, seat, Some(&[0x56, 0x78])));
+    let is_last = reads(rt, seat, Some(&[0x56, 0x78]));
     port.restart_shown(rt);
-    assert!(rt; port.image().is_none());
-    assert!(rt; reads(rt, seat, None));
+    is_last && port.image().is_none() && reads(rt, seat, None)
 }
 
-/// A port over this wire gets a cell once it is up.
-fn publishes<W: Wire + Drop, R: Wait + Abort>(rt: &R, alloc: Global, wire: W) -> Result<(), Fail> {
-    let (writer, mut seats) = image_cell(rt, alloc, 1)?;
-    let Some(seat) = seats.first_mut() else {
-        return Err("no seat")?;
+/// Whether a port over this wire, which gets the writer once it is up, shows the seat what it
+/// should.
+fn publishes<W: Wire + Drop, R: Wait>(
+    rt: &R,
+    wire: W,
+    writer: ImageWriter,
+    seat: &mut ImageSeat,
+    alloc: Global,
+) -> bool {
+    let Ok(mut port) = Port::open(alloc, wire, &LIMITS) else {
+        return false;
     };
-    let mut port = opened(alloc, wire, 0)?;
     turn(&mut port, 15);
-    assert!(rt; reads(rt, seat, None));
+    let is_empty = reads(rt, seat, None);
     port.publish_to(writer);
-    is_shown(rt, &mut port, seat);
-    Ok(())
+    is_empty && is_shown(rt, &mut port, seat) && is_shown_up_to_restart(rt, &mut port, seat)
 }
 
 #[test]
 fn a_seat_reads_what_the_port_shows(rt: HostRuntime) -> Result<(), Fail> {
-    let steps = changing_input(rt.alloc())?;
-    let wire = device(rt.alloc(), &PROCESS_DATA, &steps)?;
-    publishes(&rt, rt.alloc(), wire)
+    let steps = script(rt.alloc(), &CHANGES)?;
+    let wire = device(rt.alloc(), Parameter(0x41), &PROCESS_DATA, steps)?;
+    let (writer, mut seats) = image_cell(&rt, rt.alloc(), 1)?;
+    let Some(seat) = seats.first_mut() else {
+        return Err("no seat")?;
+    };
+    assert!(rt; publishes(&rt, wire, writer, seat, rt.alloc()));
+    Ok(())
 }

@@ -1,61 +1,85 @@
-//! Tests of wires: memory that is refused, and a wire of messages that are given.
+//! Tests of wires: memory that is refused, devices that are exchanged, and a wire of messages that
+//! are given.
 
-use crate::device::{open_device, params};
+use crate::device::{Parameter, open_device};
+use iol_cell::Handle;
+use iol_device::{App, Device, Kept};
 use iol_image::Image;
 use iol_link::{Rate, Wire};
 use iol_mseq::Message;
 use iol_peers::{ONE_OCTET, PLAIN};
-use iol_sim::{Fate, Params, Raw, Sim, SimFault, Step};
+use iol_sim::{Fate, Raw, Sim, SimFault, Step};
 use refusing_alloc::{Refusal, RefusingAlloc};
-use std::alloc::Global;
 use std::test::Fail;
 
-/// What became of a wire for which memory was refused so: whether memory was
-/// refused, and the wire's answer to a wake, or why there is none and whether the
-/// device and the script came back as they were.
-#[derive(PartialEq, Drop)]
-enum Made {
-    Wire(bool, Option<Rate>),
-    Nothing(bool, SimFault, bool),
+/// The application of each device here.
+const AS_OPENED: Parameter = Parameter(7);
+
+/// What is handed back with a script where there is no memory for a wire. It has no clauses, so
+/// the tests below are proved without what a device promises.
+trait Back {
+    /// Whether it is a device of this page, as it was opened.
+    fn is_granted(&self, page: &[u8; 10]) -> bool;
 }
 
-fn make(refusing: &RefusingAlloc<Global>, steps: &[Step], refusal: Refusal) -> Result<Made, Fail> {
-    refusing.order(Refusal::Never);
-    let device = open_device(refusing, &PLAIN)?;
-    let given = Vec::from_clones(refusing, steps)?;
-    let expected = params()?;
-    refusing.order(refusal);
-    let made = Sim::new(refusing, device, given);
-    let has_refused = refusing.has_refused();
-    Ok(match made {
-        Ok(mut sim) => Made::Wire(has_refused, sim.wake()),
+impl<A: Handle> Back for Device<Parameter, Kept<A>> {
+    fn is_granted(&self, page: &[u8; 10]) -> bool {
+        self.page() == page && self.app() == &AS_OPENED
+    }
+}
+
+/// Whether no wire was made for want of memory, and the device and the script are back.
+fn is_back<S: Drop, D: Back + Drop, A: Handle>(
+    made: Result<S, (SimFault, D, Vec<Step, A>)>,
+    steps: &[Step],
+) -> bool {
+    match made {
+        Ok(_) => false,
         Err((fault, device, back)) => {
-            let is_same = device.app() == &expected && back.as_slice() == steps;
-            Made::Nothing(has_refused, fault, is_same)
+            let is_script = back.as_slice() == steps;
+            (fault == SimFault::OutOfMemory) & device.is_granted(&PLAIN) & is_script
         }
-    })
+    }
 }
 
-/// The same of a wire of two devices.
-fn make_of_two(
-    refusing: &RefusingAlloc<Global>,
+/// Whether this order leaves no memory for a wire, and the device and the script come back.
+fn is_refused<A: Handle>(
+    alloc: A,
+    refusing: &RefusingAlloc,
     steps: &[Step],
     refusal: Refusal,
-) -> Result<Made, Fail> {
+) -> bool {
     refusing.order(Refusal::Never);
-    let device = open_device(refusing, &PLAIN)?;
-    let other = open_device(refusing, &ONE_OCTET)?;
-    let given = Vec::from_clones(refusing, steps)?;
+    let Ok(given) = Vec::from_clones(alloc, steps) else {
+        return false;
+    };
+    let Some(device) = open_device(alloc, AS_OPENED, &PLAIN) else {
+        return false;
+    };
     refusing.order(refusal);
-    let made = Sim::with_other(refusing, device, other, given);
-    let has_refused = refusing.has_refused();
-    Ok(match made {
-        Ok(mut sim) => Made::Wire(has_refused, sim.wake()),
-        Err((fault, device, other, back)) => {
-            let are_same = device.page() == &PLAIN && other.page() == &ONE_OCTET;
-            Made::Nothing(has_refused, fault, are_same && back.as_slice() == steps)
-        }
-    })
+    let made = Sim::new(alloc, device, given);
+    refusing.has_refused() && is_back(made, steps)
+}
+
+/// Whether a wire is made under this order, which refuses nothing then, and answers a wake.
+fn is_granted<A: Handle>(
+    alloc: A,
+    refusing: &RefusingAlloc,
+    steps: &[Step],
+    refusal: Refusal,
+) -> bool {
+    refusing.order(Refusal::Never);
+    let Ok(given) = Vec::from_clones(alloc, steps) else {
+        return false;
+    };
+    let Some(device) = open_device(alloc, AS_OPENED, &PLAIN) else {
+        return false;
+    };
+    refusing.order(refusal);
+    match Sim::new(alloc, device, given) {
+        Ok(mut sim) => !refusing.has_refused() && sim.wake() == Some(Rate::Com2),
+        Err(_) => false,
+    }
 }
 
 /// A simulated wire asks for memory once, for its device.
@@ -63,12 +87,64 @@ fn make_of_two(
 fn a_simulated_wire_asks_for_memory_once(rt: HostRuntime) -> Result<(), Fail> {
     let refusing = RefusingAlloc::new(rt.alloc());
     let steps = [Step::Fate(Fate::Clean), Step::Input(Image::new(&[1])?)];
-    let refused = Made::Nothing(true, SimFault::OutOfMemory, true);
-    assert!(rt; make(&refusing, &steps, Refusal::Only(0))? == refused);
-    assert!(rt; make(&refusing, &steps, Refusal::From(0))? == refused);
-    let made = Made::Wire(false, Some(Rate::Com2));
-    assert!(rt; make(&refusing, &steps, Refusal::From(1))? == made);
+    for refusal in [Refusal::Only(0), Refusal::From(0)] {
+        assert!(rt; is_refused(&refusing, &refusing, &steps, refusal));
+    }
+    assert!(rt; is_granted(&refusing, &refusing, &steps, Refusal::From(1)));
     Ok(())
+}
+
+/// Whether no wire was made for want of memory, and both devices and the script are back.
+fn are_back<S: Drop, D: Back + Drop, A: Handle>(
+    made: Result<S, (SimFault, D, D, Vec<Step, A>)>,
+    steps: &[Step],
+) -> bool {
+    match made {
+        Ok(_) => false,
+        Err((fault, device, other, back)) => {
+            let is_script = back.as_slice() == steps;
+            let are_granted = device.is_granted(&PLAIN) & other.is_granted(&ONE_OCTET);
+            (fault == SimFault::OutOfMemory) & are_granted & is_script
+        }
+    }
+}
+
+/// Whether this order leaves no memory for a wire of two devices, and they and the script come
+/// back.
+fn are_refused<A: Handle>(
+    alloc: A,
+    refusing: &RefusingAlloc,
+    steps: &[Step],
+    refusal: Refusal,
+) -> bool {
+    refusing.order(Refusal::Never);
+    let Ok(given) = Vec::from_clones(alloc, steps) else {
+        return false;
+    };
+    let Some(device) = open_device(alloc, AS_OPENED, &PLAIN) else {
+        return false;
+    };
+    let Some(other) = open_device(alloc, AS_OPENED, &ONE_OCTET) else {
+        return false;
+    };
+    refusing.order(refusal);
+    let made = Sim::with_other(alloc, device, other, given);
+    refusing.has_refused() && are_back(made, steps)
+}
+
+/// A wire of two devices and this script, under this order.
+fn wire_of_two<A: Handle>(
+    alloc: A,
+    refusing: &RefusingAlloc,
+    steps: &[Step],
+    refusal: Refusal,
+) -> Option<Sim<Parameter, A>> {
+    refusing.order(Refusal::Never);
+    let given = Vec::from_clones(alloc, steps).ok()?;
+    let device = open_device(alloc, AS_OPENED, &PLAIN)?;
+    let other = open_device(alloc, AS_OPENED, &ONE_OCTET)?;
+    refusing.order(refusal);
+    Sim::with_other(alloc, device, other, given).ok()
 }
 
 /// A wire of two devices asks for memory twice, and hands both back where it is refused.
@@ -76,58 +152,75 @@ fn a_simulated_wire_asks_for_memory_once(rt: HostRuntime) -> Result<(), Fail> {
 fn a_wire_of_two_devices_asks_for_memory_twice(rt: HostRuntime) -> Result<(), Fail> {
     let refusing = RefusingAlloc::new(rt.alloc());
     let steps = [Step::Fate(Fate::Clean)];
-    let refused = Made::Nothing(true, SimFault::OutOfMemory, true);
     for refusal in [
         Refusal::Only(0),
         Refusal::From(0),
         Refusal::Only(1),
         Refusal::From(1),
     ] {
-        assert!(rt; make_of_two(&refusing, &steps, refusal)? == refused);
+        assert!(rt; are_refused(&refusing, &refusing, &steps, refusal));
     }
-    let made = Made::Wire(false, Some(Rate::Com2));
-    assert!(rt; make_of_two(&refusing, &steps, Refusal::From(2))? == made);
+    let Some(mut sim) = wire_of_two(&refusing, &refusing, &steps, Refusal::From(2)) else {
+        return Err("memory was refused")?;
+    };
+    assert!(rt; !refusing.has_refused());
+    assert!(rt; sim.wake() == Some(Rate::Com2));
     Ok(())
 }
 
-/// Which device is plugged in, by its page, and which is away.
-fn pages<'a>(sim: &'a Sim<Params>) -> (&'a [u8; 10], Option<&'a [u8; 10]>) {
-    (sim.device().page(), sim.away().map(|away| away.page()))
+/// Whether a device of this page is plugged in, and one of that page is away.
+fn has_pages<P: App, A: Handle>(sim: &Sim<P, A>, page: &[u8; 10], away: &[u8; 10]) -> bool {
+    let is_away = match sim.away() {
+        Some(device) => device.page() == away,
+        None => false,
+    };
+    is_away && sim.device().page() == page
+}
+
+/// Whether the devices are exchanged in the second call of a wire, and again in the third.
+fn swaps<P: App, A: Handle>(sim: &mut Sim<P, A>) -> bool {
+    let mut is_right = has_pages(sim, &PLAIN, &ONE_OCTET);
+    for (page, away) in [
+        (&PLAIN, &ONE_OCTET),
+        (&ONE_OCTET, &PLAIN),
+        (&PLAIN, &ONE_OCTET),
+    ] {
+        let _ = sim.wake();
+        is_right &= has_pages(sim, page, away);
+    }
+    is_right
 }
 
 /// A swap is made in its turn, and a second one brings the first device back.
 #[test]
 fn a_swap_exchanges_the_devices(rt: HostRuntime) -> Result<(), Fail> {
-    let device = open_device(rt.alloc(), &PLAIN)?;
-    let other = open_device(rt.alloc(), &ONE_OCTET)?;
+    let refusing = RefusingAlloc::new(rt.alloc());
     let steps = [
         Step::Fate(Fate::Clean),
         Step::Swap,
         Step::Fate(Fate::Clean),
         Step::Swap,
     ];
-    let given = Vec::from_clones(rt.alloc(), &steps)?;
-    let mut sim = Sim::with_other(rt.alloc(), device, other, given).map_err(|(
-        fault,
-        _,
-        _,
-        _,
-    )| Fail::from(fault))?;
-    assert!(rt; pages(&sim) == (&PLAIN, Some(&ONE_OCTET)));
-    for pages_then in [
-        (&PLAIN, &ONE_OCTET),
-        (&ONE_OCTET, &PLAIN),
-        (&PLAIN, &ONE_OCTET),
-    ] {
-        let _ = sim.wake();
-        assert!(rt; pages(&sim) == (pages_then.0, Some(pages_then.1)));
-    }
+    let Some(mut sim) = wire_of_two(&refusing, &refusing, &steps, Refusal::Never) else {
+        return Err("memory was refused")?;
+    };
+    assert!(rt; swaps(&mut sim));
     Ok(())
 }
 
-/// A reply to the read of a page octet.
-fn reply() -> Result<Message, Fail> {
-    Message::try_from([0x17, 0x1B].as_slice()).map_err(|_| Fail::from("too long"))
+/// Whether a wire of these messages is refused memory under this order.
+fn is_raw_refused(refusing: &RefusingAlloc, messages: &[Message], refusal: Refusal) -> bool {
+    refusing.order(refusal);
+    let refused = Raw::new(refusing, messages).err();
+    refusing.has_refused() && refused == Some(SimFault::OutOfMemory)
+}
+
+/// Whether a wire answers these messages in order, a wake between them, and then none.
+fn answers<W: Wire>(wire: &mut W, first: &Message, second: &Message) -> bool {
+    wire.exchange(&[]).as_ref() == Some(first)
+        && wire.wake() == Some(Rate::Com2)
+        && wire.exchange(&[]).as_ref() == Some(second)
+        && wire.exchange(&[]).is_none()
 }
 
 /// A wire of given messages answers them in order. No program has such a wire: this test alone
@@ -135,19 +228,16 @@ fn reply() -> Result<Message, Fail> {
 #[test]
 fn a_raw_wire_answers_in_order(rt: HostRuntime) -> Result<(), Fail> {
     let refusing = RefusingAlloc::new(rt.alloc());
-    let messages = [reply()?, Message::new()];
+    let mut reply = Message::new();
+    reply.push(0x17);
+    reply.push(0x1B);
+    let messages = [reply, Message::new()];
     for refusal in [Refusal::Only(0), Refusal::From(0)] {
-        refusing.order(refusal);
-        let refused = Raw::new(&refusing, &messages).err();
-        assert!(rt; refused == Some(SimFault::OutOfMemory));
-        assert!(rt; refusing.has_refused());
+        assert!(rt; is_raw_refused(&refusing, &messages, refusal));
     }
     refusing.order(Refusal::From(1));
     let mut raw = Raw::new(&refusing, &messages)?;
-    assert!(rt; raw.exchange(&[]) == Some(reply()?));
-    assert!(rt; raw.wake() == Some(Rate::Com2));
-    assert!(rt; raw.exchange(&[]) == Some(Message::new()));
-    assert!(rt; raw.exchange(&[]).is_none());
+    assert!(rt; answers(&mut raw, &messages[0], &messages[1]));
     assert!(rt; !refusing.has_refused());
     Ok(())
 }

@@ -1,5 +1,6 @@
 //! The memory of a port that has one ticket at a time.
 use iol_book::{BookFault, Limits, Outcome, QueueLimit, Ticket};
+use iol_cell::Handle;
 use iol_isdu::{Place, Request};
 use iol_port::{PortCore, PortFault};
 use linked_list_allocator::LocalHeap;
@@ -22,7 +23,7 @@ fn read() -> Request {
 }
 
 /// Whether the port gives this ticket and no other one before it is withdrawn and collected.
-fn has_one_ticket(port: &mut PortCore<&LocalHeap>, ticket: Ticket) -> bool {
+fn has_one_ticket<A: Handle>(port: &mut PortCore<A>, ticket: Ticket) -> bool {
     let is_given = port.submit(read()) == Ok(ticket);
     let is_full = port.submit(read()).err() == FULL && port.submit_urgent(read()).err() == FULL;
     let is_withdrawn = port.withdraw(ticket).is_ok();
@@ -31,8 +32,11 @@ fn has_one_ticket(port: &mut PortCore<&LocalHeap>, ticket: Ticket) -> bool {
 }
 
 /// How many entries the journal had, which is handed out and given back.
-fn archived(port: &mut PortCore<&LocalHeap>) -> Option<usize> {
-    Some(port.archive().ok()?.len())
+fn archived<A: Handle>(port: &mut PortCore<A>) -> Option<usize> {
+    match port.archive() {
+        Ok(entries) => Some(entries.len()),
+        Err(_) => None,
+    }
 }
 
 #[test]

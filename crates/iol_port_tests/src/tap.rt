@@ -4,7 +4,6 @@ use iol_link::{Rate, Wire};
 use iol_mseq::Message;
 use iol_peers::{AnyWire, Peer};
 use iol_tap::{Passed, Tap};
-use std::test::Fail;
 
 /// A peer that answers each message by its octets but the first, as far as they are a message.
 #[derive(Drop)]
@@ -21,24 +20,22 @@ impl Peer for Echo {
     }
 }
 
-/// What is noted of these octets.
-fn noted(octets: &[u8; 68]) -> Result<Message, Fail> {
-    Message::try_from(&octets[..66]).map_err(|_| Fail::from("too long"))
+/// Whether what is sent is answered so, and noted with its first 66 octets.
+fn is_noted<W: Wire>(tap: &mut Tap<W>, sent: &[u8], answer: Option<Message>) -> bool {
+    let is_answered = tap.exchange(sent) == answer;
+    let noted = Message::from([0x5A; 66]);
+    is_answered && tap.last() == Some(&Passed::Exchange(noted, answer))
 }
 
 /// The rate of each wake, and of longer octets than a message has the first 66.
 #[test]
-fn notes_rates_and_66_octets(rt: HostRuntime) -> Result<(), Fail> {
+fn notes_rates_and_66_octets(rt: HostRuntime) {
     let mut tap = Tap::new(AnyWire(Echo));
     assert!(rt; tap.last().is_none());
     assert!(rt; tap.wake() == Some(Rate::Com3));
     assert!(rt; tap.last() == Some(&Passed::Wake(Some(Rate::Com3))));
     let long = [0x5A; 68];
-    let answer = Message::try_from(&long[..66]).ok();
-    assert!(rt; tap.exchange(&long[..67]) == answer);
-    assert!(rt; tap.last() == Some(&Passed::Exchange(noted(&long)?, answer)));
+    assert!(rt; is_noted(&mut tap, &long[..67], Some(Message::from([0x5A; 66]))));
     // An answer of 67 octets is no message, so this wire has none.
-    assert!(rt; tap.exchange(&long).is_none());
-    assert!(rt; tap.last() == Some(&Passed::Exchange(noted(&long)?, None)));
-    Ok(())
+    assert!(rt; is_noted(&mut tap, &long, None));
 }

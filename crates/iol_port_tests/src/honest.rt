@@ -7,29 +7,40 @@ ghost use Rattle.iol_port.specs.declared.awaited.Awaited.{Awaited};
 ghost use Rattle.iol_port.specs.CorePort.{awaited};
 ghost use Rattle.iol_line.specs.Honestly.{Exchanges};
 
-use super::PARAMETER;
-use super::store::{Fate, Store, opened_device};
+use crate::device::{PLACE, Parameter, octets_of, open_device};
 use crate::limits::LIMITS;
 use iol_app::{Asked, Mode};
 use iol_book::{Outcome, Ticket};
-use iol_device::Device;
-use iol_isdu::{Answer, Octets, Request};
+use iol_device::{App, Device};
+use iol_isdu::{Answer, Request};
 use iol_line::HonestPort;
 use iol_link::Rate;
 use iol_mseq::Message;
+use iol_peers::PLAIN;
 use iol_port::PortFault;
 use std::alloc::Global;
 use std::test::Fail;
 
+/// What becomes of an exchange.
+#[derive(Clone, Copy)]
+enum Fate {
+    /// The message and the reply come through.
+    Clean,
+    /// The message is lost.
+    OutLost,
+    /// The reply is lost.
+    BackLost,
+}
+
 /// A port whose line stands at this device.
-fn port_to(alloc: Global, device: &Device<Store>) -> Result<HonestPort, PortFault>
+fn port_to(alloc: Global, device: &Device<Parameter>) -> Result<HonestPort, PortFault>
     ensures { IfOk result (λ p. p.at.far ≡ device.now.far) }
 {
     HonestPort::open(alloc, &LIMITS, device)
 }
 
 /// The device works, and a wake-up request comes to it.
-fn wake(device: &mut Device<Store>)
+fn wake<P: App>(device: &mut Device<P>)
     ensures { HonestWake device.old.far true device.new.far }
 {
     device.work();
@@ -37,7 +48,7 @@ fn wake(device: &mut Device<Store>)
 }
 
 /// The device works, and these octets come to it and its reply comes back.
-fn pass(device: &mut Device<Store>, sent: &[u8]) -> Option<Message>
+fn pass<P: App>(device: &mut Device<P>, sent: &[u8]) -> Option<Message>
     ensures { (silence : ℕ) → HonestExchange device.old.far silence sent.now (octets_in result)
         device.new.far (silence_after silence (octets_in result)) }
 {
@@ -47,7 +58,7 @@ fn pass(device: &mut Device<Store>, sent: &[u8]) -> Option<Message>
 }
 
 /// The same, and the octets are lost.
-fn lose(device: &mut Device<Store>, sent: &[u8]) -> Option<Message>
+fn lose<P: App>(device: &mut Device<P>, sent: &[u8]) -> Option<Message>
     ensures { (silence : ℕ) → HonestExchange device.old.far silence sent.now (octets_in result)
         device.new.far (silence_after silence (octets_in result)) }
 {
@@ -58,7 +69,7 @@ fn lose(device: &mut Device<Store>, sent: &[u8]) -> Option<Message>
 }
 
 /// The same, and the reply is lost.
-fn lose_reply(device: &mut Device<Store>, sent: &[u8]) -> Option<Message>
+fn lose_reply<P: App>(device: &mut Device<P>, sent: &[u8]) -> Option<Message>
     ensures { (silence : ℕ) → HonestExchange device.old.far silence sent.now (octets_in result)
         device.new.far (silence_after silence (octets_in result)) }
 {
@@ -69,7 +80,7 @@ fn lose_reply(device: &mut Device<Store>, sent: &[u8]) -> Option<Message>
 }
 
 /// What comes back, as the fate of the exchange is.
-fn exchange(device: &mut Device<Store>, sent: &[u8], fate: Fate) -> Option<Message>
+fn exchange<P: App>(device: &mut Device<P>, sent: &[u8], fate: Fate) -> Option<Message>
     ensures { (silence : ℕ) → HonestExchange device.old.far silence sent.now (octets_in result)
         device.new.far (silence_after silence (octets_in result)) }
 {
@@ -81,7 +92,7 @@ fn exchange(device: &mut Device<Store>, sent: &[u8], fate: Fate) -> Option<Messa
 }
 
 /// One turn of a port with this device at the far end of its line.
-fn meet(port: &mut HonestPort, device: &mut Device<Store>, fate: Fate)
+fn meet(port: &mut HonestPort, device: &mut Device<Parameter>, fate: Fate)
     requires { port.old.at.far ≡ device.old.far }
     ensures { port.new.at.far ≡ device.new.far }
 {
@@ -98,7 +109,7 @@ fn meet(port: &mut HonestPort, device: &mut Device<Store>, fate: Fate)
 }
 
 /// The device answered a wake-up request.
-fn woken_by(port: &mut HonestPort, device: &Device<Store>)
+fn woken_by(port: &mut HonestPort, device: &Device<Parameter>)
     requires awaited { awaited port.old.parts ≡ Awaited.Wake }
     requires premise { HonestWake port.old.at.far true device.now.far }
     ensures { port.new.at.far ≡ device.now.far }
@@ -107,7 +118,7 @@ fn woken_by(port: &mut HonestPort, device: &Device<Store>)
 }
 
 /// This came back from the device.
-fn answered_by(port: &mut HonestPort, came: &Option<Message>, device: &Device<Store>)
+fn answered_by(port: &mut HonestPort, came: &Option<Message>, device: &Device<Parameter>)
     requires awaited { awaited port.old.parts ≡ Awaited.Reply }
     requires premise { Exchanges port.old (octets_in came.now) (record {
       far = device.now.far;
@@ -122,9 +133,11 @@ fn answered_by(port: &mut HonestPort, came: &Option<Message>, device: &Device<St
 /// calls that no line can meet.
 #[test]
 fn a_claimed_line_meets_its_premise(rt: HostRuntime) -> Result<(), Fail> {
-    let mut device = opened_device(rt.alloc())?;
+    let Some(mut device) = open_device(rt.alloc(), Parameter(0x0A), &PLAIN) else {
+        return Err("no device")?;
+    };
     let mut port = port_to(rt.alloc(), &device)?;
-    assert!(rt; port.submit(Request::read(PARAMETER)) == Ok(Ticket(1)));
+    assert!(rt; port.submit(Request::read(PLACE)) == Ok(Ticket(1)));
     for turn in 0..60 {
         let fate = match turn % 4 {
             0 => Fate::OutLost,
@@ -134,8 +147,8 @@ fn a_claimed_line_meets_its_premise(rt: HostRuntime) -> Result<(), Fail> {
         meet(&mut port, &mut device, fate);
     }
     assert!(rt; port.core().status().mode == Mode::Operate);
-    let read = Octets::try_from([0x0A].as_slice()).map_err(|_| Fail::from("too long"))?;
-    assert!(rt; port.collect(Ticket(1)) == Ok(Outcome::Done(Answer::Read(read))));
+    let done = Outcome::Done(Answer::Read(octets_of(0x0A)));
+    assert!(rt; port.collect(Ticket(1)) == Ok(done));
     assert!(rt; device.carried().len() == 1);
     port.keeps_record();
     Ok(())

@@ -1,4 +1,4 @@
-use Rattle.iol_port_tests.proofs.lines.honest.port_to.Given as goal
+use Rattle.iol_port_tests.proofs.honest.port_to.Given as goal
 
 abbrev pub ghost-open : goal.ghost-open
 ghost-open a = record { far = a.near.now.far; silence = 0 }

@@ -1,6 +1,6 @@
 use Rattle.iol_far.specs.Octets.{octets_in}
 use Rattle.iol_link.specs.Honest.{silence_after}
-use Rattle.iol_port_tests.proofs.lines.honest.answered_by.Given as goal
+use Rattle.iol_port_tests.proofs.honest.answered_by.Given as goal
 
 abbrev pub ghost-receive : goal.ghost-receive
 ghost-receive a = record {

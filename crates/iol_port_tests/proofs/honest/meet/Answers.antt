@@ -1,7 +1,7 @@
 use Rattle.std.proofs.Common.{◌≡◌, ◌∙◌, ap}
 use Rattle.iol_app.specs.declared.asked.Outgoing.{Outgoing}
 use Rattle.iol_line.specs.Honestly.{HonestPort}
-use Rattle.iol_port_tests.proofs.lines.honest.meet.Goals as goal
+use Rattle.iol_port_tests.proofs.honest.meet.Goals as goal
 
 pub answered_by-requires-clause-premise : goal.answered_by-requires-clause-premise
 answered_by-requires-clause-premise c =

@@ -1,6 +1,0 @@
-use Rattle.iol_port_tests.proofs.MeetLemmas.{lost_is_honest}
-use Rattle.iol_port_tests.proofs.lines.honest.lose.Goals as goal
-
-pub returns : goal.returns
-returns c silence = lost_is_honest _ _ _ _ _ c.work.ensures.carried _ silence
-    c.parts_are_regular.ensures

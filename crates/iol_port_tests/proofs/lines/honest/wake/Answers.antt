@@ -1,5 +1,0 @@
-use Rattle.iol_port_tests.proofs.MeetLemmas.{woken_is_honest}
-use Rattle.iol_port_tests.proofs.lines.honest.wake.Goals as goal
-
-pub returns : goal.returns
-returns c = woken_is_honest _ _ _ _ _ c.work.ensures.carried _ c.wake.ensures.far
