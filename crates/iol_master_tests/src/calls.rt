@@ -11,9 +11,15 @@ use iol_isdu::{Answer, Octets, Place, Request};
 use iol_link::Wire;
 use iol_master::{Held, Master, MasterFault};
 use iol_port::PortFault;
+use std::process::Abort;
 use std::sync::ledger::Ledger;
 use std::sync::{MutexGuard, Wait};
 use std::test::Fail;
+
+/// Ends the test where a fact doesn't hold. See the head of this crate.
+pub fn check<R: Abort>(rt: &R, holds: bool) {
+    assert!(rt; holds);
+}
 
 /// A read of the value that each device has.
 pub fn read() -> Request {
@@ -22,8 +28,7 @@ pub fn read() -> Request {
 
 /// The outcome of a read that was answered with these octets.
 pub fn answer(octets: &[u8]) -> Result<Outcome, Fail> {
-    let value = Octets::try_from(octets).map_err(|_| "too long")?;
-    Ok(Outcome::Done(Answer::Read(value)))
+    Ok(Outcome::Done(Answer::Read(Octets::try_from(octets)?)))
 }
 
 /// How a master hands on what a book refused.
@@ -31,15 +36,18 @@ pub fn of_book(fault: BookFault) -> MasterFault {
     MasterFault::Port(PortFault::Book(fault))
 }
 
-/// Looks for the outcome of a ticket.
-pub fn collected<W: Wire, L: Ledger, K: Ledger, A: Handle, R: Wait>(
+/// Whether a look for the outcome of a ticket gives this.
+pub fn gives<W: Wire, L: Ledger, K: Ledger, A: Handle, R: Wait>(
     rt: &R,
     master: &Master<W, L, K, A>,
     number: u32,
     ticket: Ticket,
-) -> Result<Outcome, MasterFault> {
-    let mut held = master.lock(rt, number)?;
-    through(&mut held, ticket).map_err(MasterFault::Port)
+    wanted: &Result<Outcome, PortFault>,
+) -> bool {
+    match master.lock(rt, number) {
+        Ok(mut held) => through(&mut held, ticket) == *wanted,
+        Err(_) => false,
+    }
 }
 
 /// A call through the guard is the port's call.
@@ -53,31 +61,36 @@ fn through<W: Wire, K: Ledger, A: Handle>(
     guard.collect(ticket)
 }
 
-/// Asks to cut off the request of a ticket.
-pub fn cancelled<W: Wire, L: Ledger, K: Ledger, R: Wait>(
+/// Whether this is what it answers to cut off the request of a ticket.
+pub fn cancels_as<W: Wire, L: Ledger, K: Ledger, R: Wait>(
     rt: &R,
     master: &Master<W, L, K>,
     number: u32,
     ticket: Ticket,
-) -> Result<(), MasterFault> {
-    let mut held = master.lock(rt, number)?;
-    cancel(&mut *held, ticket).map_err(MasterFault::Port)
+    wanted: Result<(), PortFault>,
+) -> bool {
+    match master.lock(rt, number) {
+        Ok(mut held) => cancel(&mut *held, ticket) == wanted,
+        Err(_) => false,
+    }
 }
 
 fn cancel<W: Wire, K: Ledger>(held: &mut Held<W, K>, ticket: Ticket) -> Result<(), PortFault> {
     held.cancel(ticket)
 }
 
-/// Makes so many turns of a port, under one lock.
+/// Makes so many turns of a port, under one lock. Answers whether there is that port.
 pub fn turns<W: Wire, L: Ledger, K: Ledger, A: Handle, R: Wait>(
     rt: &R,
     master: &Master<W, L, K, A>,
     number: u32,
     count: u64,
-) -> Result<(), MasterFault> {
-    let mut held = master.lock(rt, number)?;
+) -> bool {
+    let Ok(mut held) = master.lock(rt, number) else {
+        return false;
+    };
     for _ in 0..count {
         held.turn(rt);
     }
-    Ok(())
+    true
 }

@@ -5,7 +5,7 @@ ghost use Rattle.iol_book.specs.BookModel.{AreLimits};
 ghost use Rattle.iol_master.specs.Tickets.{HasGiven};
 ghost use Rattle.iol_master.specs.Ledgers.{IsBlankFor};
 
-use crate::calls::{cancelled, collected, of_book, read, turns};
+use crate::calls::{cancels_as, check, gives, of_book, read, turns};
 use crate::opening::{alone, open_one};
 use iol_book::{BookFault, Limits, QueueLimit, Ticket};
 use iol_cell::Handle;
@@ -13,7 +13,7 @@ use iol_link::{Rate, Wire};
 use iol_master::{Desk, Gate, Master, MasterFault, Settled, Tally};
 use iol_mseq::Message;
 use iol_peers::{AnyWire, Peer};
-use iol_port::Port;
+use iol_port::{Port, PortFault};
 use refusing_alloc::{Refusal, RefusingAlloc};
 use std::alloc::{AllocError, Global};
 use std::marker::Brand;
@@ -24,7 +24,7 @@ use std::test::Fail;
 use std::thread::Threads;
 
 /// A peer that answers nothing.
-#[derive(Debug, Drop)]
+#[derive(Drop)]
 struct Nobody;
 
 impl Peer for Nobody {
@@ -61,7 +61,10 @@ fn opened_port<A: Handle>(alloc: A, limits: &Limits) -> Result<Port<AnyWire<Nobo
     requires { AreLimits limits.now }
     ensures { IfOk result (λ p. HasGiven p 0) }
 {
-    Port::open(alloc, AnyWire(Nobody), limits).map_err(|(fault, _)| Fail::from(fault))
+    match Port::open(alloc, AnyWire(Nobody), limits) {
+        Ok(port) => Ok(port),
+        Err((fault, _)) => Err(Fail::from(fault)),
+    }
 }
 
 fn opened<L: Ledger, K: Ledger, A: Handle, R: Abort>(
@@ -99,8 +102,22 @@ fn has_no_more<W: Wire, L: Ledger, K: Ledger, R: Wait>(
     let last = master.desk(rt, 1)?;
     let is_full = master.desk(rt, 1).err() == Some(MasterFault::DesksFull);
     let is_settled = master.settle(rt, last) == Settled::Part(0);
-    let next = master.desk(rt, 1)?;
-    Ok(is_full && is_settled && next.port() == 1 && next.accepted() == 0)
+    Ok(is_full && is_settled && is_opened(rt, master))
+}
+
+/// Whether a desk is opened, without submits.
+fn is_opened<W: Wire, L: Ledger, K: Ledger, R: Wait>(rt: &R, master: &Master<W, L, K>) -> bool {
+    match master.desk(rt, 1) {
+        Ok(desk) => desk.port() == 1 && desk.accepted() == 0,
+        Err(_) => false,
+    }
+}
+
+/// Whether a port refuses to cut off a request that waits, and one that it doesn't know.
+fn cancels_none<W: Wire, L: Ledger, K: Ledger, R: Wait>(rt: &R, master: &Master<W, L, K>) -> bool {
+    let waits = Err(PortFault::Book(BookFault::NotInFlight));
+    let unknown = Err(PortFault::Book(BookFault::UnknownTicket));
+    cancels_as(rt, master, 1, Ticket(9), waits) && cancels_as(rt, master, 1, Ticket(7), unknown)
 }
 
 /// Two desks at one port, of which one submits an urgent request.
@@ -110,14 +127,12 @@ fn counts_both<W: Wire, L: Ledger, K: Ledger, R: Wait>(
 ) -> Result<bool, MasterFault> {
     let mut one = master.desk(rt, 1)?;
     let mut two = master.desk(rt, 1)?;
-    Ok(
-        submit(rt, master, &mut one, Kind::Ordinary) == Ok(Ticket(8))
-            && submit(rt, master, &mut two, Kind::Urgent) == Ok(Ticket(9))
-            && cancelled(rt, master, 1, Ticket(9)) == Err(of_book(BookFault::NotInFlight))
-            && cancelled(rt, master, 1, Ticket(7)) == Err(of_book(BookFault::UnknownTicket))
-            && master.settle(rt, one) == Settled::Part(1)
-            && master.settle(rt, two) == Settled::Last(1, 2),
-    )
+    let is_given = takes(rt, master, &mut one, Kind::Ordinary, 8);
+    let is_second = takes(rt, master, &mut two, Kind::Urgent, 9);
+    let is_kept = cancels_none(rt, master);
+    let told = (master.settle(rt, one), master.settle(rt, two));
+    let is_told = told == (Settled::Part(1), Settled::Last(1, 2));
+    Ok(is_given && is_second && is_kept && is_told)
 }
 
 /// The desks of one master are counted, and then run out.
@@ -131,9 +146,9 @@ fn run_out<L: Ledger, K: Ledger + Sync, R: Threads + Wait + Abort + Sync>(
     requires tickets { IsBlankFor tickets K.name K.parts 1 }
 {
     let master = opened::<L, K, Global, R>(rt, alloc, &LIMITS, clients, tickets)?;
-    assert!(rt; counts_both(rt, &master)?);
-    assert!(rt; has_no_more(rt, &master)?);
-    assert!(rt; master.serve(rt, &Open, 1) == Ok(()));
+    check(rt, counts_both(rt, &master) == Ok(true));
+    check(rt, has_no_more(rt, &master) == Ok(true));
+    check(rt, master.serve(rt, &Open, 1) == Ok(()));
     Ok(())
 }
 
@@ -142,13 +157,12 @@ fn desks_count_and_run_out(rt: HostRuntime) -> Result<(), Fail> {
     run_out::<Brand, Brand, HostRuntime>(&rt, rt.alloc(), Blank::new(1025), Blank::new(1))
 }
 
-/// Opens a master of one port under an order to refuse memory, and says whether a request was
-/// refused.
-fn open_is_refused<W: Wire + Drop, A: Handle, L: Ledger, K: Ledger, R: Abort>(
-    rt: &R,
+/// Opens a master of one port under an order to refuse memory, and says whether it comes as it is
+/// to: refused, or not.
+fn opens_as<W: Wire + Drop, A: Handle, L: Ledger, K: Ledger>(
     alloc: A,
     refusing: &RefusingAlloc,
-    refusal: Refusal,
+    order: (Refusal, bool),
     port: Port<W, A>,
     clients: Blank,
     tickets: Blank,
@@ -157,18 +171,21 @@ fn open_is_refused<W: Wire + Drop, A: Handle, L: Ledger, K: Ledger, R: Abort>(
     requires tickets { IsBlankFor tickets K.name K.parts 1 }
     requires fresh { HasGiven port 0 }
 {
+    let (refusal, is_refused) = order;
     let ports = alone(alloc, port)?;
     refusing.order(refusal);
-    match Master::<W, L, K, A>::open(alloc, ports, clients, tickets) {
-        Ok(_master) => {
-            assert!(rt; !refusing.has_refused());
-            Ok(false)
-        }
-        Err((fault, ports)) => {
-            assert!(rt; refusing.has_refused());
-            assert!(rt; fault == MasterFault::OutOfMemory && ports.len() == 1);
-            Ok(true)
-        }
+    let opened = Master::<W, L, K, A>::open(alloc, ports, clients, tickets);
+    let comes = comes_as(opened, is_refused);
+    Ok(comes && refusing.has_refused() == is_refused)
+}
+
+fn comes_as<W: Wire + Drop, L: Ledger, K: Ledger, A: Handle>(
+    opened: Result<Master<W, L, K, A>, (MasterFault, Vec<Port<W, A>, A>)>,
+    is_refused: bool,
+) -> bool {
+    match opened {
+        Ok(_) => !is_refused,
+        Err((fault, ports)) => is_refused && fault == MasterFault::OutOfMemory && ports.len() == 1,
     }
 }
 
@@ -192,6 +209,17 @@ fn submit<W: Wire, L: Ledger, K: Ledger, A: Handle, R: Wait>(
     }
 }
 
+/// Whether a submit at a desk is given the ticket of this number.
+fn takes<W: Wire, L: Ledger, K: Ledger, A: Handle, R: Wait>(
+    rt: &R,
+    master: &Master<W, L, K, A>,
+    desk: &mut Desk<L>,
+    kind: Kind,
+    number: u64,
+) -> bool {
+    submit(rt, master, desk, kind) == Ok(Ticket(number))
+}
+
 /// Submits at a desk without submits under an order to refuse memory, and says
 /// whether a request was refused.
 fn submit_refusing<W: Wire, L: Ledger, K: Ledger, A: Handle, R: Wait + Abort>(
@@ -210,7 +238,10 @@ fn submit_refusing<W: Wire, L: Ledger, K: Ledger, A: Handle, R: Wait + Abort>(
     } else {
         Ok(Ticket(8))
     };
-    assert!(rt; answer == wanted && desk.accepted() == u64::from(!refused));
+    check(
+        rt,
+        answer == wanted && desk.accepted() == u64::from(!refused),
+    );
     refused
 }
 
@@ -226,7 +257,7 @@ fn refuse_each<W: Wire, L: Ledger, K: Ledger, A: Handle, R: Wait + Abort>(
     for number in 0..64 {
         for &refusal in &[Refusal::From(number), Refusal::Only(number)] {
             if !submit_refusing(rt, refusing, refusal, master, desk, kind) {
-                assert!(rt; number > 0);
+                check(rt, number > 0);
                 return;
             }
         }
@@ -246,26 +277,25 @@ fn waits<W: Wire, L: Ledger, K: Ledger, A: Handle, R: Wait>(
     master: &Master<W, L, K, A>,
     desk: Desk<L>,
 ) -> bool {
-    desk.accepted() == 1
-        && turns(rt, master, 1, 1) == Ok(())
-        && collected(rt, master, 1, Ticket(8)) == Err(of_book(BookFault::NotYet))
-        && master.settle(rt, desk) == Settled::Last(1, 1)
+    let not_yet = Err(PortFault::Book(BookFault::NotYet));
+    let is_accepted = desk.accepted() == 1;
+    let is_kept = turns(rt, master, 1, 1) && gives(rt, master, 1, Ticket(8), &not_yet);
+    let told = master.settle(rt, desk);
+    is_accepted && is_kept && told == Settled::Last(1, 1)
 }
 
 /// Submits while each request for memory is refused in turn; no other call makes one.
-fn submits_once<W: Wire + Drop, L: Ledger, K: Ledger, A: Handle, R: Wait + Abort>(
+fn submits_once<W: Wire, L: Ledger, K: Ledger, A: Handle, R: Wait + Abort>(
     rt: &R,
     refusing: &RefusingAlloc,
-    master: Master<W, L, K, A>,
+    master: &Master<W, L, K, A>,
     kind: Kind,
-) -> Result<(), MasterFault> {
+) -> Result<bool, MasterFault> {
     refusing.order(Refusal::Only(0));
     let mut desk = master.desk(rt, 1)?;
-    refuse_each(rt, refusing, &master, &mut desk, kind);
+    refuse_each(rt, refusing, master, &mut desk, kind);
     refusing.order(Refusal::Never);
-    assert!(rt; waits(rt, &master, desk) && refusing.requests() == 0);
-    assert!(rt; master.close() == ONE);
-    Ok(())
+    Ok(waits(rt, master, desk) && refusing.requests() == 0)
 }
 
 /// The same at a new master.
@@ -281,13 +311,15 @@ fn submit_is_refused<L: Ledger, K: Ledger, R: Wait + Abort>(
 {
     refusing.order(Refusal::Never);
     let master = opened::<L, K, &RefusingAlloc, R>(rt, refusing, &LIMITS, clients, tickets)?;
-    Ok(submits_once(rt, refusing, master, kind)?)
+    check(rt, submits_once(rt, refusing, &master, kind) == Ok(true));
+    check(rt, master.close() == ONE);
+    Ok(())
 }
 
 #[test]
 fn refused_memory_changes_nothing(rt: HostRuntime) -> Result<(), Fail> {
     let refusing = RefusingAlloc::new(rt.alloc());
-    for &(refusal, wanted) in &[
+    for &order in &[
         (Refusal::Only(0), true),
         (Refusal::From(0), true),
         (Refusal::From(1), false),
@@ -295,16 +327,15 @@ fn refused_memory_changes_nothing(rt: HostRuntime) -> Result<(), Fail> {
     ] {
         refusing.order(Refusal::Never);
         let port = opened_port(&refusing, &LIMITS)?;
-        let refused = open_is_refused::<_, &RefusingAlloc, Brand, Brand, HostRuntime>(
-            &rt,
+        let comes = opens_as::<_, &RefusingAlloc, Brand, Brand>(
             &refusing,
             &refusing,
-            refusal,
+            order,
             port,
             Blank::new(1025),
             Blank::new(1),
         )?;
-        assert!(rt; refused == wanted);
+        check(&rt, comes);
     }
     for &kind in &[Kind::Ordinary, Kind::Urgent] {
         submit_is_refused::<Brand, Brand, HostRuntime>(
@@ -349,8 +380,8 @@ fn submit_many<W: Wire, L: Ledger, K: Ledger, A: Handle, R: Wait + Abort>(
     count: u32,
 ) {
     for number in 1..=u64::from(count) {
-        let next = Ticket(given.saturating_add(number));
-        assert!(rt; submit(rt, master, desk, kind) == Ok(next));
+        let next = given.saturating_add(number);
+        check(rt, takes(rt, master, desk, kind, next));
     }
 }
 
@@ -390,7 +421,8 @@ fn refused_first<L: Ledger, K: Ledger, R: Wait + Abort>(
     let (limits, taken) = limits_for(fault);
     refusing.order(Refusal::Never);
     let master = opened::<L, K, &RefusingAlloc, R>(rt, refusing, &limits, clients, tickets)?;
-    assert!(rt; refuses_for(rt, refusing, &master, kind, fault, limits.given, taken)?);
+    let is_refused = refuses_for(rt, refusing, &master, kind, fault, limits.given, taken);
+    check(rt, is_refused == Ok(true));
     Ok(())
 }
 

@@ -1,12 +1,12 @@
 //! Masters with their ports, desks and seats, over the simulated wire and over wires
 //! of which nothing is promised: threads of clients and workers, as tests.
 //!
-//! A row opens a master over its wires, and hands it to functions that are generic over them: what
-//! is asked of a master over a known wire takes the prover longer.
+//! A test makes its wires, and hands them to functions that are generic over them and open the
+//! master or the line: what is asked of a master over a known wire takes the prover longer.
 //!
-//! A stage of a test answers whether all of its facts hold, and its caller asserts that. Each
-//! assertion is a branch that doesn't return, and the prover's work grows with the square of a
-//! function's branches and borrows.
+//! A stage of a test answers whether all of its facts hold, and `calls::check` asserts that. The
+//! prover's work grows with the square of a function's branches and borrows. An assertion in place
+//! is a branch, which has its text and doesn't return.
 #![tactic(auto)]
 
 #[cfg(test)]

@@ -1,7 +1,7 @@
 //! Lines whose workers own their wires: clients are let in while an exchange is under way.
 ghost use Rattle.iol_master.specs.Ledgers.{IsBlankFor};
 
-use crate::calls::{answer, read};
+use crate::calls::{answer, check, read};
 use crate::opening::LIMITS;
 use crate::seats::is_image;
 use crate::slow::{ALARM, Flags, INPUT, START_UP, VALUE, is_set, sending, slow_wire};
@@ -27,10 +27,6 @@ const COMMAND: u64 = 1;
 
 /// Turns in which a request or a report comes to its end.
 const ENOUGH: u64 = 30;
-
-pub fn port(alloc: Global) -> Result<PortCore, Fail> {
-    PortCore::open(alloc, &LIMITS).map_err(Fail::from)
-}
 
 /// Says no before this turn.
 #[derive(Drop)]
@@ -66,14 +62,17 @@ fn is_up<K: Ledger>(port: &mut LinePort<K>, output: &Image) -> bool {
         && port.submit_urgent(read()) == Ok(Ticket(2))
 }
 
-fn is_answered<K: Ledger>(port: &mut LinePort<K>, wanted: Outcome) -> bool {
-    port.collect(Ticket(2)) == Ok(wanted) && port.take_event() == Ok(ALARM)
+fn is_answered<K: Ledger>(port: &mut LinePort<K>, wanted: &Result<Outcome, PortFault>) -> bool {
+    port.collect(Ticket(2)) == *wanted && port.take_event() == Ok(ALARM)
 }
 
-fn archives<K: Ledger>(port: &mut LinePort<K>) -> Result<bool, PortFault> {
-    let archived = port.archive()?;
+fn archives<K: Ledger>(port: &mut LinePort<K>) -> bool {
+    let is_whole = match port.archive() {
+        Ok(archived) => archived.len() == 7,
+        Err(_) => false,
+    };
     port.clear_output();
-    Ok(archived.len() == 7 && port.submit(read()) == Ok(Ticket(3)))
+    is_whole && port.submit(read()) == Ok(Ticket(3))
 }
 
 fn is_cancelled<K: Ledger>(port: &mut LinePort<K>) -> bool {
@@ -88,50 +87,74 @@ fn restarts<K: Ledger>(port: &mut LinePort<K>) -> bool {
 }
 
 /// Calls of a port between turns, up to one request that is answered.
-fn answers<W: Wire, K: Ledger, R: Wait + Abort>(
+fn answers<W: Wire, K: Ledger, R: Wait>(
     rt: &R,
     line: &Line<K>,
     worker: &mut LineWorker<W, K>,
-) -> Result<(), Fail> {
-    assert!(rt; withdraws(&mut *line.lock(rt)));
+    output: &Image,
+    wanted: &Result<Outcome, PortFault>,
+) -> bool {
+    let is_withdrawn = withdraws(&mut *line.lock(rt));
     serve(rt, line, worker, START_UP);
-    assert!(rt; is_up(&mut *line.lock(rt), &Image::new(&[0x99])?));
+    let is_up = is_up(&mut *line.lock(rt), output);
     serve(rt, line, worker, ENOUGH);
-    assert!(rt; is_answered(&mut *line.lock(rt), answer(&VALUE)?));
-    Ok(())
+    let is_answered = is_answered(&mut *line.lock(rt), wanted);
+    is_withdrawn && is_up && is_answered
 }
 
 /// Further ones, up to a request that is cancelled, and a restart.
-fn cancels<W: Wire, K: Ledger, R: Wait + Abort>(
+fn cancels<W: Wire, K: Ledger, R: Wait>(
     rt: &R,
     line: &Line<K>,
     worker: &mut LineWorker<W, K>,
-) -> Result<(), PortFault> {
-    assert!(rt; archives(&mut *line.lock(rt))?);
+) -> bool {
+    let is_archived = archives(&mut *line.lock(rt));
     serve(rt, line, worker, COMMAND + 1);
-    assert!(rt; line.lock(rt).cancel(Ticket(3)) == Ok(()));
+    let is_let = line.lock(rt).cancel(Ticket(3)) == Ok(());
     serve(rt, line, worker, ENOUGH);
-    assert!(rt; is_cancelled(&mut *line.lock(rt)));
-    assert!(rt; restarts(&mut *line.lock(rt)));
-    Ok(())
+    let is_cancelled = is_cancelled(&mut *line.lock(rt));
+    let is_restarted = restarts(&mut *line.lock(rt));
+    is_archived && is_let && is_cancelled && is_restarted
 }
 
-/// Every call of a line's port and of its worker, with no other thread.
-fn call_row<K: Ledger, R: Wait + Abort>(rt: &R, alloc: Global, hands: Blank) -> Result<(), Fail>
+/// Every call of a line's port and of its worker, with no other thread; gives the wire back.
+fn makes_each_call<W: Wire + Drop, K: Ledger, R: Wait + Abort>(
+    rt: &R,
+    alloc: Global,
+    wire: W,
+    hands: Blank,
+    output: &Image,
+    wanted: &Result<Outcome, PortFault>,
+) -> Result<W, PortFault>
     requires { IsBlankFor hands K.name K.parts 1 }
 {
-    let (line, mut worker) = Line::<K>::open(port(alloc)?, sending(alloc)?, hands);
-    answers(rt, &line, &mut worker)?;
-    cancels(rt, &line, &mut worker)?;
-    let wire = worker.into_wire();
-    assert!(rt; wire.device().handed().is_none());
-    assert!(rt; line.into_inner().status().mode == Mode::Down);
-    Ok(())
+    let core = PortCore::open(alloc, &LIMITS)?;
+    let (line, mut worker) = Line::<K>::open(core, wire, hands);
+    check(rt, answers(rt, &line, &mut worker, output, wanted));
+    check(rt, cancels(rt, &line, &mut worker));
+    check(rt, is_down(line.into_inner()));
+    Ok(worker.into_wire())
+}
+
+fn is_down<K: Ledger>(port: LinePort<K>) -> bool {
+    port.status().mode == Mode::Down
 }
 
 #[test]
 fn a_line_makes_each_call(rt: HostRuntime) -> Result<(), Fail> {
-    call_row::<Brand, HostRuntime>(&rt, rt.alloc(), Blank::new(1))
+    let output = Image::new(&[0x99])?;
+    let wanted = Ok(answer(&VALUE)?);
+    let wire = sending(rt.alloc())?;
+    let wire = makes_each_call::<_, Brand, HostRuntime>(
+        &rt,
+        rt.alloc(),
+        wire,
+        Blank::new(1),
+        &output,
+        &wanted,
+    )?;
+    check(&rt, wire.device().handed().is_none());
+    Ok(())
 }
 
 /// Submits while an exchange is under way, and wants a restart; then lets the exchange go.
@@ -178,24 +201,29 @@ fn was_restarted<K: Ledger>(port: &mut LinePort<K>) -> bool {
         && port.collect(Ticket(1)) == Err(PortFault::Book(BookFault::NotYet))
 }
 
-fn slow_row<K: Ledger + Sync, R: Threads + Wait + Abort + Sync>(
+/// A client is let in while an exchange is under way.
+fn lets_in<W: Wire + Send + Drop, K: Ledger + Sync, R: Threads + Wait + Abort + Sync>(
     rt: &R,
     alloc: Global,
+    wire: W,
     hands: Blank,
-) -> Result<(), Fail>
+    flags: &Flags,
+) -> Result<(), PortFault>
     requires { IsBlankFor hands K.name K.parts 1 }
 {
-    let (wire, flags) = slow_wire(alloc)?;
-    let (line, mut worker) = Line::<K>::open(port(alloc)?, wire, hands);
+    let core = PortCore::open(alloc, &LIMITS)?;
+    let (line, mut worker) = Line::<K>::open(core, wire, hands);
     serve(rt, &line, &mut worker, START_UP);
     flags.armed.store(true, Ordering::SeqCst);
-    assert!(rt; beside(rt, &line, worker, &flags));
-    assert!(rt; flags.was_let_go.load(Ordering::SeqCst));
-    assert!(rt; was_restarted(&mut *line.lock(rt)));
+    check(rt, beside(rt, &line, worker, flags));
+    check(rt, flags.was_let_go.load(Ordering::SeqCst));
+    check(rt, was_restarted(&mut *line.lock(rt)));
     Ok(())
 }
 
 #[test]
 fn a_client_is_let_in_while_an_exchange_is_under_way(rt: HostRuntime) -> Result<(), Fail> {
-    slow_row::<Brand, HostRuntime>(&rt, rt.alloc(), Blank::new(1))
+    let (wire, flags) = slow_wire(rt.alloc())?;
+    lets_in::<_, Brand, HostRuntime>(&rt, rt.alloc(), wire, Blank::new(1), &flags)?;
+    Ok(())
 }

@@ -1,14 +1,16 @@
 //! Masters over the simulated wire: workers and clients at once.
-ghost use Rattle.std.specs.Prelude.{◌≡◌};
+ghost use Rattle.std.specs.Prelude.{◌≡◌, ◌≤◌, All, vec_len};
+ghost use Rattle.iol_master.specs.Tickets.{HasGiven};
 ghost use Rattle.iol_master.specs.Ledgers.{IsBlankFor};
 
-use crate::calls::{answer, cancelled, collected, of_book, read, turns};
-use crate::opening::numbered_master;
+use crate::calls::{answer, cancels_as, check, gives, read, turns};
+use crate::opening::{numbered, open_master};
 use crate::slow::is_set;
 use iol_book::{BookFault, Outcome, Ticket};
 use iol_isdu::Cause;
 use iol_link::Wire;
 use iol_master::{Desk, Gate, Master, MasterFault, Settled, Tally};
+use iol_port::{Port, PortFault};
 use std::alloc::Global;
 use std::marker::Brand;
 use std::process::Abort;
@@ -53,122 +55,83 @@ impl Gate for Meet {
     }
 }
 
-/// A client's desk, and what it got there.
-type Done<L> = (Desk<L>, Result<Ticket, MasterFault>);
+/// A client's desk, and the ticket that it got there.
+type Done<L> = (Desk<L>, Ticket);
 
 type Two<T> = (T, T);
 
-/// A client submits one request at its desk.
+/// What came of a thread's client at each port.
+type Visits<L> = Result<Two<Done<L>>, MasterFault>;
+
+/// A client of a port submits one request at a desk of its own.
 fn client<W: Wire, L: Ledger, K: Ledger, R: Wait>(
     rt: &R,
     master: &Master<W, L, K>,
-    desk: Desk<L>,
-) -> Done<L> {
-    let mut desk = desk;
-    let given = master.submit(rt, &mut desk, read());
-    (desk, given)
+    number: u32,
+) -> Result<Done<L>, MasterFault> {
+    let mut desk = master.desk(rt, number)?;
+    let ticket = master.submit(rt, &mut desk, read())?;
+    Ok((desk, ticket))
 }
 
-/// Two clients, each in a thread.
+/// A client at one port, and then one at another.
+fn visits<W: Wire, L: Ledger, K: Ledger, R: Wait>(
+    rt: &R,
+    master: &Master<W, L, K>,
+    here: u32,
+    there: u32,
+) -> Visits<L> {
+    let one = client(rt, master, here)?;
+    let two = client(rt, master, there)?;
+    Ok((one, two))
+}
+
+/// Two threads, each with a client at each port.
 fn both<W: Wire + Send, L: Ledger + Sync, K: Ledger + Sync, R: Threads + Wait + Sync>(
     rt: &R,
     master: &Master<W, L, K>,
-    desks: Two<Desk<L>>,
-) -> Two<Done<L>> {
-    let (one, two) = desks;
+) -> Two<Visits<L>> {
     thread::join(
         rt,
-        move || client(rt, master, one),
-        move || client(rt, master, two),
-    )
-}
-
-/// Two clients, and the workers beside them.
-fn beside_workers<W: Wire + Send, L: Ledger + Sync, K: Ledger + Sync, R>(
-    rt: &R,
-    master: &Master<W, L, K>,
-    desks: Two<Desk<L>>,
-    gate: &Meet,
-) -> (Two<Done<L>>, bool)
-where
-    R: Threads + Wait + Sync,
-{
-    thread::join(
-        rt,
-        move || both(rt, master, desks),
-        move || master.serve(rt, gate, 100).is_ok(),
+        move || visits(rt, master, 1, 2),
+        move || visits(rt, master, 2, 1),
     )
 }
 
 /// Two clients at each port, and the workers beside them.
-fn together<W: Wire + Send, L: Ledger + Sync, K: Ledger + Sync, R>(
+fn beside_workers<W: Wire + Send, L: Ledger + Sync, K: Ledger + Sync, R>(
     rt: &R,
     master: &Master<W, L, K>,
-    first: Two<Desk<L>>,
-    second: Two<Desk<L>>,
     gate: &Meet,
-) -> (Two<Done<L>>, (Two<Done<L>>, bool))
+) -> (Two<Visits<L>>, bool)
 where
     R: Threads + Wait + Sync,
 {
     thread::join(
         rt,
-        move || both(rt, master, first),
-        move || beside_workers(rt, master, second, gate),
+        move || both(rt, master),
+        move || master.serve(rt, gate, 100).is_ok(),
     )
 }
 
-/// Two desks at a port.
-fn desks<W: Wire, L: Ledger, K: Ledger, R: Wait>(
+/// A port's first two tickets, in either order.
+fn are_firsts(one: Ticket, two: Ticket) -> bool {
+    matches!((one, two), (Ticket(1), Ticket(2)) | (Ticket(2), Ticket(1)))
+}
+
+/// Settles two desks at each of two ports, of which each submitted one request.
+fn are_settled<W: Wire, L: Ledger, K: Ledger, R: Wait>(
     rt: &R,
     master: &Master<W, L, K>,
-    number: u32,
-) -> Result<Two<Desk<L>>, MasterFault> {
-    let one = master.desk(rt, number)?;
-    let two = master.desk(rt, number)?;
-    Ok((one, two))
+    first: Two<Desk<L>>,
+    second: Two<Desk<L>>,
+) -> bool {
+    let first = settled(rt, master, first);
+    let second = settled(rt, master, second);
+    first == (Settled::Part(1), Settled::Part(1))
+        && second == (Settled::Part(1), Settled::Last(1, 4))
 }
 
-/// The desks of two clients of a port, which got its first two tickets, in either order.
-fn firsts<L: Ledger, R: Abort>(rt: &R, done: Two<Done<L>>) -> Two<Desk<L>> {
-    let ((one, a), (two, b)) = done;
-    let first = Ok(Ticket(1));
-    let second = Ok(Ticket(2));
-    assert!(rt; (a == first && b == second) || (a == second && b == first));
-    (one, two)
-}
-
-/// The desks of the clients of two ports, who submitted while the workers met.
-fn meeting<W: Wire + Send, L: Ledger + Sync, K: Ledger + Sync, R: Threads + Wait + Abort + Sync>(
-    rt: &R,
-    master: &Master<W, L, K>,
-) -> Result<Two<Two<Desk<L>>>, MasterFault> {
-    let first = desks(rt, master, 1)?;
-    let second = desks(rt, master, 2)?;
-    let gate = Meet::new();
-    let (first, (second, is_served)) = together(rt, master, first, second, &gate);
-    assert!(rt; is_served && gate.have_met());
-    master.serve(rt, &gate, 100)?;
-    Ok((firsts(rt, first), firsts(rt, second)))
-}
-
-/// A port answered both of its tickets with its own value, and knows no third.
-fn is_answered<W: Wire, L: Ledger, K: Ledger, R: Wait>(
-    rt: &R,
-    master: &Master<W, L, K>,
-    number: u32,
-    value: &[u8],
-) -> Result<bool, Fail> {
-    let wanted = Ok(answer(value)?);
-    let unknown = Err(of_book(BookFault::UnknownTicket));
-    Ok(
-        collected(rt, master, number, Ticket(1)) == wanted
-            && collected(rt, master, number, Ticket(2)) == wanted
-            && collected(rt, master, number, Ticket(3)) == unknown,
-    )
-}
-
-/// Settles two desks, of which each submitted one request.
 fn settled<W: Wire, L: Ledger, K: Ledger, R: Wait>(
     rt: &R,
     master: &Master<W, L, K>,
@@ -176,6 +139,34 @@ fn settled<W: Wire, L: Ledger, K: Ledger, R: Wait>(
 ) -> Two<Settled> {
     let (one, two) = desks;
     (master.settle(rt, one), master.settle(rt, two))
+}
+
+/// The two threads' clients got the first tickets of each port, which answers them.
+fn met<W: Wire, L: Ledger, K: Ledger, R: Wait>(
+    rt: &R,
+    master: &Master<W, L, K>,
+    visits: Two<Two<Done<L>>>,
+    answers: &Two<Result<Outcome, PortFault>>,
+) -> bool {
+    let (((one, a), (two, b)), ((three, c), (four, d))) = visits;
+    let are_given = are_firsts(a, d) && are_firsts(b, c);
+    let are_answered = is_answered(rt, master, 1, &answers.0)
+        && is_answered(rt, master, 2, &answers.1);
+    let are_settled = are_settled(rt, master, (one, four), (two, three));
+    are_given && are_answered && are_settled
+}
+
+/// A port gave this for both of its tickets, and knows no third.
+fn is_answered<W: Wire, L: Ledger, K: Ledger, R: Wait>(
+    rt: &R,
+    master: &Master<W, L, K>,
+    number: u32,
+    wanted: &Result<Outcome, PortFault>,
+) -> bool {
+    let unknown = Err(PortFault::Book(BookFault::UnknownTicket));
+    gives(rt, master, number, Ticket(1), wanted)
+        && gives(rt, master, number, Ticket(2), wanted)
+        && gives(rt, master, number, Ticket(3), &unknown)
 }
 
 fn has_two_ports<W: Wire, L: Ledger, K: Ledger, R: Wait>(rt: &R, master: &Master<W, L, K>) -> bool {
@@ -190,42 +181,49 @@ const FOUR: Tally = Tally {
     tickets: 4,
 };
 
+/// Clients submit while the workers meet, and all is served.
+fn serves_both<W: Wire + Send, L: Ledger + Sync, K: Ledger + Sync, R: Threads + Wait + Sync>(
+    rt: &R,
+    master: &Master<W, L, K>,
+    answers: &Two<Result<Outcome, PortFault>>,
+) -> Result<bool, MasterFault> {
+    let gate = Meet::new();
+    let ((one, two), is_served) = beside_workers(rt, master, &gate);
+    let have_met = is_served && gate.have_met();
+    let visits = (one?, two?);
+    let goes_on = master.serve(rt, &gate, 100) == Ok(());
+    Ok(have_met && goes_on && met(rt, master, visits, answers))
+}
+
 /// Two ports are served, with two clients at each.
 fn serves_two<W: Wire + Send + Drop, L: Ledger + Sync, K: Ledger + Sync, R>(
     rt: &R,
-    master: Master<W, L, K>,
-) -> Result<(), Fail>
-where
-    R: Threads + Wait + Abort + Sync,
-{
-    assert!(rt; has_two_ports(rt, &master));
-    let (first, second) = meeting(rt, &master)?;
-    assert!(rt; is_answered(rt, &master, 1, &[0x42, 0])?);
-    assert!(rt; is_answered(rt, &master, 2, &[0x42, 1])?);
-    assert!(rt; settled(rt, &master, first) == (Settled::Part(1), Settled::Part(1)));
-    assert!(rt; settled(rt, &master, second) == (Settled::Part(1), Settled::Last(1, 4)));
-    assert!(rt; master.close() == FOUR);
-    Ok(())
-}
-
-fn row<L: Ledger + Sync, K: Ledger + Sync, R: Threads + Wait + Abort + Sync>(
-    rt: &R,
     alloc: Global,
+    ports: Vec<Port<W>>,
+    answers: &Two<Result<Outcome, PortFault>>,
     clients: Blank,
     tickets: Blank,
-) -> Result<(), Fail>
+)
+where
+    R: Threads + Wait + Abort + Sync,
     requires clients { IsBlankFor clients L.name L.parts 1025 }
-    requires tickets { IsBlankFor tickets K.name K.parts 2 }
+    requires tickets { IsBlankFor tickets K.name K.parts (vec_len ports) }
+    requires count { (1 ≤ vec_len ports) × (vec_len ports ≤ 32) }
+    requires fresh { All (λ p. HasGiven p 0) ports.items }
 {
-    serves_two(
-        rt,
-        numbered_master::<L, K, R>(rt, alloc, 2, clients, tickets)?,
-    )
+    let master = open_master::<W, L, K, Global, R>(rt, alloc, ports, clients, tickets);
+    check(rt, has_two_ports(rt, &master));
+    check(rt, serves_both(rt, &master, answers) == Ok(true));
+    check(rt, master.close() == FOUR);
 }
 
 #[test]
 fn two_ports_are_served(rt: HostRuntime) -> Result<(), Fail> {
-    row::<Brand, Brand, HostRuntime>(&rt, rt.alloc(), Blank::new(1025), Blank::new(2))
+    let answers = (Ok(answer(&[0x42, 0])?), Ok(answer(&[0x42, 1])?));
+    let ports = numbered(rt.alloc(), 2)?;
+    let (clients, tickets) = (Blank::new(1025), Blank::new(2));
+    serves_two::<_, Brand, Brand, HostRuntime>(&rt, rt.alloc(), ports, &answers, clients, tickets);
+    Ok(())
 }
 
 /// The port at which a request is cancelled.
@@ -236,44 +234,68 @@ const SECOND: u32 = 2;
 fn cancels<W: Wire, L: Ledger, K: Ledger, R: Wait>(
     rt: &R,
     master: &Master<W, L, K>,
-    wanted: Outcome,
+    wanted: &Result<Outcome, PortFault>,
 ) -> bool {
-    turns(rt, master, SECOND, 16) == Ok(())
-        && cancelled(rt, master, SECOND, Ticket(1)) == Err(of_book(BookFault::NotInFlight))
-        && cancelled(rt, master, SECOND, Ticket(2)) == Ok(())
-        && turns(rt, master, SECOND, 1) == Ok(())
-        && collected(rt, master, SECOND, Ticket(2)) == Ok(Outcome::Unknown(Cause::Cancelled))
-        && turns(rt, master, SECOND, 3) == Ok(())
-        && collected(rt, master, SECOND, Ticket(1)) == Ok(wanted)
+    let waits = Err(PortFault::Book(BookFault::NotInFlight));
+    let cut_off = Ok(Outcome::Unknown(Cause::Cancelled));
+    turns(rt, master, SECOND, 16)
+        && cancels_as(rt, master, SECOND, Ticket(1), waits)
+        && cancels_as(rt, master, SECOND, Ticket(2), Ok(()))
+        && turns(rt, master, SECOND, 1)
+        && gives(rt, master, SECOND, Ticket(2), &cut_off)
+        && turns(rt, master, SECOND, 3)
+        && gives(rt, master, SECOND, Ticket(1), wanted)
 }
 
 /// Two desks submit at a port, and the second one's request is cancelled.
-fn cancels_one<W: Wire, L: Ledger, K: Ledger, R: Wait + Abort>(
+fn cancels_one<W: Wire, L: Ledger, K: Ledger, R: Wait>(
     rt: &R,
     master: &Master<W, L, K>,
-) -> Result<(), Fail> {
-    let (mut one, mut two) = desks(rt, master, SECOND)?;
-    assert!(rt; master.submit(rt, &mut one, read()) == Ok(Ticket(1)));
-    assert!(rt; master.submit_urgent(rt, &mut two, read()) == Ok(Ticket(2)));
-    assert!(rt; cancels(rt, master, answer(&[0x42, 1])?));
-    assert!(rt; settled(rt, master, (one, two)) == (Settled::Part(1), Settled::Last(1, 2)));
-    Ok(())
+    wanted: &Result<Outcome, PortFault>,
+) -> Result<bool, MasterFault> {
+    let mut one = master.desk(rt, SECOND)?;
+    let mut two = master.desk(rt, SECOND)?;
+    let first = master.submit(rt, &mut one, read());
+    let second = master.submit_urgent(rt, &mut two, read());
+    let is_cancelled = cancels(rt, master, wanted);
+    let told = settled(rt, master, (one, two));
+    Ok(
+        first == Ok(Ticket(1))
+            && second == Ok(Ticket(2))
+            && is_cancelled
+            && told == (Settled::Part(1), Settled::Last(1, 2)),
+    )
 }
 
-fn cancel_row<L: Ledger, K: Ledger, R: Wait + Abort>(
+fn cancels_at_two<W: Wire + Drop, L: Ledger, K: Ledger, R: Wait + Abort>(
     rt: &R,
     alloc: Global,
+    ports: Vec<Port<W>>,
+    wanted: &Result<Outcome, PortFault>,
     clients: Blank,
     tickets: Blank,
-) -> Result<(), Fail>
+)
     requires clients { IsBlankFor clients L.name L.parts 1025 }
-    requires tickets { IsBlankFor tickets K.name K.parts 2 }
+    requires tickets { IsBlankFor tickets K.name K.parts (vec_len ports) }
+    requires count { (1 ≤ vec_len ports) × (vec_len ports ≤ 32) }
+    requires fresh { All (λ p. HasGiven p 0) ports.items }
 {
-    let master = numbered_master::<L, K, R>(rt, alloc, 2, clients, tickets)?;
-    cancels_one(rt, &master)
+    let master = open_master::<W, L, K, Global, R>(rt, alloc, ports, clients, tickets);
+    check(rt, cancels_one(rt, &master, wanted) == Ok(true));
 }
 
 #[test]
 fn an_urgent_request_is_cancelled(rt: HostRuntime) -> Result<(), Fail> {
-    cancel_row::<Brand, Brand, HostRuntime>(&rt, rt.alloc(), Blank::new(1025), Blank::new(2))
+    let wanted = Ok(answer(&[0x42, 1])?);
+    let ports = numbered(rt.alloc(), 2)?;
+    let (clients, tickets) = (Blank::new(1025), Blank::new(2));
+    cancels_at_two::<_, Brand, Brand, HostRuntime>(
+        &rt,
+        rt.alloc(),
+        ports,
+        &wanted,
+        clients,
+        tickets,
+    );
+    Ok(())
 }

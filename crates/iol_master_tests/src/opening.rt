@@ -43,14 +43,20 @@ pub fn wired(
         Ok(device) => device,
         Err((fault, _)) => return Err(Fail::from(fault)),
     };
-    Sim::new(alloc, device, steps).map_err(|(fault, _, _)| Fail::from(fault))
+    match Sim::new(alloc, device, steps) {
+        Ok(sim) => Ok(sim),
+        Err((fault, _, _)) => Err(Fail::from(fault)),
+    }
 }
 
 /// A port over this wire.
 pub fn open_port<W: Wire + Drop>(alloc: Global, wire: W) -> Result<Port<W>, Fail>
     ensures { IfOk result (λ p. HasGiven p 0) }
 {
-    Port::open(alloc, wire, &LIMITS).map_err(|(fault, _)| Fail::from(fault))
+    match Port::open(alloc, wire, &LIMITS) {
+        Ok(port) => Ok(port),
+        Err((fault, _)) => Err(Fail::from(fault)),
+    }
 }
 
 /// A list of this alone.
@@ -62,14 +68,21 @@ pub fn alone<T: Drop, A: Allocator>(alloc: A, item: T) -> Result<Vec<T, A>, Allo
     Ok(items)
 }
 
-/// So many ports, the device of each with a value of its own: 0x42, and its number less 1.
-fn numbered(alloc: Global, count: u8) -> Result<Vec<Port<Sim<Params>>>, Fail>
+/// A port whose device has a value of its own: 0x42, and this number.
+pub fn numbered_port(alloc: Global, number: u8) -> Result<Port<Sim<Params>>, Fail>
+    ensures { IfOk result (λ p. HasGiven p 0) }
+{
+    let wire = wired(alloc, &PLAIN, &[0x42, number], Vec::new(alloc))?;
+    open_port(alloc, wire)
+}
+
+/// So many ports, numbered from 0.
+pub fn numbered(alloc: Global, count: u8) -> Result<Vec<Port<Sim<Params>>>, Fail>
     ensures { IfOk result (λ v. (vec_len v ≡ count) × All (λ p. HasGiven p 0) v.items) }
 {
     let mut ports = Vec::new(alloc);
     for index in 0..count {
-        let wire = wired(alloc, &PLAIN, &[0x42, index], Vec::new(alloc))?;
-        ports.push(open_port(alloc, wire)?)?;
+        ports.push(numbered_port(alloc, index)?)?;
     }
     Ok(ports)
 }
@@ -105,21 +118,5 @@ pub fn open_one<W: Wire + Drop, L: Ledger, K: Ledger, A: Handle, R: Abort>(
     requires fresh { HasGiven port 0 }
 {
     let ports = alone(alloc, port)?;
-    Ok(open_master(rt, alloc, ports, clients, tickets))
-}
-
-/// A master over so many simulated ports.
-pub fn numbered_master<L: Ledger, K: Ledger, R: Abort>(
-    rt: &R,
-    alloc: Global,
-    count: u8,
-    clients: Blank,
-    tickets: Blank,
-) -> Result<Master<Sim<Params>, L, K>, Fail>
-    requires clients { IsBlankFor clients L.name L.parts 1025 }
-    requires tickets { IsBlankFor tickets K.name K.parts count }
-    requires count { (1 ≤ count) × (count ≤ 32) }
-{
-    let ports = numbered(alloc, count)?;
     Ok(open_master(rt, alloc, ports, clients, tickets))
 }

@@ -3,13 +3,13 @@ ghost use Rattle.std.specs.Prelude.{◌≡◌, IfOk};
 ghost use Rattle.iol_master.specs.Tickets.{HasGiven};
 ghost use Rattle.iol_master.specs.Ledgers.{IsBlankFor};
 
-use crate::calls::turns;
+use crate::calls::{check, turns};
 use crate::opening::{open_one, open_port};
 use crate::slow::{Flags, INPUT, START_UP, is_set, slow_wire};
 use iol_cell::{ImageSeat, image_cell};
 use iol_image::Image;
 use iol_link::Wire;
-use iol_master::{Master, MasterFault};
+use iol_master::Master;
 use iol_port::Port;
 use std::alloc::Global;
 use std::marker::Brand;
@@ -32,7 +32,7 @@ fn seat_at<W: Wire, R: Wait>(rt: &R, alloc: Global, port: &mut Port<W>) -> Resul
 }
 
 /// A port over this wire, and a seat of its images.
-fn shown_port<W: Wire + Drop, R: Wait>(
+pub fn shown_port<W: Wire + Drop, R: Wait>(
     rt: &R,
     alloc: Global,
     wire: W,
@@ -44,24 +44,12 @@ fn shown_port<W: Wire + Drop, R: Wait>(
     Ok((port, seat))
 }
 
-/// A master of one port over this wire, and a seat of its images.
-pub fn shown<W: Wire + Drop, L: Ledger, K: Ledger, R: Wait + Abort>(
-    rt: &R,
-    alloc: Global,
-    wire: W,
-    clients: Blank,
-    tickets: Blank,
-) -> Result<(Master<W, L, K>, ImageSeat), Fail>
-    requires clients { IsBlankFor clients L.name L.parts 1025 }
-    requires tickets { IsBlankFor tickets K.name K.parts 1 }
-{
-    let (port, seat) = shown_port(rt, alloc, wire)?;
-    Ok((open_one(rt, alloc, port, clients, tickets)?, seat))
-}
-
 /// Whether an image is there, and has these octets.
 pub fn is_image(image: Option<&Image>, octets: &[u8]) -> bool {
-    image.is_some_and(|image| image.octets() == octets)
+    match image {
+        Some(image) => image.octets() == octets,
+        None => false,
+    }
 }
 
 /// Whether a seat has these octets.
@@ -69,18 +57,33 @@ pub fn shows<R: Wait>(rt: &R, seat: &mut ImageSeat, octets: &[u8]) -> bool {
     is_image(seat.read(rt).as_ref(), octets)
 }
 
+/// Whether a seat has no image.
+pub fn is_empty<R: Wait>(rt: &R, seat: &mut ImageSeat) -> bool {
+    seat.read(rt).is_none()
+}
+
+fn restarts<W: Wire, L: Ledger, K: Ledger, R: Wait>(rt: &R, master: &Master<W, L, K>) -> bool {
+    match master.lock(rt, 1) {
+        Ok(mut held) => {
+            held.restart(rt);
+            true
+        }
+        Err(_) => false,
+    }
+}
+
 /// An image is there from the turn on that brought it, and up to a restart.
 fn publishes<W: Wire, L: Ledger, K: Ledger, R: Wait>(
     rt: &R,
     master: &Master<W, L, K>,
     seat: &mut ImageSeat,
-) -> Result<bool, MasterFault> {
-    turns(rt, master, 1, START_UP - 1)?;
-    let is_early = seat.read(rt).is_none();
-    turns(rt, master, 1, 1)?;
-    let is_there = shows(rt, seat, &INPUT);
-    master.lock(rt, 1)?.restart(rt);
-    Ok(is_early && is_there && seat.read(rt).is_none())
+) -> bool {
+    turns(rt, master, 1, START_UP - 1)
+        && is_empty(rt, seat)
+        && turns(rt, master, 1, 1)
+        && shows(rt, seat, &INPUT)
+        && restarts(rt, master)
+        && is_empty(rt, seat)
 }
 
 /// Reads a seat once an exchange waits for it. Answers whether it found the image.
@@ -100,7 +103,7 @@ fn beside<W: Wire, L: Ledger, K: Ledger, R: Threads + Wait + Sync>(
     master: &Master<W, L, K>,
     seat: ImageSeat,
     flags: &Flags,
-) -> (bool, Result<(), MasterFault>) {
+) -> (bool, bool) {
     flags.armed.store(true, Ordering::SeqCst);
     thread::join(
         rt,
@@ -110,26 +113,30 @@ fn beside<W: Wire, L: Ledger, K: Ledger, R: Threads + Wait + Sync>(
 }
 
 /// A seat reads what turns publish, and also while a turn is under way.
-fn held_row<L: Ledger, K: Ledger, R: Threads + Wait + Abort + Sync>(
+fn is_read<W: Wire + Drop, L: Ledger, K: Ledger, R: Threads + Wait + Abort + Sync>(
     rt: &R,
     alloc: Global,
+    wire: W,
+    flags: &Flags,
     clients: Blank,
     tickets: Blank,
 ) -> Result<(), Fail>
     requires clients { IsBlankFor clients L.name L.parts 1025 }
     requires tickets { IsBlankFor tickets K.name K.parts 1 }
 {
-    let (wire, flags) = slow_wire(alloc)?;
-    let (master, mut seat) = shown::<_, L, K, R>(rt, alloc, wire, clients, tickets)?;
-    assert!(rt; publishes(rt, &master, &mut seat)?);
-    turns(rt, &master, 1, START_UP)?;
-    assert!(rt; beside(rt, &master, seat, &flags) == (true, Ok(())));
-    assert!(rt; flags.was_let_go.load(Ordering::SeqCst));
+    let (port, mut seat) = shown_port(rt, alloc, wire)?;
+    let master = open_one::<W, L, K, Global, R>(rt, alloc, port, clients, tickets)?;
+    check(rt, publishes(rt, &master, &mut seat));
+    check(rt, turns(rt, &master, 1, START_UP));
+    check(rt, beside(rt, &master, seat, flags) == (true, true));
+    check(rt, flags.was_let_go.load(Ordering::SeqCst));
     Ok(())
 }
 
 /// Refuses a turn or a restart that leaves the cell as it was, and a read that waits for the lock.
 #[test]
 fn a_seat_is_read_while_the_lock_is_held(rt: HostRuntime) -> Result<(), Fail> {
-    held_row::<Brand, Brand, HostRuntime>(&rt, rt.alloc(), Blank::new(1025), Blank::new(1))
+    let (wire, flags) = slow_wire(rt.alloc())?;
+    let (clients, tickets) = (Blank::new(1025), Blank::new(1));
+    is_read::<_, Brand, Brand, HostRuntime>(&rt, rt.alloc(), wire, &flags, clients, tickets)
 }

@@ -3,11 +3,11 @@
 //! and the journal is looked at afterwards.
 ghost use Rattle.iol_master.specs.Ledgers.{IsBlankFor};
 
-use crate::calls::{answer, read};
+use crate::calls::{answer, check, read};
 use crate::desks::Open;
-use crate::lines::{port, serve};
-use crate::opening::{open_port, wired};
-use crate::seats::{is_image, shown, shows};
+use crate::lines::serve;
+use crate::opening::{LIMITS, open_one, open_port, wired};
+use crate::seats::{is_empty, is_image, shown_port, shows};
 use crate::slow::{ALARM, INPUT, START_UP, VALUE};
 use iol_app::Mode;
 use iol_book::{Entry, Outcome, Ticket};
@@ -18,7 +18,7 @@ use iol_link::{Rate, Wire};
 use iol_master::{Desk, Held, Line, LinePort, LineWorker, Master, MasterFault};
 use iol_mseq::Message;
 use iol_peers::{AnyWire, PROCESS_DATA, Peer};
-use iol_port::{Port, PortFault};
+use iol_port::{Port, PortCore, PortFault};
 use iol_sim::{Fate, Params, Sim, Step};
 use std::alloc::{AllocError, Global};
 use std::marker::Brand;
@@ -102,15 +102,21 @@ fn add(steps: &mut Vec<Step>, fate: Fate, count: u64) -> Result<(), AllocError> 
 
 /// The line starts up, and goes on for four exchanges; three replies are lost, and with them the
 /// link, and two wakes. Then the device reports an event, and later has another input.
-fn script(alloc: Global) -> Result<Vec<Step>, Fail> {
-    let mut steps = Vec::new(alloc);
-    steps.push(Step::Input(Image::new(&INPUT)?))?;
-    add(&mut steps, Fate::Clean, START_UP + BEFORE)?;
-    add(&mut steps, Fate::BackLost, LOST)?;
-    add(&mut steps, Fate::NoWake, 2)?;
+fn add_all(steps: &mut Vec<Step>, input: Image, later: Image) -> Result<(), AllocError> {
+    steps.push(Step::Input(input))?;
+    add(steps, Fate::Clean, START_UP + BEFORE)?;
+    add(steps, Fate::BackLost, LOST)?;
+    add(steps, Fate::NoWake, 2)?;
     steps.push(Step::Raise(ALARM))?;
-    add(&mut steps, Fate::Clean, 50)?;
-    steps.push(Step::Input(Image::new(&LATER)?))?;
+    add(steps, Fate::Clean, 50)?;
+    steps.push(Step::Input(later))?;
+    Ok(())
+}
+
+fn script(alloc: Global) -> Result<Vec<Step>, Fail> {
+    let (input, later) = (Image::new(&INPUT)?, Image::new(&LATER)?);
+    let mut steps = Vec::new(alloc);
+    add_all(&mut steps, input, later)?;
     Ok(steps)
 }
 
@@ -138,41 +144,62 @@ fn absent() -> Request {
     Request::read(Place { index: 17, sub: 0 })
 }
 
-/// How the three requests ended: the link was lost while the urgent one was under way.
-fn outcomes() -> Result<[Result<Outcome, PortFault>; 3], Fail> {
-    Ok([
-        Ok(answer(&VALUE)?),
-        Ok(Outcome::Done(Answer::Refused(0x80, 0x11))),
-        Ok(Outcome::Unknown(Cause::LinkLost)),
-    ])
+/// What three requests come to.
+#[derive(Drop)]
+struct Wanted {
+    /// The output that the device is to have.
+    output: Image,
+    /// How they ended: the link was lost while the urgent one was under way.
+    outcomes: [Result<Outcome, PortFault>; 3],
+    /// Their journal.
+    entries: [Entry; 12],
 }
 
-/// The journal of the three.
-fn entries() -> Result<[Entry; 12], Fail> {
-    Ok([
+impl Wanted {
+    fn new() -> Result<Wanted, Fail> {
+        let output = Image::new(&OUTPUT)?;
+        let outcomes = outcomes(answer(&VALUE)?);
+        let entries = entries(answer(&VALUE)?);
+        Ok(Wanted {
+            output,
+            outcomes,
+            entries,
+        })
+    }
+
+    fn are_outcomes(&self, came: &[Result<Outcome, PortFault>]) -> bool {
+        came == self.outcomes.as_slice()
+    }
+
+    /// Whether this is the journal, and nothing else.
+    fn are_entries(&self, archived: &[Entry]) -> bool {
+        archived == self.entries.as_slice()
+    }
+}
+
+fn outcomes(done: Outcome) -> [Result<Outcome, PortFault>; 3] {
+    [
+        Ok(done),
+        Ok(Outcome::Done(Answer::Refused(0x80, 0x11))),
+        Ok(Outcome::Unknown(Cause::LinkLost)),
+    ]
+}
+
+fn entries(done: Outcome) -> [Entry; 12] {
+    [
         Entry::Submitted(Ticket(1), read()),
         Entry::Submitted(Ticket(2), absent()),
         Entry::Urgent(Ticket(3), read()),
         Entry::Taken(Ticket(3)),
         Entry::Answered(Ticket(3), Outcome::Unknown(Cause::LinkLost)),
         Entry::Taken(Ticket(1)),
-        Entry::Answered(Ticket(1), answer(&VALUE)?),
+        Entry::Answered(Ticket(1), done),
         Entry::Taken(Ticket(2)),
         Entry::Answered(Ticket(2), Outcome::Done(Answer::Refused(0x80, 0x11))),
         Entry::Collected(Ticket(1)),
         Entry::Collected(Ticket(2)),
         Entry::Collected(Ticket(3)),
-    ])
-}
-
-/// Whether these are the three outcomes.
-fn are_outcomes(came: &[Result<Outcome, PortFault>]) -> Result<bool, Fail> {
-    Ok(came == outcomes()?.as_slice())
-}
-
-/// Whether this is the journal, and nothing else.
-fn are_entries(archived: &[Entry]) -> Result<bool, Fail> {
-    Ok(archived == entries()?.as_slice())
+    ]
 }
 
 /// The port is up, and wants an output.
@@ -212,13 +239,13 @@ fn is_up_again<W: Wire, K: Ledger>(held: &mut Held<W, K>, form: Form) -> bool {
 }
 
 /// All that was submitted has its outcome.
-fn is_done<W: Wire, K: Ledger>(held: &mut Held<W, K>) -> Result<bool, Fail> {
+fn is_done<W: Wire, K: Ledger>(held: &mut Held<W, K>, wanted: &Wanted) -> bool {
     let came = [
         held.collect(Ticket(1)),
         held.collect(Ticket(2)),
         held.collect(Ticket(3)),
     ];
-    are_outcomes(came.as_slice())
+    wanted.are_outcomes(came.as_slice())
 }
 
 /// The link is up again, and all is done.
@@ -226,18 +253,31 @@ fn has_all<W: Wire, L: Ledger, K: Ledger, R: Wait>(
     rt: &R,
     master: &Master<W, L, K>,
     form: Form,
-) -> Result<bool, Fail> {
-    let mut held = master.lock(rt, 1)?;
-    Ok(is_up_again(&mut *held, form) && is_done(&mut *held)?)
+    wanted: &Wanted,
+) -> bool {
+    match master.lock(rt, 1) {
+        Ok(mut held) => is_up_again(&mut *held, form) && is_done(&mut *held, wanted),
+        Err(_) => false,
+    }
 }
 
 /// The journal has it all, and nothing else.
 fn keeps_all<W: Wire, L: Ledger, K: Ledger, R: Wait>(
     rt: &R,
     master: &Master<W, L, K>,
-) -> Result<bool, Fail> {
-    let archived = master.lock(rt, 1)?.archive()?;
-    are_entries(archived.as_slice())
+    wanted: &Wanted,
+) -> bool {
+    match master.lock(rt, 1) {
+        Ok(mut held) => archives(&mut *held, wanted),
+        Err(_) => false,
+    }
+}
+
+fn archives<W: Wire, K: Ledger>(held: &mut Held<W, K>, wanted: &Wanted) -> bool {
+    match held.archive() {
+        Ok(archived) => wanted.are_entries(archived.as_slice()),
+        Err(_) => false,
+    }
 }
 
 /// The workers make so many turns.
@@ -250,35 +290,42 @@ fn served<W: Wire + Send, L: Ledger, K: Ledger + Sync, R: Threads + Wait + Sync>
 }
 
 /// The port is served up to OPERATE, through the silence, and on.
-fn through<W: Wire + Send, L: Ledger, K: Ledger + Sync, R: Threads + Wait + Abort + Sync>(
+fn through<W: Wire + Send, L: Ledger, K: Ledger + Sync, R: Threads + Wait + Sync>(
     rt: &R,
     master: &Master<W, L, K>,
     seat: &mut ImageSeat,
     form: Form,
-) -> Result<(), Fail> {
-    assert!(rt; served(rt, master, START_UP) && shows(rt, seat, &INPUT));
-    assert!(rt; wants_all(rt, master, &Image::new(&OUTPUT)?)?);
-    assert!(rt; served(rt, master, SILENCE) && seat.read(rt).is_none());
-    assert!(rt; served(rt, master, TURNS) && has_all(rt, master, form)?);
-    assert!(rt; served(rt, master, 1) && keeps_all(rt, master)?);
-    assert!(rt; shows(rt, seat, &LATER));
-    Ok(())
+    wanted: &Wanted,
+) -> Result<bool, MasterFault> {
+    let is_up = served(rt, master, START_UP) && shows(rt, seat, &INPUT);
+    let is_wanted = wants_all(rt, master, &wanted.output)?;
+    let is_silent = served(rt, master, SILENCE) && is_empty(rt, seat);
+    let is_done = served(rt, master, TURNS) && has_all(rt, master, form, wanted);
+    let is_kept = served(rt, master, 1) && keeps_all(rt, master, wanted);
+    Ok(is_up && is_wanted && is_silent && is_done && is_kept && shows(rt, seat, &LATER))
 }
 
-fn silent_row<L: Ledger, K: Ledger + Sync, R: Threads + Wait + Abort + Sync>(
+/// A master with a port that shows its images is served through the silence.
+fn is_served<W: Wire + Send + Drop, L: Ledger, K: Ledger + Sync, R>(
     rt: &R,
     alloc: Global,
+    wire: W,
     form: Form,
+    wanted: &Wanted,
     clients: Blank,
     tickets: Blank,
 ) -> Result<(), Fail>
+where
+    R: Threads + Wait + Abort + Sync,
     requires clients { IsBlankFor clients L.name L.parts 1025 }
     requires tickets { IsBlankFor tickets K.name K.parts 1 }
 {
-    let (wire, output) = watched_line(alloc, form)?;
-    let (master, mut seat) = shown::<_, L, K, R>(rt, alloc, wire, clients, tickets)?;
-    through(rt, &master, &mut seat, form)?;
-    assert!(rt; output.load(Ordering::SeqCst) == u64::from(OUTPUT[0]));
+    let (port, mut seat) = shown_port(rt, alloc, wire)?;
+    let master = open_one::<W, L, K, Global, R>(rt, alloc, port, clients, tickets)?;
+    check(
+        rt,
+        through(rt, &master, &mut seat, form, wanted) == Ok(true),
+    );
     Ok(())
 }
 
@@ -286,14 +333,19 @@ fn silent_row<L: Ledger, K: Ledger + Sync, R: Threads + Wait + Abort + Sync>(
 /// archives the journal, clears the output, or publishes no more.
 #[test]
 fn a_port_is_served_through_silence(rt: HostRuntime) -> Result<(), Fail> {
+    let wanted = Wanted::new()?;
     for &form in &[Form::Known, Form::Odd] {
-        silent_row::<Brand, Brand, HostRuntime>(
+        let (wire, output) = watched_line(rt.alloc(), form)?;
+        is_served::<_, Brand, Brand, HostRuntime>(
             &rt,
             rt.alloc(),
+            wire,
             form,
+            &wanted,
             Blank::new(1025),
             Blank::new(1),
         )?;
+        check(&rt, output.load(Ordering::SeqCst) == u64::from(OUTPUT[0]));
     }
     Ok(())
 }
@@ -307,15 +359,21 @@ fn wants_three<K: Ledger>(port: &mut LinePort<K>, output: &Image) -> bool {
 }
 
 /// The event came, and the three outcomes; the journal has them, and nothing else.
-fn has_three<K: Ledger>(port: &mut LinePort<K>) -> Result<bool, Fail> {
-    let event = port.take_event();
+fn has_three<K: Ledger>(port: &mut LinePort<K>, wanted: &Wanted) -> bool {
+    let is_alarm = port.take_event() == Ok(ALARM);
     let came = [
         port.collect(Ticket(1)),
         port.collect(Ticket(2)),
         port.collect(Ticket(3)),
     ];
-    let archived = port.archive()?;
-    Ok(event == Ok(ALARM) && are_outcomes(came.as_slice())? && are_entries(archived.as_slice())?)
+    is_alarm && wanted.are_outcomes(came.as_slice()) && keeps_three(port, wanted)
+}
+
+fn keeps_three<K: Ledger>(port: &mut LinePort<K>, wanted: &Wanted) -> bool {
+    match port.archive() {
+        Ok(archived) => wanted.are_entries(archived.as_slice()),
+        Err(_) => false,
+    }
 }
 
 /// A line is served through the silence, and has all that was asked of it.
@@ -323,29 +381,45 @@ fn line_through<W: Wire, K: Ledger, R: Wait>(
     rt: &R,
     line: &Line<K>,
     worker: &mut LineWorker<W, K>,
-    output: &Image,
-) -> Result<bool, Fail> {
+    wanted: &Wanted,
+) -> bool {
     serve(rt, line, worker, START_UP);
-    let is_wanted = wants_three(&mut *line.lock(rt), output);
+    let is_wanted = wants_three(&mut *line.lock(rt), &wanted.output);
     serve(rt, line, worker, TURNS);
-    Ok(is_wanted && has_three(&mut *line.lock(rt))?)
+    let has_three = has_three(&mut *line.lock(rt), wanted);
+    is_wanted && has_three
 }
 
-fn line_row<K: Ledger, R: Wait + Abort>(rt: &R, alloc: Global, hands: Blank) -> Result<(), Fail>
+/// A line is served through the silence, and gives its wire back.
+fn line_is_served<W: Wire + Drop, K: Ledger, R: Wait + Abort>(
+    rt: &R,
+    alloc: Global,
+    wire: W,
+    hands: Blank,
+    wanted: &Wanted,
+) -> Result<W, PortFault>
     requires { IsBlankFor hands K.name K.parts 1 }
 {
-    let (line, mut worker) = Line::<K>::open(port(alloc)?, scripted(alloc)?, hands);
-    let output = Image::new(&OUTPUT)?;
-    assert!(rt; line_through(rt, &line, &mut worker, &output)?);
-    let wire = worker.into_wire();
-    assert!(rt; wire.device().output() == Some(&output));
-    Ok(())
+    let core = PortCore::open(alloc, &LIMITS)?;
+    let (line, mut worker) = Line::<K>::open(core, wire, hands);
+    check(rt, line_through(rt, &line, &mut worker, wanted));
+    Ok(worker.into_wire())
 }
 
 /// Refuses a worker of a line that ends where the link is lost.
 #[test]
 fn a_line_is_served_through_silence(rt: HostRuntime) -> Result<(), Fail> {
-    line_row::<Brand, HostRuntime>(&rt, rt.alloc(), Blank::new(1))
+    let wanted = Wanted::new()?;
+    let wire = scripted(rt.alloc())?;
+    let wire = line_is_served::<_, Brand, HostRuntime>(
+        &rt,
+        rt.alloc(),
+        wire,
+        Blank::new(1),
+        &wanted,
+    )?;
+    check(&rt, wire.device().output() == Some(&wanted.output));
+    Ok(())
 }
 
 /// Makes so many turns of a port that no master has.
@@ -356,13 +430,14 @@ fn turns_shown<W: Wire, R: Wait>(rt: &R, port: &mut Port<W>, count: u64) {
 }
 
 /// A port that publishes nothing makes its turns, also over replies that are refused.
-fn is_turned<W: Wire, R: Wait>(rt: &R, port: &mut Port<W>) -> bool {
-    turns_shown(rt, port, START_UP);
+fn is_turned<W: Wire + Drop, R: Wait>(rt: &R, alloc: Global, wire: W) -> Result<bool, Fail> {
+    let mut port = open_port(alloc, wire)?;
+    turns_shown(rt, &mut port, START_UP);
     let is_up = is_image(port.image(), &INPUT);
-    turns_shown(rt, port, SILENCE + TURNS);
+    turns_shown(rt, &mut port, SILENCE + TURNS);
     let goes_on = port.status().event_form && is_image(port.image(), &LATER);
     port.restart_shown(rt);
-    is_up && goes_on && port.status().mode == Mode::Down
+    Ok(is_up && goes_on && port.status().mode == Mode::Down)
 }
 
 /// Refuses a `turn_shown` that makes no turn where no writer was given, or where a StatusCode was
@@ -370,7 +445,6 @@ fn is_turned<W: Wire, R: Wait>(rt: &R, port: &mut Port<W>) -> bool {
 #[test]
 fn a_turn_is_made_where_nothing_is_published(rt: HostRuntime) -> Result<(), Fail> {
     let (wire, _output) = watched_line(rt.alloc(), Form::Odd)?;
-    let mut port = open_port(rt.alloc(), wire)?;
-    assert!(rt; is_turned(&rt, &mut port));
+    check(&rt, is_turned(&rt, rt.alloc(), wire)?);
     Ok(())
 }

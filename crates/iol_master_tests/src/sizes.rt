@@ -1,7 +1,10 @@
 //! Sizes from which on something could say that there is no memory. No clause says that memory is
 //! lacking only where a growth was refused. What lines can say is in `tests/rows`.
+ghost use Rattle.std.specs.Prelude.{◌≤◌};
+
+use crate::calls::check;
 use crate::opening::open_port;
-use iol_cell::{ImageSeat, image_cell};
+use iol_cell::{CellFault, ImageSeat, image_cell};
 use iol_image::Image;
 use iol_link::Wire;
 use iol_mseq::Message;
@@ -21,15 +24,26 @@ fn all_read<R: Wait>(rt: &R, seats: &mut [ImageSeat], image: &Image) -> bool {
     true
 }
 
+/// Whether a cell has a seat for each of so many readers, who all read what is published.
+fn has_seats<R: Wait>(
+    rt: &R,
+    alloc: Global,
+    readers: usize,
+    image: &Image,
+) -> Result<bool, CellFault>
+    requires { (1 ≤ readers) × (readers ≤ 16) }
+{
+    let (mut writer, mut seats) = image_cell(rt, alloc, readers)?;
+    writer.publish(rt, Some(image));
+    Ok(seats.len() == readers && all_read(rt, seats.as_mut_slice(), image))
+}
+
 /// Refuses a cell that has no memory, or no seat of its own, from a number of readers on.
 #[test]
 fn a_cell_has_a_seat_for_each_reader(rt: HostRuntime) -> Result<(), Fail> {
     let image = Image::new(&[0x5A; 32])?;
     for &readers in &[1, 2, 8, 9, 16] {
-        let (mut writer, mut seats) = image_cell(&rt, rt.alloc(), readers)?;
-        assert!(rt; seats.len() == readers);
-        writer.publish(&rt, Some(&image));
-        assert!(rt; all_read(&rt, seats.as_mut_slice(), &image));
+        check(&rt, has_seats(&rt, rt.alloc(), readers, &image) == Ok(true));
     }
     Ok(())
 }
@@ -39,7 +53,7 @@ fn messages(alloc: Global, count: u16) -> Result<Vec<Message>, Fail> {
     let mut messages = Vec::new(alloc);
     for number in 0..count {
         let octets = number.to_be_bytes();
-        messages.push(Message::try_from(octets.as_slice()).map_err(|_| "too long")?)?;
+        messages.push(Message::try_from(octets.as_slice())?)?;
     }
     Ok(messages)
 }
@@ -54,13 +68,18 @@ fn has_each(wire: &mut Raw, messages: &[Message]) -> bool {
     wire.exchange(&[]).is_none()
 }
 
+/// Whether a wire has so many messages.
+fn has_messages(alloc: Global, count: u16) -> Result<bool, Fail> {
+    let messages = messages(alloc, count)?;
+    let mut wire = Raw::new(alloc, messages.as_slice())?;
+    Ok(has_each(&mut wire, messages.as_slice()))
+}
+
 /// Refuses a wire that has no memory for many messages.
 #[test]
 fn a_raw_wire_has_each_message(rt: HostRuntime) -> Result<(), Fail> {
     for &count in &[0, 1, 2, 255, 256, 257, 1_000] {
-        let messages = messages(rt.alloc(), count)?;
-        let mut wire = Raw::new(rt.alloc(), messages.as_slice())?;
-        assert!(rt; has_each(&mut wire, messages.as_slice()));
+        check(&rt, has_messages(rt.alloc(), count)?);
     }
     Ok(())
 }
@@ -75,13 +94,21 @@ fn runs<W: Wire>(alloc: Global, port: &mut Port<W>, count: usize) -> Result<bool
     Ok(answers.len() == count)
 }
 
+/// Whether a port over this wire runs a list of each length.
+fn runs_all<W: Wire + Drop>(alloc: Global, wire: W) -> Result<bool, Fail> {
+    let mut port = open_port(alloc, wire)?;
+    for &count in &[0, 1, 255, 256, 257, 1_000] {
+        if !runs(alloc, &mut port, count)? {
+            return Ok(false);
+        }
+    }
+    Ok(true)
+}
+
 /// Refuses a run that has no memory for an empty list of calls, or for a long one.
 #[test]
 fn a_port_runs_lists_of_each_length(rt: HostRuntime) -> Result<(), Fail> {
     let wire = Raw::new(rt.alloc(), &[])?;
-    let mut port = open_port(rt.alloc(), wire)?;
-    for &count in &[0, 1, 255, 256, 257, 1_000] {
-        assert!(rt; runs(rt.alloc(), &mut port, count)?);
-    }
+    check(&rt, runs_all(rt.alloc(), wire)?);
     Ok(())
 }

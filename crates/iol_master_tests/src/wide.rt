@@ -1,14 +1,16 @@
 //! A master of 32 ports with unequal answers, whose gate says no to each at a turn of its own, and
 //! a desk with more than a thousand submits.
-ghost use Rattle.std.specs.Prelude.{◌≡◌};
+ghost use Rattle.std.specs.Prelude.{◌≡◌, ◌≤◌, All, vec_len};
+ghost use Rattle.iol_master.specs.Tickets.{HasGiven};
 ghost use Rattle.iol_master.specs.Ledgers.{IsBlankFor};
 
-use crate::calls::{answer, collected, read};
-use crate::opening::numbered_master;
+use crate::calls::{answer, check, gives, read};
+use crate::opening::{numbered, numbered_port, open_master, open_one};
 use iol_book::{Entry, Outcome, Ticket};
 use iol_isdu::{Place, Request};
 use iol_link::Wire;
-use iol_master::{Desk, Gate, Master, MasterFault, Settled, Tally};
+use iol_master::{Desk, Gate, Held, Master, Settled, Tally};
+use iol_port::Port;
 use std::alloc::Global;
 use std::marker::Brand;
 use std::process::Abort;
@@ -60,13 +62,16 @@ fn submits<W: Wire, L: Ledger, K: Ledger, R: Wait>(
     rt: &R,
     master: &Master<W, L, K>,
     number: u8,
-) -> Result<bool, MasterFault> {
-    let mut desk = master.desk(rt, u32::from(number))?;
-    Ok(
-        master.submit(rt, &mut desk, read()) == Ok(Ticket(1))
-            && desk.port() == u32::from(number)
-            && master.settle(rt, desk) == Settled::Last(1, u64::from(number)),
-    )
+) -> bool {
+    let Ok(mut desk) = master.desk(rt, u32::from(number)) else {
+        return false;
+    };
+    let given = master.submit(rt, &mut desk, read());
+    let port = desk.port();
+    let told = master.settle(rt, desk);
+    given == Ok(Ticket(1))
+        && port == u32::from(number)
+        && told == Settled::Last(1, u64::from(number))
 }
 
 /// The port of this index was served up to its own turn, and has its own answer.
@@ -78,66 +83,65 @@ fn was_served<W: Wire, L: Ledger, K: Ledger, R: Wait>(
 ) -> Result<bool, Fail> {
     let port = u32::from(index) + 1;
     let last = CLOSING.saturating_add(u64::from(port));
-    let wanted = answer(&[0x42, index])?;
-    Ok(gate.last_asked(index) == Some(last) && collected(rt, master, port, Ticket(1)) == Ok(wanted))
+    let wanted = Ok(answer(&[0x42, index])?);
+    Ok(gate.last_asked(index) == Some(last) && gives(rt, master, port, Ticket(1), &wanted))
 }
 
 /// Submits at each port, serves all of them, and looks at each.
 fn serve_all<W: Wire + Send, L: Ledger, K: Ledger + Sync, R: Threads + Wait + Abort + Sync>(
     rt: &R,
-    alloc: Global,
     master: &Master<W, L, K>,
+    gate: &Closing,
 ) -> Result<(), Fail> {
     for index in 0..PORTS {
-        assert!(rt; submits(rt, master, index + 1)?);
+        check(rt, submits(rt, master, index + 1));
     }
-    let gate = Closing::new(alloc)?;
-    assert!(rt; master.serve(rt, &gate, 2_000) == Ok(()));
+    check(rt, master.serve(rt, gate, 2_000) == Ok(()));
     for index in 0..PORTS {
-        assert!(rt; was_served(rt, master, &gate, index)?);
+        check(rt, was_served(rt, master, gate, index)?);
     }
     Ok(())
 }
+
+/// The tally of a request at each port, and of a desk that is open.
+const WIDE: Tally = Tally {
+    desks: 1,
+    settled: 32,
+    tickets: 32,
+};
 
 /// All ports are served, and a tally counts what was settled and a desk that is open.
 fn is_wide<W: Wire + Send + Drop, L: Ledger + Sync, K: Ledger + Sync, R>(
     rt: &R,
     alloc: Global,
-    master: Master<W, L, K>,
-) -> Result<(), Fail>
-where
-    R: Threads + Wait + Abort + Sync,
-{
-    serve_all(rt, alloc, &master)?;
-    let open = master.desk(rt, u32::from(PORTS))?;
-    let tally = Tally {
-        desks: 1,
-        settled: 32,
-        tickets: 32,
-    };
-    assert!(rt; master.close() == tally);
-    drop(open);
-    Ok(())
-}
-
-fn wide_row<L: Ledger + Sync, K: Ledger + Sync, R: Threads + Wait + Abort + Sync>(
-    rt: &R,
-    alloc: Global,
+    ports: Vec<Port<W>>,
+    gate: &Closing,
     clients: Blank,
     tickets: Blank,
 ) -> Result<(), Fail>
+where
+    R: Threads + Wait + Abort + Sync,
     requires clients { IsBlankFor clients L.name L.parts 1025 }
-    requires tickets { IsBlankFor tickets K.name K.parts 32 }
+    requires tickets { IsBlankFor tickets K.name K.parts (vec_len ports) }
+    requires count { (1 ≤ vec_len ports) × (vec_len ports ≤ 32) }
+    requires fresh { All (λ p. HasGiven p 0) ports.items }
 {
-    let master = numbered_master::<L, K, R>(rt, alloc, PORTS, clients, tickets)?;
-    is_wide(rt, alloc, master)
+    let master = open_master::<W, L, K, Global, R>(rt, alloc, ports, clients, tickets);
+    serve_all(rt, &master, gate)?;
+    let open = master.desk(rt, u32::from(PORTS))?;
+    check(rt, master.close() == WIDE);
+    drop(open);
+    Ok(())
 }
 
 /// Refuses workers that end after a thousand turns, that ask the gate for another port or that
 /// make turns of another, and a tally that leaves out desks or ports.
 #[test]
 fn thirty_two_ports_are_served(rt: HostRuntime) -> Result<(), Fail> {
-    wide_row::<Brand, Brand, HostRuntime>(&rt, rt.alloc(), Blank::new(1025), Blank::new(32))
+    let gate = Closing::new(rt.alloc())?;
+    let ports = numbered(rt.alloc(), PORTS)?;
+    let (clients, tickets) = (Blank::new(1025), Blank::new(32));
+    is_wide::<_, Brand, Brand, HostRuntime>(&rt, rt.alloc(), ports, &gate, clients, tickets)
 }
 
 /// The longest write.
@@ -162,12 +166,23 @@ fn takes_back<W: Wire, L: Ledger, K: Ledger, R: Wait>(
     ticket: Ticket,
 ) -> Result<bool, Fail> {
     let wanted = entries(ticket)?;
-    let mut held = master.lock(rt, 1)?;
-    Ok(
-        held.withdraw(ticket) == Ok(())
-            && held.collect(ticket) == Ok(Outcome::Withdrawn)
-            && held.archive()?.as_slice() == wanted.as_slice(),
-    )
+    match master.lock(rt, 1) {
+        Ok(mut held) => Ok(is_taken_back(&mut *held, ticket, wanted.as_slice())),
+        Err(_) => Ok(false),
+    }
+}
+
+fn is_taken_back<W: Wire, K: Ledger>(
+    held: &mut Held<W, K>,
+    ticket: Ticket,
+    wanted: &[Entry],
+) -> bool {
+    let is_withdrawn = held.withdraw(ticket) == Ok(());
+    let is_told = held.collect(ticket) == Ok(Outcome::Withdrawn);
+    match held.archive() {
+        Ok(archived) => is_withdrawn && is_told && archived.as_slice() == wanted,
+        Err(_) => false,
+    }
 }
 
 /// Submits so many writes at a desk, each of which is taken back.
@@ -178,46 +193,44 @@ fn submit_many<W: Wire, L: Ledger, K: Ledger, R: Wait + Abort>(
     count: u64,
 ) -> Result<(), Fail> {
     for number in 1..=count {
-        assert!(rt; master.submit(rt, desk, write()?) == Ok(Ticket(number)));
-        assert!(rt; takes_back(rt, master, Ticket(number))?);
+        let request = write()?;
+        check(rt, master.submit(rt, desk, request) == Ok(Ticket(number)));
+        check(rt, takes_back(rt, master, Ticket(number))?);
     }
     Ok(())
 }
 
+/// The tally of so many submits at a desk that was settled.
+const FAR: Tally = Tally {
+    desks: 0,
+    settled: 1_100,
+    tickets: 1_100,
+};
+
 /// A desk counts each of its submits, and so does the tally.
 fn counts_far<W: Wire + Drop, L: Ledger, K: Ledger, R: Wait + Abort>(
     rt: &R,
-    master: Master<W, L, K>,
-) -> Result<(), Fail> {
-    let mut desk = master.desk(rt, 1)?;
-    submit_many(rt, &master, &mut desk, 1_100)?;
-    assert!(rt; master.settle(rt, desk) == Settled::Last(1_100, 1_100));
-    let tally = Tally {
-        desks: 0,
-        settled: 1_100,
-        tickets: 1_100,
-    };
-    assert!(rt; master.close() == tally);
-    Ok(())
-}
-
-fn far_row<L: Ledger, K: Ledger, R: Wait + Abort>(
-    rt: &R,
     alloc: Global,
+    port: Port<W>,
     clients: Blank,
     tickets: Blank,
 ) -> Result<(), Fail>
     requires clients { IsBlankFor clients L.name L.parts 1025 }
     requires tickets { IsBlankFor tickets K.name K.parts 1 }
+    requires fresh { HasGiven port 0 }
 {
-    counts_far(
-        rt,
-        numbered_master::<L, K, R>(rt, alloc, 1, clients, tickets)?,
-    )
+    let master = open_one::<W, L, K, Global, R>(rt, alloc, port, clients, tickets)?;
+    let mut desk = master.desk(rt, 1)?;
+    submit_many(rt, &master, &mut desk, 1_100)?;
+    check(rt, master.settle(rt, desk) == Settled::Last(1_100, 1_100));
+    check(rt, master.close() == FAR);
+    Ok(())
 }
 
 /// Refuses a desk that counts in ten bits, and a submit that enters another or a shorter request.
 #[test]
 fn a_desk_counts_far(rt: HostRuntime) -> Result<(), Fail> {
-    far_row::<Brand, Brand, HostRuntime>(&rt, rt.alloc(), Blank::new(1025), Blank::new(1))
+    let port = numbered_port(rt.alloc(), 0)?;
+    let (clients, tickets) = (Blank::new(1025), Blank::new(1));
+    counts_far::<_, Brand, Brand, HostRuntime>(&rt, rt.alloc(), port, clients, tickets)
 }

@@ -1,10 +1,9 @@
 use denote.Param.Send.{sendable}
 use Rattle.std.proofs.Crossing.{crosses}
-use Rattle.iol_master.proofs.accounts.Desk.TheSendSync.{the_send}
 use Rattle.iol_master.proofs.Crosses.{master_sync}
 use Rattle.iol_master_tests.proofs.masters.both.Goals as goal
 
--- a client owns its desk, and borrows the master and the runtime
+-- a thread borrows the master and the runtime
 pub join-requires-send-F : goal.join-requires-send-F
 join-requires-send-F g c κs within =
-    search (master_sync, the_send, crosses, sendable) depth 60 fits 20000
+    search (master_sync, crosses, sendable) depth 60 fits 20000

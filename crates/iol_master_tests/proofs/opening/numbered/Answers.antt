@@ -13,5 +13,5 @@ loop-index-preserved c =
     let before = c.loop-index.invariant in (
       one_more _ _ _ pushed.len before.0,
       rw pushed.items
-          (All-push (λ p. HasGiven p 0) _ _ before.1 c.in_ok-open_port.ensures),
+          (All-push (λ p. HasGiven p 0) _ _ before.1 c.in_ok-numbered_port.ensures),
     )

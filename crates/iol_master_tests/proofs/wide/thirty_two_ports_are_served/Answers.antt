@@ -1,7 +1,7 @@
 use denote.Param.Send.{sendable}
 use Rattle.std.proofs.Crossing.{crosses}
 use Rattle.iol_sim.proofs.Crosses.{sim_send}
-use Rattle.iol_master_tests.proofs.wide.wide_row.Goals as goal
+use Rattle.iol_master_tests.proofs.wide.thirty_two_ports_are_served.Goals as goal
 
 pub is_wide-requires-send-W : goal.is_wide-requires-send-W
-is_wide-requires-send-W g c κs within = search (sim_send, crosses, sendable) depth 60 fits 20000
+is_wide-requires-send-W c κs within = search (sim_send, crosses, sendable) depth 60 fits 20000
