@@ -1,13 +1,14 @@
 /* How much stack each call takes: what lies below it is painted, the call is made, and what it overwrote is counted.
- * Each line says that a call stays below the bound of docs/guide.md, in whatever the runs below lead it to, and this is
+ * Each line says that a call stays below the bound of docs/speed.md, in whatever the runs below lead it to, and this is
  * compared with stack.stdout. `stack measure` prints the octets instead, which differ from one machine to another; 256
- * means 256 or less. */
+ * means 256 or less. It is to run with LD_BIND_NOW=1: else the first call of a function of the C library counts what the
+ * dynamic linker needs to find it. */
 #include "iolink_port.h"
 #include "iolink_device.h"
 #include <stdio.h>
 #include <string.h>
 
-enum { KB = 1024, BOUND = 32 * KB, ROOM = 64 * KB, SKIPPED = 256, LONGEST = 232 };
+enum { KB = 1024, OF_OPENING = 8 * KB, OF_CALL = 4 * KB, ROOM = 64 * KB, SKIPPED = 256, LONGEST = 232 };
 
 #define PAINT UINT64_C(0xA5C3A5C3A5C3A5C3)
 
@@ -29,6 +30,12 @@ enum { EACH_CALL(AT) CALLS };
 static const char *const names[CALLS] = {EACH_CALL(NAME)};
 
 static size_t deepest[CALLS];
+
+/* Below how many octets a call has to stay. */
+static size_t bound(int call)
+{
+    return call == at_iol_port_open || call == at_iol_device_open ? OF_OPENING : OF_CALL;
+}
 
 /* Paints what lies below the caller, but for the little that this function stands on itself. */
 static __attribute__((noinline)) void paint(void)
@@ -249,7 +256,7 @@ int main(int count, char **words)
         if (measures)
             printf("%s %zu\n", names[call], deepest[call]);
         else
-            printf("%s %s %d KB\n", names[call], deepest[call] < BOUND ? "below" : "NOT below", BOUND / KB);
+            printf("%s %s %zu KB\n", names[call], deepest[call] < bound(call) ? "below" : "NOT below", bound(call) / KB);
     }
     return 0;
 }

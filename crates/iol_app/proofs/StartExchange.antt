@@ -63,7 +63,7 @@ use Rattle.iol_app.proofs.StartMessages.{step_channel, sends_channel, preoperate
 use Rattle.iol_app.proofs.Telling.{startup_layout, told_layout, told_told, told_shown}
 use Rattle.iol_app.specs.Core.{Core, Ghost, Stands, CallGives, RequestStands, EventsStand, OutputStands, OutputOff, CalmAt, ShownStands, moment_of, seen_in, shown_in, images_in, after_exchange}
 use Rattle.iol_mode.specs.Exchanges.{text_out}
-use Rattle.iol_app.proofs.FarSide.{Goes, silent, outputs_sent, outputs_after, opens_after}
+use Rattle.iol_app.proofs.FarSide.{Goes, outputs_sent, outputs_after, opens_after}
 
 pub data Start : Type 0 where
   InStart : Startup → Start

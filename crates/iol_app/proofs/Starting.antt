@@ -39,7 +39,6 @@ use Rattle.iol_steps.specs.declared.mode.Mode.TheVariants.{Down as ModeDown, Sta
 use Rattle.iol_steps.specs.declared.said.Said.TheVariants.{Idle}
 use Rattle.iol_steps.specs.Step.{Step, Move as MoveTo, Exchanged, Moment, silence_by, page_fault, fault_in}
 use Rattle.iol_steps.specs.Session.{MayMove}
-use Rattle.iol_steps.specs.Station as steps
 use Rattle.iol_app.proofs.Given.{Laws, all_laws, page_locals, page_after as page_passed}
 use Rattle.iol_app.proofs.EventReading.{ends_hold}
 use Rattle.iol_app.specs.State.{SessionState, IsSession, told, entered}
@@ -49,7 +48,7 @@ use Rattle.iol_app.specs.Core.{Ghost, Stands, CallGives, Rises, moment_of, after
 use Rattle.iol_mode.specs.Exchanges.{text_out, judged}
 use Rattle.iol_app.proofs.FarSide.{silent, replied, IsReplied}
 use Rattle.iol_app.proofs.SmallFacts.{third_time}
-use Rattle.iol_app.proofs.StartExchange.{InStart, InPre, Start, state_at, mode_at, same_expected, still, is_still, Message, level, message_of, rests_of, c, o, going, unconfirmed, Ends, gives, stays, falls, climbs, tells, enters}
+use Rattle.iol_app.proofs.StartExchange.{InStart, InPre, Start, state_at, mode_at, same_expected, still, is_still, Message, message_of, rests_of, going, unconfirmed, Ends, gives, stays, falls, climbs, tells, enters}
 
 -- what is known of every start-up
 record Known : Type 0 where

@@ -1,28 +1,34 @@
 -- The two pieces of a turn, without the wire: what goes out, and what is made of what comes back.
 use Rattle.std.specs.Prelude.{◌≡◌, ◌⊎◌, ℕ, Bool, true, false, List, Option, Some, None, IsTrue}
+use Rattle.arrayvec.specs.ArrayVec.{ArrayVec}
 use Rattle.iol_octets.specs.Checksum.{has_checksum}
 use Rattle.iol_mseq.specs.Master.{HasMasterParts}
 use Rattle.iol_mseq.specs.declared.master.MasterMsg.{MasterMsg}
 use Rattle.iol_far.specs.Far.{Far}
+use Rattle.iol_far.specs.Octets.{octets_in}
 use Rattle.iol_page.specs.declared.page.Layouts.{Layouts}
 use Rattle.iol_link.specs.Attempts.{Sending}
 use Rattle.iol_link.specs.Honest.{HonestWake, HonestExchange}
+use Rattle.iol_link.specs.WireFacts.{WireFacts, Passes}
 use Rattle.iol_mode.specs.declared.states.State.{State}
 use Rattle.iol_mode.specs.declared.states.State.TheVariants.{Operate as AtOperate}
-use Rattle.iol_mode.specs.Exchanges.{IsSending, text_out, layout_out}
+use Rattle.iol_mode.specs.Exchanges.{IsSending, AreFew, ExchangeGives, text_out, layout_out}
 use Rattle.iol_mode.specs.Messages.{unsent}
-use Rattle.iol_mode.specs.States.{IsDown}
+use Rattle.iol_mode.specs.States.{IsDown, OutcomeFits}
 use Rattle.iol_steps.specs.Step.{no_make}
 use Rattle.iol_steps.specs.declared.said.Said.{Said}
 use Rattle.iol_steps.specs.declared.said.Said.TheVariants.{Idle}
 use Rattle.iol_app.specs.declared.asked.Asked.{Asked}
 use Rattle.iol_app.specs.declared.asked.Asked.TheVariants.{Wake, Exchange}
+use Rattle.iol_app.specs.declared.brought.Brought.{Brought}
 use Rattle.iol_app.specs.Asking.{outgoing}
+use Rattle.iol_app.specs.Brought.{brought_in}
 use Rattle.iol_app.specs.Due.{due_of}
 use Rattle.iol_app.specs.Outputs.{carried_by}
 use Rattle.iol_app.specs.Reports.{is_reading}
 use Rattle.iol_app.specs.State.{SessionState, sending, IsMessageFor}
-use Rattle.iol_app.specs.Core.{Core, Ghost, Stands, IsAttempted, CallGives, SendGives, core_out, made_ghost, ordered}
+use Rattle.iol_app.specs.StationState.{IsSettledSaid}
+use Rattle.iol_app.specs.Core.{Core, Ghost, Stands, IsAttempted, CallGives, SendGives, after_exchange, came_of, core_out, made_ghost, ordered}
 
 -- What is out
 
@@ -66,6 +72,21 @@ IsSent room old new = SentBy old.state room old new
 abbrev pub ReadsOn : Bool → Core → Core → Type 0
 ReadsOn room old new =
     is_reading new.session ≡ true → (is_reading old.session ≡ true) ⊎ (room ≡ true)
+
+-- The message that is out went out over the wire, and what came back was taken up
+pub record IsPassed {W : Type 0} (facts : WireFacts W) (wire wire_new : W) (old : Core)
+    (said : Said)
+    (brought : Brought) (new : Core) : Type 0 where
+  pub came : Option (ArrayVec ℕ)
+  pub called : facts.exchange_gives wire (text_out old.state) came wire_new
+  pub passes : Passes facts wire (text_out old.state) came wire_new
+  pub honesty : facts.honest wire_new ≡ facts.honest wire
+  pub few : AreFew old.state
+  pub fits : OutcomeFits (came_of old (octets_in came))
+  pub gives : ExchangeGives old.state (octets_in came) (came_of old (octets_in came))
+  pub is : new ≡ after_exchange (came_of old (octets_in came)) old.session
+  pub said_is : IsSettledSaid (came_of old (octets_in came)) old.session said
+  pub brought_is : brought ≡ brought_in old.state (octets_in came)
 
 -- Over an honest wire
 

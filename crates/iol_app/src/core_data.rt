@@ -4,7 +4,7 @@ ghost use Rattle.std.specs.Result.{result_err};
 ghost use Rattle.std.specs.Option.{option_copied, option_map};
 ghost use Rattle.iol_far.specs.Octets.{octets_in};
 ghost use Rattle.iol_link.specs.Attempts.{attempt_in};
-ghost use Rattle.iol_link.specs.WireFacts.{Wakes, Passes};
+ghost use Rattle.iol_link.specs.WireFacts.{Wakes};
 ghost use Rattle.iol_mode.specs.States.{IsDown, OutcomeFits, outcome_with};
 ghost use Rattle.iol_mode.specs.Stands.{StateStands};
 ghost use Rattle.iol_mode.specs.Exchanges.{IsSending, AreFew, ExchangeGives, StandsOn, WakeStands, tries_in, text_out};
@@ -17,7 +17,7 @@ ghost use Rattle.iol_app.specs.StationState.{mode_in, why_in, page_in, operates,
 ghost use Rattle.iol_app.specs.Asking.{asked_in, beginning_in, asked_of, outgoing, IsCall};
 ghost use Rattle.iol_app.specs.Brought.{brought_in, brought_facts};
 ghost use Rattle.iol_app.specs.Core.{after_exchange, after_wake, came_of, opened_core, restarted_core, wanting_core, IsRight};
-ghost use Rattle.iol_app.specs.Pieces.{IsAskedOut, IsOut, IsSent, ReadsOn, SendSteps, WakeSteps, ReceiveSteps};
+ghost use Rattle.iol_app.specs.Pieces.{IsAskedOut, IsOut, IsSent, IsPassed, ReadsOn, SendSteps, WakeSteps, ReceiveSteps};
 ghost use Rattle.iol_app.specs.Seen.{station_of, NewSteps, BeginSteps, DenySteps, AbortSteps, CancelSteps, WantSteps, RestartSteps, TurnSteps};
 
 use crate::asked::{Asked, Outgoing};
@@ -439,8 +439,7 @@ impl Core {
         station_laws();
         self.session.is_valid();
         if self.put_next(room) {
-            let came = self.pass(wire);
-            self.take(&came, said)
+            self.exchange(wire, said)
         } else {
             let rate = wire.wake();
             self.take_wake(rate);
@@ -448,16 +447,19 @@ impl Core {
         }
     }
 
-    /// The message that is out goes out over this wire, which answers what comes back.
-    fn pass<W: Wire>(&self, wire: &mut W) -> Option<Message>
-        requires { IsSending self.now.state }
-        ensures gives { W.facts.exchange_gives wire.old (text_out self.now.state) result wire.new }
-        ensures passes { Passes W.facts wire.old (text_out self.now.state) result wire.new }
-        ensures honesty { W.facts.honest wire.new ≡ W.facts.honest wire.old }
+    /// The message that is out goes out over this wire, and what comes back is taken.
+    fn exchange<W: Wire>(&mut self, wire: &mut W, said: &mut Said) -> Brought
+        requires idle { said.old ≡ Said.Idle }
+        requires out { IsSending self.old.state }
+        ensures passed { IsPassed W.facts wire.old wire.new self.old said.new result self.new }
+        ensures request { request_in self.new.session.current
+            ≡ request_after (request_in self.old.session.current) said.new }
+        ensures valid { IsSession self.old.session }
     {
         let mut sent = Message::new();
         self.state.write(&mut sent);
-        wire.exchange(sent.as_slice())
+        let came = wire.exchange(sent.as_slice());
+        self.take(&came, said)
     }
 }
 

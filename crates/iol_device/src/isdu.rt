@@ -15,7 +15,7 @@ use crate::record::Record;
 use iol_isdu::{Answer, Place, Request};
 use iol_mseq::{Message, append_first, append_zeros};
 use iol_octets::Flow;
-use iol_segment::{Cutter, Joiner, Reaction, cut_is_whole};
+use iol_segment::{Cutter, Joiner, Reaction, Took, cut_is_whole};
 use std::marker::Model;
 
 /// What stands in the place of a request and its answer while there are none.
@@ -292,12 +292,12 @@ fn take(joiner: &mut Joiner, cutter: &mut Cutter<Reaction>, flow: Flow, octets: 
     ensures size { cutter.new.size ≡ cutter.old.size }
     ensures kept { IsKeptAt result joiner.new cutter.new }
 {
-    if joiner.take(flow, octets).is_err() {
-        Stage::Empty
-    } else if joiner.is_whole() {
-        complete(joiner, cutter, flow)
-    } else {
-        Stage::Receiving
+    match joiner.take(flow, octets) {
+        Err(_) => Stage::Empty,
+        Ok(Took::Whole) => complete(joiner, cutter, flow),
+        Ok(Took::More) => Stage::Receiving,
+        // The last segment again.
+        Ok(Took::Repeat) => Stage::Receiving,
     }
 }
 

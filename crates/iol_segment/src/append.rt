@@ -9,6 +9,10 @@ pub(crate) fn append<const N: usize>(into: &mut ArrayVec<u8, N>, size: usize, oc
     requires fits { length into.old.items ≤ size }
     ensures { into.new.items ≡ take size (into.old.items ++ octets.now) }
 {
+    // Most segments lie in one of the two pieces of their text.
+    if octets.is_empty() {
+        return;
+    }
     let count = octets.len().min(size - into.len());
     into.try_extend_from_slice(&octets[..count]).unwrap();
 }

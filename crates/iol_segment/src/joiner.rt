@@ -8,7 +8,7 @@ ghost use Rattle.iol_isdu.specs.Requests.{BeginsWithRequest, request_accepts};
 ghost use Rattle.iol_isdu.specs.Answers.{BeginsWithAnswer, answer_fault, is_read};
 ghost use Rattle.iol_isdu.specs.Parse.{request_of};
 ghost use Rattle.iol_segment.specs.Join.{Joining, Grown, empty, taken, counted, staged, stage, is_whole, next_count};
-ghost use Rattle.iol_segment.specs.declared.took.Took.TheVariants.{Whole};
+ghost use Rattle.iol_segment.specs.declared.took.Took.TheVariants.{More, Whole};
 ghost use Rattle.iol_segment.specs.declared.took.JoinFault.TheVariants.{WrongCount};
 
 use crate::append::append;
@@ -85,6 +85,7 @@ impl Joiner {
         ensures joining { self.new ≡ (taken self.old flow octets.now).joining }
         ensures kind { self.new.requests ≡ self.old.requests }
         ensures whole { result ≡ Ok Whole → IsTrue (is_whole self.new.text) }
+        ensures more { result ≡ Ok More → is_whole self.new.text ≡ false }
     {
         match flow {
             Flow::Start => {
@@ -224,6 +225,7 @@ impl Joiner {
         ensures joining { self.new ≡ (counted self.old count octets.now).joining }
         ensures kind { self.new.requests ≡ self.old.requests }
         ensures whole { result ≡ Ok Whole → IsTrue (is_whole self.new.text) }
+        ensures more { result ≡ Ok More → is_whole self.new.text ≡ false }
     {
         if self.count == Some(count) {
             return Ok(Took::Repeat);
@@ -257,6 +259,7 @@ impl Joiner {
             (stage (self.old.text ++ octets.now))).joining }
         ensures kind { self.new.requests ≡ self.old.requests }
         ensures whole { result ≡ Ok Whole → IsTrue (is_whole self.new.text) }
+        ensures more { result ≡ Ok More → is_whole self.new.text ≡ false }
     {
         self.started = true;
         self.count = count;
@@ -285,6 +288,7 @@ fn grow(text: &mut Text, octets: &[u8]) -> Result<Took, JoinFault>
     ensures grown { Grown (stage (text.old.items ++ octets.now)) (text.old.items ++ octets.now)
         result text.new.items }
     ensures whole { result ≡ Ok Whole → IsTrue (is_whole text.new.items) }
+    ensures more { result ≡ Ok More → is_whole text.new.items ≡ false }
 {
     // To the proof this says that the text has no more than its longest.
     let _ = text.len();

@@ -42,41 +42,42 @@ returns-else-put_next-clause-steps g c =
     steps) c.wake-rate.ensures.wakes c.wake-rate.ensures.honesty c.wake-rate.ensures.quiet
 
 -- the message that is out is the one asked for
-is_out : (g : given.Over) (c : goal.After-take g)
+is_out : (g : given.Over) (c : goal.After-exchange g)
     → IsOut true (asked_in c.args.self.now.state c.args.self.now.session c.args.room)
     c.put_next.new.self.state
 is_out g c =
     subst (λ (is : Bool). IsOut is (asked_in c.args.self.now.state c.args.self.now.session
     c.args.room) c.put_next.new.self.state) c.if-put_next.true c.put_next.ensures.out
 
-exchanged : (g : given.Over) (c : goal.After-take g)
-    → Exchanged g.W.Wire.facts c.args.wire.now c.pass-came.new.wire c.args.room
-    c.take.new.said c.put_next.new.self c.take.new.self
+exchanged : (g : given.Over) (c : goal.After-exchange g)
+    → Exchanged g.W.Wire.facts c.args.wire.now c.exchange.new.wire c.args.room
+    c.exchange.new.said c.put_next.new.self c.exchange.new.self
 exchanged g c = record {
-  answer = c.pass-came.result;
-  called = c.pass-came.ensures.gives;
-  passes = c.pass-came.ensures.passes;
-  honesty = c.pass-came.ensures.honesty;
-  few = c.take.ensures.few;
-  fits = c.take.ensures.fits;
+  answer = c.exchange.ensures.passed.came;
+  called = c.exchange.ensures.passed.called;
+  passes = c.exchange.ensures.passed.passes;
+  honesty = c.exchange.ensures.passed.honesty;
+  few = c.exchange.ensures.passed.few;
+  fits = c.exchange.ensures.passed.fits;
   stood = λ h. c.put_next.ensures.on (g.W.Wire.facts.far c.args.wire.now)
       (g.W.Wire.facts.silence c.args.wire.now) (c.requires.stands h);
-  gives = c.take.ensures.gives;
-  is = c.take.ensures.core;
-  said_is = c.take.ensures.said;
+  gives = c.exchange.ensures.passed.gives;
+  is = c.exchange.ensures.passed.is;
+  said_is = c.exchange.ensures.passed.said_is;
 }
 
-fitting : (g : given.Over) (c : goal.After-take g) → ModeFits c.args.self.now.state
+fitting : (g : given.Over) (c : goal.After-exchange g) → ModeFits c.args.self.now.state
 fitting g c = subst (λ (k : Core). ModeFits k.state) c.self.view_is c.self.invariant.0
 
-joined : (g : given.Over) (c : goal.After-take g)
+joined : (g : given.Over) (c : goal.After-exchange g)
     → StateFits c.args.self.now.state c.args.self.now.session
 joined g c = subst (λ (k : Core). StateFits k.state k.session) c.self.view_is c.self.invariant.1
 
 pub returns-then-put_next-clause-turn : goal.returns-then-put_next-clause-turn
 returns-then-put_next-clause-turn g c =
-    exchange_is_turn g.W.Wire.facts c.args.wire.now c.pass-came.new.wire c.args.room
-    c.take.new.said c.args.self.now c.put_next.new.self c.take.new.self (fitting g c) (joined g c)
+    exchange_is_turn g.W.Wire.facts c.args.wire.now c.exchange.new.wire c.args.room
+    c.exchange.new.said c.args.self.now c.put_next.new.self c.exchange.new.self (fitting g c)
+    (joined g c)
     c.put_next.ensures.sent (is_out g c).0 c.requires.stands (exchanged g c)
 
 pub returns-then-put_next-clause-request : goal.returns-then-put_next-clause-request
@@ -88,42 +89,48 @@ returns-then-put_next-clause-ends g c = grind (arith, common_steps, sent_current
 pub returns-then-put_next-clause-reading : goal.returns-then-put_next-clause-reading
 returns-then-put_next-clause-reading g c =
     turn_reading g.W.Wire.facts c.args.room (station_of c.args.wire.now c.args.self.now)
-    c.take.new.said (station_of c.pass-came.new.wire c.take.new.self)
+    c.exchange.new.said (station_of c.exchange.new.wire c.exchange.new.self)
     (subst (λ (k : Core). IsSession k.session) c.self.view_is c.is_valid.ensures) (joined g c)
     (returns-then-put_next-clause-turn g c)
 
 pub returns-then-put_next-clause-steps : goal.returns-then-put_next-clause-steps
 returns-then-put_next-clause-steps g c =
-    let up = c.take.ensures in
-    exchange_steps g.W.Wire.facts c.args.wire.now c.pass-came.new.wire c.args.room
-    c.take.new.said c.args.self.now c.put_next.new.self c.take.new.self c.pass-came.result
+    let up = c.exchange.ensures.passed in
+    exchange_steps g.W.Wire.facts c.args.wire.now c.exchange.new.wire c.args.room
+    c.exchange.new.said c.args.self.now c.put_next.new.self c.exchange.new.self
+    c.exchange.ensures.passed.came
     c.put_next.ensures.steps
-    (receive_steps c.station_laws.ensures c.put_next.new.self (octets_in c.pass-came.result)
-    c.take.new.said c.take.new.self up.valid (is_out g c).0 up.few up.fits
-    up.gives up.said up.core) c.pass-came.ensures.passes c.pass-came.ensures.honesty
+    (receive_steps c.station_laws.ensures c.put_next.new.self
+    (octets_in c.exchange.ensures.passed.came)
+    c.exchange.new.said c.exchange.new.self c.exchange.ensures.valid (is_out g c).0 up.few up.fits
+    up.gives up.said_is up.is) c.exchange.ensures.passed.passes c.exchange.ensures.passed.honesty
 
 -- what was asked for went out, and brought what the exchange brought
-replied : (g : given.Over) (c : goal.After-take g)
+replied : (g : given.Over) (c : goal.After-exchange g)
     → IsReplied (asked_in c.args.self.now.state c.args.self.now.session c.args.room)
     (text_out c.put_next.new.self.state) (tries_in c.args.self.now.state)
-    (octets_in c.pass-came.result) c.take.result
+    (octets_in c.exchange.ensures.passed.came) c.exchange.result
 replied g c =
     let mid = c.put_next.new.self.state in
     let out : Outgoing = outgoing (layout_out mid) (text_out mid) in
-    let came : Option (List ℕ) = octets_in c.pass-came.result in
+    let came : Option (List ℕ) = octets_in c.exchange.ensures.passed.came in
     let tries : tries_in mid ≡ tries_in c.args.self.now.state =
     sent_tries c.args.self.now c.put_next.new.self c.args.room c.put_next.ensures.sent in
     let is : Exchange out ≡ asked_in c.args.self.now.state c.args.self.now.session c.args.room =
     sym (is_out g c).1 in
     subst (λ (a : Asked). IsReplied a (text_out mid) (tries_in c.args.self.now.state) came
-    c.take.result)
-    is
-    (refl, c.take.ensures.brought ∙ ap (λ (n : ℕ). brought.Exchanged n (verdict_on out came)) tries)
+    c.exchange.result)
+    is (
+      refl,
+      c.exchange.ensures.passed.brought_is
+          ∙ ap (λ (n : ℕ). brought.Exchanged n (verdict_on out came)) tries,
+    )
 
 pub returns-then-put_next-clause-exact : goal.returns-then-put_next-clause-exact
 unfolding exchanged
 returns-then-put_next-clause-exact g c =
-    exchange_is_exact g.W.Wire.facts c.args.wire.now c.pass-came.new.wire c.args.room
-    c.take.new.said c.args.self.now c.put_next.new.self c.take.new.self (fitting g c) (joined g c)
+    exchange_is_exact g.W.Wire.facts c.args.wire.now c.exchange.new.wire c.args.room
+    c.exchange.new.said c.args.self.now c.put_next.new.self c.exchange.new.self (fitting g c)
+    (joined g c)
     c.put_next.ensures.sent (is_out g c).0 c.requires.stands (exchanged g c) _ _ _
     (replied g c)
