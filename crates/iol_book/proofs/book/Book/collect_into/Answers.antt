@@ -56,15 +56,7 @@ returns-clause-state g c =
     grind (arith, common_steps, lookup-values, now)
 
 pub returns-clause-replayed : goal.returns-clause-replayed
-returns-clause-replayed g c =
-    let rest : c.remove-line.new.self.items
-    ≡ remove_entry (same_ticket c.args.ticket) c.self.inside.outcomes.items =
-    grind (arith, common_steps) in
-    let now = collects c.self.inside.journal.items c.self.inside.urgent.items
-    c.self.inside.waiting.items c.self.inside.taken c.self.inside.outcomes.items _ _
-    c.push_reserved.ensures.items
-    c.self.invariant.lines _ c.args.ticket rest in
-    replayed-by _ _ _ _ _ c.push_reserved.ensures.items now c.self.invariant.replayed
+returns-clause-replayed g c = (invariant_of-self g c).replayed
 
 pub returns-then-is_taken-clause-answer : goal.returns-then-is_taken-clause-answer
 returns-then-is_taken-clause-answer g c = grind (arith, common_steps, taken-unanswered)

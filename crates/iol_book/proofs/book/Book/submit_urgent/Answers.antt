@@ -32,7 +32,4 @@ returns-clause-state g c =
     grind (arith, common_steps, enters)
 
 pub returns-clause-replayed : goal.returns-clause-replayed
-returns-clause-replayed g c = replayed-by _ _ _ _ _ c.push_reserved.ensures.items
-    (enters-urgent _ _ _ _ _ _ _ c.push_reserved.ensures.items c.self.invariant.lines
-    _ _ _ c.push_back_reserved.ensures.items (grind (arith, common_steps)) refl)
-    c.self.invariant.replayed
+returns-clause-replayed g c = (invariant_of-self g c).replayed
