@@ -8,15 +8,7 @@ pub returns-in-Ok-clause-does : goal.returns-in-Ok-clause-does
 returns-in-Ok-clause-does g c =
     rw (← c.self.view_is)
     (λ far n. record {
-      follows = cancel_does (at_end far n)
-          (record {
-            station = bare c.self.inside.core;
-            book = c.self.inside.book;
-            kept = c.self.inside.kept.items;
-            sent = c.self.inside.sent;
-            counters = c.self.inside.counters;
-          })
-          c.args.ticket (bare c.abort.new.self)
+      follows = cancel_does (at_end far n) _ c.args.ticket (bare c.abort.new.self)
           (sym c.in_flight.ensures.answer ∙ ap (λ r. result_err r) c.in-Ok.is)
           (ap bare c.abort.ensures.core) c.abort.ensures.cancel;
       book = refl;
@@ -26,14 +18,7 @@ pub returns-in-Err-clause-does : goal.returns-in-Err-clause-does
 returns-in-Err-clause-does g c =
     rw (← c.self.view_is)
     (λ far n. record {
-      follows = cancel_refused (at_end far n)
-          (record {
-            station = bare c.self.inside.core;
-            book = c.self.inside.book;
-            kept = c.self.inside.kept.items;
-            sent = c.self.inside.sent;
-            counters = c.self.inside.counters;
-          })
+      follows = cancel_refused (at_end far n) _
           c.args.ticket c.in-Err.fault (sym c.in_flight.ensures.answer
           ∙ ap (λ r. result_err r) c.in-Err.is);
       book = refl;

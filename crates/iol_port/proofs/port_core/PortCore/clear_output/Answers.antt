@@ -7,14 +7,7 @@ pub returns-clause-does : goal.returns-clause-does
 returns-clause-does g c =
     rw (← c.self.view_is)
     (λ far n. record {
-      follows = clear_output_does (at_end far n)
-          (record {
-            station = bare c.self.inside.core;
-            book = c.self.inside.book;
-            kept = c.self.inside.kept.items;
-            sent = c.self.inside.sent;
-            counters = c.self.inside.counters;
-          }) (bare c.clear_output.new.self)
+      follows = clear_output_does (at_end far n) _ (bare c.clear_output.new.self)
           c.self.invariant (ap bare c.clear_output.ensures.core)
           c.clear_output.ensures.steps;
       book = refl;

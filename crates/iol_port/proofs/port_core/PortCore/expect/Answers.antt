@@ -11,14 +11,7 @@ returns-clause-does g c =
     ∙ ap (λ q. counting (page_shown q)) (sym c.self.view_is) in
     rw (← c.self.view_is)
     (λ far n. record {
-      follows = expect_does (at_end far n)
-          (record {
-            station = bare c.self.inside.core;
-            book = c.self.inside.book;
-            kept = c.self.inside.kept.items;
-            sent = c.self.inside.sent;
-            counters = c.self.inside.counters;
-          }) (Some c.args.identity)
+      follows = expect_does (at_end far n) _ (Some c.args.identity)
           c.counting-counting.result (bare c.expect.new.self) counts
           (ap bare c.expect.ensures.core) c.expect.ensures.steps;
       book = refl;

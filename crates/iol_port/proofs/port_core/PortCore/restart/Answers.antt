@@ -10,14 +10,7 @@ pub returns-then-restart-clause-does : goal.returns-then-restart-clause-does
 returns-then-restart-clause-does g c =
     rw (← c.self.view_is)
     (λ far n. record {
-      follows = restart_does (at_end far n)
-          (record {
-            station = bare c.self.inside.core;
-            book = c.self.inside.book;
-            kept = c.self.inside.kept.items;
-            sent = c.self.inside.sent;
-            counters = c.self.inside.counters;
-          }) (bare c.restart.new.self) c.post.new.self
+      follows = restart_does (at_end far n) _ (bare c.restart.new.self) c.post.new.self
           _ (subst (λ (p : Parts (Unit {0})). p.sent ≡ false) (sym c.self.view_is)
           (nothing_out c.args.self.now c.requires))
           (restart_cuts _ _ _ (some_request _ ∙ sym c.restart.ensures.cut ∙ c.if-restart.true)
@@ -33,14 +26,7 @@ pub returns-else-restart-clause-does : goal.returns-else-restart-clause-does
 returns-else-restart-clause-does g c =
     rw (← c.self.view_is)
     (λ far n. record {
-      follows = restart_does (at_end far n)
-          (record {
-            station = bare c.self.inside.core;
-            book = c.self.inside.book;
-            kept = c.self.inside.kept.items;
-            sent = c.self.inside.sent;
-            counters = c.self.inside.counters;
-          }) (bare c.restart.new.self)
+      follows = restart_does (at_end far n) _ (bare c.restart.new.self)
           c.self.inside.book _ (subst (λ (p : Parts (Unit {0})). p.sent ≡ false)
           (sym c.self.view_is) (nothing_out c.args.self.now c.requires))
           (restart_quiet _ _ (some_request _ ∙ sym c.restart.ensures.cut ∙ c.if-restart.false))

@@ -11,14 +11,7 @@ returns-clause-does g c =
     ∙ ap (λ q. counting (page_shown q)) (sym c.self.view_is) in
     rw (← c.self.view_is)
     (λ far n. record {
-      follows = set_cycle_does (at_end far n)
-          (record {
-            station = bare c.self.inside.core;
-            book = c.self.inside.book;
-            kept = c.self.inside.kept.items;
-            sent = c.self.inside.sent;
-            counters = c.self.inside.counters;
-          }) c.args.cycle c.counting-counting.result
+      follows = set_cycle_does (at_end far n) _ c.args.cycle c.counting-counting.result
           (bare c.set_cycle.new.self) counts (ap bare c.set_cycle.ensures.core)
           c.set_cycle.ensures.steps;
       book = refl;

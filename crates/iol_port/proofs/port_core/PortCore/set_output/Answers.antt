@@ -7,14 +7,7 @@ pub returns-clause-does : goal.returns-clause-does
 returns-clause-does g c =
     rw (← c.self.view_is, c.by_output.ensures)
     (λ far n. record {
-      follows = set_output_does (at_end far n)
-          (record {
-            station = bare c.self.inside.core;
-            book = c.self.inside.book;
-            kept = c.self.inside.kept.items;
-            sent = c.self.inside.sent;
-            counters = c.self.inside.counters;
-          }) c.args.image.now c.set_output.result
+      follows = set_output_does (at_end far n) _ c.args.image.now c.set_output.result
           (bare c.set_output.new.self) c.self.invariant c.set_output.ensures.refused
           (on_err _ _ c.set_output.result (ap bare) c.set_output.ensures.err)
           (on_ok _ _ c.set_output.result (ap bare) c.set_output.ensures.ok)

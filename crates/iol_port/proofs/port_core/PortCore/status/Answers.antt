@@ -7,14 +7,7 @@ pub returns-clause-does : goal.returns-clause-does
 returns-clause-does g c =
     rw (← c.self.view_is)
     (λ far n. record {
-      follows = status_does (at_end far n)
-          (record {
-            station = bare c.self.inside.core;
-            book = c.self.inside.book;
-            kept = c.self.inside.kept.items;
-            sent = c.self.inside.sent;
-            counters = c.self.inside.counters;
-          }) c.status.result c.status.ensures.mode
+      follows = status_does (at_end far n) _ c.status.result c.status.ensures.mode
           c.status.ensures.why c.status.ensures.event_form;
       book = refl;
     })

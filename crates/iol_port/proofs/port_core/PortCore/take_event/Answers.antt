@@ -7,14 +7,7 @@ pub returns-clause-does : goal.returns-clause-does
 returns-clause-does g c =
     rw (← c.self.view_is, c.ok_or.ensures.value)
     (λ far n. record {
-      follows = take_event_does (at_end far n)
-          (record {
-            station = bare c.self.inside.core;
-            book = c.self.inside.book;
-            kept = c.self.inside.kept.items;
-            sent = c.self.inside.sent;
-            counters = c.self.inside.counters;
-          }) c.pop_at.result c.pop_at.new.self.items
+      follows = take_event_does (at_end far n) _ c.pop_at.result c.pop_at.new.self.items
           c.pop_at.ensures.value c.pop_at.ensures.items
           (part_kept (λ kept. kept.items) c.pop_at.result _ _
           c.pop_at.ensures.absent);

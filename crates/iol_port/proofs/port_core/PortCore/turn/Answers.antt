@@ -28,28 +28,7 @@ settle-requires-clause-asked g c =
     ends_ask _ _ _ (begun_same _ _ _ _ c.begin_next.ensures.next c.self.invariant.same)
     c.turn-brought.ensures.ends
 
-pub invariant_of-self : goal.invariant_of-self
-invariant_of-self g c =
-    let p : Parts (Unit {0}) = record {
-      station = bare c.self.inside.core;
-      book = c.self.inside.book;
-      kept = c.self.inside.kept.items;
-      sent = c.self.inside.sent;
-      counters = c.self.inside.counters;
-    } in
-    let free : p.sent ≡ false = ap (λ (q : Parts (Unit {0})). q.sent) c.self.view_is
-    ∙ c.requires.free in
-    rw free
-    (turn_tied p (bare c.begin_next.new.core) (bare c.turn-brought.new.self)
-    c.begin_next.new.book.state c.settle.new.kept.items c.settle.new.book _ _
-    c.turn-brought.new.said c.self.invariant c.begin_next.ensures.next
-    (turn_limit g.W.Wire.facts _ (station_of c.args.wire.now c.begin_next.new.core)
-    c.turn-brought.new.said (station_of c.turn-brought.new.wire c.turn-brought.new.self)
-    c.turn-brought.ensures.turn)
-    c.turn-brought.ensures.request c.turn-brought.ensures.reading
-    (λ room. grind (arith, common_steps)) c.settle.ensures.book c.settle.ensures.kept)
-
--- the parts before the turn, and what was begun, over the wire
+-- the parts before the turn
 abbrev inside : (g : given.Over) (c : goal.After-settle g) → Parts (Unit {0})
 inside g c = record {
   station = bare c.self.inside.core;
@@ -59,6 +38,22 @@ inside g c = record {
   counters = c.self.inside.counters;
 }
 
+free : (g : given.Over) (c : goal.After-settle g) → c.self.inside.sent ≡ false
+free g c = ap (λ (q : Parts (Unit {0})). q.sent) c.self.view_is ∙ c.requires.free
+
+pub invariant_of-self : goal.invariant_of-self
+invariant_of-self g c =
+    rw (free g c)
+    (turn_tied (inside g c) (bare c.begin_next.new.core) (bare c.turn-brought.new.self)
+    c.begin_next.new.book.state c.settle.new.kept.items c.settle.new.book _ _
+    c.turn-brought.new.said c.self.invariant c.begin_next.ensures.next
+    (turn_limit g.W.Wire.facts _ (station_of c.args.wire.now c.begin_next.new.core)
+    c.turn-brought.new.said (station_of c.turn-brought.new.wire c.turn-brought.new.self)
+    c.turn-brought.ensures.turn)
+    c.turn-brought.ensures.request c.turn-brought.ensures.reading
+    (λ room. grind (arith, common_steps)) c.settle.ensures.book c.settle.ensures.kept)
+
+-- and what was begun, over the wire
 abbrev before : (g : given.Over) (c : goal.After-settle g) → Parts g.row.W.Denot
 before g c = parts_over c.args.wire.now (inside g c)
 
@@ -78,9 +73,6 @@ begins : (g : given.Over) (c : goal.After-settle g)
     → BeginsNext (before g c).station (before g c).book.state (mid g c) c.begin_next.new.book.state
 begins g c = begins_over c.args.wire.now c.self.inside.core c.begin_next.new.core
     c.self.inside.book.state c.begin_next.new.book.state c.begin_next.ensures.next
-
-free : (g : given.Over) (c : goal.After-settle g) → c.self.inside.sent ≡ false
-free g c = ap (λ (q : Parts (Unit {0})). q.sent) c.self.view_is ∙ c.requires.free
 
 pub returns-clause-does : goal.returns-clause-does
 returns-clause-does g c =
