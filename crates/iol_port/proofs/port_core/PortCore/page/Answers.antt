@@ -1,6 +1,6 @@
 use Rattle.std.proofs.Common.{refl, ◌∙◌}
 use Rattle.iol_port.proofs.CallLemmas.{page_does}
-use Rattle.iol_port.specs.CorePort.{at_end, bare}
+use Rattle.iol_port.specs.CorePort.{at_end}
 use Rattle.iol_port.proofs.port_core.PortCore.page.Goals as goal
 
 pub returns-clause-does : goal.returns-clause-does

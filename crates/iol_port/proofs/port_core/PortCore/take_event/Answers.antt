@@ -1,6 +1,6 @@
 use Rattle.std.proofs.Common.{refl}
 use Rattle.iol_port.proofs.CallLemmas.{take_event_does, part_kept}
-use Rattle.iol_port.specs.CorePort.{at_end, bare}
+use Rattle.iol_port.specs.CorePort.{at_end}
 use Rattle.iol_port.proofs.port_core.PortCore.take_event.Goals as goal
 
 pub returns-clause-does : goal.returns-clause-does
