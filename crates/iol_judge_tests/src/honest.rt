@@ -217,7 +217,7 @@ fn verdicts_of(seed: u64, exchanges: u32) -> [Verdict; 3] {
 #[test]
 fn devices_by_the_rules_are_honest(rt: HostRuntime) -> Result<(), Fail> {
     honest_lines_are_never_blamed();
-    for seed in 0..40 {
+    for seed in 0..20 {
         for verdict in &verdicts_of(seed, 500) {
             assert!(rt; *verdict == Verdict::Honest);
         }
