@@ -86,6 +86,13 @@ def body_of(lines, head, margin):
     return None
 
 
+def head_of(lines, at):
+    """The line at which a function begins with its attributes, whose first a goal may be told at."""
+    while at and not re.search(r"^ *(//.*)?$|[{};]$", lines[at - 1]):
+        at -= 1
+    return at
+
+
 def functions_of(crate, file, lines):
     """The functions of a file that have a body. One within another is part of it."""
     path = [crate, *re.sub(r"^src/|\.rt$", "", file).split("/")]
@@ -99,7 +106,7 @@ def functions_of(crate, file, lines):
         if body:
             before = [f"::{it}" for it in owners(item)] if fn[1] else [module]
             names = tuple(f"{it}::{fn[2]}" for it in before)
-            found.append(Function(file, at, *body, names))
+            found.append(Function(file, head_of(lines, at), *body, names))
             end = body[1]
     return found
 
@@ -143,19 +150,31 @@ def put_into(folder, edits):
 
 
 def heard(said):
-    """What a check told of each function, and the places of the goals that fail, by the lines that
-    it said; none if it didn't read the copy to its end."""
-    told, goals = {}, []
+    """What a check told of each function, by the lines that it said; the places of the goals that
+    fail; and those of what it couldn't read."""
+    told, goals, unread = {}, [], []
     for line in said:
         if of := OF_FUNCTION.match(line):
             told[of[1]] = of[2]
         elif of := OF_PLACE.match(line):
+            place = of[1], int(of[2]) - 1
             if GOAL.match(of[3]) and not NO_GOAL.search(of[3]):
-                goals.append((of[1], int(of[2]) - 1))
+                goals.append(place)
             elif of[3].startswith("error") and of[1].startswith(("src/", "specs/")):
-                return None
-    is_whole = any(line.startswith("logic=") for line in said)
-    return (told, goals) if told and is_whole else None
+                unread.append(place)
+    return told, goals, unread
+
+
+def unreadable(edits, said):
+    """Which of these wrong bodies a check of them all couldn't read, by the lines that it said."""
+    places = heard(said)[2]
+    return [name for name, edit in edits.items() if any(is_in(it, edit) for it in places)]
+
+
+def is_in(place, edit):
+    """Whether a place is in the function of a wrong body."""
+    (file, at), function = place, edit.function
+    return file == function.file and function.head <= at <= function.end
 
 
 def names_of(function, told):
@@ -173,10 +192,9 @@ def names_of(function, told):
 def refused(crate, edits, said):
     """Which of these wrong bodies of a crate one check of them all refuses, by the lines that it
     said; none if it decides nothing."""
-    found = heard(said)
-    if not found:
+    told, goals, unread = heard(said)
+    if unread or not told or not any(line.startswith("logic=") for line in said):
         return None
-    told, goals = found
     names = {name: names_of(edit.function, told) for name, edit in edits.items()}
     proofs = {
         name: tuple(f"proofs/{it.split('::', 1)[1].replace('::', '/')}/" for it in given)
@@ -184,11 +202,9 @@ def refused(crate, edits, said):
     }
 
     def is_of(goal, name):
-        (file, at), function = goal, edits[name].function
-        if file == function.file:
-            return function.head <= at <= function.end
         # (a folder's name may begin with a `+`)
-        return file.replace("/+", "/").startswith(proofs[name])
+        is_in_proof = goal[0].replace("/+", "/").startswith(proofs[name])
+        return is_in_proof or is_in(goal, edits[name])
 
     if not all(any(is_of(goal, name) for name in edits) for goal in goals):
         return None
