@@ -243,8 +243,10 @@ module _ (size : ℕ) (law : AreTexts size) (request : Request) (answer : Answer
         MOST_HAD) refl
       where
         split : (new room : Bool) → (had.at == length had.text.items) ≡ new
-            → AreHad size (if (new && room) then record had { text = record
-            { items = had.text.items ++ segment size (answer_text request answer) sent } } else had)
+            → AreHad size (if (new && room) then record had {
+              text = record
+                  { items = had.text.items ++ segment size (answer_text request answer) sent };
+            } else had)
             (answer_text request answer) sent
         split false room e = are
         split true false e = are
@@ -379,9 +381,11 @@ told_under_way size law (known.Receiving text last) state h s = h
 told_under_way size law (known.Whole read last) state h s = h
 told_under_way size law (known.Handed read) state h s = h
 told_under_way size law (known.Asked read) state h s = told_asked size law read state h s
-told_under_way size law (known.Answered had) (Answered request answer (Some i)) h s =
-    (h.0 ∙ sym (had_read had (segment size (answer_text request answer) i)), h.1,
-    had_holds size law request answer h.1 had i h.2 h.0)
+told_under_way size law (known.Answered had) (Answered request answer (Some i)) h s = (
+  h.0 ∙ sym (had_read had (segment size (answer_text request answer) i)),
+  h.1,
+  had_holds size law request answer h.1 had i h.2 h.0,
+)
 told_under_way size law (known.Answered had) (Answered request answer None) h s = absurd h
 told_under_way size law (known.Answered had) Empty h s = absurd h
 told_under_way size law (known.Answered had) (Receiving text a) h s = absurd h
