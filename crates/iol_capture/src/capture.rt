@@ -34,36 +34,3 @@ pub fn judge_capture<R: Read>(reader: &mut R) -> Result<Judgement, CaptureFault>
     }
     Err(CaptureFault::ReadFailed)
 }
-
-#[cfg(test)]
-mod tests {
-    use super::judge_capture;
-    use std::alloc::AllocError;
-    use std::test::Fail;
-
-    /// A trace of a device that answers its page, up to a lost reply.
-    const HONEST: &[u8] = b"\
-1 wake COM2
-2 > A2 00: read page 02
-2 < 17 1B: od 17 event 0 pd valid
-3 > A3 11: read page 03
-3 < none
-status startup
-record 0
-";
-
-    /// What is printed of a capture that is judged.
-    fn is_found(rt: &HostRuntime, input: &[u8], wanted: &str) -> Result<bool, AllocError> {
-        let mut reader = input;
-        match judge_capture(&mut reader) {
-            Ok(judgement) => Ok(judgement.text(rt.alloc())?.as_str() == wanted),
-            Err(_) => Ok(false),
-        }
-    }
-
-    #[test]
-    fn a_capture_is_judged(rt: HostRuntime) -> Result<(), Fail> {
-        assert!(&rt; is_found(&rt, HONEST, "honest 2 exchanges, 1 lost\n")?);
-        Ok(())
-    }
-}

@@ -11,7 +11,6 @@ use iol_isdu::{Answer, Request};
 use iol_page::Page;
 use iol_peers::PLAIN;
 use refusing_alloc::{Refusal, RefusingAlloc};
-use std::test::Fail;
 
 /// Has no parameter. Its number tells whether it is handed back as it was.
 #[derive(Clone, Copy)]
@@ -60,19 +59,24 @@ fn answers<P: App, R: Record>(device: &mut Device<P, R>, octets: &[u8], wanted: 
     }
 }
 
+/// Whether a device is opened without a refusal, and answers.
+fn is_opened(refusing: &RefusingAlloc) -> bool {
+    match opened(refusing) {
+        Ok(mut device) => {
+            answers(&mut device, &PAGE_READ, &PAGE_OCTET) && !refusing.has_refused()
+        }
+        Err(_) => false,
+    }
+}
+
 /// A device asks for memory once, for its record.
 #[test]
-fn memory_is_asked_for_once(rt: HostRuntime) -> Result<(), Fail> {
+fn memory_is_asked_for_once(rt: HostRuntime) {
     let refusing = RefusingAlloc::new(rt.alloc());
-    assert!(rt; is_refused(&refusing, Refusal::Only(0)));
-    assert!(rt; is_refused(&refusing, Refusal::From(0)));
+    let are_refused = is_refused(&refusing, Refusal::Only(0))
+        && is_refused(&refusing, Refusal::From(0));
     refusing.order(Refusal::From(1));
-    let Ok(mut device) = opened(&refusing) else {
-        return Err("no device")?;
-    };
-    assert!(rt; answers(&mut device, &PAGE_READ, &PAGE_OCTET));
-    assert!(rt; !refusing.has_refused());
-    Ok(())
+    assert!(rt; are_refused && is_opened(&refusing));
 }
 
 /// The laws of this device, which do nothing when they run.
@@ -82,15 +86,27 @@ fn laws_of<P: App, R: Record>(device: &Device<P, R>) {
     device.parts_are_regular();
 }
 
+/// Whether there is a device with a record, whose laws these are.
+fn has_laws(refusing: &RefusingAlloc) -> bool {
+    match opened(refusing) {
+        Ok(device) => {
+            laws_of(&device);
+            true
+        }
+        Err(_) => false,
+    }
+}
+
 #[test]
-fn laws_speak_of_each_device(rt: HostRuntime) -> Result<(), Fail> {
+fn laws_speak_of_each_device(rt: HostRuntime) {
     let refusing = RefusingAlloc::new(rt.alloc());
-    let Ok(recording) = opened(&refusing) else {
-        return Err("no device")?;
-    };
-    laws_of(&recording);
+    assert!(rt; has_laws(&refusing));
     laws_of(&Device::new(APP, Page::from_octets(&PLAIN)));
     laws_of(&Device::new(Apart, Page::from_octets(&PLAIN)));
+}
+
+#[test]
+fn laws_of_the_far_end_need_no_device() {
     ends_stay_level();
     events_stay_until_confirmed();
     hearing_again_changes_nothing();
@@ -101,5 +117,4 @@ fn laws_speak_of_each_device(rt: HostRuntime) -> Result<(), Fail> {
     replies_are_read();
     requests_are_received();
     texts_are_heard();
-    Ok(())
 }

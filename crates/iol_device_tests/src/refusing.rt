@@ -23,36 +23,40 @@ fn granted(alloc: Global, refusal: Refusal) -> [bool; 5] {
     ]
 }
 
+fn are_refused_as_ordered(alloc: Global) -> bool {
+    granted(alloc, Refusal::Never) == [true; 5]
+        && granted(alloc, Refusal::Only(0)) == [false, true, true, true, true]
+        && granted(alloc, Refusal::Only(2)) == [true, true, false, true, true]
+        && granted(alloc, Refusal::Only(5)) == [true; 5]
+        && granted(alloc, Refusal::From(0)) == [false; 5]
+        && granted(alloc, Refusal::From(3)) == [true, true, true, false, false]
+        && granted(alloc, Refusal::From(5)) == [true; 5]
+}
+
 #[test]
 fn an_order_says_which_are_refused(rt: HostRuntime) {
-    assert!(rt; granted(rt.alloc(), Refusal::Never) == [true; 5]);
-    let first = [false, true, true, true, true];
-    assert!(rt; granted(rt.alloc(), Refusal::Only(0)) == first);
-    let third = [true, true, false, true, true];
-    assert!(rt; granted(rt.alloc(), Refusal::Only(2)) == third);
-    assert!(rt; granted(rt.alloc(), Refusal::Only(5)) == [true; 5]);
-    assert!(rt; granted(rt.alloc(), Refusal::From(0)) == [false; 5]);
-    let last_two = [true, true, true, false, false];
-    assert!(rt; granted(rt.alloc(), Refusal::From(3)) == last_two);
-    assert!(rt; granted(rt.alloc(), Refusal::From(5)) == [true; 5]);
+    assert!(rt; are_refused_as_ordered(rt.alloc()));
+}
+
+/// Whether one more request is granted, so many were made since the order, and none was refused.
+fn is_counted(refusing: &RefusingAlloc, requests: u64) -> bool {
+    is_granted(refusing) && refusing.requests() == requests && !refusing.has_refused()
+}
+
+fn are_counted(refusing: &RefusingAlloc) -> bool {
+    let before = is_counted(refusing, 1);
+    refusing.order(Refusal::Only(1));
+    let none = refusing.requests() == 0;
+    let one = is_counted(refusing, 1);
+    let second = !is_granted(refusing) && refusing.requests() == 2 && refusing.has_refused();
+    refusing.order(Refusal::Never);
+    before && none && one && second && is_counted(refusing, 1)
 }
 
 #[test]
 fn counts_since_the_order(rt: HostRuntime) {
     let refusing = RefusingAlloc::new(rt.alloc());
-    assert!(rt; is_granted(&refusing));
-    assert!(rt; refusing.requests() == 1);
-    assert!(rt; !refusing.has_refused());
-    refusing.order(Refusal::Only(1));
-    assert!(rt; refusing.requests() == 0);
-    assert!(rt; is_granted(&refusing));
-    assert!(rt; !refusing.has_refused());
-    assert!(rt; !is_granted(&refusing));
-    assert!(rt; refusing.requests() == 2);
-    assert!(rt; refusing.has_refused());
-    refusing.order(Refusal::Never);
-    assert!(rt; is_granted(&refusing));
-    assert!(rt; !refusing.has_refused());
+    assert!(rt; are_counted(&refusing));
 }
 
 #[test]
