@@ -1,10 +1,10 @@
 //! The judge.
 ghost use Rattle.std.specs.Prelude.{◌≡◌, option_copied, if◌then◌else◌, [], Ok, Err};
 ghost use Rattle.iol_judge.specs.Seen.{whole_page};
-ghost use Rattle.iol_judge.specs.Judged.{concluded_lost, concluded_replied, exchanged, new_judge, noted, woke, result_with};
+ghost use Rattle.iol_judge.specs.Judged.{concluded_lost, exchanged, new_judge, noted, woke};
 
 use crate::kept::Kept;
-use crate::next::{lose, reply, wake};
+use crate::next::{lose, move_states, reply, wake};
 use crate::octets::first_octet;
 use crate::open::Open;
 use crate::readable::is_readable;
@@ -23,6 +23,8 @@ use std::marker::Model;
 pub struct Judge {
     seen: Seen,
     states: States,
+    /// Where those after an exchange are put together, so that no turn makes room anew.
+    next: Next,
     verdict: Verdict,
     exchanges: u64,
 }
@@ -48,6 +50,7 @@ impl Judge {
         Judge {
             seen: Seen::nothing(),
             states: States::new(),
+            next: Next::none(),
             verdict: Verdict::Unjudged,
             exchanges: 0,
         }
@@ -111,61 +114,55 @@ impl Judge {
         ensures { self.new
             ≡ record self.old { states = first_state ∷ []; verdict = Honest } }
     {
-        let mut states = States::new();
-        states.push(Kept::first());
-        self.states = states;
+        self.states.clear();
+        self.states.push(Kept::first());
         self.verdict = Verdict::Honest;
     }
 
     fn wake_all(&mut self, answer: Wake)
         ensures { self.new ≡ concluded_lost self.old (all_woken answer [] self.old.states) }
     {
-        let mut next = States::new();
-        let done = wake(&self.states, answer, &mut next);
-        self.conclude(done, next);
+        self.next.clear();
+        match wake(&self.states, answer, &mut self.next.states) {
+            Ok(()) => move_states(&mut self.next.states, &mut self.states),
+            Err(why) => self.verdict = Verdict::CantSay(self.exchanges, why),
+        }
     }
 
     /// No reply came that can be read.
     fn hear_nothing(&mut self, sent: &[u8])
         ensures { self.new ≡ unanswered self.old sent.now }
     {
-        let mut next = States::new();
-        let done = lose(&self.states, &self.seen.layouts(), sent, &mut next);
-        self.conclude(done, next);
-    }
-
-    /// The states that are left, or that nothing can be said from now on.
-    fn conclude(&mut self, done: Result<(), Open>, next: States)
-        ensures { self.new ≡ concluded_lost self.old (result_with done next.items) }
-    {
-        match done {
-            Ok(()) => self.states = next,
+        self.next.clear();
+        let layouts = self.seen.layouts();
+        match lose(&self.states, &layouts, sent, &mut self.next.states) {
+            Ok(()) => move_states(&mut self.next.states, &mut self.states),
             Err(why) => self.verdict = Verdict::CantSay(self.exchanges, why),
         }
     }
 
-    /// A reply came that can be read.
+    /// A reply came that can be read: the states that explain it, or that there is none.
     fn hear_reply(&mut self, sent: &[u8], octets: &[u8])
         ensures { self.new ≡ replied self.old sent.now octets.now }
     {
-        let mut next = Next::none();
+        self.next.clear();
         let layouts = self.seen.layouts();
-        let done = reply(&self.states, &layouts, &self.seen, sent, octets, &mut next);
-        match done {
-            Ok(()) => self.conclude_reply(sent, octets, next),
+        match reply(
+            &self.states,
+            &layouts,
+            &self.seen,
+            sent,
+            octets,
+            &mut self.next,
+        ) {
             Err(why) => self.verdict = Verdict::CantSay(self.exchanges, why),
-        }
-    }
-
-    /// The states that explain the reply, or that there is none.
-    fn conclude_reply(&mut self, sent: &[u8], octets: &[u8], next: Next)
-        ensures { self.new ≡ concluded_replied self.old sent.now octets.now (Ok next) }
-    {
-        if next.states.is_empty() {
-            self.verdict = Verdict::NotHonest(self.exchanges, next.reason);
-        } else {
-            self.note(sent, octets);
-            self.states = next.states;
+            Ok(()) if self.next.states.is_empty() => {
+                self.verdict = Verdict::NotHonest(self.exchanges, self.next.reason);
+            }
+            Ok(()) => {
+                move_states(&mut self.next.states, &mut self.states);
+                self.note(sent, octets);
+            }
         }
     }
 

@@ -27,6 +27,18 @@ pub(crate) fn add(states: &mut States, kept: Kept) -> Result<(), Open>
     Ok(())
 }
 
+/// Moves states into the place of others, one by one: most often they are few.
+pub(crate) fn move_states(from: &mut States, into: &mut States)
+    ensures { into.new.items ≡ from.old.items }
+{
+    into.clear();
+    // A length is at most the room of either.
+    let count = from.len();
+    for kept in from.drain(..count) {
+        into.push(kept);
+    }
+}
+
 /// Whether one of the others covers a state.
 fn has_state(states: &[Kept], kept: &Kept) -> bool
     ensures { result ≡ has_state states.now kept.now }
@@ -84,6 +96,14 @@ impl Next {
             states: States::new(),
             reason: Reason::NotTaken,
         }
+    }
+
+    /// None yet, where some were.
+    pub fn clear(&mut self)
+        ensures { self.new ≡ no_next }
+    {
+        self.states.clear();
+        self.reason = Reason::NotTaken;
     }
 }
 
