@@ -12,12 +12,14 @@ use Rattle.iol_mseq.specs.Replies.{reply_in}
 use Rattle.iol_mseq.specs.declared.master.MasterMsg.{MasterMsg}
 use Rattle.iol_mseq.specs.declared.reply.Reply.{Reply}
 use Rattle.iol_page.specs.Page as sheet
-use Rattle.iol_event.specs.Memory.{IsEventMemory, is_empty, event_octet}
+use Rattle.iol_event.specs.Memory.{IsEventMemory, is_empty}
 use Rattle.iol_page.specs.Page.{knows_isdu}
 use Rattle.iol_far.specs.Codec.{flow_of, message_in, octets_of}
 use Rattle.iol_far.specs.Far.{Far, layout_of, worked, reply_to, data_of, page_octet}
 use Rattle.iol_judge.specs.declared.reason.Reason.{Reason}
-use Rattle.iol_judge.specs.declared.reason.Reason.TheVariants.{StatusWithoutData, InvalidNotZero, ProcessNotZero, RestNotZero}
+use Rattle.iol_judge.specs.declared.reason.Reason.TheVariants.{StatusWithoutData, InvalidNotZero, PageChanged, PageZero, CycleTime, ProcessNotZero, RestNotZero}
+use Rattle.iol_judge.specs.declared.verdict.Odd.{Odd}
+use Rattle.iol_judge.specs.declared.verdict.Odd.TheVariants.{Blamed, PassedOver}
 use Rattle.iol_judge.specs.declared.taken.Taken.{Taken}
 use Rattle.iol_judge.specs.declared.taken.Explained.TheVariants.{By}
 use Rattle.iol_judge.specs.declared.events.Shown.{Shown}
@@ -27,10 +29,10 @@ use Rattle.iol_judge.specs.declared.transfer.Transfer.TheVariants.{Quiet}
 use Rattle.iol_judge.specs.Octets.{are_zeros, is_other}
 use Rattle.iol_judge.specs.Transfers.{transfer_told}
 use Rattle.iol_judge.specs.UnderWay.{IsUnderWay}
-use Rattle.iol_judge.specs.Events.{flag_fault, flag_told, events_fault}
-use Rattle.iol_judge.specs.Seen.{octet_seen, page_noted}
+use Rattle.iol_judge.specs.Events.{flag_fault, flag_told}
+use Rattle.iol_judge.specs.Seen.{page_noted}
 use Rattle.iol_judge.specs.State.{State}
-use Rattle.iol_judge.specs.Replies.{cycle_told, data_fault, explained, explained_by, explained_if, learned, octet_known, page_reason, reply_fault, shown_told}
+use Rattle.iol_judge.specs.Replies.{cycle_told, data_fault, data_oddity, explained, explained_by, explained_if, held_against, is_of_page, learned, no_zeros, other_than, page_fault, page_oddity, reply_fault, reply_oddity, shown_told}
 use Rattle.iol_judge.specs.Judged.{noted, noted_at}
 use Rattle.iol_judge.specs.Admitted.{Admits, Agrees, AreShown}
 use Rattle.iol_judge.proofs.Transferring.{AreTexts}
@@ -39,23 +41,23 @@ use Rattle.iol_judge.proofs.Shown.{events_fit, flag_fits, flagged_shown, same_kn
 
 -- The checks of a reply
 
-none_by : (a b : Bool) (x y : Reason) → a ≡ false → b ≡ true
-    → (if a then Some x else if b then None else Some y) ≡ None
-none_by true b x y e f = absurd (cc)
-none_by false true x y e f = refl
-none_by false false x y e f = absurd (cc)
-
 or_none : (a b : Option Reason) → a ≡ None → b ≡ None → option_or a b ≡ None
 or_none None b e f = f
 or_none (Some x) b e f = absurd (cc)
 
--- all four checks are passed
-four_pass : (a b : Bool) (x y : Reason) (c d : Option Reason) → a ≡ false → b ≡ false
-    → c ≡ None → d ≡ None
-    → (if a then Some x else if b then Some y else option_or c d) ≡ None
-four_pass false false x y c d e f g h = or_none c d g h
-four_pass true b x y c d e f g h = absurd (cc)
-four_pass false true x y c d e f g h = absurd (cc)
+zeros_alike : (octets : List ℕ) (reason : Reason) → are_zeros octets ≡ true
+    → no_zeros octets reason ≡ None
+zeros_alike octets reason e = ap (λ (b : Bool). if b then None else Some reason) e
+
+none_other : (known : Option ℕ) (octet : ℕ) (reason : Reason) → is_other known octet ≡ false
+    → other_than known octet reason ≡ None
+none_other known octet reason e = ap (λ (b : Bool). if b then Some reason else None) e
+
+-- both checks for faults are passed
+two_pass : (a : Bool) (x : Reason) (c d : Option Reason) → a ≡ false → c ≡ None → d ≡ None
+    → (if a then Some x else option_or c d) ≡ None
+two_pass false x c d e f g = or_none c d f g
+two_pass true x c d e f g = absurd (cc)
 
 status_fits : (a b : Bool) → ((not a && b) && a) ≡ false
 status_fits true b = refl
@@ -63,63 +65,92 @@ status_fits false true = refl
 status_fits false false = refl
 
 invalid_zeros : (input : Option (List ℕ)) (size : ℕ)
-    → ((not (size == 0) && not (is_some input))
-    && not (are_zeros (if size == 0 then [] else unwrap_or input (replicate size 0))))
-    ≡ false
+    → (if not (size == 0) && not (is_some input)
+    then no_zeros (if size == 0 then [] else unwrap_or input (replicate size 0)) InvalidNotZero
+    else None) ≡ None
 invalid_zeros (Some image) size = split (size == 0)
   where
-    split : (b : Bool)
-        → ((not b && false) && not (are_zeros (if b then [] else image))) ≡ false
+    split : (b : Bool) → (if not b && false
+        then no_zeros (if b then [] else image) InvalidNotZero else None) ≡ None
     split true = refl
     split false = refl
 invalid_zeros None size = split (size == 0)
   where
-    split : (b : Bool)
-        → ((not b && true) && not (are_zeros (if b then [] else replicate size 0))) ≡ false
+    split : (b : Bool) → (if not b && true
+        then no_zeros (if b then [] else replicate size 0) InvalidNotZero else None) ≡ None
     split true = refl
-    split false = ap not (zeros_are size)
+    split false = zeros_alike (replicate size 0) InvalidNotZero (zeros_are size)
 
-not_other : (seen : List (Option ℕ)) (cycle : Option ℕ) (far : Far) (address : ℕ)
-    → Agrees seen far.page → IfSome cycle (λ o. far.cycle_time ≡ o)
-    → is_other (octet_known seen cycle address) (page_octet far address) ≡ false
-not_other seen cycle far address agrees at = split (address == 1)
+-- an address of the page reads as what is known of it
+seen_fits : (seen : List (Option ℕ)) (far : Far) (address : ℕ) → Agrees seen far.page
+    → (if is_of_page address then page_fault seen address (page_octet far address) else None)
+    ≡ None
+seen_fits seen far address agrees = split (is_of_page address) (address == 1) refl refl
   where
-    inner : (b : Bool) → is_other (if b then slice_index_or seen (address - 2) None else Some 0)
-        (if b then slice_index far.page (address - 2) else 0) ≡ false
-    inner true = same_known (slice_index_or seen (address - 2) None)
-        (slice_index far.page (address - 2)) (agrees (address - 2))
-    inner false = refl
+    split : (range one : Bool) → is_of_page address ≡ range → (address == 1) ≡ one
+        → (if range then other_than
+        (if range then slice_index_or seen (address - 2) None else Some 0)
+        (if one then far.cycle_time else if range then slice_index far.page (address - 2) else 0)
+        PageChanged else None) ≡ None
+    split false one e f = refl
+    split true true e f =
+        let is : address ≡ 1 = eqb-true address 1 f in
+        absurd (let no : is_of_page 1 ≡ true
+        = subst (λ (a : ℕ). is_of_page a ≡ true) is e in cc)
+    split true false e f = none_other (slice_index_or seen (address - 2) None)
+        (slice_index far.page (address - 2)) PageChanged
+        (same_known (slice_index_or seen (address - 2) None)
+        (slice_index far.page (address - 2)) (agrees (address - 2)))
 
-    split : (b : Bool) → is_other (if b then cycle else octet_seen seen address)
-        (if b then far.cycle_time else sheet.page_octet far.page address) ≡ false
-    split true = same_known cycle far.cycle_time at
-    split false = inner (nat_le 2 address && nat_le address 11)
+-- and nothing is odd in it
+page_even : (cycle : Option ℕ) (far : Far) (address : ℕ) → IfSome cycle (λ o. far.cycle_time ≡ o)
+    → page_oddity cycle address (page_octet far address) ≡ None
+page_even cycle far address at = split (address == 1) (is_of_page address)
+  where
+    split : (one range : Bool) → (if one then other_than cycle
+        (if one then far.cycle_time else if range then slice_index far.page (address - 2) else 0)
+        CycleTime else if range then None else other_than (Some 0)
+        (if one then far.cycle_time else if range then slice_index far.page (address - 2) else 0)
+        PageZero) ≡ None
+    split true range =
+        none_other cycle far.cycle_time CycleTime (same_known cycle far.cycle_time at)
+    split false true = refl
+    split false false = refl
 
 data_fits : (seen : List (Option ℕ)) (state : State) (far : Far) (size : ℕ) (read : Bool)
     (channel : Channel) (address : ℕ) → AreTexts size → Agrees seen far.page
-    → IfSome state.cycle (λ o. far.cycle_time ≡ o) → length far.events.frozen ≤ 6
+    → length far.events.frozen ≤ 6
     → AreShown state.events far.events → IsUnderWay size state.transfer far.isdu
     → IsSentBy read channel far.isdu
     → (if read
     then data_fault seen state (not (is_empty far.events.frozen)) channel address
     (if read then data_of far size channel address else [])
     else None) ≡ None
-data_fits seen state far size false channel address law agrees at six shown under_way sent = refl
-data_fits seen state far size true Process address law agrees at six shown under_way sent =
-    ap (λ (b : Bool). if b then None else Some ProcessNotZero) (zeros_are size)
-data_fits seen state far size true Page address law agrees at six shown under_way sent =
-    none_by (is_other (octet_known seen state.cycle address) (page_octet far address))
-    (are_zeros (replicate (size - 1) 0)) (page_reason address) RestNotZero
-    (not_other seen state.cycle far address agrees at) (zeros_are (size - 1))
-data_fits seen state far size true Diagnosis address law agrees at six shown under_way sent =
-    or_none
-    (events_fault (flag_told state.events (not (is_empty far.events.frozen))) address
-    (event_octet far.events.frozen address))
-    (if are_zeros (replicate (size - 1) 0) then None else Some RestNotZero)
-    (events_fit state.events far.events six shown address)
-    (ap (λ (b : Bool). if b then None else Some RestNotZero) (zeros_are (size - 1)))
-data_fits seen state far size true Isdu address law agrees at six shown under_way sent =
+data_fits seen state far size false channel address law agrees six shown under_way sent = refl
+data_fits seen state far size true Process address law agrees six shown under_way sent = refl
+data_fits seen state far size true Page address law agrees six shown under_way sent =
+    seen_fits seen far address agrees
+data_fits seen state far size true Diagnosis address law agrees six shown under_way sent =
+    events_fit state.events far.events six shown address
+data_fits seen state far size true Isdu address law agrees six shown under_way sent =
     isdu_fits size law state.transfer far.isdu under_way sent
+
+data_even : (cycle : Option ℕ) (far : Far) (size : ℕ) (read : Bool) (channel : Channel)
+    (address : ℕ) → IfSome cycle (λ o. far.cycle_time ≡ o)
+    → (if read
+    then data_oddity cycle channel address
+    (if read then data_of far size channel address else [])
+    else None) ≡ None
+data_even cycle far size false channel address at = refl
+data_even cycle far size true Process address at =
+    zeros_alike (replicate size 0) ProcessNotZero (zeros_are size)
+data_even cycle far size true Page address at =
+    or_none (page_oddity cycle address (page_octet far address))
+    (no_zeros (replicate (size - 1) 0) RestNotZero) (page_even cycle far address at)
+    (zeros_alike (replicate (size - 1) 0) RestNotZero (zeros_are (size - 1)))
+data_even cycle far size true Diagnosis address at =
+    zeros_alike (replicate (size - 1) 0) RestNotZero (zeros_are (size - 1))
+data_even cycle far size true Isdu address at = refl
 
 -- the events of a device that is awake
 shown_awake : (state : State) (far : Far) → far.awake ≡ true → Admits state far
@@ -147,11 +178,9 @@ no_fault seen state there octets message law awake memory agrees admits =
     let size = (layout_of there).pd_in in
     let shown : AreShown state.events (worked there octets message).events =
     shown_awake state (worked there octets message) awake admits in
-    four_pass
+    two_pass
     ((not (size == 0) && not (is_some there.input)) && (size == 0))
-    ((not (size == 0) && not (is_some there.input)) && not
-    (are_zeros (if size == 0 then [] else unwrap_or there.input (replicate size 0))))
-    StatusWithoutData InvalidNotZero
+    StatusWithoutData
     (flag_fault state.events (not (is_empty far.events.frozen)))
     (if message.mc.read
     then data_fault seen state (not (is_empty far.events.frozen)) message.mc.channel
@@ -160,35 +189,70 @@ no_fault seen state there octets message law awake memory agrees admits =
     then data_of far (layout_of there).od message.mc.channel message.mc.address
     else []) else None)
     (status_fits (size == 0) (not (is_some there.input)))
-    (invalid_zeros there.input size)
     (flag_fits state.events (worked there octets message).events shown)
     (data_fits seen state far (layout_of there).od message.mc.read message.mc.channel
-    message.mc.address law agrees admits.cycle memory.frozen shown
+    message.mc.address law agrees memory.frozen shown
     (under_way_awake state (worked there octets message) awake admits)
     (worked_sent (knows_isdu there.page) (layout_of there).od there.isdu message.mc.channel
     message.mc.read (flow_of message.mc.address) message.od.items))
 
-pub explains : (seen : List (Option ℕ)) (found : Taken) (there : Far) (octets : List ℕ)
-    (message : MasterMsg) (reply : List ℕ) → AreTexts (layout_of there).od → there.awake ≡ true
+-- nor is anything odd
+no_oddity : (state : State) (there : Far) (octets : List ℕ) (message : MasterMsg)
+    → Admits state (worked there octets message)
+    → reply_oddity state.cycle message.mc
+    (reply_to (worked there octets message) (layout_of there) message) ≡ None
+no_oddity state there octets message admits =
+    let far = worked there octets message in
+    let size = (layout_of there).pd_in in
+    or_none
+    (if not (size == 0) && not (is_some there.input)
+    then no_zeros (if size == 0 then [] else unwrap_or there.input (replicate size 0))
+    InvalidNotZero else None)
+    (if message.mc.read
+    then data_oddity state.cycle message.mc.channel message.mc.address
+    (if message.mc.read
+    then data_of far (layout_of there).od message.mc.channel message.mc.address
+    else []) else None)
+    (invalid_zeros there.input size)
+    (data_even state.cycle far (layout_of there).od message.mc.read message.mc.channel
+    message.mc.address admits.cycle)
+
+none_held : (odd : Odd) → held_against odd None None ≡ None
+none_held Blamed = refl
+none_held PassedOver = refl
+
+nothing_said : (odd : Odd) (kept : State) (fault oddity : Option Reason) → fault ≡ None
+    → oddity ≡ None → explained_if kept oddity (held_against odd fault oddity) ≡ By kept None
+nothing_said odd kept fault oddity e f =
+    ap (λ (x : Option Reason). explained_if kept x (held_against odd fault x)) f
+    ∙ ap (λ (x : Option Reason). explained_if kept None (held_against odd x None)) e
+    ∙ ap (λ (x : Option Reason). explained_if kept None x) (none_held odd)
+
+pub explains : (odd : Odd) (seen : List (Option ℕ)) (found : Taken) (there : Far)
+    (octets : List ℕ) (message : MasterMsg) (reply : List ℕ) → AreTexts (layout_of there).od
+    → there.awake ≡ true
     → IsEventMemory (worked there octets message).events → Agrees seen there.page
     → found.message ≡ message → found.layout ≡ layout_of there
     → Admits found.kept (worked there octets message)
     → reply_in (layout_of there) message.mc.read reply
     ≡ Some (reply_to (worked there octets message) (layout_of there) message)
-    → explained seen (Some found) reply
+    → explained odd seen (Some found) reply
     ≡ By (learned found.kept message.mc (reply_to (worked there octets message) (layout_of there)
-    message))
-explains seen found there octets message reply law awake memory agrees same_message same_layout
-    admits
-    reads =
+    message)) None
+explains odd seen found there octets message reply law awake memory agrees same_message
+    same_layout admits reads =
     let answer = reply_to (worked there octets message) (layout_of there) message in
-    ap (λ (m : MasterMsg). explained_by seen found.kept found.layout m
+    ap (λ (m : MasterMsg). explained_by odd seen found.kept found.layout m
     (reply_in found.layout m.mc.read reply)) same_message
-    ∙ ap (λ (l : Shape). explained_by seen found.kept l message (reply_in l message.mc.read reply))
-    same_layout
-    ∙ ap (λ (r : Option Reply). explained_by seen found.kept (layout_of there) message r) reads
-    ∙ ap (λ (r : Option Reason). explained_if found.kept message.mc answer r)
+    ∙ ap (λ (l : Shape). explained_by odd seen found.kept l message
+    (reply_in l message.mc.read reply)) same_layout
+    ∙ ap (λ (r : Option Reply). explained_by odd seen found.kept (layout_of there) message r)
+    reads
+    ∙ nothing_said odd (learned found.kept message.mc answer)
+    (reply_fault seen found.kept (layout_of there) message.mc answer)
+    (reply_oddity found.kept.cycle message.mc answer)
     (no_fault seen found.kept there octets message law awake memory agrees admits)
+    (no_oddity found.kept there octets message admits)
 
 -- What a reply tells
 
@@ -201,13 +265,15 @@ cycle_said old far size false channel address h = h
 cycle_said old far size true Process address h = h
 cycle_said old far size true Diagnosis address h = h
 cycle_said old far size true Isdu address h = h
-cycle_said old far size true Page address h = split (address == 1)
+cycle_said old far size true Page address h = split (address == 1) old h
   where
-    split : (b : Bool) → IfSome
-        (if b then Some (if b then far.cycle_time else sheet.page_octet far.page address) else old)
+    split : (b : Bool) (old : Option ℕ) → IfSome old (λ o. far.cycle_time ≡ o) → IfSome
+        (if b then option_or old
+        (Some (if b then far.cycle_time else sheet.page_octet far.page address)) else old)
         (λ o. far.cycle_time ≡ o)
-    split true = refl
-    split false = h
+    split true None h = refl
+    split true (Some o) h = h
+    split false old h = h
 
 events_said : (events : Shown) (far : Far) (size : ℕ) (read : Bool) (channel : Channel)
     (address : ℕ) → length far.events.frozen ≤ 6 → AreShown events far.events

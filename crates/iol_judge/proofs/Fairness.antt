@@ -26,7 +26,7 @@ use Rattle.iol_judge.specs.Seen.{nothing_seen, whole_page, layouts_seen}
 use Rattle.iol_judge.specs.State.{State, first_state}
 use Rattle.iol_judge.specs.Taking.{taken_by}
 use Rattle.iol_judge.specs.Replies.{is_readable, explained, learned}
-use Rattle.iol_judge.specs.Judged.{Judged, added, added_taken, lost_with, lost_into, all_lost, next_states, explained_into, replied_taken, replied_into, all_replied, concluded_lost, concluded_with, concluded_replied, no_next, unanswered, answered, counted, judged_by, exchanged, woken_states, woken_into, all_woken, woke_by, woke}
+use Rattle.iol_judge.specs.Judged.{Judged, added, added_taken, lost_with, lost_into, all_lost, next_states, explained_into, replied_taken, replied_into, all_replied, concluded_lost, concluded_with, concluded_replied, no_next, odd_for_all, unanswered, answered, counted, judged_by, exchanged, woken_states, woken_into, all_woken, woke_by, woke}
 use Rattle.iol_judge.specs.Judged as judging
 use Rattle.iol_judge.specs.Admitted.{Agrees, Admits, AdmitsOne, IsPossible, IsFair, Passing, Wakes, Passes, told, told_all, is_answered, IsHonest, IsHonestRun, NeverBlamed}
 use Rattle.iol_judge.proofs.Turns.{each_admits, each_keeps}
@@ -191,28 +191,43 @@ possible : (verdict : Verdict) (states : List State) (far : Far) → verdict ≡
 possible verdict states far e h = subst (λ (v : Verdict). IsPossible v states far) (sym e) h
 
 concluded_fair : (judged : Judged) (new : Far) (found : Result (List State) Open)
-    → judged.verdict ≡ Honest → Agrees judged.seen new.page
+    → judged.verdict ≡ Honest → judged.oddities ≡ 0 → Agrees judged.seen new.page
     → ((out : List State) → found ≡ Ok out → AdmitsOne out new)
     → IsFair (concluded_lost judged found) new
-concluded_fair judged new (Ok out) honest agrees admits =
-    record { page = agrees; state = possible judged.verdict out new honest (admits out refl) }
-concluded_fair judged new (Err why) honest agrees admits = record { page = agrees; state = tt }
+concluded_fair judged new (Ok out) honest even agrees admits = record {
+  page = agrees;
+  state = possible judged.verdict out new honest (admits out refl);
+  odd = even;
+}
+concluded_fair judged new (Err why) honest even agrees admits =
+    record { page = agrees; state = tt; odd = even }
 
 module _ (law : Laws) (judged : Judged) (honest : judged.verdict ≡ Honest)
-    (far : Far) (agrees : Agrees judged.seen far.page) (admits : AdmitsOne judged.states far)
+    (even : judged.oddities ≡ 0) (far : Far) (agrees : Agrees judged.seen far.page) (admits : AdmitsOne judged.states far)
     (sent : List ℕ) where
   unanswered_fair : (new : Far) → Follows far sent new → new.page ≡ far.page
       → IsFair (unanswered judged sent) new
   unanswered_fair new follows page =
       concluded_fair judged new (all_lost (layouts_seen judged.seen) sent [] judged.states) honest
-      (subst (λ (p : List ℕ). Agrees judged.seen p) (sym page) agrees)
+      even (subst (λ (p : List ℕ). Agrees judged.seen p) (sym page) agrees)
       (λ out e. lost_admits (layouts_seen judged.seen) sent far new law.texts
       (knows law.pages judged.seen far.page agrees) follows judged.states out e admits)
 
 -- With one
 
+-- where a state was admitted, and nothing odd found, nothing odd is found for all
+old_even : (states : List State) (old oddity : Option Reason) (far : Far) → AdmitsOne states far
+    → old ≡ None → odd_for_all states old oddity ≡ None
+old_even [] old oddity far h e = absurd h
+old_even (state ∷ states) old None far h e = refl
+old_even (state ∷ states) old (Some reason) far h e = e
+
+now_even : (states : List State) (old : Option Reason) → odd_for_all states old None ≡ None
+now_even [] old = refl
+now_even (state ∷ states) old = refl
+
 module _ (law : Laws) (reads : RepliesAreRead) (judged : Judged)
-    (honest : judged.verdict ≡ Honest) (far : Far)
+    (honest : judged.verdict ≡ Honest) (even : judged.oddities ≡ 0) (far : Far)
     (agrees : Agrees judged.seen far.page) (admits : AdmitsOne judged.states far) (sent : List ℕ)
     (work : Works far sent) (sized : IsSized (worked work.there sent work.message))
     (memory : IsEventMemory (worked work.there sent work.message).events) where
@@ -232,69 +247,82 @@ module _ (law : Laws) (reads : RepliesAreRead) (judged : Judged)
       work.message.mc.channel work.message.mc.read (flow_of work.message.mc.address)
       work.message.od.items
 
+  -- and nothing odd is found
   AdmitsNext : Next → Type 0
   AdmitsNext next = AdmitsOne next.states.items (worked work.there sent work.message)
+      × (next.oddity ≡ None)
 
   next_admits : (next : Next) (found : Result (List State) Open) (more : Next)
+      → next.oddity ≡ None
       → ((out : List State) → found ≡ Ok out → AdmitsOne out worked_far)
       → next_states next found ≡ Ok more → AdmitsNext more
   unfolding worked_far AdmitsNext
-  next_admits next (Ok out) more admits h =
-      let e : ◌≡◌ {A = Next} (record { states = record { items = out }; reason = next.reason }) more
-      = cc in
-      subst (λ (n : Next). AdmitsOne n.states.items (worked work.there sent work.message)) e
-      (admits out refl)
-  next_admits next (Err why) more admits h = absurd (cc)
+  next_admits next (Ok out) more even admits h =
+      let e : ◌≡◌ {A = Next} (record next { states = record { items = out } }) more = cc in
+      subst (λ (n : Next). AdmitsOne n.states.items (worked work.there sent work.message)
+      × (n.oddity ≡ None)) e (admits out refl, even)
+  next_admits next (Err why) more even admits h = absurd (cc)
 
   replied_keeps : (next : Next) (state : State) (more : Next)
-      → replied_into (layouts_seen judged.seen) judged.seen sent its_reply next state ≡ Ok more
+      → replied_into (layouts_seen judged.seen) judged.odd judged.seen sent its_reply next state
+      ≡ Ok more
       → AdmitsNext next → AdmitsNext more
   unfolding AdmitsNext worked_far
   replied_keeps next state more h a = outer (taken_by (layouts_seen judged.seen) state sent) h
     where
       inner : (by : Explained) → explained_into next by ≡ Ok more
           → AdmitsOne more.states.items (worked work.there sent work.message)
-      inner (By found) h = next_admits next (added next.states.items found) more
+          × (more.oddity ≡ None)
+      inner (By found oddity) h = next_admits
+          (record next { oddity = odd_for_all next.states.items next.oddity oddity })
+          (added next.states.items found) more
+          (old_even next.states.items next.oddity oddity (worked work.there sent work.message)
+          a.0 a.1)
           (λ out e. added_keeps next.states.items found out (worked work.there sent work.message) e
-          a) h
+          a.0) h
       inner (Not reason) h =
           let e : ◌≡◌ {A = Next} (record next { reason = later next.reason reason }) more = cc in
-          subst (λ (n : Next). AdmitsOne n.states.items (worked work.there sent work.message)) e a
+          subst (λ (n : Next). AdmitsOne n.states.items (worked work.there sent work.message)
+          × (n.oddity ≡ None)) e a
 
       outer : (taken : Result (Option Taken) Open)
-          → replied_taken judged.seen its_reply next taken ≡ Ok more
+          → replied_taken judged.odd judged.seen its_reply next taken ≡ Ok more
           → AdmitsOne more.states.items (worked work.there sent work.message)
-      outer (Ok found) h = inner (explained judged.seen found its_reply) h
+          × (more.oddity ≡ None)
+      outer (Ok found) h = inner (explained judged.odd judged.seen found its_reply) h
       outer (Err why) h = absurd (cc)
 
   there_agrees : Agrees judged.seen work.there.page
   there_agrees = subst (λ (p : List ℕ). Agrees judged.seen p) (sym work.accepting.page) agrees
 
   replied_gains : (next : Next) (state : State) (more : Next)
-      → replied_into (layouts_seen judged.seen) judged.seen sent its_reply next state ≡ Ok more
+      → replied_into (layouts_seen judged.seen) judged.odd judged.seen sent its_reply next state
+      ≡ Ok more
       → Admits state far → AdmitsNext more
   unfolding AdmitsNext worked_far its_reply Fits
   replied_gains next state more h a = outer (taken_by (layouts_seen judged.seen) state sent) refl h
     where
       inner : (found : Option Taken) → Fits work.there sent (Some work.message) found
-          → explained_into next (explained judged.seen found its_reply) ≡ Ok more
+          → explained_into next (explained judged.odd judged.seen found its_reply) ≡ Ok more
           → AdmitsOne more.states.items (worked work.there sent work.message)
+          × (more.oddity ≡ None)
       inner None fits h = absurd fits
       inner (Some found) fits h =
           let answer = reply_to (worked work.there sent work.message) (layout_of work.there)
           work.message in
-          let by : explained judged.seen (Some found) its_reply
-          ≡ By (learned found.kept work.message.mc answer) =
-          explains judged.seen found work.there sent work.message its_reply (law.texts work.there)
-          work.accepting.awake
+          let by : explained judged.odd judged.seen (Some found) its_reply
+          ≡ By (learned found.kept work.message.mc answer) None =
+          explains judged.odd judged.seen found work.there sent work.message its_reply
+          (law.texts work.there) work.accepting.awake
           memory there_agrees
           fits.0 fits.1 fits.2 (reads (worked work.there sent work.message) work.message sized) in
-          let state_after = learned found.kept work.message.mc answer in
-          let ok : next_states next (added next.states.items
+          let even : Next =
+          record next { oddity = odd_for_all next.states.items next.oddity None } in
+          let ok : next_states even (added next.states.items
           (learned found.kept work.message.mc answer)) ≡ Ok more =
           sym (ap (λ (x : Explained). explained_into next x) by) ∙ h in
-          next_admits next (added next.states.items (learned found.kept work.message.mc answer))
-          more
+          next_admits even (added next.states.items (learned found.kept work.message.mc answer))
+          more (now_even next.states.items next.oddity)
           (λ out e. added_admits next.states.items (learned found.kept work.message.mc answer) out
           (worked work.there sent work.message) e
           (learned_admits found.kept (worked work.there sent work.message) work.message
@@ -302,8 +330,9 @@ module _ (law : Laws) (reads : RepliesAreRead) (judged : Judged)
 
       outer : (taken : Result (Option Taken) Open) → taken_by (layouts_seen judged.seen) state sent
           ≡ taken
-          → replied_taken judged.seen its_reply next taken ≡ Ok more
+          → replied_taken judged.odd judged.seen its_reply next taken ≡ Ok more
           → AdmitsOne more.states.items (worked work.there sent work.message)
+          × (more.oddity ≡ None)
       outer (Ok found) e h = inner found
           (subst (λ (m : Option MasterMsg). Fits work.there sent m found) work.spells
           (state_fits (layouts_seen judged.seen) far work.there sent state found law.texts
@@ -313,25 +342,31 @@ module _ (law : Laws) (reads : RepliesAreRead) (judged : Judged)
   concluded_next : (found : Result Next Open) → ((out : Next) → found ≡ Ok out → AdmitsNext out)
       → IsFair (concluded_replied judged sent its_reply found) worked_far
   unfolding AdmitsNext worked_far its_reply
-  concluded_next (Err why) admits = record { page = there_agrees; state = tt }
-  concluded_next (Ok out) admits = split out.states.items (admits out refl)
+  concluded_next (Err why) admits = record { page = there_agrees; state = tt; odd = even }
+  concluded_next (Ok out) admits =
+      split out.states.items (admits out refl).0 out.oddity (admits out refl).1
     where
       split : (states : List State) → AdmitsOne states (worked work.there sent work.message)
-          → IsFair (concluded_with judged sent its_reply out.reason states)
+          → (oddity : Option Reason) → oddity ≡ None
+          → IsFair (concluded_with judged sent its_reply (record out { oddity = oddity }) states)
           (worked work.there sent work.message)
-      split [] h = absurd h
-      split (state ∷ states) h = record {
+      split [] h oddity e = absurd h
+      split (state ∷ states) h (Some reason) e = absurd (cc)
+      split (state ∷ states) h None e = record {
         page = noted_agrees judged.seen (worked work.there sent work.message) sent
             (layout_of work.there) work.message
             work.spells (layout_of work.there) there_agrees;
         state = possible judged.verdict (state ∷ states) (worked work.there sent work.message)
             honest h;
+        odd = even;
       }
 
   replied_fair : IsFair (judging.replied judged sent its_reply) worked_far
   replied_fair = concluded_next
-      (all_replied (layouts_seen judged.seen) judged.seen sent its_reply no_next judged.states)
-      (λ out e. each_admits (replied_into (layouts_seen judged.seen) judged.seen sent its_reply) far
+      (all_replied (layouts_seen judged.seen) judged.odd judged.seen sent its_reply no_next
+      judged.states)
+      (λ out e. each_admits
+      (replied_into (layouts_seen judged.seen) judged.odd judged.seen sent its_reply) far
       AdmitsNext
       replied_keeps replied_gains judged.states no_next out e admits)
 
@@ -343,19 +378,20 @@ regular_all law far [] h = h
 regular_all law far (step ∷ steps) h = regular_all law (local far step) steps (law.steps far step h)
 
 -- whatever came, where the device answered nothing or the reply was lost
-lost_fair : (law : Laws) (judged : Judged) → judged.verdict ≡ Honest → (far : Far)
+lost_fair : (law : Laws) (judged : Judged) → judged.verdict ≡ Honest → judged.oddities ≡ 0
+    → (far : Far)
     → Agrees judged.seen far.page → AdmitsOne judged.states far → (sent : List ℕ) (new : Far)
     → Follows far sent new → new.page ≡ far.page → (answer : Option (List ℕ))
     → IsUnread sent answer → IsFair (answered judged sent answer) new
-lost_fair law judged honest far agrees admits sent new follows page None unread =
-    unanswered_fair law judged honest far agrees admits sent new follows page
-lost_fair law judged honest far agrees admits sent new follows page (Some reply) unread =
+lost_fair law judged honest even far agrees admits sent new follows page None unread =
+    unanswered_fair law judged honest even far agrees admits sent new follows page
+lost_fair law judged honest even far agrees admits sent new follows page (Some reply) unread =
     split (is_readable sent reply) refl
   where
     split : (b : Bool) → is_readable sent reply ≡ b
         → IsFair (if b then judging.replied judged sent reply else unanswered judged sent) new
     split true e = absurd (readable_is_unaltered sent reply unread e)
-    split false e = unanswered_fair law judged honest far agrees admits sent new follows page
+    split false e = unanswered_fair law judged honest even far agrees admits sent new follows page
 
 module _ (law : Laws) (stays : RegularStays) (much : MuchStays)
     (reads : RepliesAreRead) where
@@ -363,14 +399,15 @@ module _ (law : Laws) (stays : RegularStays) (much : MuchStays)
   heard_page far sent = much.page_heard far sent
 
   -- the unaltered reply of a device that worked the message
-  clean_works : (judged : Judged) → judged.verdict ≡ Honest → (far : Far) → IsRegular far
+  clean_works : (judged : Judged) → judged.verdict ≡ Honest → judged.oddities ≡ 0 → (far : Far)
+      → IsRegular far
       → Agrees judged.seen far.page → AdmitsOne judged.states far → (sent : List ℕ)
       → (work : Works far sent)
       → IsFair (answered judged sent (replied (worked work.there sent work.message)
       work.message).reply)
       (worked work.there sent work.message)
   unfolding Follows worked_far its_reply
-  clean_works judged honest far regular agrees admits sent work = split
+  clean_works judged honest even far regular agrees admits sent work = split
       (is_readable sent (octets_of (reply_to (worked work.there sent work.message)
       (layout_of work.there) work.message)))
     where
@@ -383,49 +420,51 @@ module _ (law : Laws) (stays : RegularStays) (much : MuchStays)
           (octets_of (reply_to (worked work.there sent work.message) (layout_of work.there)
           work.message)) else unanswered judged sent)
           (worked work.there sent work.message)
-      split true = replied_fair law reads judged honest far agrees admits sent work
+      split true = replied_fair law reads judged honest even far agrees admits sent work
           new_regular.sized new_regular.memory
-      split false = unanswered_fair law judged honest far agrees admits sent
+      split false = unanswered_fair law judged honest even far agrees admits sent
           (worked work.there sent work.message)
           (inr (work, refl)) work.accepting.page
 
-  clean_fair : (judged : Judged) → judged.verdict ≡ Honest → (far : Far) → IsRegular far
+  clean_fair : (judged : Judged) → judged.verdict ≡ Honest → judged.oddities ≡ 0 → (far : Far)
+      → IsRegular far
       → Agrees judged.seen far.page → AdmitsOne judged.states far → (sent : List ℕ)
       → IsFair (answered judged sent (hear far sent).reply) (hear far sent).far
   unfolding Unheard Follows
-  clean_fair judged honest far regular agrees admits sent = split (hears far sent)
+  clean_fair judged honest even far regular agrees admits sent = split (hears far sent)
     where
       split : (((hear far sent).far ≡ far) × ((hear far sent).reply ≡ None)) ⊎ Works far sent
           → IsFair (answered judged sent (hear far sent).reply) (hear far sent).far
       split (inl none) =
           let quiet : IsFair (answered judged sent None) far =
-          unanswered_fair law judged honest far agrees admits sent far (inl refl) refl in
+          unanswered_fair law judged honest even far agrees admits sent far (inl refl) refl in
           let there : IsFair (answered judged sent None) (hear far sent).far =
           subst (λ (g : Far). IsFair (answered judged sent None) g) (sym none.0) quiet in
           subst (λ (r : Option (List ℕ)). IsFair (answered judged sent r) (hear far sent).far)
           (sym none.1) there
       split (inr work) =
           subst (λ (h : Heard). IsFair (answered judged sent h.reply) h.far) (sym work.heard_is)
-          (clean_works judged honest far regular agrees admits sent work)
+          (clean_works judged honest even far regular agrees admits sent work)
 
   -- an exchange, once the device did what it does by itself
-  passed_fair : (judged : Judged) → judged.verdict ≡ Honest → (far : Far) → IsRegular far
+  passed_fair : (judged : Judged) → judged.verdict ≡ Honest → judged.oddities ≡ 0 → (far : Far)
+      → IsRegular far
       → Agrees judged.seen far.page → AdmitsOne judged.states far → (sent : List ℕ)
       → (answer : Option (List ℕ)) (new : Far) (passage : Passage)
       → new ≡ far_after passage far sent → IsAnswer passage far sent answer
       → IsFair (answered judged sent answer) new
   unfolding Follows
-  passed_fair judged honest far regular agrees admits sent answer new OutLost is came =
-      lost_fair law judged honest far agrees admits sent new (inl is) (ap (λ (g : Far). g.page) is)
-      answer came
-  passed_fair judged honest far regular agrees admits sent answer new BackLost is came =
+  passed_fair judged honest even far regular agrees admits sent answer new OutLost is came =
+      lost_fair law judged honest even far agrees admits sent new (inl is)
+      (ap (λ (g : Far). g.page) is) answer came
+  passed_fair judged honest even far regular agrees admits sent answer new BackLost is came =
       let fair : IsFair (answered judged sent answer) (hear far sent).far =
-      lost_fair law judged honest far agrees admits sent (hear far sent).far
+      lost_fair law judged honest even far agrees admits sent (hear far sent).far
       (follows_heard far sent) (heard_page far sent) answer came in
       subst (λ (g : Far). IsFair (answered judged sent answer) g) (sym is) fair
-  passed_fair judged honest far regular agrees admits sent answer new Clean is came =
+  passed_fair judged honest even far regular agrees admits sent answer new Clean is came =
       let fair : IsFair (answered judged sent (hear far sent).reply) (hear far sent).far =
-      clean_fair judged honest far regular agrees admits sent in
+      clean_fair judged honest even far regular agrees admits sent in
       let there : IsFair (answered judged sent (hear far sent).reply) new =
       subst (λ (g : Far). IsFair (answered judged sent (hear far sent).reply) g) (sym is) fair in
       subst (λ (r : Option (List ℕ)). IsFair (answered judged sent r) new) (sym came) there
@@ -459,8 +498,9 @@ module _ (law : Laws) (stays : RegularStays) (much : MuchStays)
       split Unjudged e = record {
         page = agrees;
         state = subst (λ (v : Verdict). IsPossible v judged.states new) (sym e) tt;
+        odd = fair.odd;
       }
-      split Honest e = passed_fair (counted judged) e (locals far h.steps)
+      split Honest e = passed_fair (counted judged) e fair.odd (locals far h.steps)
           (regular_all stays far h.steps h.regular)
           (agrees_alike judged.seen far (locals far h.steps) same fair.page)
           (one_alike judged.states far (locals far h.steps) same
@@ -471,6 +511,7 @@ module _ (law : Laws) (stays : RegularStays) (much : MuchStays)
       split (CantSay exchange why) e = record {
         page = agrees;
         state = subst (λ (v : Verdict). IsPossible v judged.states new) (sym e) tt;
+        odd = fair.odd;
       }
 
 -- A wake-up request
@@ -554,16 +595,18 @@ wake_fair judged far wake new h fair = split judged.verdict refl
             }))
         | inr quiet ↦ absurd (let no : Answered ≡ Unanswered = quiet.0 in cc)
       ];
+      odd = fair.odd;
     }
     first Unanswered follows e = record {
       page = agrees;
       state = subst (λ (v : Verdict). IsPossible v judged.states new) (sym e) tt;
+      odd = fair.odd;
     }
 
     split : (verdict : Verdict) → judged.verdict ≡ verdict
         → IsFair (woke_by verdict judged wake) new
     split Unjudged e = first wake follows e
-    split Honest e = concluded_fair judged new (all_woken wake [] judged.states) e agrees
+    split Honest e = concluded_fair judged new (all_woken wake [] judged.states) e fair.odd agrees
         (λ out f. all_woken_admits wake (locals far h.steps) new follows judged.states out f
         (one_alike judged.states far (locals far h.steps) same
         (subst (λ (v : Verdict). IsPossible v judged.states far) e fair.state)))
@@ -572,6 +615,7 @@ wake_fair judged far wake new h fair = split judged.verdict refl
     split (CantSay exchange why) e = record {
       page = agrees;
       state = subst (λ (v : Verdict). IsPossible v judged.states new) (sym e) tt;
+      odd = fair.odd;
     }
 
 -- The page
@@ -605,22 +649,30 @@ module _ (law : Laws) (stays : RegularStays) (much : MuchStays)
   told_fair judged far silence (Passes sent answer) new silence_new h fair =
       exchange_fair law stays much reads judged far silence sent answer new silence_new h fair
 
+  run_all : (judged : Judged) (far : Far) → IsFair judged far
+      → (silence : ℕ) (capture : List Passing) → IsHonestRun far silence capture
+      → (last : Far) × IsFair (told_all judged capture) last
+  run_all judged far fair silence [] h = (far, fair)
+  run_all judged far fair silence (passing ∷ capture) h =
+      run_all (told judged passing) h.0 (told_fair judged far silence passing h.0 h.1 h.2 fair) h.1
+      capture h.3
+
   run_fair : (judged : Judged) (far : Far) → IsFair judged far
       → (silence : ℕ) (capture : List Passing)
       → IsHonestRun far silence capture → (exchange : ℕ) (reason : Reason)
       → (told_all judged capture).verdict ≢ NotHonest exchange reason
-  run_fair judged far fair silence [] h exchange reason e =
-      subst (λ (v : Verdict). IsPossible v judged.states far) e fair.state
-  run_fair judged far fair silence (passing ∷ capture) h exchange reason e =
-      run_fair (told judged passing) h.0 (told_fair judged far silence passing h.0 h.1 h.2 fair) h.1
-      capture h.3
-      exchange reason e
+  run_fair judged far fair silence capture h exchange reason e =
+      let last = run_all judged far fair silence capture h in
+      subst (λ (v : Verdict). IsPossible v (told_all judged capture).states last.0) e last.1.state
 
   pub never_blamed : NeverBlamed
   never_blamed = record {
-    begins = λ far. record { page = none_seen far; state = tt };
-    pages = λ judged far fair. record { page = whole_agrees far.page; state = fair.state };
+    begins = λ odd far. record { page = none_seen far; state = tt; odd = refl };
+    pages = λ judged far fair.
+        record { page = whole_agrees far.page; state = fair.state; odd = fair.odd };
     wakes = wake_fair;
     exchanges = exchange_fair law stays much reads;
     runs = run_fair;
+    none_odd = λ judged far fair silence capture h.
+        (run_all judged far fair silence capture h).1.odd;
   }

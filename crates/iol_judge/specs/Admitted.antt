@@ -12,6 +12,7 @@ use Rattle.iol_judge.specs.declared.reason.Reason.{Reason}
 use Rattle.iol_judge.specs.declared.transfer.Transfer.TheVariants.{Quiet}
 use Rattle.iol_judge.specs.declared.verdict.Verdict.{Verdict}
 use Rattle.iol_judge.specs.declared.verdict.Verdict.TheVariants.{Unjudged, Honest, NotHonest, CantSay}
+use Rattle.iol_judge.specs.declared.verdict.Odd.{Odd}
 use Rattle.iol_judge.specs.declared.verdict.Wake.{Wake}
 use Rattle.iol_judge.specs.declared.verdict.Wake.TheVariants.{Answered, Unanswered}
 use Rattle.iol_judge.specs.Seen.{whole_page}
@@ -68,10 +69,11 @@ IsPossible Honest states far = AdmitsOne states far
 IsPossible (NotHonest exchange reason) states far = ⊥
 IsPossible (CantSay exchange why) states far = Unit {0}
 
--- the judge says nothing against the device
+-- the judge says nothing against the device, and found nothing odd
 pub record IsFair (judged : Judged) (far : Far) : Type 0 where
   pub page : Agrees judged.seen far.page
   pub state : IsPossible judged.verdict judged.states far
+  pub odd : judged.oddities ≡ 0
 
 -- Captures
 
@@ -107,9 +109,10 @@ IsHonestRun far silence [] = Unit {0}
 IsHonestRun far silence (passing ∷ capture) = (far_new : Far) × (silence_new : ℕ)
     × IsHonest far silence passing far_new silence_new × IsHonestRun far_new silence_new capture
 
--- the law: whatever device brings a capture over a lossy line, it is never called not honest
+-- the law: whatever device brings a capture over a lossy line, it is never called not honest, and
+-- nothing in it is called odd, whatever is done with odd replies
 pub record NeverBlamed : Type 0 where
-  pub begins : (far : Far) → IsFair new_judge far
+  pub begins : (odd : Odd) (far : Far) → IsFair (new_judge odd) far
   -- its page, where it is told
   pub pages : (judged : Judged) (far : Far) → IsFair judged far
       → IsFair (record judged { seen = whole_page far.page }) far
@@ -124,3 +127,6 @@ pub record NeverBlamed : Type 0 where
       → (silence : ℕ) (capture : List Passing) → IsHonestRun far silence capture
       → (exchange : ℕ) (reason : Reason)
       → (told_all judged capture).verdict ≢ NotHonest exchange reason
+  pub none_odd : (judged : Judged) (far : Far) → IsFair judged far
+      → (silence : ℕ) (capture : List Passing) → IsHonestRun far silence capture
+      → (told_all judged capture).oddities ≡ 0

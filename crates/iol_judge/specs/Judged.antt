@@ -17,6 +17,7 @@ use Rattle.iol_judge.specs.declared.taken.Explained.{Explained}
 use Rattle.iol_judge.specs.declared.taken.Explained.TheVariants.{By, Not}
 use Rattle.iol_judge.specs.declared.verdict.Verdict.{Verdict}
 use Rattle.iol_judge.specs.declared.verdict.Verdict.TheVariants.{Unjudged, Honest, NotHonest, CantSay}
+use Rattle.iol_judge.specs.declared.verdict.Odd.{Odd}
 use Rattle.iol_judge.specs.declared.verdict.Wake.{Wake}
 use Rattle.iol_judge.specs.declared.verdict.Wake.TheVariants.{Answered, Unanswered}
 use Rattle.iol_judge.specs.Numbers.{later}
@@ -33,9 +34,27 @@ pub record Judged : Type 0 where
   pub verdict : Verdict
   -- how many exchanges there were
   pub exchanges : ℕ
+  -- what is done with an odd reply
+  pub odd : Odd
+  -- what was odd in the last exchange, and passed over
+  pub oddity : Option Reason
+  -- in how many exchanges something was
+  pub oddities : ℕ
 
-abbrev pub new_judge : Judged
-new_judge = record { seen = nothing_seen; states = []; verdict = Unjudged; exchanges = 0 }
+abbrev pub new_judge : Odd → Judged
+new_judge odd = record {
+  seen = nothing_seen;
+  states = [];
+  verdict = Unjudged;
+  exchanges = 0;
+  odd = odd;
+  oddity = None;
+  oddities = 0;
+}
+
+-- one more, up to the largest number
+abbrev pub one_more : ℕ → ℕ
+one_more count = min (count + 1) (2 ^ 64 - 1)
 
 -- Sets of states, none of which another one covers
 
@@ -89,32 +108,38 @@ all_lost known sent next states = each_in_turn (lost_into known sent) next state
 -- With one
 
 abbrev pub next_states : Next → Result (List State) Open → Result Next Open
-next_states next (Ok states) = Ok (record {
-  states = record { items = states };
-  reason = next.reason;
-})
+next_states next (Ok states) = Ok (record next { states = record { items = states } })
 next_states next (Err why) = Err why
 
+-- what is odd for each of the states that explain the reply: these did, and one more does
+abbrev pub odd_for_all : List State → Option Reason → Option Reason → Option Reason
+odd_for_all [] old oddity = oddity
+odd_for_all (state ∷ states) old None = None
+odd_for_all (state ∷ states) old (Some reason) = old
+
 abbrev pub explained_into : Next → Explained → Result Next Open
-explained_into next (By state) = next_states next (added next.states.items state)
+explained_into next (By state oddity) = next_states
+    (record next { oddity = odd_for_all next.states.items next.oddity oddity })
+    (added next.states.items state)
 explained_into next (Not reason) = Ok (record next { reason = later next.reason reason })
 
-abbrev pub replied_taken : List (Option ℕ) → List ℕ → Next → Result (Option Taken) Open
+abbrev pub replied_taken : Odd → List (Option ℕ) → List ℕ → Next → Result (Option Taken) Open
     → Result Next Open
-replied_taken seen reply next (Ok taken) = explained_into next (explained seen taken reply)
-replied_taken seen reply next (Err why) = Err why
+replied_taken odd seen reply next (Ok taken) =
+    explained_into next (explained odd seen taken reply)
+replied_taken odd seen reply next (Err why) = Err why
 
-abbrev pub replied_into : Result Layouts Open → List (Option ℕ) → List ℕ → List ℕ → Next → State
-    → Result Next Open
-replied_into known seen sent reply next state =
-    replied_taken seen reply next (taken_by known state sent)
+abbrev pub replied_into : Result Layouts Open → Odd → List (Option ℕ) → List ℕ → List ℕ → Next
+    → State → Result Next Open
+replied_into known odd seen sent reply next state =
+    replied_taken odd seen reply next (taken_by known state sent)
 
 -- each state that explains the reply
 -- WIRE-2
-abbrev pub all_replied : Result Layouts Open → List (Option ℕ) → List ℕ → List ℕ → Next
+abbrev pub all_replied : Result Layouts Open → Odd → List (Option ℕ) → List ℕ → List ℕ → Next
     → List State → Result Next Open
-all_replied known seen sent reply next states =
-    each_in_turn (replied_into known seen sent reply) next states
+all_replied known odd seen sent reply next states =
+    each_in_turn (replied_into known odd seen sent reply) next states
 
 -- An exchange
 
@@ -133,21 +158,27 @@ noted_by seen mc reply = noted_at seen mc.read mc.channel mc.address (slice_inde
 abbrev pub noted : List (Option ℕ) → List ℕ → List ℕ → List (Option ℕ)
 noted seen sent reply = noted_by seen (control_of (slice_index sent 0)) reply
 
+-- an odd exchange is counted
+abbrev pub with_oddity : Judged → Option Reason → Judged
+with_oddity judged None = judged
+with_oddity judged (Some reason) =
+    record judged { oddity = Some reason; oddities = one_more judged.oddities }
+
 -- where no state is left, none explains the reply
-abbrev pub concluded_with : Judged → List ℕ → List ℕ → Reason → List State → Judged
-concluded_with judged sent reply reason [] =
-    record judged { verdict = NotHonest judged.exchanges reason }
-concluded_with judged sent reply reason (state ∷ states) =
-    record judged { seen = noted judged.seen sent reply; states = state ∷ states }
+abbrev pub concluded_with : Judged → List ℕ → List ℕ → Next → List State → Judged
+concluded_with judged sent reply next [] =
+    record judged { verdict = NotHonest judged.exchanges next.reason }
+concluded_with judged sent reply next (state ∷ states) = with_oddity
+    (record judged { seen = noted judged.seen sent reply; states = state ∷ states }) next.oddity
 
 abbrev pub concluded_replied : Judged → List ℕ → List ℕ → Result Next Open → Judged
 concluded_replied judged sent reply (Ok next) =
-    concluded_with judged sent reply next.reason next.states.items
+    concluded_with judged sent reply next next.states.items
 concluded_replied judged sent reply (Err why) =
     record judged { verdict = CantSay judged.exchanges why }
 
 abbrev pub no_next : Next
-no_next = record { states = record { items = [] }; reason = NotTaken }
+no_next = record { states = record { items = [] }; reason = NotTaken; oddity = None }
 
 abbrev pub unanswered : Judged → List ℕ → Judged
 unanswered judged sent =
@@ -155,7 +186,8 @@ unanswered judged sent =
 
 abbrev pub replied : Judged → List ℕ → List ℕ → Judged
 replied judged sent reply = concluded_replied judged sent reply
-    (all_replied (layouts_seen judged.seen) judged.seen sent reply no_next judged.states)
+    (all_replied (layouts_seen judged.seen) judged.odd judged.seen sent reply no_next
+    judged.states)
 
 abbrev pub answered : Judged → List ℕ → Option (List ℕ) → Judged
 answered judged sent None = unanswered judged sent
@@ -163,7 +195,7 @@ answered judged sent (Some reply) =
     if is_readable sent reply then replied judged sent reply else unanswered judged sent
 
 abbrev pub counted : Judged → Judged
-counted judged = record judged { exchanges = min (judged.exchanges + 1) (2 ^ 64 - 1) }
+counted judged = record judged { exchanges = one_more judged.exchanges; oddity = None }
 
 abbrev pub judged_by : Verdict → Judged → List ℕ → Option (List ℕ) → Judged
 judged_by Honest judged sent answer = answered judged sent answer

@@ -36,3 +36,7 @@ open_number TooManyStates = 3
 -- of two reasons the one of the later look at a reply
 abbrev pub later : Reason → Reason → Reason
 later a b = if nat_lt (reason_number a) (reason_number b) then b else a
+
+-- of two reasons the one of the earlier look at a reply
+abbrev pub earlier : Reason → Reason → Reason
+earlier a b = if nat_lt (reason_number b) (reason_number a) then b else a

@@ -1,5 +1,5 @@
 -- Which replies a device in a kept state may have sent.
-use Rattle.std.specs.Prelude.{ℕ, ◌+◌, ◌-◌, min, Bool, true, false, not, ◌&&◌, ◌||◌, ◌==◌, nat_le, if◌then◌else◌, List, length, drop, slice_index, Option, Some, None, is_some, Result, Ok, Err}
+use Rattle.std.specs.Prelude.{ℕ, ◌+◌, ◌-◌, min, Bool, true, false, ◌&&◌, ◌||◌, ◌==◌, nat_le, if◌then◌else◌, List, length, drop, slice_index, Option, Some, None, is_some, Result, Ok, Err}
 use Rattle.std.specs.Option.{option_or}
 use Rattle.iol_octets.specs.declared.control.Channel.{Channel}
 use Rattle.iol_octets.specs.declared.control.Channel.TheVariants.{Process, Page, Diagnosis, Isdu}
@@ -13,6 +13,9 @@ use Rattle.iol_mseq.specs.declared.reply.Reply.{Reply}
 use Rattle.iol_judge.specs.declared.reason.Reason.{Reason}
 use Rattle.iol_judge.specs.declared.reason.Reason.TheVariants.{NotTaken, ReplyLength, StatusWithoutData, InvalidNotZero, PageChanged, PageZero, CycleTime, ProcessNotZero, RestNotZero}
 use Rattle.iol_judge.specs.declared.taken.Taken.{Taken}
+use Rattle.iol_judge.specs.declared.verdict.Odd.{Odd}
+use Rattle.iol_judge.specs.declared.verdict.Odd.TheVariants.{Blamed, PassedOver}
+use Rattle.iol_judge.specs.Numbers.{earlier}
 use Rattle.iol_judge.specs.declared.taken.Explained.{Explained}
 use Rattle.iol_judge.specs.declared.taken.Explained.TheVariants.{By, Not}
 use Rattle.iol_judge.specs.declared.events.Shown.{Shown}
@@ -54,58 +57,68 @@ is_readable sent reply = is_read_with 4 1 sent reply || is_read_with 5 2 sent re
 
 -- Why a device can't have sent a reply
 
--- which reason it is that a page address reads otherwise
-abbrev pub page_reason : ℕ → Reason
-page_reason address =
-    if address == 1 then CycleTime else
-    if nat_le 2 address && nat_le address 11 then PageChanged else PageZero
+abbrev pub other_than : Option ℕ → ℕ → Reason → Option Reason
+other_than known octet reason = if is_other known octet then Some reason else None
 
--- what a page address reads as, where it is known
--- PAGE-1, DEV-7
-abbrev pub octet_known : List (Option ℕ) → Option ℕ → ℕ → Option ℕ
-octet_known seen cycle address = if address == 1 then cycle else octet_seen seen address
+abbrev pub no_zeros : List ℕ → Reason → Option Reason
+no_zeros octets reason = if are_zeros octets then None else Some reason
 
--- MSG-6
-abbrev pub rest_fault : List ℕ → Option Reason
-rest_fault od = if are_zeros (drop 1 od) then None else Some RestNotZero
+-- an octet of the page is another than was read
+-- PAGE-1
+abbrev pub page_fault : List (Option ℕ) → ℕ → ℕ → Option Reason
+page_fault seen address octet = other_than (octet_seen seen address) octet PageChanged
 
--- DEV-7, MSG-6
-abbrev pub page_fault : List (Option ℕ) → Option ℕ → ℕ → List ℕ → Option Reason
-page_fault seen cycle address od =
-    if is_other (octet_known seen cycle address) (slice_index od 0)
-    then Some (page_reason address) else
-    rest_fault od
-
--- DEV-7, EVT-4, MSG-6
-abbrev pub diagnosis_fault : Shown → ℕ → List ℕ → Option Reason
-diagnosis_fault events address od =
-    option_or (events_fault events address (slice_index od 0)) (rest_fault od)
+abbrev pub is_of_page : ℕ → Bool
+is_of_page address = nat_le 2 address && nat_le address 11
 
 -- the on-request data of the reply to a read, once its Event flag was had
--- DEV-7, MSG-6
+-- DEV-7, EVT-4
 abbrev pub data_fault : List (Option ℕ) → State → Bool → Channel → ℕ → List ℕ → Option Reason
-data_fault seen state flag Process address od =
-    if are_zeros od then None else Some ProcessNotZero
-data_fault seen state flag Page address od = page_fault seen state.cycle address od
+data_fault seen state flag Process address od = None
+data_fault seen state flag Page address od =
+    if is_of_page address then page_fault seen address (slice_index od 0) else None
 data_fault seen state flag Diagnosis address od =
-    diagnosis_fault (flag_told state.events flag) address od
+    events_fault (flag_told state.events flag) address (slice_index od 0)
 data_fault seen state flag Isdu address od = isdu_fault state.transfer od
 
 -- DEV-7, DEV-8, EVT-2
 abbrev pub reply_fault : List (Option ℕ) → State → Shape → Mc → Reply → Option Reason
 reply_fault seen state layout mc reply =
     if reply.invalid && (layout.pd_in == 0) then Some StatusWithoutData else
-    if reply.invalid && not (are_zeros reply.input.items) then Some InvalidNotZero else
     option_or (flag_fault state.events reply.event)
     (if mc.read
     then data_fault seen state reply.event mc.channel mc.address reply.od.items
     else None)
 
+-- What is odd in a reply: no device by the rules sends it, and no promise to a client rests on it
+
+-- DEV-7, DEV-9
+abbrev pub page_oddity : Option ℕ → ℕ → ℕ → Option Reason
+page_oddity cycle address octet =
+    if address == 1 then other_than cycle octet CycleTime else
+    if is_of_page address then None else other_than (Some 0) octet PageZero
+
+-- DEV-7, MSG-6
+abbrev pub data_oddity : Option ℕ → Channel → ℕ → List ℕ → Option Reason
+data_oddity cycle Process address od = no_zeros od ProcessNotZero
+data_oddity cycle Page address od = option_or (page_oddity cycle address (slice_index od 0))
+    (no_zeros (drop 1 od) RestNotZero)
+data_oddity cycle Diagnosis address od = no_zeros (drop 1 od) RestNotZero
+data_oddity cycle Isdu address od = None
+
+-- DEV-7, DEV-8
+abbrev pub reply_oddity : Option ℕ → Mc → Reply → Option Reason
+reply_oddity cycle mc reply =
+    option_or (if reply.invalid then no_zeros reply.input.items InvalidNotZero else None)
+    (if mc.read then data_oddity cycle mc.channel mc.address reply.od.items else None)
+
 -- What a reply tells
 
--- page address 0x01, where it was read as this octet
+-- page address 0x01, where it was read as this octet: what was known stays, though it was passed
+-- over that another came
 abbrev pub cycle_told : Option ℕ → Bool → Channel → ℕ → ℕ → Option ℕ
-cycle_told old true Page address octet = if address == 1 then Some octet else old
+cycle_told old true Page address octet =
+    if address == 1 then option_or old (Some octet) else old
 cycle_told old read channel address octet = old
 
 abbrev pub shown_told : Shown → Bool → Channel → ℕ → ℕ → Shown
@@ -123,18 +136,33 @@ learned state mc reply = record state {
   transfer = transfer_told state.transfer mc.read mc.channel reply.od.items;
 }
 
-abbrev pub explained_if : State → Mc → Reply → Option Reason → Explained
-explained_if state mc reply None = By (learned state mc reply)
-explained_if state mc reply (Some reason) = Not reason
+-- Whether a state explains a reply
 
-abbrev pub explained_by : List (Option ℕ) → State → Shape → MasterMsg → Option Reply → Explained
-explained_by seen state layout message None = Not ReplyLength
-explained_by seen state layout message (Some reply) =
-    explained_if state message.mc reply (reply_fault seen state layout message.mc reply)
+abbrev pub first_of : Option Reason → Option Reason → Option Reason
+first_of None b = b
+first_of (Some a) None = Some a
+first_of (Some a) (Some b) = Some (earlier a b)
+
+-- what speaks against it, of its fault and what is odd
+abbrev pub held_against : Odd → Option Reason → Option Reason → Option Reason
+held_against Blamed fault oddity = first_of fault oddity
+held_against PassedOver fault oddity = fault
+
+abbrev pub explained_if : State → Option Reason → Option Reason → Explained
+explained_if state oddity None = By state oddity
+explained_if state oddity (Some reason) = Not reason
+
+abbrev pub explained_by : Odd → List (Option ℕ) → State → Shape → MasterMsg → Option Reply
+    → Explained
+explained_by odd seen state layout message None = Not ReplyLength
+explained_by odd seen state layout message (Some reply) =
+    explained_if (learned state message.mc reply) (reply_oddity state.cycle message.mc reply)
+    (held_against odd (reply_fault seen state layout message.mc reply)
+    (reply_oddity state.cycle message.mc reply))
 
 -- whether a state explains the reply that came, by what it makes of the message
-abbrev pub explained : List (Option ℕ) → Option Taken → List ℕ → Explained
-explained seen None reply = Not NotTaken
-explained seen (Some taken) reply =
-    explained_by seen taken.kept taken.layout taken.message
+abbrev pub explained : Odd → List (Option ℕ) → Option Taken → List ℕ → Explained
+explained odd seen None reply = Not NotTaken
+explained odd seen (Some taken) reply =
+    explained_by odd seen taken.kept taken.layout taken.message
     (reply_in taken.layout taken.message.mc.read reply)

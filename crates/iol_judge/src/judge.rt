@@ -8,17 +8,19 @@ use crate::next::{lose, move_states, reply, wake};
 use crate::octets::first_octet;
 use crate::open::Open;
 use crate::readable::is_readable;
+use crate::reason::Reason;
 use crate::seen::Seen;
 use crate::taken::{Next, States};
-use crate::verdict::{Verdict, Wake};
+use crate::verdict::{Odd, Verdict, Wake};
 use iol_octets::{Channel, Mc};
 use std::marker::Model;
 
 /// A judge of one capture. It is told what went over the line, in its order, and has a verdict at
 /// any time. What it keeps doesn't grow with the capture.
 ///
-/// A clause sees what is known of the page, the states, the verdict, and how many exchanges it
-/// was told.
+/// A clause sees what is known of the page, the states, the verdict, how many exchanges it was
+/// told, and of odd replies what is done with them, that of the last exchange, and in how many
+/// there was one.
 #[derive(Drop)]
 pub struct Judge {
     seen: Seen,
@@ -27,6 +29,9 @@ pub struct Judge {
     next: Next,
     verdict: Verdict,
     exchanges: u64,
+    odd: Odd,
+    oddity: Option<Reason>,
+    oddities: u64,
 }
 
 impl Model for Judge {
@@ -39,13 +44,16 @@ impl Model for Judge {
       states = j.states.items;
       verdict = j.verdict;
       exchanges = j.exchanges;
+      odd = j.odd;
+      oddity = j.oddity;
+      oddities = j.oddities;
     } };
 }
 
 impl Judge {
-    /// A judge of a capture of which nothing is known.
-    pub fn new() -> Judge
-        ensures { result ≡ new_judge }
+    /// A judge of a capture of which nothing is known, and what it does with odd replies.
+    pub fn new(odd: Odd) -> Judge
+        ensures { result ≡ new_judge odd }
     {
         Judge {
             seen: Seen::nothing(),
@@ -53,6 +61,9 @@ impl Judge {
             next: Next::none(),
             verdict: Verdict::Unjudged,
             exchanges: 0,
+            odd,
+            oddity: None,
+            oddities: 0,
         }
     }
 
@@ -85,6 +96,7 @@ impl Judge {
         ensures { self.new ≡ exchanged self.old sent.now (option_copied answer.entry) }
     {
         self.exchanges = self.exchanges.saturating_add(1);
+        self.oddity = None;
         if self.verdict != Verdict::Honest {
             return;
         }
@@ -100,13 +112,28 @@ impl Judge {
     {
         self.verdict
     }
+
+    /// What was odd in the last exchange, and passed over.
+    pub fn oddity(&self) -> Option<Reason>
+        ensures { result ≡ self.now.oddity }
+    {
+        self.oddity
+    }
+
+    /// In how many exchanges something was odd, and passed over: so many at least, of whatever
+    /// device. The count stops at 2^64 - 1.
+    pub fn oddities(&self) -> u64
+        ensures { result ≡ self.now.oddities }
+    {
+        self.oddities
+    }
 }
 
 impl Judge {
     ghost use Rattle.std.specs.Prelude.{◌∷◌};
     ghost use Rattle.iol_judge.specs.Seen.{layouts_seen};
     ghost use Rattle.iol_judge.specs.State.{first_state};
-    ghost use Rattle.iol_judge.specs.Judged.{all_woken, replied, unanswered};
+    ghost use Rattle.iol_judge.specs.Judged.{all_woken, replied, unanswered, with_oddity};
     ghost use Rattle.iol_judge.specs.declared.verdict.Verdict.TheVariants.{Honest};
 
     /// The first answered wake-up request.
@@ -150,6 +177,7 @@ impl Judge {
         match reply(
             &self.states,
             &layouts,
+            self.odd,
             &self.seen,
             sent,
             octets,
@@ -160,9 +188,21 @@ impl Judge {
                 self.verdict = Verdict::NotHonest(self.exchanges, self.next.reason);
             }
             Ok(()) => {
+                let oddity = self.next.oddity;
                 move_states(&mut self.next.states, &mut self.states);
                 self.note(sent, octets);
+                self.pass_over(oddity);
             }
+        }
+    }
+
+    /// What is odd in the reply is counted.
+    fn pass_over(&mut self, oddity: Option<Reason>)
+        ensures { self.new ≡ with_oddity self.old oddity }
+    {
+        if oddity.is_some() {
+            self.oddity = oddity;
+            self.oddities = self.oddities.saturating_add(1);
         }
     }
 

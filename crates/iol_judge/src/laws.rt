@@ -9,8 +9,9 @@ use iol_page::pages_ask_for_layouts;
 use iol_segment::{cut_is_whole, texts_join};
 
 /// Whatever device by the rules brings a capture over a line that loses messages and replies, or
-/// damages them so that it shows, it is never called not honest: in all of its states, whatever
-/// it does by itself between the exchanges, and at each wake-up request and power cycle.
+/// damages them so that it shows, it is never called not honest, and nothing in it is odd,
+/// whatever is done with odd replies: in all of its states, whatever it does by itself between the
+/// exchanges, and at each wake-up request and power cycle.
 ///
 /// Rules WIRE-1 to WIRE-3, WIRE-6.
 pub fn honest_lines_are_never_blamed()

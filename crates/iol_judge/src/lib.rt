@@ -38,4 +38,4 @@ pub use judge::Judge;
 pub use laws::honest_lines_are_never_blamed;
 pub use open::Open;
 pub use reason::Reason;
-pub use verdict::{Verdict, Wake};
+pub use verdict::{Odd, Verdict, Wake};

@@ -10,7 +10,7 @@ use crate::reason::Reason;
 use crate::reply::explain;
 use crate::seen::{Known, Seen};
 use crate::taken::{Explained, MAX_STATES, Next, States};
-use crate::verdict::Wake;
+use crate::verdict::{Odd, Wake};
 
 /// Puts a state to the others, in the place of those that it covers, where none of them covers it.
 pub(crate) fn add(states: &mut States, kept: Kept) -> Result<(), Open>
@@ -86,7 +86,8 @@ fn lose_one(kept: &Kept, layouts: &Known, sent: &[u8], next: &mut States) -> Res
 }
 
 impl Next {
-    ghost use Rattle.iol_judge.specs.Judged.{no_next};
+    ghost use Rattle.iol_judge.specs.Judged.{explained_into, no_next};
+    ghost use Rattle.iol_judge.specs.declared.taken.Explained.TheVariants.{By};
 
     /// None yet.
     pub fn none() -> Next
@@ -95,6 +96,7 @@ impl Next {
         Next {
             states: States::new(),
             reason: Reason::NotTaken,
+            oddity: None,
         }
     }
 
@@ -104,6 +106,17 @@ impl Next {
     {
         self.states.clear();
         self.reason = Reason::NotTaken;
+        self.oddity = None;
+    }
+
+    /// One more state explains the reply, with what is odd then.
+    fn add(&mut self, kept: Kept, oddity: Option<Reason>) -> Result<(), Open>
+        ensures { result_with result self.new ≡ explained_into self.old (By kept oddity) }
+    {
+        if self.states.is_empty() || oddity.is_none() {
+            self.oddity = oddity;
+        }
+        add(&mut self.states, kept)
     }
 }
 
@@ -113,16 +126,17 @@ impl Next {
 pub(crate) fn reply(
     states: &[Kept],
     layouts: &Known,
+    odd: Odd,
     seen: &Seen,
     sent: &[u8],
     octets: &[u8],
     next: &mut Next,
 ) -> Result<(), Open>
     ensures { result_with result next.new
-        ≡ all_replied layouts.now seen.now sent.now octets.now next.old states.now }
+        ≡ all_replied layouts.now odd seen.now sent.now octets.now next.old states.now }
 {
     for kept in states {
-        reply_one(kept, layouts, seen, sent, octets, next)?;
+        reply_one(kept, layouts, odd, seen, sent, octets, next)?;
     }
     Ok(())
 }
@@ -131,17 +145,18 @@ pub(crate) fn reply(
 fn reply_one(
     kept: &Kept,
     layouts: &Known,
+    odd: Odd,
     seen: &Seen,
     sent: &[u8],
     octets: &[u8],
     next: &mut Next,
 ) -> Result<(), Open>
     ensures { result_with result next.new
-        ≡ replied_into layouts.now seen.now sent.now octets.now next.old kept.now }
+        ≡ replied_into layouts.now odd seen.now sent.now octets.now next.old kept.now }
 {
     let taken = kept.take(layouts, sent)?;
-    match explain(seen, taken, octets) {
-        Explained::By(after) => add(&mut next.states, after),
+    match explain(odd, seen, taken, octets) {
+        Explained::By(after, oddity) => next.add(after, oddity),
         Explained::Not(reason) => {
             next.reason = next.reason.or_later(reason);
             Ok(())

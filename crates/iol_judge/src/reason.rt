@@ -117,4 +117,17 @@ impl Reason {
     }
 
     ghost use Rattle.iol_judge.specs.Numbers.{later};
+
+    /// Of two reasons the one that came of the earlier look at a reply.
+    pub(crate) fn or_earlier(self, other: Reason) -> Reason
+        ensures { result ≡ earlier self other }
+    {
+        if other.code() < self.code() {
+            other
+        } else {
+            self
+        }
+    }
+
+    ghost use Rattle.iol_judge.specs.Numbers.{earlier};
 }

@@ -1,48 +1,70 @@
 //! Which replies a device in a kept state may have sent.
-ghost use Rattle.std.specs.Prelude.{◌≡◌, ◌<◌, drop, option_map, if◌then◌else◌, true, IfNone};
-ghost use Rattle.iol_judge.specs.Octets.{are_zeros};
-ghost use Rattle.iol_judge.specs.Replies.{data_fault, diagnosis_fault, explained, explained_by, learned, octet_known, page_fault, page_reason, reply_fault, rest_fault};
+ghost use Rattle.std.specs.Prelude.{◌≡◌};
+ghost use Rattle.iol_mseq.specs.Replies.{reply_in};
+ghost use Rattle.iol_judge.specs.Replies.{data_fault, data_oddity, explained, explained_by, first_of, held_against, learned, no_zeros, page_fault, page_oddity, reply_fault, reply_oddity};
 
-use crate::events::Shown;
 use crate::kept::Kept;
 use crate::octets::{are_zeros, first_octet, rest_of};
 use crate::reason::Reason;
 use crate::seen::Seen;
 use crate::taken::{Explained, Taken};
+use crate::verdict::Odd;
 use iol_mseq::{Layout, MasterView, ReplyView, view_reply};
 use iol_octets::{Channel, Mc};
 
 /// Whether a state explains the reply that came, by what it makes of the message.
-pub(crate) fn explain(seen: &Seen, taken: Option<Taken<'_>>, reply: &[u8]) -> Explained
-    ensures { result ≡ explained seen.now taken.entry reply.now }
+pub(crate) fn explain(odd: Odd, seen: &Seen, taken: Option<Taken<'_>>, reply: &[u8]) -> Explained
+    ensures { result ≡ explained odd seen.now taken.entry reply.now }
 {
     match taken {
         None => Explained::Not(Reason::NotTaken),
-        Some(taken) => explain_by(seen, taken.kept, &taken.layout, &taken.message, reply),
+        Some(taken) => explain_by(odd, seen, taken.kept, &taken.layout, &taken.message, reply),
     }
 }
 
 /// Whether the state once it worked the message, in this layout, explains the reply.
 fn explain_by(
+    odd: Odd,
     seen: &Seen,
     kept: Kept,
     layout: &Layout,
     message: &MasterView<'_>,
     octets: &[u8],
 ) -> Explained
-    ensures { result ≡ explained_by seen.now kept layout.now message.now
+    ensures { result ≡ explained_by odd seen.now kept layout.now message.now
         (reply_in layout.now message.now.mc.read octets.now) }
 {
     let Ok(reply) = view_reply(layout, message.mc().read, octets) else {
         return Explained::Not(Reason::ReplyLength);
     };
-    match fault_of(seen, &kept, layout, message.mc(), &reply) {
+    let fault = fault_of(seen, &kept, layout, message.mc(), &reply);
+    let oddity = oddity_of(kept.cycle, message.mc(), &reply);
+    match held_against(odd, fault, oddity) {
         Some(reason) => Explained::Not(reason),
-        None => Explained::By(learned(kept, message.mc(), &reply)),
+        None => Explained::By(learned(kept, message.mc(), &reply), oddity),
     }
 }
 
-ghost use Rattle.iol_mseq.specs.Replies.{reply_in};
+/// What speaks against a state, of its fault and what is odd.
+fn held_against(odd: Odd, fault: Option<Reason>, oddity: Option<Reason>) -> Option<Reason>
+    ensures { result ≡ held_against odd fault oddity }
+{
+    match odd {
+        Odd::Blamed => first_of(fault, oddity),
+        Odd::PassedOver => fault,
+    }
+}
+
+/// The one of the earlier look at the reply.
+fn first_of(fault: Option<Reason>, oddity: Option<Reason>) -> Option<Reason>
+    ensures { result ≡ first_of fault oddity }
+{
+    match (fault, oddity) {
+        (None, _) => oddity,
+        (_, None) => fault,
+        (Some(a), Some(b)) => Some(a.or_earlier(b)),
+    }
+}
 
 /// The state, once its reply was had.
 fn learned(kept: Kept, mc: Mc, reply: &ReplyView<'_>) -> Kept
@@ -52,7 +74,7 @@ fn learned(kept: Kept, mc: Mc, reply: &ReplyView<'_>) -> Kept
     kept.events = kept.events.flag_told(reply.event());
     let octet = first_octet(reply.od());
     match mc.channel {
-        Channel::Page if mc.read && mc.address == 1 => kept.cycle = Some(octet),
+        Channel::Page if mc.read && mc.address == 1 => kept.cycle = kept.cycle.or(Some(octet)),
         Channel::Diagnosis if mc.read => kept.events = kept.events.told(mc.address, octet),
         Channel::Isdu if mc.read => kept.transfer = kept.transfer.told(reply.od()),
         _ => {}
@@ -60,7 +82,7 @@ fn learned(kept: Kept, mc: Mc, reply: &ReplyView<'_>) -> Kept
     kept
 }
 
-/// Why the state can't have sent the reply, none where it can.
+/// Why the state can't have sent the reply, none where it can, but for what is odd.
 ///
 /// Rules DEV-7, DEV-8, EVT-2.
 fn fault_of(
@@ -75,9 +97,6 @@ fn fault_of(
     if reply.invalid() && layout.pd_in() == 0 {
         return Some(Reason::StatusWithoutData);
     }
-    if reply.invalid() && !are_zeros(reply.input()) {
-        return Some(Reason::InvalidNotZero);
-    }
     if let Some(reason) = kept.events.flag_fault(reply.event()) {
         return Some(reason);
     }
@@ -88,7 +107,7 @@ fn fault_of(
     }
 }
 
-/// Why the on-request data can't be those of the reply to a read.
+/// Why the on-request data can't be those of the reply to a read, but for what is odd.
 ///
 /// Rules DEV-7, DEV-14.
 fn data_fault(seen: &Seen, kept: &Kept, mc: Mc, reply: &ReplyView<'_>) -> Option<Reason>
@@ -96,68 +115,81 @@ fn data_fault(seen: &Seen, kept: &Kept, mc: Mc, reply: &ReplyView<'_>) -> Option
         reply.now.od.items }
 {
     match mc.channel {
-        Channel::Process => zeros_or(reply.od(), Reason::ProcessNotZero),
-        Channel::Page => page_fault(seen, kept, mc.address, reply.od()),
+        Channel::Process => None,
+        Channel::Page if (0x02..=0x0B).contains(&mc.address) => {
+            page_fault(seen, mc.address, first_octet(reply.od()))
+        }
+        Channel::Page => None,
         Channel::Diagnosis => {
             let events = kept.events.flag_told(reply.event());
-            diagnosis_fault(&events, mc.address, reply.od())
+            events.fault(mc.address, first_octet(reply.od()))
         }
         Channel::Isdu => kept.transfer.fault(reply.od()),
     }
 }
 
-/// Why these can't be the octets of a diagnosis address.
+/// Why this can't be the octet of an address of the page.
 ///
-/// Rules DEV-7, EVT-4, MSG-6.
-fn diagnosis_fault(events: &Shown, address: u8, od: &[u8]) -> Option<Reason>
-    ensures { result ≡ diagnosis_fault events.now address od.now }
+/// Rule PAGE-1.
+fn page_fault(seen: &Seen, address: u8, octet: u8) -> Option<Reason>
+    ensures { result ≡ page_fault seen.now address octet }
 {
-    match events.fault(address, first_octet(od)) {
-        Some(reason) => Some(reason),
-        None => rest_fault(od),
+    match seen.octet(address) {
+        Some(known) if known != octet => Some(Reason::PageChanged),
+        _ => None,
     }
 }
 
-/// The reason that octets behind the first aren't zeros.
+/// What is odd in the reply of a device with this octet at page address 0x01, if anything is.
 ///
-/// Rule MSG-6.
-fn rest_fault(od: &[u8]) -> Option<Reason>
-    ensures { result ≡ rest_fault od.now }
+/// Rules DEV-7, DEV-8.
+fn oddity_of(cycle: Option<u8>, mc: Mc, reply: &ReplyView<'_>) -> Option<Reason>
+    ensures { result ≡ reply_oddity cycle mc reply.now }
 {
-    zeros_or(rest_of(od), Reason::RestNotZero)
-}
-
-/// Why these can't be the octets of a page address.
-///
-/// Rules PAGE-1, DEV-7, MSG-6.
-fn page_fault(seen: &Seen, kept: &Kept, address: u8, od: &[u8]) -> Option<Reason>
-    ensures { result ≡ page_fault seen.now kept.now.cycle address od.now }
-{
-    let known = if address == 1 {
-        kept.cycle
+    if reply.invalid() && !are_zeros(reply.input()) {
+        return Some(Reason::InvalidNotZero);
+    }
+    if mc.read {
+        data_oddity(cycle, mc, reply.od())
     } else {
-        seen.octet(address)
-    };
-    match known {
-        Some(octet) if octet != first_octet(od) => Some(page_reason(address)),
-        _ => rest_fault(od),
+        None
     }
 }
 
-/// Which reason it is that a page address reads otherwise.
-fn page_reason(address: u8) -> Reason
-    ensures { result ≡ page_reason address }
+/// What is odd in the on-request data of the reply to a read, if anything is.
+///
+/// Rules DEV-7, MSG-6.
+fn data_oddity(cycle: Option<u8>, mc: Mc, od: &[u8]) -> Option<Reason>
+    ensures { result ≡ data_oddity cycle mc.channel mc.address od.now }
 {
-    match address {
-        0x01 => Reason::CycleTime,
-        0x02..=0x0B => Reason::PageChanged,
-        _ => Reason::PageZero,
+    match mc.channel {
+        Channel::Process => no_zeros(od, Reason::ProcessNotZero),
+        Channel::Page => match page_oddity(cycle, mc.address, first_octet(od)) {
+            Some(reason) => Some(reason),
+            None => no_zeros(rest_of(od), Reason::RestNotZero),
+        },
+        Channel::Diagnosis => no_zeros(rest_of(od), Reason::RestNotZero),
+        Channel::Isdu => None,
+    }
+}
+
+/// Whether it is odd that a page address reads as this octet.
+///
+/// Rules PAGE-1, DEV-9.
+fn page_oddity(cycle: Option<u8>, address: u8, octet: u8) -> Option<Reason>
+    ensures { result ≡ page_oddity cycle address octet }
+{
+    match (address, cycle) {
+        (0x01, Some(known)) if known != octet => Some(Reason::CycleTime),
+        (0x01..=0x0B, _) => None,
+        _ if octet != 0 => Some(Reason::PageZero),
+        _ => None,
     }
 }
 
 /// The reason, where the octets aren't all zeros.
-fn zeros_or(octets: &[u8], reason: Reason) -> Option<Reason>
-    ensures { result ≡ (if are_zeros octets.now then None else Some reason) }
+fn no_zeros(octets: &[u8], reason: Reason) -> Option<Reason>
+    ensures { result ≡ no_zeros octets.now reason }
 {
     if are_zeros(octets) {
         None

@@ -22,8 +22,9 @@ pub(crate) struct Taken<'a> {
 /// Whether a state explains a reply.
 #[derive(Drop)]
 pub(crate) enum Explained {
-    /// It does, and this is the state afterwards.
-    By(Kept),
+    /// It does, and this is the state afterwards; with it what is odd in the reply, and passed
+    /// over.
+    By(Kept, Option<Reason>),
     /// It doesn't.
     Not(Reason),
 }
@@ -34,4 +35,6 @@ pub(crate) struct Next {
     pub states: States,
     /// That of the state that explains most of the reply.
     pub reason: Reason,
+    /// What is odd in the reply for each of the states that explain it: of the first of them.
+    pub oddity: Option<Reason>,
 }

@@ -24,3 +24,14 @@ pub enum Wake {
     Answered,
     Unanswered,
 }
+
+/// What is done with a reply that is odd, but harmless: no promise to a client rests on what is
+/// odd in it. Those reasons are 4 InvalidNotZero, 10 PageZero, 11 CycleTime, 12 ProcessNotZero, and
+/// 13 RestNotZero.
+#[derive(Clone, Copy, Debug, PartialEq, Eq)]
+pub enum Odd {
+    /// It is blamed, as each other.
+    Blamed,
+    /// It is counted and passed over, as though its octets were right.
+    PassedOver,
+}

@@ -6,7 +6,7 @@ use iol_device::{App, Device, Unkept};
 use iol_event::Event;
 use iol_image::Image;
 use iol_isdu::{Answer, Request};
-use iol_judge::{Judge, Verdict, Wake, honest_lines_are_never_blamed};
+use iol_judge::{Judge, Odd, Verdict, Wake, honest_lines_are_never_blamed};
 use iol_mseq::Message;
 use iol_octets::checksum6;
 use iol_page::Page;
@@ -191,7 +191,7 @@ fn line_of(page: &[u8; 10], seed: u64) -> Line
     requires { IsOk (layouts_of page.now) }
 {
     let mut device = Device::new(Refuses, Page::from_octets(page));
-    let mut judge = Judge::new();
+    let mut judge = Judge::new(Odd::Blamed);
     judge.page(page);
     device.wake();
     judge.wake(Wake::Answered);

@@ -1,13 +1,13 @@
 //! One lie for each reason: each exchange before it is one that a device by the rules brings.
 
-use iol_judge::{Judge, Open, Reason, Verdict, Wake};
+use iol_judge::{Judge, Odd, Open, Reason, Verdict, Wake};
 use iol_peers::{Exchange, PLAIN, PROCESS_DATA};
 use std::test::Fail;
 
-/// What a judge says of these exchanges, right behind an answered wake-up request, where the
-/// page is told first.
-pub(crate) fn verdict_of(page: Option<&[u8; 10]>, exchanges: &[Exchange]) -> Verdict {
-    let mut judge = Judge::new();
+/// A judge, told these exchanges, right behind an answered wake-up request, where the page is told
+/// first.
+fn judge_of(odd: Odd, page: Option<&[u8; 10]>, exchanges: &[Exchange]) -> Judge {
+    let mut judge = Judge::new(odd);
     if let Some(octets) = page {
         judge.page(octets);
     }
@@ -15,7 +15,12 @@ pub(crate) fn verdict_of(page: Option<&[u8; 10]>, exchanges: &[Exchange]) -> Ver
     for (sent, reply) in exchanges {
         judge.exchange(sent, Some(*reply));
     }
-    judge.verdict()
+    judge
+}
+
+/// What a judge says of them, that blames odd replies.
+pub(crate) fn verdict_of(page: Option<&[u8; 10]>, exchanges: &[Exchange]) -> Verdict {
+    judge_of(Odd::Blamed, page, exchanges).verdict()
 }
 
 /// A message of PREOPERATE's layout, while the device is in STARTUP.
@@ -125,6 +130,42 @@ fn lies_are_found(rt: HostRuntime) -> Result<(), Fail> {
     Ok(())
 }
 
+/// Where odd replies are passed over they are counted, and each other lie is found.
+#[test]
+fn odd_replies_are_passed_over(rt: HostRuntime) -> Result<(), Fail> {
+    let odd: [(Option<&[u8; 10]>, &[Exchange], Reason); 5] = [
+        (Some(&PROCESS_DATA), &INVALID, Reason::InvalidNotZero),
+        (None, &ZERO, Reason::PageZero),
+        (None, &CYCLE, Reason::CycleTime),
+        (None, &PROCESS, Reason::ProcessNotZero),
+        (Some(&PLAIN), &REST, Reason::RestNotZero),
+    ];
+    for (page, exchanges, reason) in &odd {
+        let judge = judge_of(Odd::PassedOver, *page, *exchanges);
+        assert!(rt; judge.verdict() == Verdict::Honest);
+        assert!(rt; judge.oddity() == Some(*reason));
+        assert!(rt; judge.oddities() == 1);
+    }
+    let status = judge_of(Odd::PassedOver, None, &STATUS);
+    assert!(rt; status.verdict() == Verdict::NotHonest(1, Reason::StatusWithoutData));
+    let changed = judge_of(Odd::PassedOver, None, &CHANGED);
+    assert!(rt; changed.verdict() == Verdict::NotHonest(2, Reason::PageChanged));
+    Ok(())
+}
+
+/// A cycle time that was passed over isn't taken for the device's.
+#[test]
+fn odd_cycle_times_stay_odd(rt: HostRuntime) -> Result<(), Fail> {
+    let mut judge = judge_of(Odd::PassedOver, None, &CYCLE);
+    judge.exchange(&[0xA1, 0x30], Some(&[0x17, 0x1B]));
+    assert!(rt; judge.oddity() == None);
+    judge.exchange(&[0xA1, 0x30], Some(&[0x18, 0x1B]));
+    assert!(rt; judge.oddity() == Some(Reason::CycleTime));
+    assert!(rt; judge.oddities() == 2);
+    assert!(rt; judge.verdict() == Verdict::Honest);
+    Ok(())
+}
+
 /// So are those about events.
 #[test]
 fn lies_about_events_are_found(rt: HostRuntime) -> Result<(), Fail> {
@@ -140,7 +181,7 @@ fn lies_about_events_are_found(rt: HostRuntime) -> Result<(), Fail> {
 /// Once a confirm may have come, other events may be shown, or none.
 #[test]
 fn confirmed_events_may_change(rt: HostRuntime) -> Result<(), Fail> {
-    let mut judge = Judge::new();
+    let mut judge = Judge::new(Odd::Blamed);
     judge.wake(Wake::Answered);
     judge.exchange(&[0xC1, 0x0C], Some(&[0x54, 0x9B]));
     judge.exchange(&[0x40, 0x35, 0x00], None);
@@ -152,7 +193,7 @@ fn confirmed_events_may_change(rt: HostRuntime) -> Result<(), Fail> {
     judge.exchange(&[0xC0, 0x1D], Some(&[0x81, 0xBC]));
     assert!(rt; judge.verdict() == Verdict::Honest);
     // Where none was shown, one is raised at a time.
-    let mut raised = Judge::new();
+    let mut raised = Judge::new(Odd::Blamed);
     raised.wake(Wake::Answered);
     raised.exchange(&[0xA2, 0x00], Some(&[0x17, 0x1B]));
     raised.exchange(&[0xC0, 0x1D], Some(&[0x83, 0x9D]));
@@ -170,7 +211,7 @@ fn what_is_unknown_is_open(rt: HostRuntime) -> Result<(), Fail> {
     let mut refused = PLAIN;
     refused[2] = 0x12;
     assert!(rt; verdict_of(Some(&refused), &UNREAD) == Verdict::CantSay(1, Open::PageRefused));
-    let mut judge = Judge::new();
+    let mut judge = Judge::new(Odd::Blamed);
     judge.wake(Wake::Unanswered);
     judge.exchange(&[0xA2, 0x00], Some(&[0x17, 0x43]));
     assert!(rt; judge.verdict() == Verdict::Unjudged);
@@ -180,7 +221,7 @@ fn what_is_unknown_is_open(rt: HostRuntime) -> Result<(), Fail> {
 /// A reply that no layout makes a good one is lost, and so is one that doesn't come.
 #[test]
 fn losses_are_honest(rt: HostRuntime) -> Result<(), Fail> {
-    let mut judge = Judge::new();
+    let mut judge = Judge::new(Odd::Blamed);
     judge.page(&PLAIN);
     judge.wake(Wake::Answered);
     judge.exchange(&[0x20, 0x36, 0x9A], None);

@@ -1,7 +1,7 @@
 //! Lies about ISDU transfers: each exchange before it is one that a device by the rules brings.
 
 use crate::lies::verdict_of;
-use iol_judge::{Judge, Reason, Verdict, Wake};
+use iol_judge::{Judge, Odd, Reason, Verdict, Wake};
 use iol_peers::{Exchange, PLAIN};
 use std::test::Fail;
 
@@ -72,7 +72,7 @@ const PADDING: [u8; 9] = [0xD3, 0x41, 0x92, 0, 0, 0, 0, 7, 0x0F];
 
 /// What a judge says of these replies to START reads and COUNTs behind a whole request.
 fn verdict_behind(replies: &[Exchange]) -> Verdict {
-    let mut judge = Judge::new();
+    let mut judge = Judge::new(Odd::Blamed);
     judge.page(&PLAIN);
     judge.wake(Wake::Answered);
     judge.exchange(MOVE.0, Some(MOVE.1));
