@@ -203,8 +203,8 @@ concluded_fair judged new (Err why) honest even agrees admits =
     record { page = agrees; state = tt; odd = even }
 
 module _ (law : Laws) (judged : Judged) (honest : judged.verdict ≡ Honest)
-    (even : judged.oddities ≡ 0) (far : Far) (agrees : Agrees judged.seen far.page) (admits : AdmitsOne judged.states far)
-    (sent : List ℕ) where
+    (even : judged.oddities ≡ 0) (far : Far) (agrees : Agrees judged.seen far.page)
+    (admits : AdmitsOne judged.states far) (sent : List ℕ) where
   unanswered_fair : (new : Far) → Follows far sent new → new.page ≡ far.page
       → IsFair (unanswered judged sent) new
   unanswered_fair new follows page =
