@@ -4,6 +4,7 @@ use Rattle.std.proofs.lemmas.Bool.Decides.{nat_tests}
 use Rattle.iol_far.specs.Far.{Far}
 use Rattle.iol_far.specs.Octets.{octets_in}
 use Rattle.iol_judge.specs.declared.reason.Reason.{Reason}
+use Rattle.iol_judge.specs.declared.verdict.Odd.{Odd}
 use Rattle.iol_judge.specs.declared.verdict.Verdict.{Verdict}
 use Rattle.iol_judge.specs.declared.verdict.Verdict.TheVariants.{NotHonest}
 use Rattle.iol_judge.specs.declared.verdict.Wake.{Wake as WakeAnswer}
@@ -20,7 +21,7 @@ use Rattle.iol_capture.specs.declared.trace_line.TraceLine.TheVariants.{Other, P
 use Rattle.iol_capture.specs.TraceLines.{trace_form}
 use Rattle.iol_capture.specs.Judging.{Judging, answered, begun, came_to, is_next, is_open, new_judging, one_more, paged, sending, told, woken}
 use Rattle.iol_capture.specs.Capture.{Reading, ended, line_read, line_told, new_reading, read_as}
-use Rattle.iol_capture.specs.HonestCapture.{CapturesNeverBlamed, IsHonestReply, IsHonestTrace, said_before, said_in}
+use Rattle.iol_capture.specs.HonestCapture.{CapturesNeverBlamed, IsFromHonest, IsHonestReply, IsHonestTrace, said_before, said_in}
 
 -- the judge is fair to a device that brings the lines that are left
 record Goes (judging : Judging) (lines : List TraceLine) : Type 0 where
@@ -237,9 +238,18 @@ module _ (law : NeverBlamed) where
   unblamed verdict far judged exchange reason possible e =
       subst (λ (v : Verdict). IsPossible v judged.states far) e possible
 
+  capture_ends : (odd : Odd) (text : List ℕ) (judging : Judging) → IsFromHonest odd text judging
+      → Ends judging
+  capture_ends odd text judging h =
+      let start : Goes (new_judging odd) (said_in (lines_of text)) =
+      goes h.far h.silence (new_judging odd) (said_in (lines_of text)) (law.begins odd h.far)
+      h.honest in
+      lines-go (lines_of text) (new_reading odd) start judging h.judged
+
   pub captures : CapturesNeverBlamed
-  captures text judging e far silence honest exchange reason =
-      let start : Goes new_judging (said_in (lines_of text)) =
-      goes far silence new_judging (said_in (lines_of text)) (law.begins far) honest in
-      let end = lines-go (lines_of text) new_reading start judging e in
-      unblamed judging.judged.verdict end.far judging.judged exchange reason end.fair.state
+  captures = record {
+    unblamed = λ odd text judging h exchange reason.
+        let end = capture_ends odd text judging h in
+        unblamed judging.judged.verdict end.far judging.judged exchange reason end.fair.state;
+    none_odd = λ odd text judging h. (capture_ends odd text judging h).fair.odd;
+  }

@@ -3,6 +3,7 @@ use Rattle.std.proofs.Common.{◌≡◌, ℕ, ◌<◌, false, ◌==◌, Option, 
 use Rattle.std.proofs.lemmas.Bool.Decides.{nat_tests}
 use Rattle.std.specs.Io.KnownBytes.{Consumes}
 use Rattle.std.proofs.KnownBytes.{Consumes-trans}
+use Rattle.iol_judge.specs.declared.verdict.Odd.{Odd}
 use Rattle.iol_script.specs.Text.{lines_of}
 use Rattle.iol_capture.specs.declared.fault.CaptureFault.{CaptureFault}
 use Rattle.iol_capture.specs.declared.fault.CaptureFault.TheVariants.{Line}
@@ -107,25 +108,25 @@ end-line opened h some =
 -- From a reader
 
 -- so far these bytes were read
-pub record IsRead (bytes : List ℕ) (opened : Opened) : Type 0 where
-  pub judged : (rest : List ℕ) → capture_judged (bytes ++ rest) ≡ judged_with opened rest
+pub record IsRead (odd : Odd) (bytes : List ℕ) (opened : Opened) : Type 0 where
+  pub judged : (rest : List ℕ) → capture_judged odd (bytes ++ rest) ≡ judged_with opened rest
 
 -- a reader of which these bytes were read, behind those before
-pub record IsReadOf (before after : Option (List ℕ)) (opened : Opened) : Type 0 where
+pub record IsReadOf (odd : Odd) (before after : Option (List ℕ)) (opened : Opened) : Type 0 where
   pub bytes : List ℕ
   pub consumes : Consumes before after bytes
-  pub read : IsRead bytes opened
+  pub read : IsRead odd bytes opened
 
 -- one more piece
-pub read-more : (before mid after : Option (List ℕ)) (old new : Opened) (piece : List ℕ)
-    → IsReadOf before mid old → Consumes mid after piece
+pub read-more : (odd : Odd) (before mid after : Option (List ℕ)) (old new : Opened)
+    (piece : List ℕ) → IsReadOf odd before mid old → Consumes mid after piece
     → ((rest : List ℕ) → judged_with old (piece ++ rest) ≡ judged_with new rest)
-    → IsReadOf before after new
-read-more before mid after old new piece was taken good = record {
+    → IsReadOf odd before after new
+read-more odd before mid after old new piece was taken good = record {
   bytes = was.bytes ++ piece;
   consumes = Consumes-trans before mid after was.bytes piece was.consumes taken;
   read = record {
-    judged = λ rest. ap capture_judged (append_assoc was.bytes piece rest)
+    judged = λ rest. ap (capture_judged odd) (append_assoc was.bytes piece rest)
         ∙ was.read.judged (piece ++ rest) ∙ good rest;
   };
 }

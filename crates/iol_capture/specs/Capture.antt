@@ -1,5 +1,6 @@
 -- A whole text, told to a judge line by line.
 use Rattle.std.specs.Prelude.{ℕ, Option, Some, None, is_some, Result, Ok, Err, List, [], ◌++◌, fold, if◌then◌else◌}
+use Rattle.iol_judge.specs.declared.verdict.Odd.{Odd}
 use Rattle.iol_script.specs.Text.{lines_of}
 use Rattle.iol_capture.specs.declared.fault.LineFault.{LineFault}
 use Rattle.iol_capture.specs.declared.fault.LineFault.TheVariants.{BadForm, ReplyMissing}
@@ -14,8 +15,8 @@ pub record Reading : Type 0 where
   pub lines : ℕ
   pub judging : Judging
 
-abbrev pub new_reading : Reading
-new_reading = record { lines = 0; judging = new_judging }
+abbrev pub new_reading : Odd → Reading
+new_reading odd = record { lines = 0; judging = new_judging odd }
 
 -- Lines
 
@@ -45,9 +46,9 @@ ended (Err fault) = Err fault
 abbrev pub lines_judged : Reading → List (List ℕ) → Result Judging CaptureFault
 lines_judged reading lines = ended (fold line_read (Ok reading) lines)
 
--- what a judge makes of a capture, or its first bad line
-abbrev pub capture_judged : List ℕ → Result Judging CaptureFault
-capture_judged text = lines_judged new_reading (lines_of text)
+-- what a judge makes of a capture, by what it does with odd replies; or its first bad line
+abbrev pub capture_judged : Odd → List ℕ → Result Judging CaptureFault
+capture_judged odd text = lines_judged (new_reading odd) (lines_of text)
 
 -- A text that is read in pieces
 
@@ -56,8 +57,8 @@ pub record Opened : Type 0 where
   pub reading : Reading
   pub line : List ℕ
 
-abbrev pub new_opened : Opened
-new_opened = record { reading = new_reading; line = [] }
+abbrev pub new_opened : Odd → Opened
+new_opened odd = record { reading = new_reading odd; line = [] }
 
 -- what the judge makes of a capture of which this was read, once the rest is read too
 abbrev pub judged_with : Opened → List ℕ → Result Judging CaptureFault

@@ -1,5 +1,5 @@
 -- What is printed of a judged capture.
-use Rattle.std.specs.Prelude.{ℕ, ◌==◌, List, [], ◌++◌, if◌then◌else◌, codes}
+use Rattle.std.specs.Prelude.{ℕ, ◌==◌, List, [], ◌∷◌, ◌++◌, if◌then◌else◌, codes}
 use Rattle.std.specs.Fmt.{decimal}
 use Rattle.iol_judge.specs.declared.open.Open.{Open}
 use Rattle.iol_judge.specs.declared.open.Open.TheVariants as «open»
@@ -9,6 +9,7 @@ use Rattle.iol_judge.specs.declared.verdict.Verdict.{Verdict}
 use Rattle.iol_judge.specs.declared.verdict.Verdict.TheVariants.{Unjudged, Honest, NotHonest, CantSay}
 use Rattle.iol_judge.specs.Numbers.{open_number, reason_number}
 use Rattle.iol_capture.specs.declared.judgement.Counts.{Counts}
+use Rattle.iol_capture.specs.declared.judgement.OddExchange.{OddExchange}
 use Rattle.iol_capture.specs.declared.printing.Finding.{Finding}
 use Rattle.iol_capture.specs.declared.printing.Finding.TheVariants as found
 use Rattle.iol_capture.specs.Judging.{Judging}
@@ -95,10 +96,23 @@ abbrev pub unjudged_text : ℕ → List ℕ
 unjudged_text count =
     if count == 0 then [] else codes "unjudged " ++ decimal count ++ codes "\n"
 
+-- odd exchanges, a line each, and how many there are, where there are any
+abbrev pub odd_text : OddExchange → List ℕ
+odd_text odd =
+    because_text odd.call (codes " odd: ") (reason_number odd.reason) (reason_text odd.reason)
+
+abbrev pub odd_texts : List OddExchange → List ℕ
+odd_texts [] = []
+odd_texts (odd ∷ exchanges) = odd_text odd ++ odd_texts exchanges
+
+abbrev pub odd_count_text : ℕ → List ℕ
+odd_count_text count = if count == 0 then [] else codes "odd " ++ decimal count ++ codes "\n"
+
 -- what is printed
 abbrev pub finding_text : Judging → List ℕ
-finding_text judging = unjudged_text judging.counts.unjudged
+finding_text judging = odd_texts judging.odd ++ unjudged_text judging.counts.unjudged
     ++ verdict_text judging.judged.verdict judging.decided judging.counts
+    ++ odd_count_text judging.judged.oddities
 
 -- what was found
 abbrev pub finding_of : Verdict → Finding

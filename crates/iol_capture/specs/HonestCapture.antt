@@ -5,6 +5,7 @@ use Rattle.iol_far.specs.Octets.{octets_in}
 use Rattle.iol_link.specs.Honest.{HonestExchange, HonestWake}
 use Rattle.iol_judge.specs.Admitted.{is_answered}
 use Rattle.iol_judge.specs.declared.reason.Reason.{Reason}
+use Rattle.iol_judge.specs.declared.verdict.Odd.{Odd}
 use Rattle.iol_judge.specs.declared.verdict.Verdict.TheVariants.{NotHonest}
 use Rattle.iol_script.specs.Text.{lines_of}
 use Rattle.iol_capture.specs.declared.trace_line.TraceLine.{TraceLine}
@@ -47,8 +48,16 @@ IsHonestTrace far silence call waits (Came number came ∷ lines) =
     × IsHonestReply waits far silence (octets_in came) far_new silence_new
     × IsHonestTrace far_new silence_new call None lines
 
--- the law: a text that a device by the rules brings is never called not honest
-abbrev pub CapturesNeverBlamed : Type 0
-CapturesNeverBlamed = (text : List ℕ) (judging : Judging) → capture_judged text ≡ Ok judging
-    → (far : Far) (silence : ℕ) → IsHonestTrace far silence 0 None (said_in (lines_of text))
-    → (exchange : ℕ) (reason : Reason) → judging.judged.verdict ≢ NotHonest exchange reason
+-- the judge is told a text that a device by the rules brings, and this is what it makes of it
+pub record IsFromHonest (odd : Odd) (text : List ℕ) (judging : Judging) : Type 0 where
+  pub judged : capture_judged odd text ≡ Ok judging
+  pub far : Far
+  pub silence : ℕ
+  pub honest : IsHonestTrace far silence 0 None (said_in (lines_of text))
+
+-- the law: such a text is never called not honest, and nothing in it is called odd
+pub record CapturesNeverBlamed : Type 0 where
+  pub unblamed : (odd : Odd) (text : List ℕ) (judging : Judging) → IsFromHonest odd text judging
+      → (exchange : ℕ) (reason : Reason) → judging.judged.verdict ≢ NotHonest exchange reason
+  pub none_odd : (odd : Odd) (text : List ℕ) (judging : Judging) → IsFromHonest odd text judging
+      → judging.judged.oddities ≡ 0

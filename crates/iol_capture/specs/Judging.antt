@@ -1,6 +1,8 @@
 -- A judge, told the lines of a trace.
-use Rattle.std.specs.Prelude.{ℕ, ◌+◌, ◌-◌, ◌^◌, min, Bool, true, false, ◌==◌, ◌||◌, Option, Some, None, is_some, Result, Ok, Err, List, if◌then◌else◌}
+use Rattle.std.specs.Prelude.{ℕ, ◌+◌, ◌-◌, ◌^◌, min, Bool, true, false, ◌==◌, ◌||◌, nat_lt, Option, Some, None, is_some, Result, Ok, Err, List, [], ◌∷◌, ◌++◌, length, if◌then◌else◌}
 use Rattle.iol_far.specs.Octets.{octets_in}
+use Rattle.iol_judge.specs.declared.reason.Reason.{Reason}
+use Rattle.iol_judge.specs.declared.verdict.Odd.{Odd}
 use Rattle.iol_judge.specs.declared.verdict.Verdict.{Verdict}
 use Rattle.iol_judge.specs.declared.verdict.Verdict.TheVariants.{Unjudged, Honest, NotHonest, CantSay}
 use Rattle.iol_judge.specs.declared.verdict.Wake.{Wake as WakeAnswer}
@@ -9,6 +11,8 @@ use Rattle.iol_judge.specs.Judged.{Judged, new_judge, exchanged, woke}
 use Rattle.iol_capture.specs.declared.fault.LineFault.{LineFault}
 use Rattle.iol_capture.specs.declared.fault.LineFault.TheVariants.{WrongNumber, ReplyMissing, MessageMissing}
 use Rattle.iol_capture.specs.declared.judgement.Counts.{Counts}
+use Rattle.iol_capture.specs.declared.judgement.OddExchange.{OddExchange}
+use Rattle.iol_capture.specs.declared.judgement.TheConstants.{ODD_SHOWN}
 use Rattle.iol_capture.specs.declared.trace_line.TraceLine.{TraceLine}
 use Rattle.iol_capture.specs.declared.trace_line.TraceLine.TheVariants.{Other, Page, Wake, Sent, Came}
 
@@ -22,13 +26,21 @@ pub record Judging : Type 0 where
   -- the call on which the verdict rests: the last that began while the verdict was open
   pub decided : ℕ
   pub counts : Counts
+  -- the first exchanges in which something was odd, and passed over
+  pub odd : List OddExchange
 
 abbrev pub no_counts : Counts
 no_counts = record { unjudged = 0; judged = 0; lost = 0 }
 
-abbrev pub new_judging : Judging
-new_judging =
-    record { judged = new_judge; call = 0; sent = None; decided = 0; counts = no_counts }
+abbrev pub new_judging : Odd → Judging
+new_judging odd = record {
+  judged = new_judge odd;
+  call = 0;
+  sent = None;
+  decided = 0;
+  counts = no_counts;
+  odd = [];
+}
 
 -- Counts
 
@@ -75,12 +87,20 @@ abbrev pub sending : List ℕ → Result Judging LineFault → Result Judging Li
 sending octets (Ok judging) = Ok (record judging { sent = Some octets })
 sending octets (Err fault) = Err fault
 
+-- an odd exchange is noted, while there is room
+abbrev pub with_odd : List OddExchange → ℕ → Option Reason → List OddExchange
+with_odd odd call None = odd
+with_odd odd call (Some reason) =
+    if nat_lt (length odd) ODD_SHOWN then odd ++ record { call = call; reason = reason } ∷ []
+    else odd
+
 -- a message and what came back are an exchange
 abbrev pub answered : Judging → List ℕ → Option (List ℕ) → Judging
 answered judging sent came = record judging {
   judged = exchanged judging.judged sent came;
   sent = None;
   counts = counted_by judging.judged.verdict judging.counts came;
+  odd = with_odd judging.odd judging.call (exchanged judging.judged sent came).oddity;
 }
 
 abbrev pub came_to : Option (List ℕ) → Judging → ℕ → Option (List ℕ) → Result Judging LineFault

@@ -1,11 +1,12 @@
 //! A judge, told the lines of a trace.
 ghost use Rattle.std.specs.Prelude.{◌≡◌, ◌≤◌, ◌<◌, Ok, Err, IfErr, OnOk, is_some};
 ghost use Rattle.iol_far.specs.Octets.{octets_in};
-ghost use Rattle.iol_capture.specs.Judging.{answered, begun, came_to, counted_by, is_next, is_open, new_judging, no_counts, one_more, paged, told};
+ghost use Rattle.iol_capture.specs.Judging.{answered, begun, came_to, counted_by, is_next, is_open, new_judging, no_counts, one_more, paged, told, with_odd};
 
 use crate::fault::LineFault;
 use crate::trace_line::TraceLine;
-use iol_judge::{Judge, Verdict};
+use arrayvec::ArrayVec;
+use iol_judge::{Judge, Odd, Reason, Verdict};
 use iol_script::LineOctets;
 use std::marker::Model;
 
@@ -58,6 +59,28 @@ pub(crate) fn one_more(count: u64) -> u64
     count.saturating_add(1)
 }
 
+/// How many odd exchanges are shown.
+pub(crate) const ODD_SHOWN: usize = 100;
+
+/// An exchange in which something is odd, and passed over.
+#[derive(Clone, Copy, Debug, PartialEq, Eq)]
+pub(crate) struct OddExchange {
+    pub call: u64,
+    pub reason: Reason,
+}
+
+impl Default for OddExchange {
+    fn default() -> OddExchange {
+        OddExchange {
+            call: 0,
+            reason: Reason::NotTaken,
+        }
+    }
+}
+
+/// The first odd exchanges.
+pub(crate) type OddExchanges = ArrayVec<OddExchange, ODD_SHOWN>;
+
 /// What a judge makes of the lines of a trace.
 #[derive(Drop)]
 pub struct Judgement {
@@ -69,6 +92,7 @@ pub struct Judgement {
     /// The call on which the verdict rests.
     pub(crate) decided: u64,
     pub(crate) counts: Counts,
+    pub(crate) odd: OddExchanges,
 }
 
 impl Model for Judgement {
@@ -83,20 +107,22 @@ impl Model for Judgement {
       sent = octets_in j.sent;
       decided = j.decided;
       counts = j.counts;
+      odd = j.odd.items;
     } };
 }
 
 impl Judgement {
     /// Nothing was told.
-    pub(crate) fn new() -> Judgement
-        ensures { result ≡ new_judging }
+    pub(crate) fn new(odd: Odd) -> Judgement
+        ensures { result ≡ new_judging odd }
     {
         Judgement {
-            judge: Judge::new(),
+            judge: Judge::new(odd),
             call: 0,
             sent: None,
             decided: 0,
             counts: Counts::none(),
+            odd: OddExchanges::new(),
         }
     }
 
@@ -175,7 +201,18 @@ impl Judgement {
         self.counts = self.counts.with(self.judge.verdict(), &came);
         let reply = came.as_ref().map(|octets| octets.as_slice());
         self.judge.exchange(sent.as_slice(), reply);
+        note_odd(&mut self.odd, self.call, self.judge.oddity());
         Ok(())
+    }
+}
+
+/// Where something was odd in an exchange, and passed over, it is noted, while there is room.
+fn note_odd(odd: &mut OddExchanges, call: u64, oddity: Option<Reason>)
+    ensures { odd.new.items ≡ with_odd odd.old.items call oddity }
+{
+    if let Some(reason) = oddity {
+        // Past the first of them they are counted only.
+        let _ = odd.try_push(OddExchange { call, reason });
     }
 }
 

@@ -7,6 +7,7 @@ use crate::fault::{CaptureFault, LineFault};
 use crate::judgement::{Judgement, one_more};
 use crate::trace_line::{LONGEST, TraceLine};
 use arrayvec::ArrayVec;
+use iol_judge::Odd;
 use std::marker::Model;
 
 /// A capture, as far as it is read.
@@ -35,12 +36,12 @@ impl Model for Opened {
 
 impl Opened {
     /// Nothing is read.
-    pub(crate) fn new() -> Opened
-        ensures { result ≡ new_opened }
+    pub(crate) fn new(odd: Odd) -> Opened
+        ensures { result ≡ new_opened odd }
     {
         Opened {
             lines: 0,
-            judgement: Judgement::new(),
+            judgement: Judgement::new(odd),
             line: ArrayVec::new(),
         }
     }

@@ -1,9 +1,9 @@
 //! What is printed of a judged capture.
 ghost use Rattle.std.specs.Prelude.{◌≡◌, ◌++◌, IfOk, OnOk};
 ghost use Rattle.std.specs.String.{string_bytes};
-ghost use Rattle.iol_capture.specs.Findings.{because_text, finding_of, finding_text, honest_text, open_text, reason_text, unjudged_text, verdict_text};
+ghost use Rattle.iol_capture.specs.Findings.{because_text, finding_of, finding_text, honest_text, odd_count_text, odd_texts, open_text, reason_text, unjudged_text, verdict_text};
 
-use crate::judgement::{Counts, Judgement};
+use crate::judgement::{Counts, Judgement, OddExchange};
 use iol_judge::{Open, Reason, Verdict};
 use std::alloc::{AllocError, Allocator};
 
@@ -30,12 +30,13 @@ impl Judgement {
         }
     }
 
-    /// What was found, in a line of text; before it how many exchanges aren't judged, where some
-    /// aren't.
+    /// What was found, in a line of text; before it the first 100 odd exchanges, and how many
+    /// exchanges aren't judged, where some aren't; and behind it how many are odd, where some are.
     pub fn text<A: Allocator>(&self, alloc: A) -> Result<String<A>, AllocError>
         ensures { IfOk result (λ text. string_bytes text ≡ finding_text self.now) }
     {
         let mut output = String::new(alloc);
+        print_odd(&mut output, &self.odd)?;
         print_unjudged(&mut output, self.counts.unjudged)?;
         print_verdict(
             &mut output,
@@ -43,8 +44,40 @@ impl Judgement {
             self.decided,
             &self.counts,
         )?;
+        print_odd_count(&mut output, self.judge.oddities())?;
         Ok(output)
     }
+}
+
+/// Odd exchanges, a line each.
+fn print_odd<A: Allocator>(
+    output: &mut String<A>,
+    exchanges: &[OddExchange],
+) -> Result<(), AllocError>
+    ensures { OnOk result (string_bytes output.new
+        ≡ string_bytes output.old ++ odd_texts exchanges.now) }
+{
+    for odd in exchanges {
+        print_because(
+            output,
+            odd.call,
+            " odd: ",
+            odd.reason.code(),
+            reason_text(odd.reason),
+        )?;
+    }
+    Ok(())
+}
+
+/// How many exchanges are odd, where some are.
+fn print_odd_count<A: Allocator>(output: &mut String<A>, count: u64) -> Result<(), AllocError>
+    ensures { OnOk result (string_bytes output.new
+        ≡ string_bytes output.old ++ odd_count_text count) }
+{
+    if count == 0 {
+        return Ok(());
+    }
+    writeln!(output, "odd {count}")
 }
 
 /// The exchanges before the first answered wake-up request, where there are any.
