@@ -1,6 +1,7 @@
 -- The commands by their names.
 use Rattle.std.specs.Prelude.{ℕ, Option, Some, None, option_map, List, if◌then◌else◌, codes}
 use Rattle.std.specs.Str.{bytes_eq}
+use Rattle.iol_judge.specs.declared.verdict.Odd.{Odd}
 use Rattle.iolink.specs.declared.command.Asked.{Asked}
 use Rattle.iolink.specs.declared.command.Asked.TheVariants as asked
 use Rattle.iolink.specs.declared.command.Mode.{Mode}
@@ -14,8 +15,8 @@ mode_named name =
     if bytes_eq name (codes "trace") then Some Trace else
     if bytes_eq name (codes "many") then Some Many else None
 
--- what a name asks for
-abbrev pub asked_named : List ℕ → Option Asked
-asked_named name =
-    if bytes_eq name (codes "judge") then Some asked.Judge else
+-- what a name asks for, and is to be done with odd replies
+abbrev pub asked_named : List ℕ → Odd → Option Asked
+asked_named name odd =
+    if bytes_eq name (codes "judge") then Some (asked.Judge odd) else
     option_map asked.Mode (mode_named name)

@@ -2,7 +2,8 @@
 ghost use Rattle.std.specs.Prelude.{◌≡◌};
 
 use crate::help;
-use clap::{Command, Error};
+use clap::{Arg, ArgAction, ArgMatches, Command, Error};
+use iol_judge::Odd;
 use std::alloc::{AllocError, Global};
 use std::convert::AsStr;
 
@@ -41,19 +42,20 @@ impl Mode {
 pub(crate) enum Asked {
     /// A command that ends well where all is printed.
     Mode(Mode),
-    /// Says whether a device by the rules could have brought a capture.
-    Judge,
+    /// Says whether a device by the rules could have brought a capture, and does this with odd
+    /// replies.
+    Judge(Odd),
 }
 
 impl Asked {
     ghost use Rattle.iolink.specs.Command.{asked_named};
 
-    /// What this name asks for.
-    fn named(name: &str) -> Option<Asked>
-        ensures { result ≡ asked_named name.now }
+    /// What this name asks for, where that is to be done with odd replies.
+    fn named(name: &str, odd: Odd) -> Option<Asked>
+        ensures { result ≡ asked_named name.now odd }
     {
         match name.as_bytes() {
-            b"judge" => Some(Asked::Judge),
+            b"judge" => Some(Asked::Judge(odd)),
             _ => Some(Asked::Mode(Mode::named(name)?)),
         }
     }
@@ -63,8 +65,31 @@ impl Asked {
 pub(crate) fn asked_by<'a, S: AsStr>(alloc: Global, words: &'a [S]) -> Result<Asked, Error> {
     let matches = command(alloc)?.try_get_matches_from(words)?;
     // One of the five is named, since clap refuses all other words.
-    let name = matches.subcommand_name().unwrap_or("check");
-    Ok(Asked::named(name).unwrap_or(Asked::Mode(Mode::Check)))
+    let (name, odd) = match matches.subcommand() {
+        Some((name, words)) => (name, odd_of(words)),
+        None => ("check", Odd::Blamed),
+    };
+    Ok(Asked::named(name, odd).unwrap_or(Asked::Mode(Mode::Check)))
+}
+
+/// The flag of `judge`.
+const ODD: &str = "odd";
+
+/// What is to be done with odd replies, by the words behind the command.
+fn odd_of(words: &ArgMatches<'_>) -> Odd {
+    if words.get_flag(ODD) {
+        Odd::PassedOver
+    } else {
+        Odd::Blamed
+    }
+}
+
+/// The flag that has odd replies passed over.
+fn odd_flag<'a>(alloc: Global) -> Arg<'a> {
+    Arg::new(alloc, ODD)
+        .long(ODD)
+        .action(ArgAction::SetTrue)
+        .help("Counts replies that are odd, but harmless, and passes them over")
 }
 
 /// The command line of the program.
@@ -89,7 +114,8 @@ fn command<'a>(alloc: Global) -> Result<Command<'a>, AllocError> {
         .about(
             "Reads what trace prints, and says whether a device by the rules could have brought it",
         )
-        .after_help(help::JUDGE);
+        .after_help(help::JUDGE)
+        .arg(odd_flag(alloc))?;
     Command::new(alloc, "iolink")
         .about("IO-Link master and device")
         .version(help::VERSION)

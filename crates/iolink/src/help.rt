@@ -141,6 +141,11 @@ N is any number at first, and then the next. It prints one of these lines:
   can't say: no wake-up request was answered
 and before it 'unjudged COUNT', if exchanges came before the first wake-up request that was answered.
 
+With --odd replies are passed over that are odd, but harmless, as though their octets were right: PD status 1 with
+process data, another octet at page address 01 than was written, octets that aren't 0 where no data are. Printed are
+  N odd: NUMBER NAME: TEXT (RULE)
+for each of the first 100, in front of all else, and behind it 'odd COUNT', if there were any.
+
 Example:
   printf '1 wake COM2\\n2 > A2 00\\n2 < 17 1B\\n3 > A2 00\\n3 < 18 1B\\n' | iolink judge
 prints
