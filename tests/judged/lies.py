@@ -1,0 +1,212 @@
+"""Lies: replies of a trace are changed. Each kind chooses where and how, pseudo-randomly."""
+import random
+from typing import NamedTuple
+
+from rules import (
+    BUSY,
+    COUNTS,
+    EVENT_FLAG,
+    LAYOUT_OCTETS,
+    PAGE,
+    PD_STATUS,
+    START,
+    Channel,
+    control_of,
+    has_checksum,
+    is_readable,
+    layouts_of,
+    with_checksum,
+)
+from search import Exchange, Wake
+
+MOST_FLIPS = 4
+TRIES = 300
+
+
+class Trace:
+    """The calls of a trace, and which have good replies, behind the first answered wake-up."""
+
+    def __init__(self, calls):
+        self.calls = calls
+        woken = [isinstance(call, Wake) and call.is_answered for call in calls]
+        first = woken.index(True) if True in woken else len(calls)
+        self.places = [
+            place
+            for place, call in enumerate(calls)
+            if place > first and isinstance(call, Exchange) and is_readable(call.sent, call.came)
+        ]
+
+    def came(self, place):
+        return self.calls[place].came
+
+    def control(self, place):
+        return control_of(self.calls[place].sent[0])
+
+    def reads(self, channel, addresses):
+        """The places of good replies to reads of these addresses."""
+        return [
+            place
+            for place in self.places
+            if self.control(place)[:2] == (True, channel)
+            and self.control(place).address in addresses
+        ]
+
+    def segment_size(self):
+        """The octets of on-request data in OPERATE, by the page that was read."""
+        places = [self.reads(Channel.PAGE, [address])[0] for address in LAYOUT_OCTETS]
+        return layouts_of(*(self.came(place)[0] for place in places)).run.od
+
+    def answers(self):
+        """The places of replies that bring a segment of an answer."""
+        starts = [it for it in self.reads(Channel.ISDU, [START]) if self.came(it)[0] > BUSY]
+        return starts + self.reads(Channel.ISDU, range(COUNTS))
+
+
+def other_octet(chance, octets, place):
+    """The octets with another one at a place, and with their checksum."""
+    changed = bytearray(octets)
+    changed[place] ^= chance.randrange(1, 256)
+    return with_checksum(changed, -1)
+
+
+def octet_changed(chance, trace):
+    places = [place for place in trace.places if len(trace.came(place)) > 1]
+    if not places:
+        return {}
+    place = chance.choice(places)
+    came = trace.came(place)
+    return {place: other_octet(chance, came, chance.randrange(len(came) - 1))}
+
+
+def bit_turned(chance, trace, bit):
+    place = chance.choice(trace.places)
+    came = trace.came(place)
+    return {place: with_checksum(came[:-1] + bytes([came[-1] ^ bit]), -1)}
+
+
+def event_flag_turned(chance, trace):
+    return bit_turned(chance, trace, EVENT_FLAG)
+
+
+def pd_status_turned(chance, trace):
+    return bit_turned(chance, trace, PD_STATUS)
+
+
+def others_like(trace, place):
+    """The places of other replies of the same length."""
+    came = trace.came(place)
+    like = [it for it in trace.places if len(trace.came(it)) == len(came)]
+    return [it for it in like if trace.came(it) != came]
+
+
+def replies_swapped(chance, trace):
+    place = chance.choice(trace.places)
+    others = others_like(trace, place)
+    if not others:
+        return {}
+    other = chance.choice(others)
+    return {place: trace.came(other), other: trace.came(place)}
+
+
+def segment_changed(chance, trace):
+    places = trace.answers()
+    if not places:
+        return {}
+    place = chance.choice(places)
+    return {place: other_octet(chance, trace.came(place), chance.randrange(trace.segment_size()))}
+
+
+def older_reply(chance, trace):
+    place = chance.choice(trace.places)
+    others = [other for other in others_like(trace, place) if other < place]
+    return {place: trace.came(chance.choice(others))} if others else {}
+
+
+def page_octet_changed(chance, trace):
+    places = trace.reads(Channel.PAGE, PAGE)
+    if not places:
+        return {}
+    place = chance.choice(places)
+    return {place: other_octet(chance, trace.came(place), 0)}
+
+
+def reply_late(chance, trace):
+    """A reply comes to the next message, whose own is lost."""
+    places = [
+        place
+        for place in trace.places
+        if isinstance(trace.calls[min(place + 1, len(trace.calls) - 1)], Exchange)
+    ]
+    places = [it for it in places if trace.calls[it + 1 :] and trace.came(it + 1) != trace.came(it)]
+    if not places:
+        return {}
+    place = chance.choice(places)
+    return {place: None, place + 1: trace.came(place)}
+
+
+def busy_left_out(chance, trace):
+    """The answer's first segment comes where the device was busy."""
+    starts = trace.reads(Channel.ISDU, [START])
+    pairs = [
+        (place, behind)
+        for place, behind in zip(starts, starts[1:])
+        if trace.came(place)[0] == BUSY and trace.came(behind)[0] > BUSY
+    ]
+    if not pairs:
+        return {}
+    place, behind = chance.choice(pairs)
+    return {place: trace.came(behind)}
+
+
+def bits_flipped(chance, trace):
+    """As many bits as the checksum doesn't show."""
+    for _ in range(TRIES):
+        place = chance.choice(trace.places)
+        changed = bytearray(trace.came(place))
+        for _ in range(chance.randint(2, MOST_FLIPS)):
+            changed[chance.randrange(len(changed))] ^= 1 << chance.randrange(8)
+        if changed != trace.came(place) and has_checksum(bytes(changed), -1):
+            return {place: bytes(changed)}
+    return {}
+
+
+KINDS = {
+    "an octet changed": octet_changed,
+    "Event flag turned": event_flag_turned,
+    "PD status turned": pd_status_turned,
+    "replies swapped": replies_swapped,
+    "a segment changed": segment_changed,
+    "an older reply again": older_reply,
+    "a page octet changed": page_octet_changed,
+    "a reply late": reply_late,
+    "busy left out": busy_left_out,
+    "bits flipped": bits_flipped,
+}
+
+
+class Lie(NamedTuple):
+    """Other replies, by the places of their calls."""
+
+    kind: str
+    replies: dict
+
+    def first(self):
+        return min(self.replies)
+
+    def told(self, calls):
+        """The calls, as the lie has them."""
+        told = list(calls)
+        for place, came in self.replies.items():
+            told[place] = calls[place]._replace(came=came)
+        return told
+
+
+def lies_in(trace, seed, most):
+    """So many lies in a trace, each of another kind, or as many as it has; by a seed, the same."""
+    chance, names, lies = random.Random(seed), list(KINDS), []
+    for step in range(len(names) if trace.places else 0):
+        kind = names[(seed + step) % len(names)]
+        replies = KINDS[kind](chance, trace) if len(lies) < most else {}
+        if replies:
+            lies.append(Lie(kind, replies))
+    return lies
