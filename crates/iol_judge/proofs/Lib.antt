@@ -1,6 +1,7 @@
 mod Turns
 mod Shown
 mod Segments
+mod Begun
 mod Covering
 mod Transferring
 mod Telling

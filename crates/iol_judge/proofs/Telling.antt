@@ -26,9 +26,11 @@ use Rattle.iol_judge.specs.declared.reason.Reason.TheVariants.{NoAnswerDue, NotB
 use Rattle.iol_judge.specs.declared.transfer.Transfer.{Transfer}
 use Rattle.iol_judge.specs.declared.transfer.Transfer.TheVariants as known
 use Rattle.iol_judge.specs.Octets.{are_zeros}
-use Rattle.iol_judge.specs.Answers.{first_had, had_with, is_busy, segment_fault, reason_of, text_fault, text_fault_at}
+use Rattle.iol_judge.specs.Answers.{first_had, had_with, is_busy, open_fault, segment_fault, reason_of, text_fault, text_fault_at}
 use Rattle.iol_judge.specs.Transfers.{asked_told, isdu_fault, told_by}
 use Rattle.iol_judge.specs.UnderWay.{AreHad, IsUnderWay, IsAsked}
+use Rattle.iol_segment.proofs.TextLaws.{joined-front}
+use Rattle.iol_judge.proofs.Begun.{begun_fits}
 use Rattle.iol_judge.proofs.Segments.{length_joined, part_of_joined, pointwise_self, zeros_behind}
 use Rattle.iol_judge.proofs.Transferring.{AreTexts, below_by, same_by}
 
@@ -117,9 +119,16 @@ module _ (size : ℕ) (law : AreTexts size) (request : Request) (answer : Answer
     where
       before : suc last * size < length (answer_text request answer)
           → text_fault (is_read request) (joined size (answer_text request answer) last) ≡ None
-      before more = ap (λ (s : Stage). text_fault_at (is_read request) s
+      before more =
+          let some = law.some in
+          ap (λ (s : Stage). text_fault_at (is_read request) s
           (joined size (answer_text request answer) last))
           (law.texts.grows (answer_text request answer) last holds more)
+          ∙ ap (open_fault (is_read request))
+          (joined-front size (answer_text request answer) last (omega (arith, more)))
+          ∙ begun_fits (is_read request) (answer_text request answer) (suc last * size) holds
+          (law.texts.accepted (is_read request) answer (law.fitting request answer fit))
+          (omega (arith, some)) more
 
       ended : length (answer_text request answer) ≤ suc last * size
           → text_fault (is_read request) (joined size (answer_text request answer) last) ≡ None

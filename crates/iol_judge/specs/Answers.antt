@@ -1,8 +1,9 @@
 -- What is known of an answer, once its first segment was had.
-use Rattle.std.specs.Prelude.{ℕ, ◌+◌, ◌%◌, Bool, true, false, ◌&&◌, ◌==◌, nat_eq, nat_lt, nat_le, bytes_eq, if◌then◌else◌, List, ◌++◌, length, drop, slice_index, Option, Some, None}
+use Rattle.std.specs.Prelude.{ℕ, ◌+◌, ◌/◌, ◌%◌, Bool, true, false, ◌&&◌, ◌==◌, nat_eq, nat_lt, nat_le, bytes_eq, if◌then◌else◌, List, ◌++◌, length, drop, slice_index, Option, Some, None, Result, Ok, Err}
 use Rattle.std.specs.List.{starts_with}
 use Rattle.std.specs.Option.{option_or}
-use Rattle.iol_isdu.specs.Answers.{answer_fault}
+use Rattle.iol_isdu.specs.Answers.{answer_accepts, answer_fault, answers_read}
+use Rattle.iol_isdu.specs.Frame.{total_at}
 use Rattle.iol_isdu.specs.declared.fault.IsduFault.{IsduFault}
 use Rattle.iol_isdu.specs.declared.fault.IsduFault.TheVariants.{Truncated, BadIsduLength, BadChkpdu}
 use Rattle.iol_segment.specs.Join.{Stage, Open, Complete, Wrong, stage}
@@ -60,8 +61,29 @@ whole_fault read text rest =
     option_or (reason_of (answer_fault read text))
     (if are_zeros rest then None else Some AnswerPadding)
 
+-- such a request is answered by a text of this service and total length
+-- ISDU-4, ISDU-8
+abbrev pub is_answered_by : Bool → ℕ → ℕ → Bool
+is_answered_by read service total =
+    answer_accepts service total && same_read read (answers_read service)
+
+-- the total length, the least of the long ones before it came
+-- ISDU-2
+abbrev pub total_begun : Result ℕ IsduFault → ℕ
+total_begun (Ok total) = total
+total_begun (Err fault) = 17
+
+abbrev pub begun_fault : Bool → ℕ → ℕ → Option Reason
+begun_fault read service total =
+    if is_answered_by read service total then None else Some AnswerKind
+
+-- why octets that aren't whole yet can't become such a text
+abbrev pub open_fault : Bool → List ℕ → Option Reason
+open_fault read octets =
+    begun_fault read (slice_index octets 0 / 16) (total_begun (total_at octets))
+
 abbrev pub text_fault_at : Bool → Stage → List ℕ → Option Reason
-text_fault_at read Open octets = None
+text_fault_at read Open octets = open_fault read octets
 text_fault_at read (Complete text) octets = whole_fault read text (drop (length text) octets)
 text_fault_at read Wrong octets = Some AnswerLength
 

@@ -1,11 +1,14 @@
 //! The text of an answer.
-ghost use Rattle.std.specs.Prelude.{◌≡◌, drop, length};
+ghost use Rattle.std.specs.Prelude.{◌≡◌, ◌/◌, drop, length, slice_index};
 ghost use Rattle.iol_isdu.specs.Answers.{is_read};
-ghost use Rattle.iol_judge.specs.Answers.{text_fault, whole_fault};
+ghost use Rattle.iol_judge.specs.Answers.{begun_fault, text_fault, whole_fault};
 
-use crate::octets::are_zeros;
+use crate::octets::{are_zeros, first_octet};
 use crate::reason::Reason;
 use iol_isdu::{IsduFault, Octets, Place, Request, read_answer, total_of};
+
+/// The least total length that stands in an ExtLength.
+const SHORTEST_LONG: usize = 17;
 
 /// Why segments from the first on can't have these octets, in the answer to a read, or to a write.
 ///
@@ -17,8 +20,28 @@ pub(crate) fn text_fault(read: bool, octets: &[u8]) -> Option<Reason>
         Ok(total) if total <= octets.len() => {
             whole_fault(read, &octets[..total], &octets[total..])
         }
-        Ok(_) | Err(IsduFault::Truncated) => None,
+        Ok(total) => open_fault(read, octets, total),
+        Err(IsduFault::Truncated) => open_fault(read, octets, SHORTEST_LONG),
         Err(_) => Some(Reason::AnswerLength),
+    }
+}
+
+/// Why octets that aren't whole yet can't become an answer of this total length.
+///
+/// Rules ISDU-4, ISDU-8.
+fn open_fault(read: bool, octets: &[u8], total: usize) -> Option<Reason>
+    ensures { result ≡ begun_fault read (slice_index octets.now 0 / 16) total }
+{
+    let can_become = match (first_octet(octets) >> 4, read) {
+        (0x4, false) | (0xC, true) => total == 4,
+        (0x5, false) => total == 2,
+        (0xD, true) => (2..=235).contains(&total),
+        _ => false,
+    };
+    if can_become {
+        None
+    } else {
+        Some(Reason::AnswerKind)
     }
 }
 
