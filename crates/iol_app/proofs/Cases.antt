@@ -211,6 +211,7 @@ module _ (names : TextNamesAnswer) (taken : AnswersAreTakenUp)
           base = there'.carried;
           level = record {
             awake = level.awake;
+            own = level.own;
             page_is = level.page_is;
             link_is = level.link_is;
             isdu = tt;

@@ -1,5 +1,5 @@
 -- What is past stays past, and a number has one request.
-use Rattle.std.proofs.Common.{◌≡◌, ℕ, ◌+◌, ◌^◌, ◌<◌, ◌≤◌, Bool, true, false, not, ◌&&◌, List, [], ◌∷◌, ◌++◌, refl, sym, ap, subst, arith}
+use Rattle.std.proofs.Common.{◌≡◌, ℕ, ◌+◌, ◌^◌, ◌<◌, ◌≤◌, Bool, true, false, not, ◌&&◌, List, [], ◌∷◌, ◌++◌, refl, sym, ◌∙◌, ap, subst, arith}
 use Rattle.std.proofs.Math.Nat.{mod-eq_of_lt}
 use Rattle.std.proofs.lemmas.Bool.Decides.{nat_tests}
 use Rattle.std.proofs.lemmas.Grind.{common_steps}
@@ -16,8 +16,8 @@ use Rattle.iol_page.specs.Page.{knows_isdu}
 use Rattle.iol_segment.specs.Join.{Stage, Open, Complete, Wrong, stage}
 use Rattle.iol_far.specs.Codec.{flow_of, message_in}
 use Rattle.iol_far.specs.Far.{Far, WaitingCommand, layout_of, moved, accepted, accepted_by, accepted_now, isdu_after, worked, heard_as, hear}
-use Rattle.iol_far.specs.Isdu.{IsduState, Empty, Receiving, Whole, Handed, Answered, handed, fits, completed, received, received_at, isdu_written, isdu_read}
-use Rattle.iol_far.specs.Laws.{is_start_read}
+use Rattle.iol_far.specs.Isdu.{IsduState, Empty, Receiving, Whole, Handed, Answered, handed, fits, own, completed, received, received_at, isdu_written, isdu_read}
+use Rattle.iol_far.specs.Laws.{is_start_read, MuchStays}
 use Rattle.iol_far.specs.Local.{Carry, Raise, Input, NoInput, Power, local, carried_by, has_room, is_input, woken}
 use Rattle.iol_far.specs.declared.mode.Mode.{Mode}
 use Rattle.iol_device.specs.Device.{Running}
@@ -105,25 +105,27 @@ heeds_read size state Abort = heeds_nothing state _ _ (read_none size state Abor
 heeds_read size state (Reserved n) =
     heeds_nothing state _ _ (read_none size state (Reserved n) refl)
 
-heeds_isdu : (known : Bool) (size : ℕ) (state : IsduState) (read : Bool) (flow : Flow)
+heeds_isdu : (counted : Option ℕ) (known : Bool) (size : ℕ) (state : IsduState) (read : Bool)
+    (flow : Flow)
     (octets : List ℕ)
-    → Heeds state (isdu_after known size state Isdu read flow octets)
+    → Heeds state (isdu_after own counted known size state Isdu read flow octets)
     (is_start_read Isdu read flow)
-heeds_isdu false size state read flow octets =
+heeds_isdu counted false size state read flow octets =
     heeds_nothing state Empty (is_start_read Isdu read flow) (λ x h. absurd (cc))
-heeds_isdu true size state false flow octets =
+heeds_isdu counted true size state false flow octets =
     heeds_nothing state _ _ (written_none state flow octets)
-heeds_isdu true size state true flow octets = heeds_read size state flow
+heeds_isdu counted true size state true flow octets = heeds_read size state flow
 
-heeds_message : (known : Bool) (size : ℕ) (state : IsduState) (channel : Channel) (read : Bool)
+heeds_message : (counted : Option ℕ) (known : Bool) (size : ℕ) (state : IsduState)
+    (channel : Channel) (read : Bool)
     (flow : Flow) (octets : List ℕ)
-    → Heeds state (isdu_after known size state channel read flow octets)
+    → Heeds state (isdu_after own counted known size state channel read flow octets)
     (is_start_read channel read flow)
-heeds_message known size state Process read flow octets = heeds_itself state _
-heeds_message known size state Page read flow octets = heeds_itself state _
-heeds_message known size state Diagnosis read flow octets = heeds_itself state _
-heeds_message known size state Isdu read flow octets =
-    heeds_isdu known size state read flow octets
+heeds_message counted known size state Process read flow octets = heeds_itself state _
+heeds_message counted known size state Page read flow octets = heeds_itself state _
+heeds_message counted known size state Diagnosis read flow octets = heeds_itself state _
+heeds_message counted known size state Isdu read flow octets =
+    heeds_isdu counted known size state read flow octets
 
 -- where nothing is under way a message hands nothing over
 empty_read : (size : ℕ) (flow : Flow) → HasNone (isdu_read size Empty flow)
@@ -134,14 +136,15 @@ empty_read size Idle2 x h = absurd (cc)
 empty_read size Abort x h = absurd (cc)
 empty_read size (Reserved n) x h = absurd (cc)
 
-empty_after : (known : Bool) (size : ℕ) (channel : Channel) (read : Bool) (flow : Flow)
-    (octets : List ℕ) → HasNone (isdu_after known size Empty channel read flow octets)
-empty_after known size Process read flow octets x h = absurd (cc)
-empty_after known size Page read flow octets x h = absurd (cc)
-empty_after known size Diagnosis read flow octets x h = absurd (cc)
-empty_after false size Isdu read flow octets x h = absurd (cc)
-empty_after true size Isdu false flow octets x h = written_none Empty flow octets x h
-empty_after true size Isdu true flow octets x h = empty_read size flow x h
+empty_after : (counted : Option ℕ) (known : Bool) (size : ℕ) (channel : Channel) (read : Bool)
+    (flow : Flow)
+    (octets : List ℕ) → HasNone (isdu_after own counted known size Empty channel read flow octets)
+empty_after counted known size Process read flow octets x h = absurd (cc)
+empty_after counted known size Page read flow octets x h = absurd (cc)
+empty_after counted known size Diagnosis read flow octets x h = absurd (cc)
+empty_after counted false size Isdu read flow octets x h = absurd (cc)
+empty_after counted true size Isdu false flow octets x h = written_none Empty flow octets x h
+empty_after counted true size Isdu true flow octets x h = empty_read size flow x h
 
 -- What octets do to it
 
@@ -149,19 +152,20 @@ abbrev start_in : MasterMsg → Bool
 start_in message =
     is_start_read message.mc.channel message.mc.read (flow_of message.mc.address)
 
-heeds_worked : (far : Far) (octets : List ℕ) (message : MasterMsg)
+heeds_worked : (far : Far) (octets : List ℕ) (message : MasterMsg) → far.kind ≡ own
     → Heeds far.isdu (worked far octets message).isdu (start_in message)
-heeds_worked far octets message =
-    heeds_message (knows_isdu far.page) (layout_of far).od far.isdu message.mc.channel
-    message.mc.read (flow_of message.mc.address) message.od.items
+heeds_worked far octets message mine =
+    rw mine (heeds_message far.counted (knows_isdu far.page) (layout_of far).od far.isdu
+    message.mc.channel
+    message.mc.read (flow_of message.mc.address) message.od.items)
 
 heeds_moved : (old : IsduState) (far : Far) (into : Mode) (octets : List ℕ) (message : MasterMsg)
-    → Heeds old (worked (moved far into) octets message).isdu (start_in message)
-heeds_moved old far into octets message =
+    → far.kind ≡ own → Heeds old (worked (moved far into) octets message).isdu (start_in message)
+heeds_moved old far into octets message mine =
     let there = moved far into in
     heeds_nothing old _ (start_in message)
-    (empty_after (knows_isdu there.page) (layout_of there).od message.mc.channel
-    message.mc.read (flow_of message.mc.address) message.od.items)
+    (rw mine (empty_after far.counted (knows_isdu there.page) (layout_of there).od
+    message.mc.channel message.mc.read (flow_of message.mc.address) message.od.items))
 
 record HeedsOctets (far : Far) (octets : List ℕ) (found : Option (Far × MasterMsg)) : Type 0 where
   pub same : (y x : Request) → handed far.isdu ≡ Some y
@@ -189,33 +193,36 @@ heeds_found far there octets (Some message) heeds = record {
     start_of None = false
     start_of (Some both) = start_in both.1
 
-heeds_now : (far : Far) (octets : List ℕ) → HeedsOctets far octets (accepted_now far octets)
-heeds_now far octets =
-    heeds_found far far octets (message_in (layout_of far) octets) (heeds_worked far octets)
+heeds_now : (far : Far) (octets : List ℕ) → far.kind ≡ own
+    → HeedsOctets far octets (accepted_now far octets)
+heeds_now far octets mine =
+    heeds_found far far octets (message_in (layout_of far) octets)
+    (λ message. heeds_worked far octets message mine)
 
-heeds_into : (far : Far) (octets : List ℕ) (into : Mode)
+heeds_into : (far : Far) (octets : List ℕ) (into : Mode) → far.kind ≡ own
     → HeedsOctets far octets (accepted_now (moved far into) octets)
-heeds_into far octets into =
+heeds_into far octets into mine =
     heeds_found far (moved far into) octets (message_in (layout_of (moved far into)) octets)
-    (heeds_moved far.isdu far into octets)
+    (λ message. heeds_moved far.isdu far into octets message mine)
 
-heeds_by : (far : Far) (octets : List ℕ) (waits : Option WaitingCommand)
+heeds_by : (far : Far) (octets : List ℕ) (waits : Option WaitingCommand) → far.kind ≡ own
     → HeedsOctets far octets (accepted_by waits far octets)
-heeds_by far octets None = heeds_now far octets
-heeds_by far octets (Some command) = by (bytes_eq octets command.octets)
+heeds_by far octets None mine = heeds_now far octets mine
+heeds_by far octets (Some command) mine = by (bytes_eq octets command.octets)
   where
     by : (b : Bool)
         → HeedsOctets far octets
         (if b then accepted_now far octets else accepted_now (moved far command.into) octets)
-    by true = heeds_now far octets
-    by false = heeds_into far octets command.into
+    by true = heeds_now far octets mine
+    by false = heeds_into far octets command.into mine
 
-heeds_octets : (far : Far) (octets : List ℕ) → HeedsOctets far octets (accepted far octets)
-heeds_octets far octets = by far.awake
+heeds_octets : (far : Far) (octets : List ℕ) → far.kind ≡ own
+    → HeedsOctets far octets (accepted far octets)
+heeds_octets far octets mine = by far.awake
   where
     by : (b : Bool)
         → HeedsOctets far octets (if b then accepted_by far.waits far octets else None)
-    by true = heeds_by far octets far.waits
+    by true = heeds_by far octets far.waits mine
     by false = heeds_none far octets
 
 -- What a deed does to the number
@@ -311,22 +318,29 @@ inputs : {P : Type 0} (device : Running P) (image : List ℕ) (b : Bool)
 inputs device image true = stays device (record device.far { input = Some image }) refl
 inputs device image false = stays device device.far refl
 
-moves : {P : Type 0} (device : Running P) (deed : Deed)
+moves : {P : Type 0} (device : Running P) (deed : Deed) → device.far.kind ≡ own
     → Moves device (after_deed device deed)
-moves device (Hears octets) =
-    record { number = refl; same = (heeds_octets device.far octets).same }
-moves device Wakes = drops device (woken device.far) refl
-moves device Silences = record {
+moves device (Hears octets) mine =
+    record { number = refl; same = (heeds_octets device.far octets mine).same }
+moves device Wakes mine = drops device (woken device.far) refl
+moves device Silences mine = record {
   number = unmoved device.number (handed device.far.isdu);
   same = λ y x h k. cc;
 }
-moves device (Steps (Carry answer)) = carries device device.far.isdu answer refl
-moves device (Steps (Raise event)) = stays device (local device.far (Raise event)) refl
-moves device (Steps (Input image)) = inputs device image (is_input device.far image)
-moves device (Steps NoInput) = stays device (local device.far NoInput) refl
-moves device (Steps Power) = drops device (local device.far Power) refl
+moves device (Steps (Carry answer)) mine = carries device device.far.isdu answer refl
+moves device (Steps (Raise event)) mine = stays device (local device.far (Raise event)) refl
+moves device (Steps (Input image)) mine = inputs device image (is_input device.far image)
+moves device (Steps NoInput) mine = stays device (local device.far NoInput) refl
+moves device (Steps Power) mine = drops device (local device.far Power) refl
 
 -- What many deeds do
+
+kind_deed : MuchStays → {P : Type 0} (device : Running P) (deed : Deed)
+    → (after_deed device deed).far.kind ≡ device.far.kind
+kind_deed much device (Hears octets) = much.kind_heard device.far octets
+kind_deed much device Wakes = refl
+kind_deed much device Silences = refl
+kind_deed much device (Steps step) = much.kind_kept device.far (step ∷ [])
 
 number_near : (m : ℕ) (old new : Option Request) → m + 1 < 2 ^ 64
     → number_by m old new ≤ m + 1
@@ -337,19 +351,21 @@ number_near m (Some y) new room = omega arith
 abbrev KeepsAt : {P : Type 0} → (Request → Type 0) → ℕ → Running P → Type 0
 KeepsAt Q n device = Keeps Q n device.number (handed device.far.isdu)
 
-keeps_all : {P : Type 0} (Q : Request → Type 0) (n : ℕ) (device : Running P) (deeds : List Deed)
-    → HasNumbersFor device deeds → KeepsAt Q n device → KeepsAt Q n (after_deeds device deeds)
-keeps_all Q n device [] room keeps = keeps
-keeps_all Q n device (deed ∷ deeds) room keeps =
+keeps_all : {P : Type 0} (much : MuchStays) (Q : Request → Type 0) (n : ℕ) (device : Running P)
+    (deeds : List Deed)
+    → device.far.kind ≡ own → HasNumbersFor device deeds → KeepsAt Q n device
+    → KeepsAt Q n (after_deeds device deeds)
+keeps_all much Q n device [] mine room keeps = keeps
+keeps_all much Q n device (deed ∷ deeds) mine room keeps =
     let new = after_deed device deed in
     let was : Option Request = handed device.far.isdu in
     let now : Option Request = handed new.far.isdu in
-    let moved = moves device deed in
+    let moved = moves device deed mine in
     let next : device.number + 1 < 2 ^ 64 = omega (arith, room) in
     let near : new.number ≤ device.number + 1 =
     subst (λ m. m ≤ device.number + 1) (sym moved.number)
     (number_near device.number was now next) in
-    keeps_all Q n new deeds (omega (arith, room, near))
+    keeps_all much Q n new deeds (kind_deed much device deed ∙ mine) (omega (arith, room, near))
     (subst (λ m. Keeps Q n m now) (sym moved.number)
     (keeps_moved Q n device.number was now moved.same next keeps))
 
@@ -384,17 +400,18 @@ new_parts None None e = absurd (cc)
 new_parts None (Some x) e = (refl, (x, refl))
 new_parts (Some y) new e = absurd (cc)
 
-pub numbers_are_own : {P : Type 0} (device : Running P) → NumbersAreOwn device
-numbers_are_own device = record {
+pub numbers_are_own : MuchStays → {P : Type 0} (device : Running P) → device.far.kind ≡ own
+    → NumbersAreOwn device
+numbers_are_own much device mine = record {
   past = λ n past deeds room answer.
       refused (after_deeds device deeds) n answer
-      (keeps_all never n device deeds room
+      (keeps_all much never n device deeds mine room
       (past_keeps n device.number (handed device.far.isdu) past.0 past.1));
   one = λ request other h deeds room k e.
-      (keeps_all (λ x. x ≡ request) device.number device deeds room
+      (keeps_all much (λ x. x ≡ request) device.number device deeds mine room
       (record { low = omega arith; has = λ i x l. cc })).has e other k;
   by_start = λ octets there message e new.
       let parts = new_parts (handed device.far.isdu)
       (handed (hear device.far octets).far.isdu) new in
-      (heeds_octets device.far octets).starts there message e parts.1.0 parts.0 parts.1.1;
+      (heeds_octets device.far octets mine).starts there message e parts.1.0 parts.0 parts.1.1;
 }

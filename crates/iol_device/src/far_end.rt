@@ -8,7 +8,7 @@ use crate::fault::DeviceFault;
 use crate::isdu::{IsduSide, is_kind_of};
 use crate::record::{Kept, Record};
 use iol_event::{Event, EventMemory};
-use iol_far::{Carried, Mode};
+use iol_far::{Carried, Kind, Mode};
 use iol_image::Image;
 use iol_isdu::{Answer, Request};
 use iol_mseq::{
@@ -51,6 +51,8 @@ impl<R: Record> Model for FarEnd<R> {
       mode = d.mode;
       waits = option_map (λ w. record { into = w.into; octets = w.octets.items }) d.waits;
       isdu = d.isdu.state;
+      kind = d.isdu.kind;
+      counted = d.isdu.counted;
       events = d.events;
       input = d.input;
       out = unwrap_or d.out [];
@@ -83,10 +85,10 @@ impl<R: Record> FarEnd<R> {
 
     /// Asleep, as a device is delivered.
     #[inline(never)]
-    pub fn open(carried: R, page: Page) -> FarEnd<R>
+    pub fn open(carried: R, kind: Kind, page: Page) -> FarEnd<R>
         requires page { IsOk (layouts_of page) }
         requires empty { R.carried carried ≡ [] }
-        ensures { result ≡ far.opened page (R.room carried) }
+        ensures { result ≡ far.opened_as kind page (R.room carried) }
     {
         pages_ask_for_layouts();
         let layouts = page.layouts().unwrap();
@@ -95,7 +97,7 @@ impl<R: Record> FarEnd<R> {
             awake: false,
             mode: Mode::Startup,
             waits: None,
-            isdu: IsduSide::new(size_of(&layout)),
+            isdu: IsduSide::new(kind, size_of(&layout)),
             events: EventMemory::new(),
             input: None,
             out: None,
@@ -291,9 +293,12 @@ impl<R: Record> FarEnd<R> {
     /// Rule DEV-10.
     fn work_isdu(&mut self, message: &MasterView<'_>)
         ensures { self.new ≡ record self.old {
-          isdu = far.isdu_after (knows_isdu self.old.page) (layout_of self.old).od self.old.isdu
-              message.now.mc.channel message.now.mc.read
+          isdu = far.isdu_after self.old.kind self.old.counted (knows_isdu self.old.page)
+              (layout_of self.old).od self.old.isdu message.now.mc.channel message.now.mc.read
               (flow_of message.now.mc.address) message.now.od.items;
+          counted = far.counted_after self.old.kind.hands_over self.old.counted
+              (knows_isdu self.old.page) message.now.mc.channel message.now.mc.read
+              (flow_of message.now.mc.address);
         } }
     {
         let mc = message.mc();

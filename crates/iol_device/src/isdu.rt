@@ -5,13 +5,14 @@ ghost use Rattle.iol_segment.specs.Cut.{flow_at};
 ghost use Rattle.iol_octets.specs.Flow.{IsFlow};
 ghost use Rattle.iol_octets.specs.declared.flow_control.Flow.{Flow};
 ghost use Rattle.iol_isdu.specs.Parse.{request_of};
-ghost use Rattle.iol_far.specs.Isdu.{Empty, Receiving, IsduState, Answered, isdu_written, isdu_read, isdu_data, completed, answer_text, answered, handed, fits};
+ghost use Rattle.iol_far.specs.Isdu.{Empty, Receiving, IsduState, Answered, isdu_written, isdu_read, isdu_data, completed, answer_text, answered, handed, fits, recalled, handed_over, written_over, written_by, counted_by};
 ghost use Rattle.iol_far.specs.Record.{takes_more};
 ghost use Rattle.iol_device.specs.App.{Reacts};
-ghost use Rattle.iol_device.specs.Inside.{IsduValue, IsKept, IsKeptAt, GoesOn, IsSent, state_of, last_sent, count_in, sent_flow, is_sent, is_next};
+ghost use Rattle.iol_device.specs.Inside.{IsduValue, IsKept, IsKeptAt, GoesOn, IsSent, state_of, last_sent, count_in, sent_flow, is_sent, is_next, is_all_sent, waits_for_read};
 
 use crate::app::App;
 use crate::record::Record;
+use iol_far::{HandsOver, Kind, Recalls};
 use iol_isdu::{Answer, Place, Request};
 use iol_mseq::{Message, append_first, append_zeros};
 use iol_octets::Flow;
@@ -43,7 +44,10 @@ enum Stage {
 #[derive(Drop)]
 pub(crate) struct IsduSide {
     size: u8,
+    kind: Kind,
     stage: Stage,
+    /// The COUNT of the last write, where a text is handed over with its last segment.
+    counted: Option<u8>,
     /// The text of a request, while that comes.
     joiner: Joiner,
     /// The request, from when its text is complete, and then the answer.
@@ -56,19 +60,26 @@ impl Model for IsduSide {
 
     ghost Value = { IsduValue };
 
-    ghost view = { λ s. record { size = s.size; state = state_of s.stage s.joiner s.cutter } };
+    ghost view = { λ s. record {
+      size = s.size;
+      state = state_of s.stage s.joiner s.cutter;
+      kind = s.kind;
+      counted = s.counted;
+    } };
 
     ghost invariant = { λ s. IsKept s.size s.stage s.joiner s.cutter };
 }
 
 impl IsduSide {
-    /// No request, in messages of this size.
-    pub fn new(size: u8) -> IsduSide
+    /// No request, in messages of this size, at a device of this kind.
+    pub fn new(kind: Kind, size: u8) -> IsduSide
         requires { (1 ≤ size) × (size ≤ 32) }
-        ensures { result ≡ record { size = size; state = Empty } }
+        ensures { result ≡ record { size = size; state = Empty; kind = kind; counted = None } }
     {
         IsduSide {
             size,
+            kind,
+            counted: None,
             stage: Stage::Empty,
             joiner: Joiner::requests(),
             cutter: Cutter::new(NOTHING, size as usize),
@@ -78,7 +89,7 @@ impl IsduSide {
     /// The request is dropped, and messages have this size from now on.
     pub fn resize(&mut self, size: u8)
         requires { (1 ≤ size) × (size ≤ 32) }
-        ensures { self.new ≡ record { size = size; state = Empty } }
+        ensures { self.new ≡ record self.old { size = size; state = Empty } }
     {
         self.size = size;
         self.stage = Stage::Empty;
@@ -94,10 +105,96 @@ impl IsduSide {
         self.stage = Stage::Empty;
     }
 
+    /// What is left of an answer when the next message comes.
+    ///
+    /// Rule DEV-20.
+    fn recall(&mut self)
+        ensures { self.new ≡ record self.old {
+          state = recalled self.old.kind.recalls self.old.size self.old.state;
+        } }
+    {
+        if self.kind.recalls == Recalls::UntilSent && self.is_sent() {
+            self.stage = Stage::Empty;
+        }
+    }
+
+    /// Whether the last segment of an answer was sent.
+    fn is_sent(&self) -> bool
+        ensures { result ≡ is_all_sent self.now.size self.now.state }
+    {
+        self.stage == Stage::Answered && self.cutter.flow().is_some() && !self.cutter.has_next()
+    }
+
     /// A write under this flow.
     ///
-    /// Rules DEV-11, DEV-14.
+    /// Rules DEV-11, DEV-14, DEV-20.
     pub fn write(&mut self, flow: Flow, octets: &[u8])
+        ensures { self.new ≡ record self.old {
+          state = written_by self.old.kind.hands_over self.old.counted
+              (recalled self.old.kind.recalls self.old.size self.old.state) flow octets.now;
+          counted = counted_by self.old.kind.hands_over self.old.counted flow;
+        } }
+    {
+        self.recall();
+        match self.kind.hands_over {
+            HandsOver::FirstRead => self.write_text(flow, octets),
+            HandsOver::LastSegment => self.write_over(flow, octets),
+        }
+    }
+
+    /// A write where a text is handed over with its last segment.
+    ///
+    /// Rule DEV-20.
+    fn write_over(&mut self, flow: Flow, octets: &[u8])
+        ensures { self.new ≡ record self.old {
+          state = written_over self.old.counted self.old.state flow octets.now;
+          counted = counted_by HandsOver.LastSegment self.old.counted flow;
+        } }
+    {
+        match flow {
+            Flow::Count(count) if self.waits_for_read() => {
+                if self.counted != Some(count) {
+                    self.stage = Stage::Empty;
+                }
+            }
+            _ => {
+                self.write_text(flow, octets);
+                self.hand_over();
+            }
+        }
+        match flow {
+            Flow::Start => self.counted = None,
+            Flow::Count(count) => self.counted = Some(count),
+            _ => {}
+        }
+    }
+
+    /// Whether the application has the request, and no read came since that brought the answer.
+    fn waits_for_read(&self) -> bool
+        ensures { result ≡ waits_for_read self.now.state }
+    {
+        match self.stage {
+            Stage::Handed => true,
+            Stage::Answered => self.cutter.flow().is_none(),
+            _ => false,
+        }
+    }
+
+    /// A text that is whole is handed over.
+    ///
+    /// Rule DEV-20.
+    fn hand_over(&mut self)
+        ensures { self.new ≡ record self.old { state = handed_over self.old.state } }
+    {
+        if let Stage::Whole(_) = self.stage {
+            self.stage = Stage::Handed;
+        }
+    }
+
+    /// A write under this flow, at a device that hands nothing over by it.
+    ///
+    /// Rules DEV-11, DEV-14.
+    fn write_text(&mut self, flow: Flow, octets: &[u8])
         ensures { self.new
             ≡ record self.old { state = isdu_written self.old.state flow octets.now } }
     {
@@ -133,12 +230,15 @@ impl IsduSide {
 
     /// A read under this flow.
     ///
-    /// Rule DEV-14.
+    /// Rules DEV-14, DEV-20.
     #[inline]
     pub fn read(&mut self, flow: Flow)
-        ensures { self.new
-            ≡ record self.old { state = isdu_read self.old.size self.old.state flow } }
+        ensures { self.new ≡ record self.old {
+          state = isdu_read self.old.size
+              (recalled self.old.kind.recalls self.old.size self.old.state) flow;
+        } }
     {
+        self.recall();
         match flow {
             Flow::Start => self.read_start(),
             Flow::Count(count) => self.read_count(count),
@@ -227,7 +327,7 @@ impl IsduSide {
     pub fn react<P: App, R: Record>(&mut self, app: &mut P, carried: &mut R)
         requires handed { IsSome (handed self.old.state) }
         requires room { IsTrue (takes_more (R.room carried.old) (R.carried carried.old)) }
-        ensures size { self.new.size ≡ self.old.size }
+        ensures rest { self.new ≡ record self.old { state = self.new.state } }
         ensures room { R.room carried.new ≡ R.room carried.old }
         ensures reacts { IfSome (handed self.old.state) (Reacts P.carry_out_gives app.old
             (R.carried carried.old) self.new.state (R.carried carried.new) app.new) }

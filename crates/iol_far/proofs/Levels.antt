@@ -17,13 +17,13 @@ use Rattle.iol_segment.specs.TextLaws.{joined}
 use Rattle.iol_segment.specs.JoinLaws.{count_at}
 use Rattle.iol_far.specs.declared.carried.Carried.{Carried}
 use Rattle.iol_far.specs.Codec.{layout_in, message_in, octets_of, flow_of}
-use Rattle.iol_far.specs.Isdu.{IsduState, Empty, Receiving, Whole, Handed, Answered, isdu_read, isdu_data}
+use Rattle.iol_far.specs.Isdu.{IsduState, Empty, Receiving, Whole, Handed, Answered, isdu_read, isdu_data, own}
 use Rattle.iol_far.specs.Far.{Far, WaitingCommand, waits_after, isdu_after, mode_asked, known_mode, command_in, worked, Heard, hear, heard_as, replied, reply_to, moved, accepted_now, accepted_by}
 use Rattle.iol_far.specs.Local.{LocalStep, Carry, Raise, Input, NoInput, Power, local, locals, carried_by, is_input, woken}
 use Rattle.iol_far.specs.Level.{Progress, Quiet, Written, Busy, Had, Stands, Move, Begin, More, Ask, Next, Leave, Other, asked, after, IsMove, Link, link_of, taken, taken_by, turned, HasIsduFor, MayBegin, IsSent, IsBefore, Happening, Own, Hears, happened, hearings, IsLevel, IsGrown, base_after}
 use Rattle.iol_far.specs.SegmentLaws.{SegmentLaws}
 use Rattle.iol_far.proofs.Standing.{heard_first, others, left, asked_busy, asked_first, stands_carried}
-use Rattle.iol_far.proofs.Once.{isdu_again, waits_again, mine_after, reads_again, bytes_of, not_handed, carried_awake}
+use Rattle.iol_far.proofs.Once.{isdu_again, isdu_own, kind_local, waits_again, mine_after, reads_again, bytes_of, not_handed, carried_awake}
 
 -- hearing, where the octets are accepted there as that message
 pub hear_there : (g : Far) (o : List ℕ) (there : Far) (m : MasterMsg) → g.awake ≡ true
@@ -56,6 +56,7 @@ stands_grown size base (Had r i t) (Handed q) carried h = absurd h
 record There (size : ℕ) (base : List Carried) (p : Progress) (page : List ℕ) (link : Link)
     (found : Option (Far × MasterMsg)) (m : MasterMsg) (there : Far) : Type 0 where
   pub awake : there.awake ≡ true
+  pub kind : there.kind ≡ own
   pub page_is : there.page ≡ page
   pub link_is : link_of there ≡ link
   pub stands : Stands size base p there.isdu there.carried
@@ -63,21 +64,23 @@ record There (size : ℕ) (base : List Carried) (p : Progress) (page : List ℕ)
 
 there_by : (size : ℕ) (base : List Carried) (p : Progress) (o : List ℕ) (m : MasterMsg)
     (g : Far) (w : Option WaitingCommand) →
-    g.awake ≡ true → Stands size base p g.isdu g.carried
+    g.awake ≡ true → g.kind ≡ own → Stands size base p g.isdu g.carried
     → message_in (layout_in g.page (taken_by w (link_of g) o).mode) o ≡ Some m
     → IfSome w (λ v. p ≡ Quiet) →
     (there : Far) × There size base p g.page (taken_by w (link_of g) o) (accepted_by w g o) m there
-there_by size base p o m g None awake stands spells quiet = (
+there_by size base p o m g None awake mine stands spells quiet = (
   g,
   record {
     awake = awake;
+    kind = mine;
     page_is = refl;
     link_is = refl;
     stands = stands;
     accepts = rw spells refl;
   },
 )
-there_by size base p o m g (Some w) awake stands spells quiet = split (bytes_eq o w.octets) spells
+there_by size base p o m g (Some w) awake mine stands spells quiet =
+    split (bytes_eq o w.octets) spells
   where
     moved_stands : Stands size base p Empty g.carried
     moved_stands = rw quiet (let h : Stands size base Quiet g.isdu g.carried =
@@ -92,6 +95,7 @@ there_by size base p o m g (Some w) awake stands spells quiet = split (bytes_eq 
       g,
       record {
         awake = awake;
+        kind = mine;
         page_is = refl;
         link_is = refl;
         stands = stands;
@@ -102,6 +106,7 @@ there_by size base p o m g (Some w) awake stands spells quiet = split (bytes_eq 
       moved g w.into,
       record {
         awake = awake;
+        kind = mine;
         page_is = refl;
         link_is = refl;
         stands = moved_stands;
@@ -115,7 +120,8 @@ there_of : (page : List ℕ) (size : ℕ) (base : List Carried) (link : Link) (p
     (there : Far) × There size base p page (taken link o) (accepted_by g.waits g o) m there
 there_of page size base link p o m what sent g h =
     let sent' : IsSent g.page size (link_of g) p o m what = rw (h.page_is, h.link_is) sent in
-    let found = there_by size base p o m g g.waits h.awake h.stands sent'.spells sent'.quiet in
+    let found = there_by size base p o m g g.waits h.awake h.own h.stands sent'.spells
+    sent'.quiet in
     rw (← h.page_is, ← h.link_is) found
 
 -- a START read once more
@@ -123,8 +129,8 @@ asked_again : (size : ℕ) (laws : SegmentLaws size) (base : List Carried) (p : 
     (c : Channel) (read : Bool) (f : Flow) (od x : List ℕ) (s : IsduState)
     (carried : List Carried) →
     IsMove size Ask p c read f od → Stands size base (after p Ask x) s carried →
-    Stands size base (after p Ask (isdu_data size (isdu_after true size s c read f od)))
-    (isdu_after true size s c read f od) carried
+    Stands size base (after p Ask (isdu_data size (isdu_after own None true size s c read f od)))
+    (isdu_after own None true size s c read f od) carried
 asked_again size laws base (Written r i) Isdu true Start od x s carried move h =
     asked_on (slice_index x 0 == 1) h
   where
@@ -222,7 +228,7 @@ module _ (known : Bool) (size : ℕ) (base : List Carried) (p : Progress) (c : C
   Mid Leave s carried = (s ≡ Empty) × IsGrown base p carried
   Mid Ask s carried = (x : List ℕ) × Stands size base (after p Ask x) s carried
   Mid Other s carried = Stands size base p s carried
-  Mid any s carried = (isdu_after known size s c read f od ≡ s)
+  Mid any s carried = (isdu_after own None known size s c read f od ≡ s)
       × Stands size base (after p any (isdu_data size s)) s carried
 
 -- what the device must know for a move
@@ -235,7 +241,7 @@ module _ (known : Bool) (size : ℕ) (laws : SegmentLaws size) (base : List Carr
     (p : Progress) (c : Channel) (read : Bool) (f : Flow) (od : List ℕ) where
   first_post : (what : Move) (s : IsduState) (carried : List Carried)
       → IsMove size what p c read f od → Needs known what → Stands size base p s carried →
-      Post size base p what (isdu_after known size s c read f od) carried
+      Post size base p what (isdu_after own None known size s c read f od) carried
   first_post Leave s carried move n h =
       (left size laws base known p c read f od s move, stands_grown size base p s carried h)
   first_post (Begin r) s carried move n h =
@@ -249,10 +255,11 @@ module _ (known : Bool) (size : ℕ) (laws : SegmentLaws size) (base : List Carr
   first_post Other s carried move n h = rw (others size laws base known p c read f od s move) h
 
   post_mid : (what : Move) (s : IsduState) (carried : List Carried)
-      → Post size base p what (isdu_after known size s c read f od) carried
-      → Mid known size base p c read f od what (isdu_after known size s c read f od) carried
+      → Post size base p what (isdu_after own None known size s c read f od) carried
+      → Mid known size base p c read f od what (isdu_after own None known size s c read f od)
+      carried
   post_mid Leave s carried h = h
-  post_mid Ask s carried h = (isdu_data size (isdu_after known size s c read f od), h)
+  post_mid Ask s carried h = (isdu_data size (isdu_after own None known size s c read f od), h)
   post_mid Other s carried h = h
   post_mid (Begin r) s carried h = (isdu_again known size s c read f od, h)
   post_mid More s carried h = (isdu_again known size s c read f od, h)
@@ -261,7 +268,7 @@ module _ (known : Bool) (size : ℕ) (laws : SegmentLaws size) (base : List Carr
   mid_post : (what : Move) (s : IsduState) (carried : List Carried)
       → IsMove size what p c read f od → Needs known what
       → Mid known size base p c read f od what s carried →
-      Post size base p what (isdu_after known size s c read f od) carried
+      Post size base p what (isdu_after own None known size s c read f od) carried
   mid_post Leave s carried move n h = (left size laws base known p c read f od s move, h.1)
   mid_post Ask s carried move n h =
       rw n (asked_again size laws base p c read f od h.0 s carried move h.1)
@@ -370,13 +377,15 @@ module _ (page : List ℕ) (size : ℕ) (laws : SegmentLaws size) (base : List C
   data During (g : Far) : Type 0 where
     asleep : g.awake ≡ false → g.isdu ≡ Empty → IsGrown base p g.carried → During g
     unheard : IsBefore page size base link p g → During g
-    heard : g.awake ≡ true → g.page ≡ page → link_of g ≡ turned page link o m → HasIsduFor page p →
+    heard : g.awake ≡ true → g.kind ≡ own → g.page ≡ page → link_of g ≡ turned page link o m
+        → HasIsduFor page p →
         Mid (knows_isdu page) size base p m.mc.channel m.mc.read (flow_of m.mc.address)
         m.od.items what g.isdu g.carried → During g
 
   -- the message was heard just now
   pub record Just (h : Heard) : Type 0 where
     pub awake : h.far.awake ≡ true
+    pub own : h.far.kind ≡ own
     pub page_is : h.far.page ≡ page
     pub link_is : link_of h.far ≡ turned page link o m
     pub isdu : HasIsduFor page p
@@ -390,26 +399,33 @@ module _ (page : List ℕ) (size : ℕ) (laws : SegmentLaws size) (base : List C
   needed h = needs_of page size what p m.mc.channel m.mc.read (flow_of m.mc.address) m.od.items
       sent.move h sent.begins
 
-  just_worked : (there : Far) → there.awake ≡ true → there.page ≡ page
+  just_worked : (there : Far) → there.awake ≡ true → there.kind ≡ own → there.page ≡ page
       → link_of (worked there o m) ≡ turned page link o m → HasIsduFor page p →
-      Post size base p what (isdu_after (knows_isdu page) size there.isdu m.mc.channel m.mc.read
+      Post size base p what (isdu_after own None (knows_isdu page) size there.isdu m.mc.channel
+      m.mc.read
       (flow_of m.mc.address) m.od.items) there.carried →
       Just (replied (worked there o m) m)
-  just_worked there awake page_is link_is isdu h =
+  just_worked there awake mine page_is link_is isdu h =
       let layout_is : layout_in there.page there.mode ≡ layout_in page (turned page link o m).mode =
       ap (λ (s : List ℕ). layout_in s there.mode) page_is
       ∙ ap (λ (l : Link). layout_in page l.mode) link_is in
       let size_is : size ≡ (layout_in there.page there.mode).od =
       sym (ap (λ (l : Shape). l.od) layout_is ∙ sent.size_of) in
       let state : Bool → ℕ → IsduState =
-      λ k n. isdu_after k n there.isdu m.mc.channel m.mc.read (flow_of m.mc.address)
+      λ k n. isdu_after own None k n there.isdu m.mc.channel m.mc.read (flow_of m.mc.address)
       m.od.items in
       let state_is : state (knows_isdu page) size
-      ≡ state (knows_isdu there.page) (layout_in there.page there.mode).od =
+      ≡ isdu_after there.kind there.counted (knows_isdu there.page)
+      (layout_in there.page there.mode).od there.isdu m.mc.channel m.mc.read
+      (flow_of m.mc.address) m.od.items =
       ap (λ (s : List ℕ). state (knows_isdu s) size) (sym page_is)
-      ∙ ap (state (knows_isdu there.page)) size_is in
+      ∙ ap (state (knows_isdu there.page)) size_is
+      ∙ sym (isdu_own there.kind there.counted (knows_isdu there.page)
+      (layout_in there.page there.mode).od there.isdu m.mc.channel m.mc.read
+      (flow_of m.mc.address) m.od.items mine) in
       record {
         awake = awake;
+        own = mine;
         page_is = page_is;
         link_is = link_is;
         isdu = isdu;
@@ -433,18 +449,19 @@ module _ (page : List ℕ) (size : ℕ) (laws : SegmentLaws size) (base : List C
       let found : (there : Far) × There size base p page (taken link o)
       (accepted_by g.waits g o) m there = there_of page size base link p o m what sent g h in
       subst Just (sym (hear_there g o found.0 m h.awake found.1.accepts))
-      (just_worked found.0 found.1.awake found.1.page_is
+      (just_worked found.0 found.1.awake found.1.kind found.1.page_is
       (ap (λ (s : List ℕ). turns s (link_of found.0)) found.1.page_is
       ∙ ap (turns page) found.1.link_is) h.isdu
       (first_post (knows_isdu page) size laws base p m.mc.channel m.mc.read
       (flow_of m.mc.address) m.od.items what found.0.isdu found.0.carried sent.move
       (needed h.isdu) found.1.stands))
 
-  hear_heard : (g : Far) → g.awake ≡ true → g.page ≡ page → link_of g ≡ turned page link o m
+  hear_heard : (g : Far) → g.awake ≡ true → g.kind ≡ own → g.page ≡ page
+      → link_of g ≡ turned page link o m
       → HasIsduFor page p →
       Mid (knows_isdu page) size base p m.mc.channel m.mc.read (flow_of m.mc.address) m.od.items
       what g.isdu g.carried → Just (hear g o)
-  hear_heard g awake page_is link_is isdu h =
+  hear_heard g awake mine_is page_is link_is isdu h =
       let reads : message_in (layout_in g.page g.mode) o ≡ Some m =
       ap (λ (s : List ℕ). message_in (layout_in s g.mode) o) page_is
       ∙ ap (λ (l : Link). message_in (layout_in page l.mode) o) link_is ∙ sent.spells in
@@ -458,12 +475,12 @@ module _ (page : List ℕ) (size : ℕ) (laws : SegmentLaws size) (base : List C
       (waits_again (taken link o).mode (taken link o).waits o
       (known_mode page (mode_asked (command_in m)))) in
       subst Just (sym (hear_there g o g m awake (reads_again g.waits o m g mine reads)))
-      (just_worked g awake page_is turned_is isdu
+      (just_worked g awake mine_is page_is turned_is isdu
       (mid_post (knows_isdu page) size laws base p m.mc.channel m.mc.read (flow_of m.mc.address)
       m.od.items what g.isdu g.carried sent.move (needed isdu) h))
 
   just_heard : (h : Heard) → Just h → During h.far
-  just_heard h j = heard j.awake j.page_is j.link_is j.isdu j.keeps
+  just_heard h j = heard j.awake j.own j.page_is j.link_is j.isdu j.keeps
 
   during_input : (g : Far) (b : Bool) (image : Option (List ℕ)) → During g
       → During (if b then record g { input = image } else g)
@@ -471,18 +488,19 @@ module _ (page : List ℕ) (size : ℕ) (laws : SegmentLaws size) (base : List C
   during_input g true image (unheard h) =
       unheard (record {
         awake = h.awake;
+        own = h.own;
         page_is = h.page_is;
         link_is = h.link_is;
         isdu = h.isdu;
         stands = h.stands;
       })
-  during_input g true image (heard w s l q h) = heard w s l q h
+  during_input g true image (heard w mine s l q h) = heard w mine s l q h
   during_input g false image d = d
 
   during_grown : (g : Far) → During g → IsGrown base p g.carried
   during_grown g (asleep w i k) = k
   during_grown g (unheard h) = stands_grown size base p g.isdu g.carried h.stands
-  during_grown g (heard w s l q h) =
+  during_grown g (heard w mine s l q h) =
       mid_grown (knows_isdu page) size laws base p m.mc.channel m.mc.read (flow_of m.mc.address)
       m.od.items what g.isdu g.carried sent.move h
 
@@ -491,13 +509,15 @@ module _ (page : List ℕ) (size : ℕ) (laws : SegmentLaws size) (base : List C
       rw (unhanded g a g.isdu (λ q e. let z : Empty ≡ Handed q = sym i ∙ e in cc)) (asleep w i k)
   during_local g (Carry a) (unheard h) = unheard (record {
     awake = carried_awake g a g.isdu ∙ h.awake;
+    own = kind_local g (Carry a) ∙ h.own;
     page_is = carried_page g a g.isdu ∙ h.page_is;
     link_is = carried_link g a g.isdu ∙ h.link_is;
     isdu = h.isdu;
     stands = stands_carried size laws base p g a g.isdu refl h.stands;
   })
-  during_local g (Carry a) (heard w s l q h) =
-      heard (carried_awake g a g.isdu ∙ w) (carried_page g a g.isdu ∙ s)
+  during_local g (Carry a) (heard w mine s l q h) =
+      heard (carried_awake g a g.isdu ∙ w) (kind_local g (Carry a) ∙ mine)
+      (carried_page g a g.isdu ∙ s)
       (carried_link g a g.isdu ∙ l) q
       (mid_local (knows_isdu page) size laws base p m.mc.channel m.mc.read
       (flow_of m.mc.address) m.od.items what g a sent.move h)
@@ -505,12 +525,13 @@ module _ (page : List ℕ) (size : ℕ) (laws : SegmentLaws size) (base : List C
   during_local g (Raise e) (unheard h) =
       unheard (record {
         awake = h.awake;
+        own = h.own;
         page_is = h.page_is;
         link_is = h.link_is;
         isdu = h.isdu;
         stands = h.stands;
       })
-  during_local g (Raise e) (heard w s l q h) = heard w s l q h
+  during_local g (Raise e) (heard w mine s l q h) = heard w mine s l q h
   during_local g (Input image) d = during_input g (is_input g image) (Some image) d
   during_local g NoInput d = during_input g true None d
   during_local g Power d = asleep refl refl (during_grown g d)
@@ -521,7 +542,7 @@ module _ (page : List ℕ) (size : ℕ) (laws : SegmentLaws size) (base : List C
       (λ (b : Bool). (heard_as g o (if b then accepted_by g.waits g o else None)).far) w in
       rw e (asleep w i k)
   during_hear g (unheard h) = just_heard (hear g o) (hear_unheard g h)
-  during_hear g (heard w s l q h) = just_heard (hear g o) (hear_heard g w s l q h)
+  during_hear g (heard w mine s l q h) = just_heard (hear g o) (hear_heard g w mine s l q h)
 
   during_happened : (rest : List Happening) (g : Far) → During g → During (happened g o rest)
   during_happened [] g d = d
@@ -539,7 +560,7 @@ module _ (page : List ℕ) (size : ℕ) (laws : SegmentLaws size) (base : List C
       ap (λ (b : Bool). (heard_as g o (if b then accepted_by g.waits g o else None)).reply) w in
       absurd (let z : None ≡ Some r = sym none ∙ e in cc)
   hear_during g (unheard h) r e = hear_unheard g h
-  hear_during g (heard w s l q h) r e = hear_heard g w s l q h
+  hear_during g (heard w mine s l q h) r e = hear_heard g w mine s l q h
 
   -- Where the far end answers, both ends have one link, the far end stands at the progress that
   -- its reply shows,
@@ -564,6 +585,7 @@ module _ (page : List ℕ) (size : ℕ) (laws : SegmentLaws size) (base : List C
       (after p what (isdu_data size h.far.isdu)) h.far
   next_before h j = record {
     awake = j.awake;
+    own = j.own;
     page_is = j.page_is;
     link_is = j.link_is;
     isdu = isdu_next page size what p m.mc.channel m.mc.read (flow_of m.mc.address) m.od.items
@@ -660,10 +682,11 @@ module _ (page : List ℕ) (size : ℕ) (base : List Carried) (link : Link) (p :
       level_locals most steps (local g step) (level_local most g step h)
 
 -- a wake that took effect
-pub woken_before : (size : ℕ) (far : Far)
+pub woken_before : (size : ℕ) (far : Far) → far.kind ≡ own
     → IsBefore far.page size far.carried (record { mode = Startup; waits = None }) Quiet (woken far)
-woken_before size far = record {
+woken_before size far mine = record {
   awake = refl;
+  own = mine;
   page_is = refl;
   link_is = refl;
   isdu = tt;
@@ -676,6 +699,7 @@ pub quiet_size : (size other : ℕ) (page : List ℕ) (base : List Carried) (lin
 quiet_size size other page base link far h =
     record {
       awake = h.awake;
+      own = h.own;
       page_is = h.page_is;
       link_is = h.link_is;
       isdu = h.isdu;

@@ -7,6 +7,8 @@ use Rattle.std.proofs.lemmas.Grind.{common_steps}
 use Rattle.std.proofs.lemmas.Slice.Eq.{bytes_eq-Decides}
 use Rattle.iol_octets.specs.declared.control.Channel.{Channel}
 use Rattle.iol_far.specs.declared.mode.Mode.{Mode}
+use Rattle.iol_far.specs.declared.kind.Kind.{Kind}
+use Rattle.iol_far.specs.declared.kind.HandsOver.{HandsOver}
 use Rattle.iol_octets.specs.declared.flow_control.Flow.{Flow}
 use Rattle.iol_page.specs.declared.master_command.MasterCommand.{MasterCommand}
 use Rattle.iol_page.specs.Page.{knows_isdu}
@@ -16,9 +18,9 @@ use Rattle.iol_isdu.specs.declared.values.Request.{Request}
 use Rattle.iol_isdu.specs.declared.values.Answer.{Answer}
 use Rattle.iol_segment.specs.Join.{Stage, stage}
 use Rattle.iol_far.specs.Codec.{layout_in, message_in, flow_of}
-use Rattle.iol_far.specs.Isdu.{IsduState, Empty, Receiving, Whole, Handed, Answered, received_at, received, fits}
+use Rattle.iol_far.specs.Isdu.{IsduState, Empty, Receiving, Whole, Handed, Answered, received_at, received, fits, own}
 use Rattle.iol_event.specs.Memory.{Events, is_empty, raised}
-use Rattle.iol_far.specs.Far.{Far, WaitingCommand, waits_after, valid_after, out_after, isdu_after, events_after, cycle_time_after, mode_asked, known_mode, command_in, is_confirm, worked, Heard, hear, heard_as, replied, moved, accepted_now, accepted_by}
+use Rattle.iol_far.specs.Far.{Far, WaitingCommand, waits_after, valid_after, out_after, isdu_after, counted_after, events_after, cycle_time_after, mode_asked, known_mode, command_in, is_confirm, worked, Heard, hear, heard_as, replied, moved, accepted_now, accepted_by}
 use Rattle.iol_far.specs.Laws.{is_start_read}
 use Rattle.iol_far.specs.Local.{LocalStep, Carry, Raise, Input, NoInput, Power, local, locals, carried_by, has_room, is_input}
 use Rattle.iol_far.specs.Level.{grown_by}
@@ -88,9 +90,22 @@ out_again mode old new = grind (arith, common_steps)
 
 pub isdu_again : (known : Bool) (size : ℕ) (s : IsduState) (c : Channel) (r : Bool) (f : Flow)
     (octets : List ℕ) →
-    isdu_after known size (isdu_after known size s c r f octets) c r f octets
-    ≡ isdu_after known size s c r f octets
+    isdu_after own None known size (isdu_after own None known size s c r f octets) c r f octets
+    ≡ isdu_after own None known size s c r f octets
 isdu_again known size s c r f octets = grind (arith, common_steps)
+
+-- what a device of our own kind does with the message hangs on no COUNT kept
+pub isdu_own : (kind : Kind) (counted : Option ℕ) (known : Bool) (size : ℕ) (s : IsduState)
+    (c : Channel) (r : Bool) (f : Flow) (octets : List ℕ) → kind ≡ own
+    → isdu_after kind counted known size s c r f octets
+    ≡ isdu_after own None known size s c r f octets
+isdu_own kind counted known size s c r f octets mine = grind (arith, common_steps)
+
+counted_again : (hands_over : HandsOver) (counted : Option ℕ) (known : Bool) (c : Channel)
+    (r : Bool) (f : Flow)
+    → counted_after hands_over (counted_after hands_over counted known c r f) known c r f
+    ≡ counted_after hands_over counted known c r f
+counted_again hands_over counted known c r f = grind (arith, common_steps)
 
 cycle_again : (cycle : ℕ) (c : Channel) (r : Bool) (address octet : ℕ) →
     cycle_time_after (cycle_time_after cycle c r address octet) c r address octet
@@ -102,8 +117,10 @@ pub record Settled (o : List ℕ) (m : MasterMsg) (g : Far) : Type 0 where
   pub reads : message_in (layout_in g.page g.mode) o ≡ Some m
   pub mine : IfSome g.waits (λ w. w.octets ≡ o)
   pub waits : waits_after g.mode g.waits o (known_mode g.page (mode_asked (command_in m))) ≡ g.waits
-  pub isdu : isdu_after (knows_isdu g.page) (layout_in g.page g.mode).od g.isdu m.mc.channel
-      m.mc.read (flow_of m.mc.address) m.od.items ≡ g.isdu
+  pub isdu : g.kind ≡ own → isdu_after own None (knows_isdu g.page) (layout_in g.page g.mode).od
+      g.isdu m.mc.channel m.mc.read (flow_of m.mc.address) m.od.items ≡ g.isdu
+  pub counted : counted_after g.kind.hands_over g.counted (knows_isdu g.page) m.mc.channel m.mc.read
+      (flow_of m.mc.address) ≡ g.counted
   pub events : EventsSettled (is_confirm m.mc.channel m.mc.read m.mc.address) g.events
   pub out : out_after g.mode g.out m.out.items ≡ g.out
   pub valid : valid_after g.mode g.valid (command_in m) ≡ g.valid
@@ -121,18 +138,27 @@ settled_worked far o m reads mine = record {
   reads = reads;
   mine = mine_after far.mode far.waits o (known_mode far.page (mode_asked (command_in m))) mine;
   waits = waits_again far.mode far.waits o (known_mode far.page (mode_asked (command_in m)));
-  isdu = isdu_again (knows_isdu far.page) (layout_in far.page far.mode).od far.isdu m.mc.channel
-      m.mc.read (flow_of m.mc.address) m.od.items;
+  isdu = λ mine.
+      rw (isdu_own far.kind far.counted (knows_isdu far.page) (layout_in far.page far.mode).od
+      far.isdu m.mc.channel m.mc.read (flow_of m.mc.address) m.od.items mine)
+      (isdu_again (knows_isdu far.page) (layout_in far.page far.mode).od far.isdu m.mc.channel
+      m.mc.read (flow_of m.mc.address) m.od.items);
+  counted = counted_again far.kind.hands_over far.counted (knows_isdu far.page) m.mc.channel
+      m.mc.read
+      (flow_of m.mc.address);
   events = events_settled (is_confirm m.mc.channel m.mc.read m.mc.address) far.events;
   out = out_again far.mode far.out m.out.items;
   valid = valid_again far.mode far.valid (command_in m);
   cycle = cycle_again far.cycle_time m.mc.channel m.mc.read m.mc.address (slice_index m.od.items 0);
 }
 
-pub worked_again : (o : List ℕ) (m : MasterMsg) (g : Far) → Settled o m g → worked g o m ≡ g
-worked_again o m g s = rw (
+pub worked_again : (o : List ℕ) (m : MasterMsg) (g : Far) → g.kind ≡ own → Settled o m g
+    → worked g o m ≡ g
+worked_again o m g mine s = rw (
   s.waits,
-  s.isdu,
+  isdu_own g.kind g.counted (knows_isdu g.page) (layout_in g.page g.mode).od g.isdu
+      m.mc.channel m.mc.read (flow_of m.mc.address) m.od.items mine ∙ s.isdu mine,
+  s.counted,
   events_again
       (is_confirm m.mc.channel m.mc.read m.mc.address) g.events s.events,
   s.out,
@@ -153,8 +179,8 @@ not_handed t l r h = not_handed_at (stage t) t l r h
 
 pub carry_again : (known : Bool) (size : ℕ) (r : Request) (a : Answer) (c : Channel)
     (read : Bool) (f : Flow) (octets : List ℕ) → is_start_read c read f ≡ false →
-    isdu_after known size (Handed r) c read f octets ≡ Handed r
-    → isdu_after known size (Answered r a None) c read f octets ≡ Answered r a None
+    isdu_after own None known size (Handed r) c read f octets ≡ Handed r
+    → isdu_after own None known size (Answered r a None) c read f octets ≡ Answered r a None
 carry_again known size r a c read f octets given given2 = grind (arith, common_steps)
 
 settled_carry : (o : List ℕ) (m : MasterMsg) (g : Far) (a : Answer) (s : IsduState) → g.isdu ≡ s
@@ -172,8 +198,11 @@ settled_carry o m g a (Handed r) e n h =
         reads = h.reads;
         mine = h.mine;
         waits = h.waits;
-        isdu = carry_again (knows_isdu g.page) (layout_in g.page g.mode).od r a m.mc.channel
-            m.mc.read (flow_of m.mc.address) m.od.items n (rw e at h.isdu);
+        isdu = λ mine.
+            carry_again (knows_isdu g.page) (layout_in g.page g.mode).od r a m.mc.channel
+            m.mc.read (flow_of m.mc.address) m.od.items n
+            (let k = h.isdu mine in rw e at k);
+        counted = h.counted;
         events = h.events;
         out = h.out;
         valid = h.valid;
@@ -191,6 +220,7 @@ settled_local o m g (Raise e) n h w = record {
   mine = h.mine;
   waits = h.waits;
   isdu = h.isdu;
+  counted = h.counted;
   events = events_raised (is_confirm m.mc.channel m.mc.read m.mc.address) g.events e h.events;
   out = h.out;
   valid = h.valid;
@@ -204,6 +234,7 @@ settled_local o m g (Input image) n h w =
         mine = h.mine;
         waits = h.waits;
         isdu = h.isdu;
+        counted = h.counted;
         events = h.events;
         out = h.out;
         valid = h.valid;
@@ -217,6 +248,7 @@ settled_local o m g NoInput n h w =
       mine = h.mine;
       waits = h.waits;
       isdu = h.isdu;
+      counted = h.counted;
       events = h.events;
       out = h.out;
       valid = h.valid;
@@ -236,12 +268,12 @@ pub reads_again : (w : Option WaitingCommand) (o : List ℕ) (m : MasterMsg) (g 
 reads_again None o m g mine reads = rw reads refl
 reads_again (Some w) o m g mine reads = rw (mine, bytes_same o, reads) refl
 
-pub heard_again : (o : List ℕ) (m : MasterMsg) (g : Far) → g.awake ≡ true → Settled o m g
-    → hear g o ≡ replied g m
-heard_again o m g awake s =
+pub heard_again : (o : List ℕ) (m : MasterMsg) (g : Far) → g.awake ≡ true → g.kind ≡ own
+    → Settled o m g → hear g o ≡ replied g m
+heard_again o m g awake mine s =
     ap (λ (b : Bool). heard_as g o (if b then accepted_by g.waits g o else None)) awake
     ∙ ap (heard_as g o) (reads_again g.waits o m g s.mine s.reads)
-    ∙ ap (λ (f : Far). replied f m) (worked_again o m g s)
+    ∙ ap (λ (f : Far). replied f m) (worked_again o m g mine s)
 
 -- What hearing leaves: nothing new, or a settled far end and its reply
 
@@ -291,6 +323,13 @@ hearing far o = split far.awake refl
 pub carried_awake : (g : Far) (a : Answer) (s : IsduState) → (carried_by s g a).awake ≡ g.awake
 carried_awake g a s = grind (arith, common_steps)
 
+pub kind_local : (g : Far) (step : LocalStep) → (local g step).kind ≡ g.kind
+kind_local g step = grind (arith, common_steps)
+
+pub kind_locals : (g : Far) (steps : List LocalStep) → (locals g steps).kind ≡ g.kind
+kind_locals g [] = refl
+kind_locals g (step ∷ steps) = kind_locals (local g step) steps ∙ kind_local g step
+
 pub was_awake : (g : Far) (step : LocalStep) → (local g step).awake ≡ true → g.awake ≡ true
 was_awake g step given = grind (arith, common_steps)
 
@@ -305,14 +344,15 @@ module _ (o : List ℕ) (m : MasterMsg)
 
   -- hearing a message again, after any local steps, changes nothing: for every message but a START
   -- read
-  pub once : (g : Far) (steps : List LocalStep) → Settled o m g
+  pub once : (g : Far) (steps : List LocalStep) → g.kind ≡ own → Settled o m g
       → (hear (locals g steps) o).far ≡ locals g steps
-  once g steps s = split (locals g steps).awake refl
+  once g steps mine s = split (locals g steps).awake refl
     where
       split : (b : Bool) → (locals g steps).awake ≡ b
           → (hear (locals g steps) o).far ≡ locals g steps
       split true w = ap (λ (h : Heard). h.far)
-          (heard_again o m (locals g steps) w (settled_locals steps g (λ v. s) w))
+          (heard_again o m (locals g steps) w (kind_locals g steps ∙ mine)
+          (settled_locals steps g (λ v. s) w))
       split false w = ap (λ (b : Bool).
           (heard_as (locals g steps) o (if b then accepted_by (locals g steps).waits
           (locals g steps) o else None)).far) w

@@ -1,5 +1,5 @@
 -- What one good reply tells the master of the far end's ISDU state and record.
-use Rattle.std.proofs.Common.{◌≡◌, ℕ, suc, ◌*◌, ◌%◌, ◌<◌, Bool, true, false, ◌&&◌, List, ◌++◌, length, refl, sym, arith}
+use Rattle.std.proofs.Common.{◌≡◌, ℕ, suc, ◌*◌, ◌%◌, ◌<◌, Bool, true, false, ◌&&◌, List, ◌++◌, length, refl, sym, subst, arith}
 use Rattle.std.specs.Prelude.{Some, None, if◌then◌else◌, IsTrue}
 use Rattle.std.proofs.lemmas.Bool.Decides.{nat_tests}
 use Rattle.std.proofs.lemmas.Grind.{common_steps}
@@ -14,7 +14,7 @@ use Rattle.iol_segment.specs.Cut.{segment}
 use Rattle.iol_segment.specs.TextLaws.{joined, IsLast}
 use Rattle.iol_segment.specs.JoinLaws.{count_at}
 use Rattle.iol_far.specs.declared.carried.Carried.{Carried}
-use Rattle.iol_far.specs.Isdu.{IsduState, Empty, Receiving, Whole, Handed, Answered, received, isdu_written, isdu_read, isdu_data, answer_text, fits}
+use Rattle.iol_far.specs.Isdu.{IsduState, Empty, Receiving, Whole, Handed, Answered, received, isdu_written, isdu_read, isdu_data, answer_text, fits, own}
 use Rattle.iol_far.specs.Far.{Far, isdu_after}
 use Rattle.iol_far.specs.Local.{carried_by, has_room}
 use Rattle.iol_far.specs.SegmentLaws.{SegmentLaws}
@@ -93,8 +93,8 @@ module _ (size : ℕ) (laws : SegmentLaws size) (base : List Carried) where
   pub heard_first : (p : Progress) (what : Move) (c : Channel) (read : Bool) (f : Flow)
       (od : List ℕ) (s : IsduState) (carried : List Carried) →
       IsMove size what p c read f od → (what ≡ Leave → ⊥) → Stands size base p s carried →
-      Stands size base (after p what (isdu_data size (isdu_after true size s c read f od)))
-      (isdu_after true size s c read f od) carried
+      Stands size base (after p what (isdu_data size (isdu_after own None true size s c read f od)))
+      (isdu_after own None true size s c read f od) carried
   heard_first Quiet (Begin r) Isdu false Start od Empty carried m n h = rw m.1 (m.0, refl, h)
   heard_first Quiet (Begin r) Isdu false Start od (Answered q a l) carried m n h =
       rw m.1 (m.0, refl, h)
@@ -103,7 +103,9 @@ module _ (size : ℕ) (laws : SegmentLaws size) (base : List Carried) where
   heard_first (Written r i) Ask Isdu true Start od s carried m n h = asked_whole r i s carried m h
   heard_first (Busy r) Ask Isdu true Start od s carried m n h = asked_busy r s carried h
   heard_first (Had r i t) Next Isdu true (Count c) od s carried m n h =
-      rw m.0 (fetched r i t s carried m.1 h)
+      subst (λ (d : ℕ). Stands size base
+      (Had r (suc i) (t ++ isdu_data size (isdu_read size s (Count d))))
+      (isdu_read size s (Count d)) carried) (sym m.0) (fetched r i t s carried m.1 h)
   heard_first p Leave c read f od s carried m n h = absurd (n refl)
   heard_first p Other Process read f od s carried m n h = h
   heard_first p Other Page read f od s carried m n h = h
@@ -116,14 +118,14 @@ module _ (size : ℕ) (laws : SegmentLaws size) (base : List Carried) where
   -- a message of another channel leaves the state, whether there is ISDU or not
   pub others : (known : Bool) (p : Progress) (c : Channel) (read : Bool) (f : Flow)
       (od : List ℕ) (s : IsduState) → IsMove size Other p c read f od
-      → isdu_after known size s c read f od ≡ s
+      → isdu_after own None known size s c read f od ≡ s
   others known p c read f od s given = grind (arith, common_steps)
 
   -- IDLE and ABORT leave nothing of the request; the record stays as it is, whatever it was at the
   -- beginning of the request
   pub left : (known : Bool) (p : Progress) (c : Channel) (read : Bool) (f : Flow) (od : List ℕ)
       (s : IsduState) → IsMove size Leave p c read f od
-      → isdu_after known size s c read f od ≡ Empty
+      → isdu_after own None known size s c read f od ≡ Empty
   left known p c read f od s given = grind (arith, common_steps)
 
   -- Local steps leave a far end that is awake at the same progress

@@ -15,7 +15,9 @@ use Rattle.iol_event.specs.Memory.{Events, no_events, is_empty, confirmed, relea
 use Rattle.iol_far.specs.declared.mode.Mode.{Mode}
 use Rattle.iol_far.specs.declared.mode.Mode.TheVariants.{Startup, Preoperate, Operate}
 use Rattle.iol_far.specs.declared.carried.Carried.{Carried}
-use Rattle.iol_far.specs.Isdu.{IsduState, Empty, isdu_written, isdu_read, isdu_data}
+use Rattle.iol_far.specs.declared.kind.Kind.{Kind}
+use Rattle.iol_far.specs.declared.kind.HandsOver.{HandsOver}
+use Rattle.iol_far.specs.Isdu.{IsduState, Empty, isdu_read, isdu_data, own, recalled, written_by, counted_by}
 use Rattle.iol_far.specs.Codec.{layout_in, message_in, octets_of, flow_of}
 
 -- a mode command that waits, with its octets
@@ -30,6 +32,10 @@ pub record Far : Type 0 where
   pub mode : Mode
   pub waits : Option WaitingCommand
   pub isdu : IsduState
+  -- what it is of the kinds of device, and the COUNT of the last write on the ISDU channel,
+  -- which some keep
+  pub kind : Kind
+  pub counted : Option ℕ
   pub events : Events
   -- process data: the input, the last output octets heard, whether they are valid
   pub input : Option (List ℕ)
@@ -48,13 +54,15 @@ pub record Far : Type 0 where
 abbrev pub layout_of : Far → Shape
 layout_of far = layout_in far.page far.mode
 
--- a far end of this page and room that was never awake
-abbrev pub opened : List ℕ → Option ℕ → Far
-opened page room = record {
+-- a far end of this kind, page and room that was never awake
+abbrev pub opened_as : Kind → List ℕ → Option ℕ → Far
+opened_as kind page room = record {
   awake = false;
   mode = Startup;
   waits = None;
   isdu = Empty;
+  kind = kind;
+  counted = None;
   events = no_events;
   input = None;
   out = [];
@@ -64,6 +72,10 @@ opened page room = record {
   carried = [];
   room = room;
 }
+
+-- the same of our own kind
+abbrev pub opened : List ℕ → Option ℕ → Far
+opened page room = opened_as own page room
 
 -- Accepted
 
@@ -145,16 +157,27 @@ abbrev pub out_after : Mode → List ℕ → List ℕ → List ℕ
 out_after Operate out heard = heard
 out_after mode out heard = out
 
-abbrev pub isdu_moved : ℕ → IsduState → Bool → Flow → List ℕ → IsduState
-isdu_moved size state true flow octets = isdu_read size state flow
-isdu_moved size state false flow octets = isdu_written state flow octets
+-- a read or a write, at what the device still knows
+-- DEV-20
+abbrev pub isdu_moved : Kind → Option ℕ → ℕ → IsduState → Bool → Flow → List ℕ → IsduState
+isdu_moved kind counted size state true flow octets =
+    isdu_read size (recalled kind.recalls size state) flow
+isdu_moved kind counted size state false flow octets =
+    written_by kind.hands_over counted (recalled kind.recalls size state) flow octets
 
 -- where the device has no ISDU, the state stays empty
 -- DEV-10
-abbrev pub isdu_after : Bool → ℕ → IsduState → Channel → Bool → Flow → List ℕ → IsduState
-isdu_after known size state Isdu read flow octets =
-    if known then isdu_moved size state read flow octets else Empty
-isdu_after known size state channel read flow octets = state
+abbrev pub isdu_after : Kind → Option ℕ → Bool → ℕ → IsduState → Channel → Bool → Flow → List ℕ
+    → IsduState
+isdu_after kind counted known size state Isdu read flow octets =
+    if known then isdu_moved kind counted size state read flow octets else Empty
+isdu_after kind counted known size state channel read flow octets = state
+
+-- DEV-20
+abbrev pub counted_after : HandsOver → Option ℕ → Bool → Channel → Bool → Flow → Option ℕ
+counted_after hands_over counted known Isdu false flow =
+    if known then counted_by hands_over counted flow else counted
+counted_after hands_over counted known channel read flow = counted
 
 -- a write to diagnosis address 0x00
 -- EVT-2
@@ -179,9 +202,11 @@ abbrev pub worked : Far → List ℕ → MasterMsg → Far
 worked far octets message = record far {
   waits = waits_after far.mode far.waits octets
       (known_mode far.page (mode_asked (command_in message)));
-  isdu = isdu_after (sheet.knows_isdu far.page)
+  isdu = isdu_after far.kind far.counted (sheet.knows_isdu far.page)
       (layout_of far).od far.isdu message.mc.channel message.mc.read
       (flow_of message.mc.address) message.od.items;
+  counted = counted_after far.kind.hands_over far.counted (sheet.knows_isdu far.page)
+      message.mc.channel message.mc.read (flow_of message.mc.address);
   events =
       events_after far.events (is_confirm message.mc.channel message.mc.read message.mc.address);
   out = out_after far.mode far.out message.out.items;

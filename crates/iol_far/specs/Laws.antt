@@ -15,7 +15,7 @@ use Rattle.iol_image.specs.Image.{IsImage}
 use Rattle.iol_far.specs.declared.carried.Carried.{Carried}
 use Rattle.iol_far.specs.declared.mode.Mode.{Mode}
 use Rattle.iol_far.specs.declared.mode.Mode.TheVariants.{Startup, Operate}
-use Rattle.iol_far.specs.Isdu.{isdu_data}
+use Rattle.iol_far.specs.Isdu.{isdu_data, own}
 use Rattle.iol_far.specs.Codec.{layout_in, message_in, octets_of, flow_of}
 use Rattle.iol_far.specs.Far.{Far, Heard, layout_of, accepted, hear, reply_to, is_confirm}
 use Rattle.iol_far.specs.Local.{LocalStep, local, locals, woken, input_size}
@@ -26,12 +26,13 @@ abbrev pub is_start_read : Channel → Bool → Flow → Bool
 is_start_read Isdu true Start = true
 is_start_read channel read flow = false
 
--- after a message was heard, and any local steps, hearing its octets again changes nothing: for
--- every message but a START read, which hands a request over first and sends its answer later
+-- after a device of our own kind heard a message, and any local steps, hearing its octets again
+-- changes nothing: for every message but a START read, which hands a request over first and sends
+-- its answer later
 abbrev pub OnceIsEnough : Type 0
 OnceIsEnough =
     (far there : Far) (octets : List ℕ) (message : MasterMsg) (steps : List LocalStep)
-    → accepted far octets ≡ Some (there, message)
+    → far.kind ≡ own → accepted far octets ≡ Some (there, message)
     → is_start_read message.mc.channel message.mc.read (flow_of message.mc.address) ≡ false
     → (hear (locals (hear far octets).far steps) octets).far ≡ locals (hear far octets).far steps
 
@@ -82,8 +83,10 @@ pub record OutputStaysInOperate : Type 0 where
       → IsValidInOperate (local far step)
   pub wakes : (far : Far) → IsValidInOperate (woken far)
 
--- Hearing carries nothing out, and nothing changes the page or the record's room
+-- Hearing carries nothing out, and nothing changes the kind, the page or the record's room
 pub record MuchStays : Type 0 where
+  pub kind_heard : (far : Far) (octets : List ℕ) → (hear far octets).far.kind ≡ far.kind
+  pub kind_kept : (far : Far) (steps : List LocalStep) → (locals far steps).kind ≡ far.kind
   pub page_heard : (far : Far) (octets : List ℕ) → (hear far octets).far.page ≡ far.page
   pub page_kept : (far : Far) (step : LocalStep) → (local far step).page ≡ far.page
   pub room_heard : (far : Far) (octets : List ℕ) → (hear far octets).far.room ≡ far.room
@@ -136,7 +139,7 @@ pub record LevelLaws (size : ℕ) : Type 0 where
       → (most : ℕ) (far : Far) → IsLevel page size base link progress octets most far
       → IsGrown base progress far.carried
   -- after a wake
-  pub wakes : (far : Far)
+  pub wakes : (far : Far) → far.kind ≡ own
       → IsBefore far.page size far.carried (record { mode = Startup; waits = None }) Quiet
       (woken far)
   -- while no request is under way the size of segments doesn't matter, as where

@@ -14,7 +14,7 @@ use Rattle.iol_segment.specs.TextLaws.{joined, IsLast}
 use Rattle.iol_segment.specs.JoinLaws.{count_at}
 use Rattle.iol_far.specs.declared.carried.Carried.{Carried}
 use Rattle.iol_far.specs.declared.mode.Mode.{Mode}
-use Rattle.iol_far.specs.Isdu.{IsduState, Empty, Handed, Answered, received, answer_text, fits}
+use Rattle.iol_far.specs.Isdu.{IsduState, Empty, Handed, Answered, received, answer_text, fits, own}
 use Rattle.iol_far.specs.Codec.{layout_in, message_in, flow_of}
 use Rattle.iol_far.specs.Far.{Far, WaitingCommand, hear, waits_after, mode_asked, known_mode, command_in}
 use Rattle.iol_far.specs.Local.{LocalStep, local}
@@ -168,10 +168,11 @@ abbrev pub HasIsduFor : List ℕ → Progress → Type 0
 HasIsduFor page Quiet = Unit {0}
 HasIsduFor page progress = IsTrue (knows_isdu page)
 
--- The far end is as the master's fields say, with no message out
+-- The far end is of our own kind, and as the master's fields say, with no message out
 pub record IsBefore (page : List ℕ) (size : ℕ) (base : List Carried) (link : Link)
     (progress : Progress) (far : Far) : Type 0 where
   pub awake : far.awake ≡ true
+  pub own : far.kind ≡ own
   pub page_is : far.page ≡ page
   pub link_is : link_of far ≡ link
   pub isdu : HasIsduFor page progress

@@ -19,6 +19,7 @@ use Rattle.iol_judge.proofs.Covering.{handed_answers}
 -- the parts that a state and the page's octets speak of are the same, and what is known of its
 -- events holds
 pub record Alike (far new : Far) : Type 0 where
+  pub kind : new.kind ≡ far.kind
   pub link : link_of new ≡ link_of far
   pub cycle : new.cycle_time ≡ far.cycle_time
   pub page : new.page ≡ far.page
@@ -30,7 +31,14 @@ pub record Alike (far new : Far) : Type 0 where
 
 itself : (far : Far) → Alike far far
 itself far =
-    record { link = refl; cycle = refl; page = refl; events = λ known s. s; isdu = λ known h. h }
+    record {
+      kind = refl;
+      link = refl;
+      cycle = refl;
+      page = refl;
+      events = λ known s. s;
+      isdu = λ known h. h;
+    }
 
 alike_if : (b : Bool) (far x y : Far) → Alike far x → Alike far y → Alike far (if b then x else y)
 alike_if true far x y l r = l
@@ -47,6 +55,7 @@ carried_alike (Handed request) far answer is =
           carried = grown_by far.carried request answer;
         } else far)
     split true true e = record {
+      kind = refl;
       link = refl;
       cycle = refl;
       page = refl;
@@ -65,6 +74,7 @@ carried_alike (Answered request a last) far answer is = itself far
 local_alike : (far : Far) (step : LocalStep) → Alike far (local far step)
 local_alike far (Carry answer) = carried_alike far.isdu far answer refl
 local_alike far (Raise event) = record {
+  kind = refl;
   link = refl;
   cycle = refl;
   page = refl;
@@ -73,11 +83,26 @@ local_alike far (Raise event) = record {
 }
 local_alike far (Input image) =
     alike_if (is_input far image) far (record far { input = Some image }) far
-    (record { link = refl; cycle = refl; page = refl; events = λ known s. s; isdu = λ known h. h })
+    (record {
+      kind = refl;
+      link = refl;
+      cycle = refl;
+      page = refl;
+      events = λ known s. s;
+      isdu = λ known h. h;
+    })
     (itself far)
 local_alike far NoInput =
-    record { link = refl; cycle = refl; page = refl; events = λ known s. s; isdu = λ known h. h }
+    record {
+      kind = refl;
+      link = refl;
+      cycle = refl;
+      page = refl;
+      events = λ known s. s;
+      isdu = λ known h. h;
+    }
 local_alike far Power = record {
+  kind = refl;
   link = refl;
   cycle = refl;
   page = refl;
@@ -88,6 +113,7 @@ local_alike far Power = record {
 then_alike : (a b c : Far) → Alike a b → Alike b c → Alike a c
 then_alike a b c l r =
     record {
+      kind = r.kind ∙ l.kind;
       link = r.link ∙ l.link;
       cycle = r.cycle ∙ l.cycle;
       page = r.page ∙ l.page;
@@ -109,6 +135,7 @@ cycle_kept (Some octet) a b e h = e ∙ h
 pub admits_alike : (state : State) (far new : Far) → Alike far new → Admits state far
     → Admits state new
 admits_alike state far new same h = record {
+  own = same.kind ∙ h.own;
   link = same.link ∙ h.link;
   cycle = cycle_kept state.cycle far.cycle_time new.cycle_time same.cycle h.cycle;
   events = same.events state.events h.events;
@@ -138,6 +165,7 @@ woken_admits state far h = split far.awake refl
         let s : AreShown state.events far.events =
         subst (λ (b : Bool). AreShown (if b then state.events else Fresh) far.events) e h.events in
         inl (record {
+          own = h.own;
           link = refl;
           cycle = h.cycle;
           events = released_shown state.events far.events s;
@@ -147,6 +175,7 @@ woken_admits state far h = split far.awake refl
         let s : AreShown Fresh far.events =
         subst (λ (b : Bool). AreShown (if b then state.events else Fresh) far.events) e h.events in
         inr (inl (record {
+          own = h.own;
           link = refl;
           cycle = h.cycle;
           events = released_shown Fresh far.events s;

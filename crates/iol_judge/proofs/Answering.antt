@@ -193,7 +193,8 @@ no_fault seen state there octets message law awake memory agrees admits =
     (data_fits seen state far (layout_of there).od message.mc.read message.mc.channel
     message.mc.address law agrees memory.frozen shown
     (under_way_awake state (worked there octets message) awake admits)
-    (worked_sent (knows_isdu there.page) (layout_of there).od there.isdu message.mc.channel
+    (worked_sent there.kind there.counted (knows_isdu there.page) (layout_of there).od
+    there.isdu message.mc.channel
     message.mc.read (flow_of message.mc.address) message.od.items))
 
 -- nor is anything odd
@@ -312,6 +313,7 @@ learned_admits state far message law awake memory sent h =
     let isdu = isdu_said (layout_of far).od law state.transfer far message.mc.read
     message.mc.channel message.mc.address (under_way_awake state far awake h) sent in
     record {
+      own = h.own;
       link = h.link;
       cycle = cycle_said state.cycle far (layout_of far).od message.mc.read message.mc.channel
           message.mc.address h.cycle;

@@ -243,7 +243,8 @@ module _ (law : Laws) (reads : RepliesAreRead) (judged : Judged)
 
   its_sent : IsSentBy work.message.mc.read work.message.mc.channel
       (worked work.there sent work.message).isdu
-  its_sent = worked_sent (knows_isdu work.there.page) (layout_of work.there).od work.there.isdu
+  its_sent = worked_sent work.there.kind work.there.counted (knows_isdu work.there.page)
+      (layout_of work.there).od work.there.isdu
       work.message.mc.channel work.message.mc.read (flow_of work.message.mc.address)
       work.message.od.items
 
@@ -587,6 +588,7 @@ wake_fair judged far wake new h fair = split judged.verdict refl
       state = elim follows [
         | inl is ↦ inl (subst (λ (g : Far). Admits first_state g) (sym is)
             (record {
+              own = same.kind ∙ h.own;
               link = refl;
               cycle = tt;
               events = released_free (locals far h.steps).events.frozen

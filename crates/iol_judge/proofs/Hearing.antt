@@ -10,7 +10,7 @@ use Rattle.iol_page.specs.declared.page.Layouts.{Layouts}
 use Rattle.iol_event.specs.Memory.{Events}
 use Rattle.iol_far.specs.declared.mode.Mode.{Mode}
 use Rattle.iol_far.specs.Codec.{flow_of, layout_in, message_in}
-use Rattle.iol_far.specs.Isdu.{Empty}
+use Rattle.iol_far.specs.Isdu.{Empty, own}
 use Rattle.iol_far.specs.Far.{Far, WaitingCommand, layout_of, accepted, accepted_by, accepted_now, moved, worked, command_in, mode_asked, known_mode, waits_after, cycle_time_after, events_after, is_confirm}
 use Rattle.iol_far.specs.Level.{Link, link_of, taken, taken_by}
 use Rattle.iol_judge.specs.declared.open.Open.{Open}
@@ -33,6 +33,7 @@ use Rattle.iol_judge.proofs.Transferring.{AllTexts, AreTexts, transfer_worked}
 pub record Accepting (far there : Far) (octets : List ℕ) : Type 0 where
   pub link : link_of there ≡ taken (link_of far) octets
   pub page : there.page ≡ far.page
+  pub kind : there.kind ≡ far.kind
   pub cycle : there.cycle_time ≡ far.cycle_time
   pub events : there.events ≡ far.events
   pub isdu : (transfer : Transfer) → IsUnderWay (layout_of far).od transfer far.isdu
@@ -45,6 +46,7 @@ record AcceptingBy (waits : Option WaitingCommand) (far there : Far) (octets : L
   where
     pub link : link_of there ≡ taken_by waits (link_of far) octets
     pub page : there.page ≡ far.page
+    pub kind : there.kind ≡ far.kind
     pub cycle : there.cycle_time ≡ far.cycle_time
     pub events : there.events ≡ far.events
     pub isdu : (transfer : Transfer) → IsUnderWay (layout_of far).od transfer far.isdu
@@ -59,6 +61,7 @@ accepting_by None far octets = (
   record {
     link = refl;
     page = refl;
+    kind = refl;
     cycle = refl;
     events = refl;
     isdu = λ transfer h. h;
@@ -76,6 +79,7 @@ accepting_by (Some command) far octets = split (bytes_eq octets command.octets) 
         link = ap (λ (b : Bool). if b then link_of far else record
             { mode = command.into; waits = None }) (sym e);
         page = refl;
+        kind = refl;
         cycle = refl;
         events = refl;
         isdu = λ transfer h. subst (λ (b : Bool). IsUnderWay (layout_of far).od
@@ -91,6 +95,7 @@ accepting_by (Some command) far octets = split (bytes_eq octets command.octets) 
         link = ap (λ (b : Bool). if b then link_of far else record
             { mode = command.into; waits = None }) (sym e);
         page = refl;
+        kind = refl;
         cycle = refl;
         events = refl;
         isdu = λ transfer h. subst (λ (b : Bool). IsUnderWay (layout_in far.page command.into).od
@@ -109,6 +114,7 @@ accepting far octets awake =
       record {
         link = found.1.link;
         page = found.1.page;
+        kind = found.1.kind;
         cycle = found.1.cycle;
         events = found.1.events;
         isdu = found.1.isdu;
@@ -161,7 +167,7 @@ module _ (known : Result Layouts Open) (page : List ℕ) (knows : Knows known pa
     (awake : there.awake ≡ true) (shown : AreShown state.events there.events)
     (under_way : IsUnderWay (layout_of there).od
     (transfer_in state.link.waits octets state.transfer) there.isdu)
-    (texts : AreTexts (layout_of there).od) where
+    (texts : AreTexts (layout_of there).od) (mine : there.kind ≡ own) where
   shown_worked : (confirm : Bool)
       → AreShown (if there.awake then shown_after state.events confirm else Fresh)
       (events_after there.events confirm)
@@ -181,11 +187,12 @@ module _ (known : Result Layouts Open) (page : List ℕ) (knows : Knows known pa
       (subst (λ (s : Shape). IsUnderWay (layout_of there).od
       (state_after known link state octets s message None).transfer
       (worked there octets message).isdu) (sym l)
-      (transfer_worked (isdu_known known) (knows_isdu there.page) (layout_of there).od texts
+      (rw mine (transfer_worked there.counted (isdu_known known) (knows_isdu there.page)
+      (layout_of there).od texts
       (subst (λ (p : List ℕ). IfSome (isdu_known known) (λ b. knows_isdu p ≡ b)) (sym there_page)
       knows.isdu)
       (transfer_in state.link.waits octets state.transfer) there.isdu message.mc.channel
-      message.mc.read (flow_of message.mc.address) message.od.items under_way))
+      message.mc.read (flow_of message.mc.address) message.od.items under_way)))
 
   fits_asked : (layout : Shape) (message : MasterMsg) (asked : Result (Option Mode) Open)
       → mode_known known (mode_asked (command_in message)) ≡ asked → layout ≡ layout_of there
@@ -211,6 +218,7 @@ module _ (known : Result Layouts Open) (page : List ℕ) (knows : Knows known pa
         refl,
         l,
         record {
+          own = mine;
           link = worked_link there link octets asked message at finds;
           cycle = cycle_admits there.cycle_time state.cycle message.mc.channel message.mc.read
               message.mc.address
@@ -268,5 +276,5 @@ state_fits known far there octets state found texts knows accepting admits h =
     (subst (λ (l : Link). IsUnderWay (layout_of there).od
     (transfer_in l.waits octets state.transfer) there.isdu) admits.link
     (accepting.isdu state.transfer before))
-    (texts there)
+    (texts there) (accepting.kind ∙ admits.own)
     (mode_layout known (taken state.link octets).mode) refl found h

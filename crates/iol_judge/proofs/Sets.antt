@@ -73,6 +73,7 @@ covers_admits a b far h s =
     let link : a.link ≡ b.link =
     same_links a.link.mode b.link.mode a.link.waits b.link.waits mode waits in
     record {
+      own = s.own;
       link = s.link ∙ sym link;
       cycle = known_in_keeps a.cycle b.cycle (λ octet. far.cycle_time ≡ octet) inner.1 s.cycle;
       events = events far.awake s.events all.1;

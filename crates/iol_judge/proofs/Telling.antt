@@ -15,7 +15,8 @@ use Rattle.iol_isdu.specs.declared.values.Answer.{Answer}
 use Rattle.iol_isdu.specs.Answers.{is_read, answer_fault}
 use Rattle.iol_segment.specs.Cut.{segment}
 use Rattle.iol_segment.specs.TextLaws.{joined, HoldsLength}
-use Rattle.iol_far.specs.Isdu.{IsduState, Empty, Receiving, Whole, Handed, Answered, answer_text, fits, has_segment, isdu_read, isdu_data}
+use Rattle.iol_far.specs.declared.kind.Kind.{Kind}
+use Rattle.iol_far.specs.Isdu.{IsduState, Empty, Receiving, Whole, Handed, Answered, answer_text, fits, has_segment, isdu_read, isdu_data, recalled}
 use Rattle.iol_far.specs.Far.{isdu_after}
 use Rattle.std.specs.Option.{option_or}
 use Rattle.iol_isdu.specs.declared.fault.IsduFault.{IsduFault}
@@ -67,27 +68,28 @@ read_sent size (Answered request answer (Some i)) (Count count) =
     (Answered request answer (Some (i + 1))) Empty tt tt)
 read_sent size state flow = tt
 
-pub worked_sent : (knows : Bool) (size : ℕ) (state : IsduState) (channel : Channel) (read : Bool)
-    (flow : Flow) (octets : List ℕ)
-    → IsSentBy read channel (isdu_after knows size state channel read flow octets)
-worked_sent knows size state Process read flow octets = quiet read
+pub worked_sent : (kind : Kind) (counted : Option ℕ) (knows : Bool) (size : ℕ) (state : IsduState)
+    (channel : Channel) (read : Bool) (flow : Flow) (octets : List ℕ)
+    → IsSentBy read channel (isdu_after kind counted knows size state channel read flow octets)
+worked_sent kind counted knows size state Process read flow octets = quiet read
   where
     quiet : (read : Bool) → IsSentBy read Process state
     quiet true = tt
     quiet false = tt
-worked_sent knows size state Page read flow octets = quiet read
+worked_sent kind counted knows size state Page read flow octets = quiet read
   where
     quiet : (read : Bool) → IsSentBy read Page state
     quiet true = tt
     quiet false = tt
-worked_sent knows size state Diagnosis read flow octets = quiet read
+worked_sent kind counted knows size state Diagnosis read flow octets = quiet read
   where
     quiet : (read : Bool) → IsSentBy read Diagnosis state
     quiet true = tt
     quiet false = tt
-worked_sent knows size state Isdu false flow octets = tt
-worked_sent false size state Isdu true flow octets = tt
-worked_sent true size state Isdu true flow octets = read_sent size state flow
+worked_sent kind counted knows size state Isdu false flow octets = tt
+worked_sent kind counted false size state Isdu true flow octets = tt
+worked_sent kind counted true size state Isdu true flow octets =
+    read_sent size (recalled kind.recalls size state) flow
 
 -- What it brings
 

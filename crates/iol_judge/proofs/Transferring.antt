@@ -15,7 +15,7 @@ use Rattle.iol_isdu.specs.Parse.{request_of}
 use Rattle.iol_segment.specs.Cut.{SegmentsHaveSize}
 use Rattle.iol_segment.specs.Join.{Stage, Open, Complete, Wrong, stage, next_count, is_last}
 use Rattle.iol_segment.specs.TextLaws.{TextLaws, HoldsLength}
-use Rattle.iol_far.specs.Isdu.{IsduState, Empty, Receiving, Whole, Handed, Answered, answer_text, fits, has_segment, isdu_written, isdu_read}
+use Rattle.iol_far.specs.Isdu.{IsduState, Empty, Receiving, Whole, Handed, Answered, answer_text, fits, has_segment, isdu_written, isdu_read, own}
 use Rattle.iol_far.specs.Isdu as far
 use Rattle.iol_far.specs.Far.{Far, isdu_after, layout_of}
 use Rattle.iol_far.specs.Laws.{ModesHaveLayouts}
@@ -475,86 +475,92 @@ count_read_under_way size law known.Free state count h = tt
 
 -- A message
 
-on_worked : (size : ℕ) → AreTexts size → (transfer : Transfer) (state : IsduState) (read : Bool)
+on_worked : (counted : Option ℕ) (size : ℕ) → AreTexts size
+    → (transfer : Transfer) (state : IsduState) (read : Bool)
     (flow : Flow) (octets : List ℕ) → IsUnderWay size transfer state
     → IsUnderWay size (transfer_on size transfer read flow octets)
-    (isdu_after true size state Isdu read flow octets)
-on_worked size law transfer state false Start octets h =
+    (isdu_after own counted true size state Isdu read flow octets)
+on_worked counted size law transfer state false Start octets h =
     received_under_way size (stage octets) octets None
-on_worked size law transfer state false (Count count) octets h =
+on_worked counted size law transfer state false (Count count) octets h =
     count_under_way size transfer state count octets h
-on_worked size law transfer state true Start octets h = start_under_way size transfer state h
-on_worked size law transfer state true (Count count) octets h =
+on_worked counted size law transfer state true Start octets h =
+    start_under_way size transfer state h
+on_worked counted size law transfer state true (Count count) octets h =
     count_read_under_way size law transfer state count h
-on_worked size law transfer state false flow octets h = refl
-on_worked size law transfer state true flow octets h = refl
+on_worked counted size law transfer state false flow octets h = refl
+on_worked counted size law transfer state true flow octets h = refl
 
 -- of nothing comes nothing, but by a START write
-still_empty : (knows : Bool) (size : ℕ) (read : Bool) (flow : Flow) (octets : List ℕ)
+still_empty : (counted : Option ℕ) (knows : Bool) (size : ℕ) (read : Bool) (flow : Flow)
+    (octets : List ℕ)
     → (read ≡ false → flow ≡ Start → ⊥)
-    → isdu_after knows size Empty Isdu read flow octets ≡ Empty
-still_empty false size read flow octets never = refl
-still_empty true size false Start octets never = absurd (never refl refl)
-still_empty true size true Start octets never = refl
-still_empty true size false (Count count) octets never = refl
-still_empty true size true (Count count) octets never = refl
-still_empty true size false flow octets never = refl
-still_empty true size true flow octets never = refl
+    → isdu_after own counted knows size Empty Isdu read flow octets ≡ Empty
+still_empty counted false size read flow octets never = refl
+still_empty counted true size false Start octets never = absurd (never refl refl)
+still_empty counted true size true Start octets never = refl
+still_empty counted true size false (Count count) octets never = refl
+still_empty counted true size true (Count count) octets never = refl
+still_empty counted true size false flow octets never = refl
+still_empty counted true size true flow octets never = refl
 
-perhaps : (knows : Bool) (size : ℕ) (transfer : Transfer) (state : IsduState) (read : Bool)
+perhaps : (counted : Option ℕ) (knows : Bool) (size : ℕ) (transfer : Transfer)
+    (state : IsduState) (read : Bool)
     (flow : Flow) (octets : List ℕ) → (read ≡ false → flow ≡ Start → ⊥)
     → IsUnderWay size transfer state
     → IsUnderWay size (if is_quiet transfer then known.Quiet else known.Free)
-    (isdu_after knows size state Isdu read flow octets)
-perhaps knows size known.Quiet state read flow octets never h =
-    ap (λ (s : IsduState). isdu_after knows size s Isdu read flow octets) h
-    ∙ still_empty knows size read flow octets never
-perhaps knows size (known.Receiving text last) state read flow octets never h = tt
-perhaps knows size (known.Whole request last) state read flow octets never h = tt
-perhaps knows size (known.Handed request) state read flow octets never h = tt
-perhaps knows size (known.Asked request) state read flow octets never h = tt
-perhaps knows size (known.Answered had) state read flow octets never h = tt
-perhaps knows size known.Free state read flow octets never h = tt
+    (isdu_after own counted knows size state Isdu read flow octets)
+perhaps counted knows size known.Quiet state read flow octets never h =
+    ap (λ (s : IsduState). isdu_after own counted knows size s Isdu read flow octets) h
+    ∙ still_empty counted knows size read flow octets never
+perhaps counted knows size (known.Receiving text last) state read flow octets never h = tt
+perhaps counted knows size (known.Whole request last) state read flow octets never h = tt
+perhaps counted knows size (known.Handed request) state read flow octets never h = tt
+perhaps counted knows size (known.Asked request) state read flow octets never h = tt
+perhaps counted knows size (known.Answered had) state read flow octets never h = tt
+perhaps counted knows size known.Free state read flow octets never h = tt
 
-unknown_worked : (knows : Bool) (size : ℕ) (transfer : Transfer) (state : IsduState) (read : Bool)
+unknown_worked : (counted : Option ℕ) (knows : Bool) (size : ℕ) (transfer : Transfer)
+    (state : IsduState) (read : Bool)
     (flow : Flow) (octets : List ℕ) → IsUnderWay size transfer state
     → IsUnderWay size (transfer_unknown transfer read flow)
-    (isdu_after knows size state Isdu read flow octets)
-unknown_worked knows size transfer state false Start octets h = tt
-unknown_worked knows size transfer state true Start octets h =
-    perhaps knows size transfer state true Start octets
+    (isdu_after own counted knows size state Isdu read flow octets)
+unknown_worked counted knows size transfer state false Start octets h = tt
+unknown_worked counted knows size transfer state true Start octets h =
+    perhaps counted knows size transfer state true Start octets
     (λ e f. let no : true ≡ false = e in cc) h
-unknown_worked knows size transfer state false (Count count) octets h =
-    perhaps knows size transfer state false (Count count) octets
+unknown_worked counted knows size transfer state false (Count count) octets h =
+    perhaps counted knows size transfer state false (Count count) octets
     (λ e f. let no : Count count ≡ Start = f in cc) h
-unknown_worked knows size transfer state true (Count count) octets h =
-    perhaps knows size transfer state true (Count count) octets
+unknown_worked counted knows size transfer state true (Count count) octets h =
+    perhaps counted knows size transfer state true (Count count) octets
     (λ e f. let no : true ≡ false = e in cc) h
-unknown_worked false size transfer state read flow octets h = refl
-unknown_worked true size transfer state false flow octets h = refl
-unknown_worked true size transfer state true flow octets h = refl
+unknown_worked counted false size transfer state read flow octets h = refl
+unknown_worked counted true size transfer state false flow octets h = refl
+unknown_worked counted true size transfer state true flow octets h = refl
 
-known_worked : (isdu : Option Bool) (knows : Bool) (size : ℕ) → AreTexts size
+known_worked : (counted : Option ℕ) (isdu : Option Bool) (knows : Bool) (size : ℕ) → AreTexts size
     → IfSome isdu (λ b. knows ≡ b) → (transfer : Transfer) (state : IsduState) (read : Bool)
     (flow : Flow) (octets : List ℕ) → IsUnderWay size transfer state
     → IsUnderWay size (transfer_by isdu size transfer read flow octets)
-    (isdu_after knows size state Isdu read flow octets)
-known_worked (Some true) knows size law is transfer state read flow octets h =
+    (isdu_after own counted knows size state Isdu read flow octets)
+known_worked counted (Some true) knows size law is transfer state read flow octets h =
     subst (λ (b : Bool). IsUnderWay size (transfer_on size transfer read flow octets)
-    (isdu_after b size state Isdu read flow octets)) (sym is)
-    (on_worked size law transfer state read flow octets h)
-known_worked (Some false) knows size law is transfer state read flow octets h =
-    ap (λ (b : Bool). isdu_after b size state Isdu read flow octets) is
-known_worked None knows size law is transfer state read flow octets h =
-    unknown_worked knows size transfer state read flow octets h
+    (isdu_after own counted b size state Isdu read flow octets)) (sym is)
+    (on_worked counted size law transfer state read flow octets h)
+known_worked counted (Some false) knows size law is transfer state read flow octets h =
+    ap (λ (b : Bool). isdu_after own counted b size state Isdu read flow octets) is
+known_worked counted None knows size law is transfer state read flow octets h =
+    unknown_worked counted knows size transfer state read flow octets h
 
-pub transfer_worked : (isdu : Option Bool) (knows : Bool) (size : ℕ) → AreTexts size
+pub transfer_worked : (counted : Option ℕ) (isdu : Option Bool) (knows : Bool) (size : ℕ)
+    → AreTexts size
     → IfSome isdu (λ b. knows ≡ b) → (transfer : Transfer) (state : IsduState) (channel : Channel)
     (read : Bool) (flow : Flow) (octets : List ℕ) → IsUnderWay size transfer state
     → IsUnderWay size (transfer_after isdu size transfer channel read flow octets)
-    (isdu_after knows size state channel read flow octets)
-transfer_worked isdu knows size law is transfer state Process read flow octets h = h
-transfer_worked isdu knows size law is transfer state Page read flow octets h = h
-transfer_worked isdu knows size law is transfer state Diagnosis read flow octets h = h
-transfer_worked isdu knows size law is transfer state Isdu read flow octets h =
-    known_worked isdu knows size law is transfer state read flow octets h
+    (isdu_after own counted knows size state channel read flow octets)
+transfer_worked counted isdu knows size law is transfer state Process read flow octets h = h
+transfer_worked counted isdu knows size law is transfer state Page read flow octets h = h
+transfer_worked counted isdu knows size law is transfer state Diagnosis read flow octets h = h
+transfer_worked counted isdu knows size law is transfer state Isdu read flow octets h =
+    known_worked counted isdu knows size law is transfer state read flow octets h

@@ -3,6 +3,7 @@ use Rattle.std.specs.Prelude.{◌≡◌, ◌≢◌, ◌⊎◌, ◌≤◌, ℕ, s
 use Rattle.iol_event.specs.declared.event.Event.{Event}
 use Rattle.iol_event.specs.Memory.{Events, event_octet}
 use Rattle.iol_far.specs.Far.{Far, layout_of}
+use Rattle.iol_far.specs.Isdu.{own}
 use Rattle.iol_far.specs.Level.{link_of}
 use Rattle.iol_link.specs.Honest.{HonestExchange, HonestWake}
 use Rattle.iol_judge.specs.declared.events.Places.{Places}
@@ -48,10 +49,13 @@ AreShown Fresh memory = IsReleased memory × (length memory.frozen ≤ 1)
 AreShown (Filled places) memory =
     IsReleased memory × (1 ≤ length memory.frozen) × AreIn places memory.frozen
 
--- A state stands for each device in its mode, with its mode command waiting, its octet at page
--- address 0x01, its events and its ISDU transfer. One that sleeps had a power cycle, and has at
+-- A state stands for each device of our own kind in its mode, with its mode command waiting, its
+-- octet
+-- at page address 0x01, its events and its ISDU transfer. One that sleeps had a power cycle, and
+-- has at
 -- most one event, and no transfer. All else is free: whether it sleeps, process data, record
 pub record Admits (state : State) (far : Far) : Type 0 where
+  pub own : far.kind ≡ own
   pub link : link_of far ≡ state.link
   pub cycle : IfSome state.cycle (λ octet. far.cycle_time ≡ octet)
   pub events : AreShown (if far.awake then state.events else Fresh) far.events

@@ -14,7 +14,7 @@ ghost use Rattle.iol_mode.specs.Laws.{Laws};
 
 use crate::configuration::Configuration;
 use crate::states::{Startup, State, operate_done, preoperate_done, startup_done, woken};
-use iol_far::{ends_stay_level, links_stay_level, texts_are_heard};
+use iol_far::{ends_stay_level, links_stay_level, page_and_room_stay, texts_are_heard};
 use iol_link::{AttemptView, Handler, Rate, exchanges_keep_ends_level};
 use iol_mseq::{Layout, MasterMsg, Message, write_master};
 use iol_page::pages_ask_for_layouts;
@@ -28,6 +28,7 @@ pub(crate) fn laws()
     ends_stay_level();
     links_stay_level();
     exchanges_keep_ends_level();
+    page_and_room_stay();
 }
 
 impl State {

@@ -82,6 +82,7 @@ pub record SameBut (far ready : Far) : Type 0 where
   pub awake : ready.awake ≡ far.awake
   pub events : ready.events ≡ far.events
   pub page : ready.page ≡ far.page
+  pub kind : ready.kind ≡ far.kind
   pub link_is : link_of ready ≡ link_of far
   pub room : ready.room ≡ far.room
   pub sized : IsSized far → IsSized ready
@@ -92,6 +93,7 @@ same_far far = record {
   awake = refl;
   events = refl;
   page = refl;
+  kind = refl;
   link_is = refl;
   room = refl;
   sized = λ h. h;
@@ -111,6 +113,7 @@ same_carried far answer (Handed request) = by (has_room far && fits request answ
       awake = refl;
       events = refl;
       page = refl;
+      kind = refl;
       link_is = refl;
       room = refl;
       sized = λ h. h;
@@ -197,7 +200,7 @@ module _ {W : Type 0} (facts : WireFacts W) where
             (t.exchange.passes stood.is_honest).regular.sized) in
             let quiet : IsQuiet x.ready.events = subst IsQuiet (sym same.events) stood.quiet in
             let found = heard_well read_back layouts message link x.ready accepted channel
-            (same.awake ∙ stood.awake) (ap knows_isdu same.page ∙ stood.isdu)
+            (same.awake ∙ stood.awake) (same.kind ∙ stood.own) (ap knows_isdu same.page ∙ stood.isdu)
             (same.link_is ∙ stood.at) quiet sized in
             let reply : Reply = found.0 in
             let well : HeardWell layouts message x.ready (far (wire_of new.link))
@@ -222,6 +225,7 @@ module _ {W : Type 0} (facts : WireFacts W) where
                 told = ap (λ (z : SessionState). z.isdu) settled.session ∙ stood.told;
                 operating = inr_link;
                 awake = well.awake;
+                own = well.ours;
                 at = well.link_is;
                 isdu = ap knows_isdu (well.page ∙ same.page) ∙ stood.isdu;
                 quiet = well.quiet;

@@ -19,7 +19,7 @@ use Rattle.iol_segment.specs.Join.{empty, taken, is_last, next_count}
 use Rattle.iol_segment.specs.JoinLaws.{count_at, standing, took_at, JoinLaws}
 use Rattle.iol_segment.specs.TextLaws.{TextLaws, HoldsLength, joined}
 use Rattle.iol_far.specs.Codec.{flow_of}
-use Rattle.iol_far.specs.Isdu.{Handed, Answered, received, isdu_written, isdu_read, answer_text, fits, handed, IsduState, isdu_data}
+use Rattle.iol_far.specs.Isdu.{Handed, Answered, received, isdu_written, isdu_read, answer_text, fits, handed, IsduState, isdu_data, own}
 use Rattle.iol_far.specs.SegmentLaws.{AnswersFit, SegmentLaws}
 use Rattle.iol_app.specs.declared.request.Current.{Current}
 use Rattle.iol_app.specs.declared.request.Progress.TheVariants.{Sending, Asking, Receiving}
@@ -287,7 +287,7 @@ module _ {W : Type 0} (facts : WireFacts W) where
 
     -- what the message makes of the device's ISDU state
     abbrev after : Current → IsduState → IsduState
-    after c state = isdu_moved size state (progress_head c.progress).read
+    after c state = isdu_moved own None size state (progress_head c.progress).read
         (flow_of (progress_head c.progress).address) (progress_data c.progress)
 
     module _ (old : StationState W) (wire : W) (c : Current) (said : Said)

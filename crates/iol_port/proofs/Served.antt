@@ -169,6 +169,7 @@ module _ {W : Type 0} (facts : WireFacts W) where
         operating = is.at.stood.operating;
         level = record {
           awake = is.at.stood.awake;
+          own = is.at.stood.own;
           page_is = refl;
           link_is = is.at.stood.at;
           isdu = _;

@@ -12,6 +12,7 @@ use Rattle.iol_event.specs.Memory.{Events}
 use Rattle.iol_page.specs.declared.page.Layouts.{Layouts}
 use Rattle.iol_page.specs.Page.{knows_isdu}
 use Rattle.iol_far.specs.declared.carried.Carried.{Carried}
+use Rattle.iol_far.specs.Isdu.{own}
 use Rattle.iol_far.specs.Octets.{octets_in}
 use Rattle.iol_far.specs.Local.{has_room}
 use Rattle.iol_far.specs.Record.{takes_more}
@@ -95,8 +96,8 @@ IsLevelBetween {W} facts p =
 module _ {W : Type 0} (facts : WireFacts W) where
   open facts use {honest, far, clean}
 
-  -- in OPERATE over a clean wire, with no message out; the device is awake, in that link, has
-  -- ISDU, as the port was told, and has no events
+  -- in OPERATE over a clean wire, with no message out; the device is awake, of our own kind, in that
+  -- link, has ISDU, as the port was told, and has no events
   pub record Stood (layouts : Layouts) (link : Link) (station : StationState W)
       (wire : W) : Type 0 where
     pub link_is : station.link
@@ -107,6 +108,7 @@ module _ {W : Type 0} (facts : WireFacts W) where
     pub told : station.session.isdu ≡ Some true
     pub operating : IsOperating layouts link
     pub awake : (far wire).awake ≡ true
+    pub own : (far wire).kind ≡ own
     pub at : link_of (far wire) ≡ link
     pub isdu : knows_isdu (far wire).page ≡ true
     pub quiet : IsQuiet (far wire).events

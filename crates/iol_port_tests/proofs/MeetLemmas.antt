@@ -3,11 +3,11 @@ use Rattle.std.proofs.Common.{◌≡◌, refl, ◌∙◌, ap, Bool, true, false,
 use Rattle.std.specs.Prelude.{MatchBool}
 use Rattle.iol_isdu.specs.declared.values.Request.{Request}
 use Rattle.iol_isdu.specs.declared.values.Answer.{Answer}
-use Rattle.iol_far.specs.Isdu.{handed, fits}
+use Rattle.iol_far.specs.Isdu.{handed, fits, own}
 use Rattle.iol_far.specs.Far.{Far, hear}
 use Rattle.iol_far.specs.Local.{LocalStep, Carry, local, locals, woken, has_room}
 use Rattle.iol_device.specs.App.{Gives, IsCarriedOut}
-use Rattle.iol_far.specs.Laws.{IsRegular}
+use Rattle.iol_far.specs.Laws.{IsRegular, MuchStays}
 use Rattle.iol_link.specs.Honest.{HonestExchange, HonestWake, OutLost, BackLost, Clean, silence_after}
 
 -- what the application does is a step of the device's own
@@ -26,23 +26,35 @@ own_steps {P} gives (Some request) old before new after h = split (has_room old)
 
 module _ {P : Type 0} (gives : Gives P) (old : Far) (before : P) (worked : Far) (after : P)
     (work : IsCarriedOut gives (handed old.isdu) old before worked after) where
-  pub woken_is_honest : (new : Far) → new ≡ woken worked → HonestWake old true new
-  woken_is_honest new woke =
-      let own = own_steps gives (handed old.isdu) old before worked after work in
-      record { steps = own.0; wakes = true; far_is = woke ∙ ap woken own.1; answered_is = λ e. e }
+  pub worked_kind : MuchStays → worked.kind ≡ old.kind
+  worked_kind much =
+      let made = own_steps gives (handed old.isdu) old before worked after work in
+      ap (λ (f : Far). f.kind) made.1 ∙ much.kind_kept old made.0
+
+  pub woken_is_honest : old.kind ≡ own → (new : Far) → new ≡ woken worked
+      → HonestWake old true new
+  woken_is_honest mine new woke =
+      let made = own_steps gives (handed old.isdu) old before worked after work in
+      record {
+        own = mine;
+        steps = made.0;
+        wakes = true;
+        far_is = woke ∙ ap woken made.1;
+        answered_is = λ e. e;
+      }
 
   pub passed_is_honest : (sent : List ℕ) (answer : Option (List ℕ)) (new : Far) (silence : ℕ)
       → IsRegular old → new ≡ (hear worked sent).far → answer ≡ (hear worked sent).reply
       → HonestExchange old silence sent answer new (silence_after silence answer)
   passed_is_honest sent answer new silence regular heard replied =
-      let own = own_steps gives (handed old.isdu) old before worked after work in
-      let reply_is : answer ≡ (hear (locals old own.0) sent).reply = replied
-      ∙ ap (λ (f : Far). (hear f sent).reply) own.1 in
+      let made = own_steps gives (handed old.isdu) old before worked after work in
+      let reply_is : answer ≡ (hear (locals old made.0) sent).reply = replied
+      ∙ ap (λ (f : Far). (hear f sent).reply) made.1 in
       record {
         regular = regular;
-        steps = own.0;
+        steps = made.0;
         passage = Clean;
-        far_is = heard ∙ ap (λ (f : Far). (hear f sent).far) own.1;
+        far_is = heard ∙ ap (λ (f : Far). (hear f sent).far) made.1;
         answer_is = reply_is;
         silence_is = ap (silence_after silence) reply_is;
       }
@@ -50,12 +62,12 @@ module _ {P : Type 0} (gives : Gives P) (old : Far) (before : P) (worked : Far) 
   pub lost_is_honest : (sent : List ℕ) (silence : ℕ) → IsRegular old
       → HonestExchange old silence sent None worked (silence_after silence None)
   lost_is_honest sent silence regular =
-      let own = own_steps gives (handed old.isdu) old before worked after work in
+      let made = own_steps gives (handed old.isdu) old before worked after work in
       record {
         regular = regular;
-        steps = own.0;
+        steps = made.0;
         passage = OutLost;
-        far_is = own.1;
+        far_is = made.1;
         answer_is = tt;
         silence_is = refl;
       }
@@ -64,12 +76,12 @@ module _ {P : Type 0} (gives : Gives P) (old : Far) (before : P) (worked : Far) 
       → new ≡ (hear worked sent).far → HonestExchange old silence sent None new
       (silence_after silence None)
   reply_lost_is_honest sent new silence regular heard =
-      let own = own_steps gives (handed old.isdu) old before worked after work in
+      let made = own_steps gives (handed old.isdu) old before worked after work in
       record {
         regular = regular;
-        steps = own.0;
+        steps = made.0;
         passage = BackLost;
-        far_is = heard ∙ ap (λ (f : Far). (hear f sent).far) own.1;
+        far_is = heard ∙ ap (λ (f : Far). (hear f sent).far) made.1;
         answer_is = tt;
         silence_is = refl;
       }

@@ -1,4 +1,5 @@
 pub mod Scripts
+pub mod KindLemmas
 pub mod Calls
 pub mod Entries
 pub mod Crosses

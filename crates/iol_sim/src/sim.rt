@@ -9,7 +9,7 @@ use crate::fault::SimFault;
 use crate::params::Params;
 use crate::script::{Fate, Step};
 use iol_device::{App, Device, Kept};
-use iol_far::replies_are_read;
+use iol_far::{page_and_room_stay, replies_are_read};
 use iol_link::{Rate, Wire, damaged_replies_are_unread};
 use iol_mseq::Message;
 use iol_octets::one_flip_is_seen;
@@ -24,7 +24,8 @@ const LONGEST: usize = 66;
 /// A wire with a device at its far end, and a script of what happens to it and to each call.
 /// There may be a second device, which the script plugs in in place of the first.
 ///
-/// With one device it is a lossy line. With two it isn't: another device may come to its far end.
+/// With one device of our own kind it is a lossy line. With two it isn't: another device may come
+/// to its far end. Nor is it one with a device of another kind.
 ///
 /// Each call first uses the steps of the script up to and with the next fate, then
 /// has the application work where that is automatic, as it is at first, and then
@@ -429,11 +430,13 @@ impl<P: App, A: Allocator + Copy> Wire for Sim<P, A> {
     ghost clean_wakes = { wakes_cleanly P.carry_out_gives };
 
     fn wake(&mut self) -> Option<Rate> {
+        page_and_room_stay();
         let fate = self.prepare();
         self.reach(fate)
     }
 
     fn exchange(&mut self, sent: &[u8]) -> Option<Message> {
+        page_and_room_stay();
         replies_are_read();
         damaged_replies_are_unread();
         one_flip_is_seen();

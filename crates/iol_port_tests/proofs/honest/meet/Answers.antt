@@ -7,10 +7,10 @@ pub answered_by-requires-clause-premise : goal.answered_by-requires-clause-premi
 answered_by-requires-clause-premise c =
     let port : HonestPort = c.send.new.self in
     let far_is : port.at.far ≡ c.args.device.now.far =
-    ap (λ (p : HonestPort). p.at.far) c.send.ensures.moves ∙ c.requires in
+    ap (λ (p : HonestPort). p.at.far) c.send.ensures.moves ∙ c.requires.far in
     rw (
       far_is,
       ← ap (λ (out : Outgoing). out.octets.items) c.in-Exchange.ensures.says.1,
       ←
           c.as_slice.ensures.value,
-    ) (c.exchange-came.ensures port.at.silence)
+    ) (c.exchange-came.ensures.honest port.at.silence)

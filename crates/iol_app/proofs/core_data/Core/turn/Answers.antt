@@ -3,7 +3,7 @@ use Rattle.std.proofs.lemmas.Grind.{common_steps}
 use Rattle.std.proofs.Common.{◌≡◌, ◌∙◌, Bool, true, false, List, ℕ, Option, refl, sym, subst, ap, arith}
 use Rattle.std.specs.Prelude.{is_some}
 use Rattle.iol_far.specs.Octets.{octets_in}
-use Rattle.iol_mode.specs.States.{StateFits as ModeFits}
+use Rattle.iol_mode.specs.States.{IsDown, StateFits as ModeFits}
 use Rattle.iol_mode.specs.Exchanges.{text_out, layout_out, tries_in}
 use Rattle.iol_app.specs.declared.asked.Outgoing.{Outgoing}
 use Rattle.iol_app.specs.declared.asked.Asked.{Asked}
@@ -12,14 +12,14 @@ use Rattle.iol_app.specs.Asking.{asked_in, outgoing}
 use Rattle.iol_app.specs.declared.brought.Brought.TheVariants as brought
 use Rattle.iol_app.specs.Brought.{IsReplied, verdict_on}
 use Rattle.iol_app.specs.State.{IsSession}
-use Rattle.iol_app.specs.StationState.{StateFits}
-use Rattle.iol_app.specs.Core.{Core}
+use Rattle.iol_app.specs.StationState.{StateFits, StateFits as Joined}
+use Rattle.iol_app.specs.Core.{Core, after_wake}
 use Rattle.iol_app.specs.Pieces.{IsOut, WakeSteps}
 use Rattle.iol_app.specs.Seen.{station_of}
 use Rattle.iol_app.proofs.Ending.{settled_ends}
 use Rattle.iol_app.proofs.Reporting.{turn_reading}
 use Rattle.iol_app.proofs.Pieces.{receive_steps, wake_steps as core_wake_steps}
-use Rattle.iol_app.proofs.Stepping.{Exchanged, sent_down, sent_current, wake_steps, exchange_steps, exchange_is_turn, exchange_is_exact, sent_tries}
+use Rattle.iol_app.proofs.Stepping.{Exchanged, sent_down, sent_current, wake_steps, exchange_steps, exchange_is_turn, exchange_is_exact, sent_tries, wake_is_exact}
 use Rattle.iol_app.proofs.core_data.Core.turn.Given as given
 use Rattle.iol_app.proofs.core_data.Core.turn.Goals as goal
 
@@ -134,3 +134,24 @@ returns-then-put_next-clause-exact g c =
     (joined g c)
     c.put_next.ensures.sent (is_out g c).0 c.requires.stands (exchanged g c) _ _ _
     (replied g c)
+
+pub returns-else-put_next-clause-exact : goal.returns-else-put_next-clause-exact
+returns-else-put_next-clause-exact g c =
+    let mid : Core = c.put_next.new.self in
+    let out : IsOut false (asked_in c.args.self.now.state c.args.self.now.session c.args.room)
+    mid.state =
+    subst (λ (is : Bool). IsOut is (asked_in c.args.self.now.state c.args.self.now.session
+    c.args.room) mid.state) c.if-put_next.false c.put_next.ensures.out in
+    let same : mid ≡ c.args.self.now =
+    sent_down c.args.self.now mid c.args.room c.put_next.ensures.sent out.0 in
+    wake_is_exact g.W.Wire.facts c.args.wire.now c.wake-rate.new.self c.args.room c.args.said.now
+    c.args.self.now c.take_wake.new.self c.wake-rate.result
+    (asked_in c.args.self.now.state c.args.self.now.session c.args.room)
+    (tries_in c.args.self.now.state) c.of_wake.result
+    (subst (λ (k : Core). IsDown k.state) same out.0)
+    (subst (λ (k : Core). Joined k.state k.session) same c.take_wake.ensures.still)
+    c.requires.idle c.take_wake.ensures.stands
+    (subst (λ (k : Core). c.take_wake.new.self ≡ after_wake (is_some c.wake-rate.result) k.session)
+    same c.take_wake.ensures.core)
+    c.wake-rate.ensures.wakes c.wake-rate.ensures.honesty c.wake-rate.ensures.quiet
+    c.wake-rate.ensures.gives out.1 c.of_wake.ensures

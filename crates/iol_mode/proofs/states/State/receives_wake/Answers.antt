@@ -1,0 +1,7 @@
+-- Both ends after a wake.
+use Rattle.std.specs.Prelude.{is_some}
+use Rattle.iol_mode.proofs.Startups.{wake_stands}
+use Rattle.iol_mode.proofs.states.State.receives_wake.Goals as goal
+
+pub returns-clause-stands : goal.returns-clause-stands
+returns-clause-stands c = wake_stands c.laws.ensures (is_some c.args.rate)
