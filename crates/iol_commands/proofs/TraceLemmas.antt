@@ -28,7 +28,7 @@ use Rattle.iol_script.specs.Script.{ScriptValue, script_in, calls_in}
 use Rattle.iol_script.specs.Text.{numbered_lines}
 use Rattle.iol_commands.proofs.PlayLemmas.{runs_none, runs_more}
 use Rattle.iol_commands.proofs.RunLemmas.{carried_is}
-use Rattle.iol_commands.specs.RunPlayed.{records_text, first_port, lacks_memory}
+use Rattle.iol_commands.specs.RunPlayed.{HasOwnDevice, records_text, first_port, lacks_memory}
 use Rattle.iol_commands.specs.RunPrinted.{answer_text}
 use Rattle.iol_commands.specs.TracePrinted.{layout_at, layout_now, first_tap, tapped_opening, TracesOut, TracesOverWire, PrintsTrace, Stage, stage, tap_at, Passes, TracesCall, Traces, PortTraces, Flows, PrintsNote, PrintsNoteOf}
 
@@ -287,8 +287,8 @@ pub traced_out : (script : ScriptValue) (p q : Parts (Tapped (Simulated (List En
     (a : PortState) (opening : Opening (Tapped (Simulated (List Entry))))
     (tap : Tapped (Simulated (List Entry))) (n m : ℕ) (calls : List Call) (text : List ℕ)
     (last_wire : Simulated (List Entry))
-    → n ≡ 1 → (script.other ≡ None → StandsFor tapped p a)
-    → a ≡ first_port script.limits script.page
+    → n ≡ 1 → (HasOwnDevice script → StandsFor tapped p a)
+    → (HasOwnDevice script → a ≡ first_port script.limits script.page)
     → opening ≡ opening_of tapped script.limits tap → tap ≡ first_tap script → IsOpened opening p
     → PortTraces (sim_facts Stores) n p calls m q text
     → last_wire ≡ (wire_of q.station.link).wire
@@ -312,7 +312,7 @@ traced_out script p q a opening tap n m calls text last_wire from_one stands fir
           let (b, run, there) = traced.runs a (stands one) in
           record {
             after = b;
-            run = subst (λ (s : PortState). Run s calls traced.answers b) first run;
+            run = subst (λ (s : PortState). Run s calls traced.answers b) (first one) run;
             carried = carried_is tapped q b there;
           };
       text_is = ap (λ (w : Simulated (List Entry)). text ++ records_text w) those;

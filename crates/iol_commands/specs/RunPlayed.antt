@@ -4,7 +4,9 @@ use Rattle.std.specs.List.{list_any}
 use Rattle.iol_book.specs.declared.entries.Limits.{Limits}
 use Rattle.iol_book.specs.declared.fault.BookFault.TheVariants.{OutOfMemory}
 use Rattle.iol_device.specs.Device.{Running}
+use Rattle.iol_far.specs.declared.kind.Kind.{Kind}
 use Rattle.iol_far.specs.Far as device
+use Rattle.iol_far.specs.Isdu.{own}
 use Rattle.iol_link.specs.WireFacts.{WireFacts}
 use Rattle.iol_sim.specs.Params.{Stores}
 use Rattle.iol_sim.specs.declared.params.Entry.{Entry}
@@ -30,22 +32,22 @@ abbrev pub lacks_memory : Answered → Bool
 lacks_memory (answered.Refused (fault.Book OutOfMemory)) = true
 lacks_memory other = false
 
--- a new device of this page and these parameters
-abbrev pub new_device : List ℕ → List Entry → Running (List Entry)
-new_device page params = record {
-  far = device.opened page (Some 1000);
+-- a new device of this kind and page, with these parameters
+abbrev pub new_device : Kind → List ℕ → List Entry → Running (List Entry)
+new_device kind page params = record {
+  far = device.opened_as kind page (Some 1000);
   app = params;
   first = params;
   number = 0;
   silent = false;
 }
 
--- the wire of a script at first: a new device of its page and its parameters, a second one
--- where the script has its page, and its steps, none of which was used
+-- the wire of a script at first: a new device of its kind, page and parameters, a second one of
+-- our own kind where the script has its page, and its steps, none of which was used
 abbrev pub first_wire : ScriptValue → Simulated (List Entry)
 first_wire script = record {
-  device = new_device script.page script.params;
-  away = option_map (λ page. new_device page script.params) script.other;
+  device = new_device script.kind script.page script.params;
+  away = option_map (λ page. new_device own page script.params) script.other;
   steps = script.steps;
   auto = true;
   silent = false;
@@ -57,6 +59,11 @@ first_wire script = record {
 abbrev pub records_text : Simulated (List Entry) → List ℕ
 records_text sim = record_text sim.device.far.carried
     ++ away_text (option_map (λ d. d.far.carried) sim.away)
+
+-- a script of one device, which is of our own kind
+pub record HasOwnDevice (script : ScriptValue) : Type 0 where
+  pub one : script.other ≡ None
+  pub kind : script.kind ≡ own
 
 -- Calls are made on a port, one after the other: none of the answers lacks memory,
 -- and the text is what they are.
@@ -91,14 +98,15 @@ pub record RunsAlike (script : ScriptValue) (calls : List Call) (answers : List 
   pub carried : wire.device.far.carried ≡ after.session.carried
 
 -- What is printed for calls: what they answer, and then the records. They are made on a
--- new port over the script's wire; with one device the abstract port makes them alike.
+-- new port over the script's wire; with one device of our own kind the abstract port makes them
+-- alike.
 pub record PlaysOut (script : ScriptValue) (calls : List Call) (text : List ℕ) : Type 0 where
   pub answers : List Answered
   pub first : Parts (Simulated (List Entry))
   pub opens : IsOpened (first_opening script) first
   pub last : Parts (Simulated (List Entry))
   pub made : MadeOverWire first calls answers last
-  pub alike : script.other ≡ None → RunsAlike script calls answers (wire_of last.station.link)
+  pub alike : HasOwnDevice script → RunsAlike script calls answers (wire_of last.station.link)
   pub granted : list_any lacks_memory answers ≡ false
   pub text_is : text ≡ answers_text calls answers ++ records_text (wire_of last.station.link)
 

@@ -4,7 +4,7 @@ ghost use Rattle.std.specs.Io.KnownBytes.{Keeps};
 ghost use Rattle.std.specs.Option.{ForSome};
 ghost use Rattle.std.specs.String.{string_bytes};
 ghost use Rattle.std.specs.Vec.{vec_len};
-ghost use Rattle.iol_far.specs.Far.{opened};
+ghost use Rattle.iol_far.specs.Far.{opened_as};
 ghost use Rattle.iol_page.specs.Page.{layouts_of};
 ghost use Rattle.iol_script.specs.Script.{first_bad_run};
 ghost use Rattle.iol_script.specs.Text.{numbered_lines};
@@ -18,6 +18,7 @@ use crate::run_printing::print_records;
 use crate::streams::{read_input, write_output};
 use iol_cell::Handle;
 use iol_device::{Device, Kept};
+use iol_far::Kind;
 use iol_page::Page;
 use iol_port::Port;
 use iol_script::Script;
@@ -86,13 +87,15 @@ pub(crate) fn wire_of<A: Handle>(alloc: A, script: Script<A>) -> Result<Sim<Para
     requires page { IsOk (layouts_of script.page) }
     requires other { ForSome script.other (λ page. IsOk (layouts_of page)) }
     requires params { vec_len script.params ≤ 32 }
-    ensures far { IfOk result (λ sim. sim.device.far ≡ opened script.page (Some ROOM)) }
+    ensures far { IfOk result (λ sim. sim.device.far
+        ≡ opened_as script.kind script.page (Some ROOM)) }
     ensures app { IfOk result (λ sim. sim.device.app ≡ script.params.items) }
     ensures steps { IfOk result (λ sim. sim.steps ≡ script.steps.items) }
     ensures silence { IfOk result (λ sim. sim.silence ≡ 0) }
     ensures whole { IfOk result (λ sim. sim ≡ first_wire (record {
       page = script.page;
       other = script.other;
+      kind = script.kind;
       params = script.params.items;
       limits = script.limits;
       steps = script.steps.items;
@@ -101,14 +104,15 @@ pub(crate) fn wire_of<A: Handle>(alloc: A, script: Script<A>) -> Result<Sim<Para
     let Script {
         page,
         other,
+        kind,
         params,
         limits: _,
         steps,
     } = script;
-    let device = device_of(alloc, Params::of(params.as_slice()), page)?;
+    let device = device_of(alloc, kind, Params::of(params.as_slice()), page)?;
     match other {
         Some(page) => {
-            let away = device_of(alloc, Params::of(params.as_slice()), page)?;
+            let away = device_of(alloc, Kind::own(), Params::of(params.as_slice()), page)?;
             Sim::with_other(alloc, device, away, steps).map_err(|_| AllocError)
         }
         None => Sim::new(alloc, device, steps).map_err(|_| AllocError),
@@ -118,11 +122,12 @@ pub(crate) fn wire_of<A: Handle>(alloc: A, script: Script<A>) -> Result<Sim<Para
 /// A new device.
 fn device_of<A: Handle>(
     alloc: A,
+    kind: Kind,
     params: Params,
     page: Page,
 ) -> Result<Device<Params, Kept<A>>, AllocError>
     requires { IsOk (layouts_of page) }
-    ensures { IfOk result (λ device. device ≡ new_device page params) }
+    ensures { IfOk result (λ device. device ≡ new_device kind page params) }
 {
-    Device::open(alloc, params, page, ROOM).map_err(|_| AllocError)
+    Device::open_as(alloc, kind, params, page, ROOM).map_err(|_| AllocError)
 }

@@ -73,6 +73,7 @@ fn traced<A: Handle, W: Write>(
         × TracesOut (record {
           page = script.page;
           other = script.other;
+          kind = script.kind;
           params = script.params.items;
           limits = script.limits;
           steps = script.steps.items;

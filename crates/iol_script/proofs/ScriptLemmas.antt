@@ -60,6 +60,9 @@ setting-calls draft next (setting.Page octets) e =
 setting-calls draft next (setting.Other octets) e =
     let more : Draft = record draft { other = Some octets } in
     ap (λ (d : Draft). d.calls) (given (is_none draft.other) more next e)
+setting-calls draft next (setting.Kind kind) e =
+    let more : Draft = record draft { kind = Some kind } in
+    ap (λ (d : Draft). d.calls) (given (is_none draft.kind) more next e)
 setting-calls draft next (setting.Limits busy journal queue) e =
     let limits : Limits = record { journal = journal; busy = busy; queue = queue; given = 0 } in
     let more : Draft = record draft { limits = Some limits } in

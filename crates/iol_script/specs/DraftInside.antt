@@ -12,6 +12,7 @@ module _ {A : Type 0} where
   draft_view fields = record {
     page = fields.page;
     other = fields.other;
+    kind = fields.kind;
     limits = fields.limits;
     params = fields.params.items;
     steps = fields.steps.items;

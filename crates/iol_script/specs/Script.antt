@@ -3,6 +3,8 @@ use Rattle.std.specs.Prelude.{ℕ, ◌+◌, Bool, true, false, Option, Some, Non
 use Rattle.std.specs.Option.{ok_or, option_map_or}
 use Rattle.std.specs.Result.{result_ok, result_err}
 use Rattle.iol_book.specs.declared.entries.Limits.{Limits}
+use Rattle.iol_far.specs.declared.kind.Kind.{Kind}
+use Rattle.iol_far.specs.Isdu.{own}
 use Rattle.iol_isdu.specs.declared.values.Place.{Place}
 use Rattle.iol_sim.specs.Params.{number_of}
 use Rattle.iol_sim.specs.declared.params.Entry.{Entry}
@@ -22,9 +24,10 @@ use Rattle.iol_script.specs.declared.run_line.RunLine.TheVariants as line
 
 -- a script, as far as its lines are read
 pub record Draft : Type 0 where
-  -- the page, that of a second device, and the limits, where a line gave them
+  -- the page, that of a second device, the kind and the limits, where a line gave them
   pub page : Option (List ℕ)
   pub other : Option (List ℕ)
+  pub kind : Option Kind
   pub limits : Option Limits
   pub params : List Entry
   pub steps : List Step
@@ -38,6 +41,7 @@ abbrev pub empty_draft : Draft
 empty_draft = record {
   page = None;
   other = None;
+  kind = None;
   limits = None;
   params = [];
   steps = [];
@@ -64,12 +68,14 @@ line_calls (Turns n) = replicate n Turn
 abbrev pub takes_param : List Entry → Place → Bool
 takes_param params place = nat_lt (length params) 32 && is_none (number_of params place)
 
--- the draft after a setting: the pages and the limits are given at most once
+-- the draft after a setting: the pages, the kind and the limits are given at most once
 abbrev pub with_setting : Draft → Setting → Option Draft
 with_setting draft (setting.Page octets) =
     if is_none draft.page then Some (record draft { page = Some octets }) else None
 with_setting draft (setting.Other octets) =
     if is_none draft.other then Some (record draft { other = Some octets }) else None
+with_setting draft (setting.Kind kind) =
+    if is_none draft.kind then Some (record draft { kind = Some kind }) else None
 with_setting draft (setting.Limits busy journal queue) =
     if is_none draft.limits
     then Some
@@ -118,10 +124,11 @@ first_bad_run lines = result_err (draft_of lines)
 
 -- what a script sets up
 pub record ScriptValue : Type 0 where
-  -- direct parameter page 1 of the device, that of a second one, and the parameters
-  -- that each of them has
+  -- direct parameter page 1 of the device, that of a second one, the kind of the first, and the
+  -- parameters that each of them has
   pub page : List ℕ
   pub other : Option (List ℕ)
+  pub kind : Kind
   pub params : List Entry
   -- what the port is opened with
   pub limits : Limits
@@ -139,6 +146,7 @@ abbrev pub script_of : Draft → ScriptValue
 script_of draft = record {
   page = unwrap_or draft.page default_page;
   other = draft.other;
+  kind = unwrap_or draft.kind own;
   params = draft.params;
   limits = unwrap_or draft.limits default_limits;
   steps = draft.steps;

@@ -6,7 +6,7 @@ ghost use Rattle.iol_book.specs.BookModel.{AreLimits};
 ghost use Rattle.iol_page.specs.Page.{layouts_of};
 ghost use Rattle.iol_script.specs.declared.fault.ScriptFault.TheVariants.{Line};
 ghost use Rattle.iol_script.specs.DraftLines.{after_call, after_page, after_setting, after_turns, after_wire, after_words, with_calls};
-ghost use Rattle.iol_script.specs.RunLines.{call_form, limits_form, other_form, page_form, page_line, param_form, turns_form, wire_form};
+ghost use Rattle.iol_script.specs.RunLines.{call_form, kind_form, limits_form, other_form, page_form, page_line, param_form, turns_form, wire_form};
 ghost use Rattle.iol_script.specs.Text.{words_left};
 ghost use Rattle.iol_sim.specs.Params.{number_of};
 
@@ -16,9 +16,10 @@ use crate::fault::ScriptFault;
 use crate::fields::{end_of, is};
 use crate::parts::Words;
 use crate::script::Script;
-use crate::setting::{limits_of, page_of, param_of};
+use crate::setting::{kind_of, limits_of, page_of, param_of};
 use crate::wire_line::{WireLine, parse_wire};
 use iol_book::{Limits, QueueLimit};
+use iol_far::Kind;
 use iol_isdu::Place;
 use iol_page::Page;
 use iol_sim::{Entry, Fate, Step};
@@ -51,6 +52,7 @@ pub(crate) struct Draft<A: Allocator> {
     page: Option<Page>,
     /// The page of a second device.
     other: Option<Page>,
+    kind: Option<Kind>,
     limits: Option<Limits>,
     params: Vec<Entry, A>,
     steps: Vec<Step, A>,
@@ -84,6 +86,7 @@ impl<A: Allocator> Draft<A> {
         Draft {
             page: None,
             other: None,
+            kind: None,
             limits: None,
             params: Vec::new(alloc),
             steps: Vec::new(alloc),
@@ -117,6 +120,8 @@ impl<A: Allocator> Draft<A> {
             self.take_page_line(words).ok_or(bad)
         } else if is(name, b"other") {
             self.take_other(words).ok_or(bad)
+        } else if is(name, b"kind") {
+            self.take_kind(words).ok_or(bad)
         } else if is(name, b"limits") {
             self.take_limits(words).ok_or(bad)
         } else if is(name, b"param") {
@@ -165,6 +170,19 @@ impl<A: Allocator> Draft<A> {
             return None;
         }
         self.other = Some(page);
+        Some(())
+    }
+
+    /// The words behind `kind`.
+    fn take_kind(&mut self, words: Words) -> Option<()>
+        ensures { option_map (λ _. self.new) result
+            ≡ after_setting self.old (kind_form (words_left words.entry)) }
+    {
+        let kind = kind_of(words)?;
+        if self.begun || self.kind.is_some() {
+            return None;
+        }
+        self.kind = Some(kind);
         Some(())
     }
 
@@ -281,6 +299,7 @@ impl<A: Allocator> Draft<A> {
             ≡ record {
               page = result.page;
               other = result.other;
+              kind = result.kind;
               params = result.params.items;
               limits = result.limits;
               steps =
@@ -297,6 +316,7 @@ impl<A: Allocator> Draft<A> {
         Script {
             page: self.page.unwrap_or(Page::from_octets(&PAGE)),
             other: self.other,
+            kind: self.kind.unwrap_or(Kind::own()),
             params: self.params,
             limits: self.limits.unwrap_or(LIMITS),
             steps: self.steps,

@@ -6,7 +6,7 @@ ghost use Rattle.iol_script.specs.Text.{words_left};
 use crate::call_line::{CallLine, parse_call, turns_of};
 use crate::fields::{end_of, is};
 use crate::parts::Words;
-use crate::setting::{Setting, limits_of, page_of, param_of};
+use crate::setting::{Setting, kind_of, limits_of, page_of, param_of};
 use crate::wire_line::{WireLine, parse_wire};
 use iol_port::Call;
 
@@ -46,6 +46,8 @@ fn parse_words(mut words: Words) -> Option<RunLine>
         parse_page(words)
     } else if is(name, b"other") {
         Some(RunLine::Setting(Setting::Other(page_of(words)?)))
+    } else if is(name, b"kind") {
+        Some(RunLine::Setting(Setting::Kind(kind_of(words)?)))
     } else if is(name, b"limits") {
         let limits = limits_of(words)?;
         Some(RunLine::Setting(Setting::Limits {

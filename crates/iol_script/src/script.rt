@@ -13,6 +13,7 @@ use crate::draft::Draft;
 use crate::fault::ScriptFault;
 use crate::parts::Lines;
 use iol_book::Limits;
+use iol_far::Kind;
 use iol_page::Page;
 use iol_sim::{Entry, Step};
 use std::alloc::{Allocator, Global};
@@ -27,6 +28,8 @@ pub struct Script<A: Allocator = Global> {
     pub page: Page,
     /// That of a second device, where there is one.
     pub other: Option<Page>,
+    /// The kind of the device; the second one is of our own.
+    pub kind: Kind,
     /// The parameters that each device has, at most 32, each at a place of its own.
     pub params: Vec<Entry, A>,
     /// What the port is opened with.
@@ -39,8 +42,8 @@ impl<A: Allocator + Copy> Script<A> {
     /// Reads the lines of a whole input, from first to last.
     ///
     /// The settings stand before the first line of the wire and the first call, the
-    /// pages and the limits at most once. Devices are exchanged only where there is a
-    /// second one. There are at most 1,000,000 steps and
+    /// pages, the kind and the limits at most once. Devices are exchanged only where there
+    /// is a second one. There are at most 1,000,000 steps and
     /// 1,000,000 calls. Answered is the first fault that is met: the first bad
     /// line, or a growth that is refused. A bad line is found without memory.
     pub fn read(alloc: A, input: &[u8]) -> Result<Script<A>, ScriptFault>
@@ -50,6 +53,7 @@ impl<A: Allocator + Copy> Script<A> {
             ≡ Some (record {
               page = s.page;
               other = s.other;
+              kind = s.kind;
               params = s.params.items;
               limits = s.limits;
               steps =

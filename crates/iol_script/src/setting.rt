@@ -2,15 +2,16 @@
 ghost use Rattle.std.specs.Prelude.{◌≡◌, IfSome, IsOk, option_map};
 ghost use Rattle.iol_book.specs.BookModel.{AreLimits};
 ghost use Rattle.iol_page.specs.Page.{layouts_of};
-ghost use Rattle.iol_script.specs.RunLines.{access_of, limits_form, page_octets, param_form, queue_form};
+ghost use Rattle.iol_script.specs.RunLines.{access_of, hands_over_of, kind_form, limits_form, page_octets, param_form, queue_form, recalls_of};
 ghost use Rattle.iol_script.specs.declared.setting.Setting.{Setting};
 ghost use Rattle.iol_script.specs.Text.{words_left};
 
-use crate::fields::{end_of, place_of, value_of};
+use crate::fields::{end_of, is, place_of, value_of};
 use crate::numerals::{decimal_number, parted_octets};
 use crate::parts::Words;
 use arrayvec::ArrayVec;
 use iol_book::{Limits, QueueLimit};
+use iol_far::{HandsOver, Kind, Recalls};
 use iol_isdu::{Octets, Place};
 use iol_page::Page;
 use iol_sim::Entry;
@@ -22,6 +23,8 @@ pub enum Setting {
     Page(Page),
     /// The page of a second device, whose layouts are not refused.
     Other(Page),
+    /// The kind of the device.
+    Kind(Kind),
     /// What the port is opened with.
     Limits {
         /// How many busy replies a request may have before it is cut off: 2 to 65,535.
@@ -52,6 +55,47 @@ pub(crate) fn page_of(words: Words) -> Option<Page>
     match page.layouts() {
         Ok(_) => Some(page),
         Err(_) => None,
+    }
+}
+
+/// The words behind `kind`: when the device hands a request over, and how long it knows its answer.
+///
+/// Rule DEV-20.
+pub(crate) fn kind_of(mut words: Words) -> Option<Kind>
+    ensures { option_map Setting.Kind result ≡ kind_form (words_left words.entry) }
+{
+    let hands_over = hands_over_of(words.next()?)?;
+    let recalls = recalls_of(words.next()?)?;
+    end_of(words)?;
+    Some(Kind {
+        hands_over,
+        recalls,
+    })
+}
+
+/// At the first START read, or with the last segment.
+fn hands_over_of(word: &[u8]) -> Option<HandsOver>
+    ensures { result ≡ hands_over_of word.now }
+{
+    if is(word, b"first") {
+        Some(HandsOver::FirstRead)
+    } else if is(word, b"last") {
+        Some(HandsOver::LastSegment)
+    } else {
+        None
+    }
+}
+
+/// Until it is left, or until its last segment was sent.
+fn recalls_of(word: &[u8]) -> Option<Recalls>
+    ensures { result ≡ recalls_of word.now }
+{
+    if is(word, b"keeps") {
+        Some(Recalls::UntilLeft)
+    } else if is(word, b"forgets") {
+        Some(Recalls::UntilSent)
+    } else {
+        None
     }
 }
 

@@ -35,6 +35,7 @@ pub(crate) const RUN: &str = "\
 Reads standard input to its end, a line at a time. First the device and the port:
   page OCTET ..                           direct parameter page 1 of the device, 0x02 to 0x0B
   other OCTET ..                          that of a second device, not plugged in, with the same parameters
+  kind first|last keeps|forgets           its kind: when it hands a request over, and how long it knows the answer
   limits BUSY JOURNAL [QUEUE]             the busy replies that end a request, the entries of the journal, the tickets
   param INDEX SUB ro H                    a parameter that is read; rw: and written
 Then what happens on the wire, and the calls of the port, in any order:

@@ -1,9 +1,11 @@
-use Rattle.std.proofs.Common.{◌≡◌, None, rules}
+use Rattle.std.proofs.Common.{Some, ◌∙◌, ap, rules}
+use Rattle.iol_far.specs.Far as device
 use Rattle.iol_script.specs.Script.{ScriptValue}
-use Rattle.iol_sim.specs.Sim.{has_one_device}
+use Rattle.iol_sim.specs.Sim.{is_lossy}
 use Rattle.std.specs.String.{string_bytes}
 use Rattle.iol_script.specs.Text.{numbered_lines}
-use Rattle.iol_commands.proofs.RunLemmas.{one_device, opens_well, opened_first, script_printed}
+use Rattle.iol_commands.specs.RunPlayed.{HasOwnDevice}
+use Rattle.iol_commands.proofs.RunLemmas.{has_lossy_line, opens_well, opened_first, script_printed}
 use Rattle.iol_commands.proofs.run_command.played.Goals as goal
 
 pub returns-clause-printed : goal.returns-clause-printed
@@ -11,25 +13,27 @@ returns-clause-printed g c =
     let script = c.in_ok-script.script in
     let wire = c.in_ok-wire.wire in
     let opening = c.in-Ok.ensures.opening in
-    let new = c.in_ok-wire.ensures.far in
     let quiet = c.in_ok-wire.ensures.silence in
     let value : ScriptValue = record {
       page = script.page;
       other = script.other;
+      kind = script.kind;
       params = script.params.items;
       limits = script.limits;
       steps = script.steps.items;
     } in
-    let stands = λ (one : script.other ≡ None). c.in-Ok.ensures.stands
+    let new = λ (has : HasOwnDevice value). c.in_ok-wire.ensures.far
+    ∙ ap (λ k. device.opened_as k script.page (Some 1000)) has.kind in
+    let stands = λ (has : HasOwnDevice value). c.in-Ok.ensures.stands
     (opens_well c.in-Ok.port.opening script.limits wire wire.device.far wire.silence
-    (has_one_device wire) script.page opening
-    (one_device value wire c.in_ok-wire.ensures.whole one) new) in
+    (is_lossy wire) script.page opening
+    (has_lossy_line value wire c.in_ok-wire.ensures.whole has) (new has)) in
     let more = c.in_ok-play_lines.ensures in
     script_printed c.in-Ok.port.parts c.play_lines.new.port.parts _ c.in-Ok.port.opening wire
     c.wire.result.now (numbered_lines c.args.input.now) _ more.0
     (string_bytes c.new-output.result) (string_bytes c.play_lines.new.output)
     (string_bytes c.print_records.new.output)
     c.in_ok-script.ensures.script c.in-Ok.ensures.opening c.in_ok-wire.ensures.whole
-    c.in-Ok.ensures.parts stands (opened_first script.limits wire.device.far wire.silence
-    script.page new quiet) more.2
+    c.in-Ok.ensures.parts stands (λ has. opened_first script.limits wire.device.far wire.silence
+    script.page (new has) quiet) more.2
     (search rules) (search rules) more.1 c.in_ok-print_records.ensures

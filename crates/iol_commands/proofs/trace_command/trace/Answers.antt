@@ -10,6 +10,7 @@ returns-clause-printed g c =
     (record {
       page = script.page;
       other = script.other;
+      kind = script.kind;
       params = script.params.items;
       limits = script.limits;
       steps = script.steps.items;
