@@ -1,4 +1,6 @@
--- The lines of a journal that a book keeps, after one more entry and after edits of its lists.
+-- The lines of a journal that a book keeps, after one more entry and after edits of its lists, and
+-- what they say: the part `lines` of `IsSound`, and the clauses that look a ticket up (`answer` of
+-- `collect_into` and of `withdraw`).
 use Rattle.std.proofs.Common.{◌≡◌, ℕ, Bool, true, false, List, [], ◌∷◌, ◌++◌, length, Option, None, Some, is_some, refl, ap, cond, drop, suc, zero}
 use Rattle.std.specs.Prelude.{slice_get}
 use Rattle.std.specs.Option.{option_map, option_to_list}
@@ -106,6 +108,9 @@ module _ {X : Type 0} (value : Option Entry → X) (es : List Entry) where
       by None = refl
       by (Some i) = refl
 
+-- what the checks of a book's calls need of it
+pub ruleset line_steps = (lookup-values, among-values)
+
 -- the first of two lists
 pub head-passes : (test : Option Entry → Bool) (es : List Entry) (us ws : Lines) (p : Ticket × ℕ)
     → slice_get (us ++ ws) 0 ≡ Some p → AllPass test es us → AllPass test es ws
@@ -113,14 +118,6 @@ pub head-passes : (test : Option Entry → Bool) (es : List Entry) (us ws : Line
 head-passes test es [] [] p head hu hw = absurd (cc)
 head-passes test es [] (w ∷ ws) p head hu hw = let e : w ≡ p = cc in rw (← e) hw.0
 head-passes test es (u ∷ us) ws p head hu hw = let e : u ≡ p = cc in rw (← e) hu.0
-
-pub head-values : {X : Type 0} (value : Option Entry → X) (es : List Entry) (us ws : Lines)
-    → slice_get (values_at value es us ++ values_at value es ws) 0
-    ≡ option_map {U = Ticket × X} (λ line. (line.0, value (slice_get es line.1)))
-    (slice_get (us ++ ws) 0)
-head-values value es [] [] = refl
-head-values value es [] (w ∷ ws) = refl
-head-values value es (u ∷ us) ws = refl
 
 -- the one that is taken
 pub taken-more : (e : Entry) (es : List Entry) (taken : Option (Ticket × ℕ))
@@ -132,3 +129,12 @@ taken-more e es (Some line) h = rw (get-more is_some refl e es line.1 h.0) refl
 pub request-within : (found : Option Entry) → has_request found ≡ true → is_some found ≡ true
 request-within None h = absurd (cc)
 request-within (Some e) h = refl
+
+-- the first that waits, by its line
+pub head-at : {X : Type 0} (value : Option Entry → X) (es : List Entry) (us ws : Lines)
+    (p : Ticket × ℕ) → slice_get (us ++ ws) 0 ≡ Some p
+    → slice_get (values_at value es us ++ values_at value es ws) 0
+    ≡ Some (p.0, value (slice_get es p.1))
+head-at value es [] [] p head = absurd (cc)
+head-at value es [] (w ∷ ws) p head = let e : w ≡ p = cc in rw e refl
+head-at value es (u ∷ us) ws p head = let e : u ≡ p = cc in rw e refl

@@ -1,5 +1,7 @@
--- One more entry is one more step.
-use Rattle.std.proofs.Common.{◌≡◌, List, [], ◌∷◌, ◌++◌, refl}
+-- One more entry is one more step: the part `replayed` of `IsSound`, and the clauses `state` and
+-- `replayed` of each call.
+use Rattle.std.proofs.Common.{◌≡◌, List, [], ◌∷◌, ◌++◌, refl, arith}
+use Rattle.std.proofs.lemmas.Grind.{common_steps}
 use Rattle.iol_book.specs.declared.entries.Entry.{Entry}
 use Rattle.iol_book.specs.Replay.{Standing, nothing, step, replay_from, replay}
 
@@ -13,3 +15,6 @@ replay-push es e = replay_from-push nothing es e
 
 -- what the checks of a book's calls need beside the usual lemmas
 pub ruleset replay_steps = replay-push
+
+-- these together, for the state that a call leaves
+pub ruleset entry_steps = (arith, common_steps, replay-push)

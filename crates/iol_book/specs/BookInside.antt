@@ -4,13 +4,9 @@ use Rattle.std.specs.Vec.{vec_capacity}
 use Rattle.std.specs.VecDeque.{deque_capacity}
 use Rattle.iol_book.specs.Replay.{Standing}
 use Rattle.iol_book.specs.Lines.{AreLines, standing_at}
-use Rattle.iol_book.specs.BookModel.{BookState, BookMemory, BookValue, IsReplayed, owed, taken_count, waiting_count}
+use Rattle.iol_book.specs.BookModel.{BookState, BookMemory, BookValue, IsReplayed, outstanding_count, entries_owed, request_entries, most_entries}
 use Rattle.iol_book.specs.Numbers.{IsNumbered}
 use Rattle.iol_book.specs.declared.book.Book.TheInside.{Inside}
-
--- how many requests have no outcome yet, so that each needs a place for it
-abbrev pub unanswered : Standing → ℕ
-unanswered standing = waiting_count standing + taken_count standing
 
 module _ {A : Type 0} where
   -- what the queues, the request that is taken and the list of outcomes hold
@@ -31,11 +27,9 @@ module _ {A : Type 0} where
 
   -- for how many submits the places for outcomes and for entries are there already
   abbrev pub room_of : Inside A → ℕ
-  room_of fields = min
-      (vec_capacity fields.outcomes
-      - (length fields.outcomes.items + unanswered (standing_of fields)))
-      ((vec_capacity fields.journal - (length fields.journal.items + owed (standing_of fields))) /
-      4)
+  room_of fields = min (vec_capacity fields.outcomes - outstanding_count (standing_of fields))
+      ((vec_capacity fields.journal
+      - (length fields.journal.items + entries_owed (standing_of fields))) / request_entries)
 
   -- how much its journal and its queues hold without a growth
   abbrev pub memory_of : Inside A → BookMemory
@@ -53,6 +47,21 @@ module _ {A : Type 0} where
     memory = memory_of fields;
   }
 
+  -- what it has room for already, so that no call but a submit takes memory
+  pub record HasRoom (fields : Inside A) : Type 0 where
+    -- each of the two queues has room for as many requests as may be outstanding
+    pub urgent_room : fields.queue ≤ deque_capacity fields.urgent
+    pub queue_room : fields.queue ≤ deque_capacity fields.waiting
+    -- each outstanding ticket has a place for its outcome
+    pub outcome_room : outstanding_count (standing_of fields) ≤ vec_capacity fields.outcomes
+    -- each outstanding ticket has places for the entries that it will still get
+    pub entry_room : length fields.journal.items + entries_owed (standing_of fields)
+        ≤ vec_capacity fields.journal
+    -- and there is memory for no more than the limit
+    pub within : vec_capacity fields.journal ≤ fields.limit
+    -- which is a million entries at most
+    pub limit : fields.limit ≤ most_entries
+
   -- what holds of the fields of every book
   pub record IsSound (fields : Inside A) : Type 0 where
     -- each line that is kept is in the journal
@@ -62,18 +71,4 @@ module _ {A : Type 0} where
     pub replayed : IsReplayed (state_of fields)
     -- each ticket names one request
     pub numbered : IsNumbered fields.last (standing_of fields)
-    -- each of the two queues has room for as many requests as may be outstanding
-    pub urgent_room : fields.queue ≤ deque_capacity fields.urgent
-    pub queue_room : fields.queue ≤ deque_capacity fields.waiting
-    -- each request with no outcome has a place for it
-    pub outcome_room : length fields.outcomes.items + unanswered (standing_of fields)
-        ≤ vec_capacity fields.outcomes
-    -- each outstanding ticket has places for the entries that it will still get
-    pub entry_room : length fields.journal.items + owed (standing_of fields)
-        ≤ vec_capacity fields.journal
-    -- and the journal has them within its limit
-    pub within : length fields.journal.items + owed (standing_of fields) ≤ fields.limit
-    -- nor is there memory for more
-    pub memory_within : vec_capacity fields.journal ≤ fields.limit
-    -- a million entries at most
-    pub limit : fields.limit ≤ 1000000
+    pub room : HasRoom fields

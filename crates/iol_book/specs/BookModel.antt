@@ -47,10 +47,21 @@ pub record BookValue : Type 0 where
 abbrev pub IsReplayed : BookState → Type 0
 IsReplayed book = book.standing ≡ replay book.journal
 
+-- the most entries of one request: submitted, taken, answered and collected
+-- BOOK-3
+abbrev pub request_entries : ℕ
+request_entries = 4
+
+-- the most entries that a journal may ever have
+-- BOOK-11
+abbrev pub most_entries : ℕ
+most_entries = 1000000
+
 -- what a book may be opened with, beside how many tickets may be outstanding
 -- BOOK-11
 abbrev pub AreLimits : Limits → Type 0
-AreLimits limits = (4 ≤ limits.journal) × (limits.journal ≤ 1000000) × (2 ≤ limits.busy)
+AreLimits limits =
+    (request_entries ≤ limits.journal) × (limits.journal ≤ most_entries) × (2 ≤ limits.busy)
 
 -- an empty book
 -- BOOK-11
@@ -81,21 +92,24 @@ waiting_count standing = length standing.urgent + length standing.waiting
 
 -- how many tickets are outstanding
 -- BOOK-2
-abbrev pub outstanding : Standing → ℕ
-outstanding standing = waiting_count standing + taken_count standing + length standing.outcomes
+abbrev pub outstanding_count : Standing → ℕ
+outstanding_count standing =
+    waiting_count standing + taken_count standing + length standing.outcomes
 
 -- the entries that the outstanding tickets will still get: taken, answered and
 -- collected, or withdrawn and collected
 -- BOOK-3
-abbrev pub owed : Standing → ℕ
-owed standing = 3 * waiting_count standing + 2 * taken_count standing + length standing.outcomes
+abbrev pub entries_owed : Standing → ℕ
+entries_owed standing =
+    3 * waiting_count standing + 2 * taken_count standing + length standing.outcomes
 
 -- the first reason why a request can't be submitted, where it can't
 -- BOOK-2, BOOK-3
 abbrev pub submit_refusal : BookState → Option BookFault
 submit_refusal book =
-    if nat_le book.queue (outstanding book.standing) then Some Full
-    else if nat_lt book.limit (length book.journal + owed book.standing + 4) then Some JournalFull
+    if nat_le book.queue (outstanding_count book.standing) then Some Full
+    else if nat_lt book.limit (length book.journal + entries_owed book.standing + request_entries)
+    then Some JournalFull
     else if nat_eq (book.last + 1) (2 ^ 64) then Some TicketsSpent
     else None
 
@@ -133,16 +147,20 @@ abbrev pub others_behind : {X : Type 0} → List (Ticket × X) → List (Ticket 
 others_behind [] waiting = drop 1 waiting
 others_behind (first ∷ urgent) waiting = waiting
 
+-- where the tickets stand once that request waits no longer
+-- BOOK-4
+abbrev pub without_first : Standing → Standing
+without_first standing = record standing {
+  urgent = drop 1 standing.urgent;
+  waiting = others_behind standing.urgent standing.waiting;
+}
+
 -- the book after that request is taken
 -- BOOK-4
 abbrev pub took : BookState → Ticket × Request → BookState
 took book taken = record book {
   journal = book.journal ++ Taken taken.0 ∷ [];
-  standing = record book.standing {
-    urgent = drop 1 book.standing.urgent;
-    waiting = others_behind book.standing.urgent book.standing.waiting;
-    taken = Some taken;
-  };
+  standing = record (without_first book.standing) { taken = Some taken };
 }
 
 -- the book after that request, which has this ticket, is denied
@@ -150,9 +168,7 @@ took book taken = record book {
 abbrev pub denied : BookState → Ticket → BookState
 denied book ticket = record book {
   journal = book.journal ++ Answered ticket NoIsdu ∷ [];
-  standing = record book.standing {
-    urgent = drop 1 book.standing.urgent;
-    waiting = others_behind book.standing.urgent book.standing.waiting;
+  standing = record (without_first book.standing) {
     outcomes = insert_entry same_ticket book.standing.outcomes ticket NoIsdu;
   };
 }
@@ -197,6 +213,10 @@ waits standing ticket = is_among ticket standing.urgent || is_among ticket stand
 abbrev pub is_taken : Standing → Ticket → Bool
 is_taken standing ticket = option_map_or (λ taken. same_ticket ticket taken.0) standing.taken false
 
+-- whether it has its outcome
+abbrev pub has_outcome : Standing → Ticket → Bool
+has_outcome standing ticket = is_among ticket standing.outcomes
+
 -- the outcome, or this refusal where there is none
 abbrev pub outcome_or : Option Outcome → BookFault → Result Outcome BookFault
 outcome_or None fault = Err fault
@@ -219,8 +239,7 @@ collected book ticket =
 abbrev pub withdraw_refusal : Standing → Ticket → Option BookFault
 withdraw_refusal standing ticket =
     if waits standing ticket then None
-    else if is_taken standing ticket || is_some (lookup (same_ticket ticket) standing.outcomes)
-    then Some TakenAlready
+    else if is_taken standing ticket || has_outcome standing ticket then Some TakenAlready
     else Some UnknownTicket
 
 -- the book after a withdraw
@@ -234,8 +253,7 @@ withdrawn book ticket = if is_some (withdraw_refusal book.standing ticket) then 
 abbrev pub flight_refusal : Standing → Ticket → Option BookFault
 flight_refusal standing ticket =
     if is_taken standing ticket then None
-    else if waits standing ticket || is_some (lookup (same_ticket ticket) standing.outcomes)
-    then Some NotInFlight
+    else if waits standing ticket || has_outcome standing ticket then Some NotInFlight
     else Some UnknownTicket
 
 -- the book after a wake of the device
@@ -246,7 +264,7 @@ reset book = record book { unsure = false }
 -- whether nothing is outstanding, and no request that was cut off may still be carried out
 -- BOOK-8
 abbrev pub may_archive : BookState → Bool
-may_archive book = nat_eq (outstanding book.standing) 0 && not book.unsure
+may_archive book = nat_eq (outstanding_count book.standing) 0 && not book.unsure
 
 -- the book after an archive
 -- BOOK-8
