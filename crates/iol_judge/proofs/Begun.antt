@@ -1,13 +1,12 @@
 -- What an answer begins with is no fault of it.
-use Rattle.std.proofs.Common.{◌≡◌, ℕ, zero, suc, ◌/◌, ◌%◌, ◌<◌, ◌≤◌, Bool, true, false, List, [], ◌∷◌, length, take, refl, sym, ◌∙◌, ap, subst, arith, Result, Ok, Err}
-use Rattle.std.specs.Prelude.{Option, Some, None, not, ◌&&◌, ◌||◌, ◌==◌, nat_le, if◌then◌else◌, slice_index}
+use Rattle.std.proofs.Common.{◌≡◌, ℕ, zero, suc, ◌/◌, ◌%◌, ◌<◌, ◌≤◌, Bool, true, false, List, [], ◌∷◌, length, take, refl, ◌∙◌, ap, subst, arith, Result, Ok, Err}
+use Rattle.std.specs.Prelude.{Option, Some, None, not, ◌&&◌, ◌==◌, nat_le, if◌then◌else◌, slice_index}
 use Rattle.std.proofs.lemmas.Bool.Decides.{nat_tests}
 use Rattle.std.proofs.lemmas.List.{take_all}
 use Rattle.iol_isdu.specs.declared.fault.IsduFault.{IsduFault}
 use Rattle.iol_isdu.specs.declared.fault.IsduFault.TheVariants.{BadService, BadChkpdu, BadIsduLength, Truncated}
 use Rattle.iol_isdu.specs.Answers.{answer_accepts, answer_fault, answers_read, kind_fault}
 use Rattle.iol_isdu.specs.Frame.{first_of, frame_fault, front_by, isdu_fault, text_at, total_at, xor_of}
-use Rattle.iol_judge.specs.declared.reason.Reason.{Reason}
 use Rattle.iol_judge.specs.declared.reason.Reason.TheVariants.{AnswerKind}
 use Rattle.iol_judge.specs.Answers.{is_answered_by, open_fault, same_read, total_begun}
 
@@ -31,7 +30,7 @@ both true b e f = f
 both false b e f = e
 
 -- a whole text
-answered : (read : Bool) (text : List ℕ) → total_at text ≡ Ok (length text)
+pub answered : (read : Bool) (text : List ℕ) → total_at text ≡ Ok (length text)
     → answer_fault read text ≡ None
     → is_answered_by read (slice_index text 0 / 16) (length text) ≡ true
 answered read text holds accepted =

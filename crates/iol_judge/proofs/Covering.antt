@@ -1,6 +1,6 @@
 -- What a transfer covers holds of it, and what a device does by itself, or a message in another
 -- layout, keeps what is known of it.
-use Rattle.std.proofs.Common.{◌≡◌, ℕ, Bool, true, false, List, refl, sym, ◌∙◌, ap, subst, arith, eqb-true}
+use Rattle.std.proofs.Common.{◌≡◌, ◌⊎◌, inl, inr, ℕ, Bool, true, false, List, refl, sym, ◌∙◌, ap, subst, arith, eqb-true}
 use Rattle.std.proofs.lemmas.Grind.{common_steps}
 use Rattle.std.specs.Prelude.{Option, Some, None, ◌&&◌, ◌==◌, nat_eq, bytes_eq}
 use Rattle.std.specs.Option.{option_eq}
@@ -8,10 +8,11 @@ use Rattle.std.proofs.lemmas.Slice.Eq.{bytes_eq-Decides}
 use Rattle.iol_isdu.specs.declared.values.Request.{Request}
 use Rattle.iol_isdu.specs.declared.values.Answer.{Answer}
 use Rattle.iol_far.specs.Isdu.{IsduState, Empty, Receiving, Whole, Handed, Answered, fits}
+use Rattle.iol_judge.specs.declared.had.Ahead.{Ahead}
 use Rattle.iol_judge.specs.declared.had.Had.{Had}
 use Rattle.iol_judge.specs.declared.transfer.Transfer.{Transfer}
 use Rattle.iol_judge.specs.declared.transfer.Transfer.TheVariants as known
-use Rattle.iol_judge.specs.Answers.{same_had, same_read}
+use Rattle.iol_judge.specs.Answers.{same_ahead, same_had, same_read}
 use Rattle.iol_judge.specs.Transfers.{covers_transfer}
 use Rattle.iol_judge.specs.UnderWay.{IsUnderWay, IsWhole, IsHanded, IsAsked, IsAnswered}
 use Rattle.iol_judge.proofs.Shown.{both}
@@ -31,25 +32,52 @@ count_same (Some a) (Some b) e = ap Some (eqb-true a b e)
 count_same None (Some b) e = absurd (cc)
 count_same (Some a) None e = absurd (cc)
 
-had_equal : (r s : Bool) (t u : List ℕ) (x y c d : ℕ) → r ≡ s → t ≡ u → x ≡ y → c ≡ d
-    → ◌≡◌ {A = Had} (record { read = r; text = record { items = t }; at = x; count = c })
-    (record { read = s; text = record { items = u }; at = y; count = d })
-had_equal r s t u x y c d e f g h =
-    ap (λ (k : Bool). record { read = k; text = record { items = t }; at = x; count = c }) e
-    ∙ ap (λ (l : List ℕ). record { read = s; text = record { items = l }; at = x; count = c }) f
-    ∙ ap (λ (n : ℕ). record { read = s; text = record { items = u }; at = n; count = c }) g
-    ∙ ap (λ (n : ℕ). record { read = s; text = record { items = u }; at = y; count = n }) h
+ahead_equal : (x y : ℕ) (t u : List ℕ) → x ≡ y → t ≡ u
+    → ◌≡◌ {A = Ahead} (record { at = x; octets = record { items = t } })
+    (record { at = y; octets = record { items = u } })
+ahead_equal x y t u e f =
+    ap (λ (n : ℕ). record { at = n; octets = record { items = t } }) e
+    ∙ ap (λ (l : List ℕ). record { at = y; octets = record { items = l } }) f
 
-had_same : (a b : Had) → same_had a b ≡ true → a ≡ b
+ahead_same : (a b : Option Ahead) → same_ahead a b ≡ true → a ≡ b
+ahead_same None None e = refl
+ahead_same (Some a) (Some b) e =
+    let parts = both (a.at == b.at) (bytes_eq a.octets.items b.octets.items) e in
+    ap Some (ahead_equal a.at b.at a.octets.items b.octets.items (eqb-true a.at b.at parts.0)
+    (bytes_same a.octets.items b.octets.items parts.1))
+ahead_same None (Some b) e = absurd (cc)
+ahead_same (Some a) None e = absurd (cc)
+
+had_of : Bool → List ℕ → ℕ → ℕ → Option Ahead → Had
+had_of read octets at count ahead = record {
+  read = read;
+  text = record { items = octets };
+  at = at;
+  count = count;
+  ahead = ahead;
+}
+
+had_equal : (r s : Bool) (t u : List ℕ) (x y c d : ℕ) (a b : Option Ahead) → r ≡ s → t ≡ u
+    → x ≡ y → c ≡ d → a ≡ b → had_of r t x c a ≡ had_of s u y d b
+had_equal r s t u x y c d a b e f g h i =
+    ap (λ (k : Bool). had_of k t x c a) e ∙ ap (λ (l : List ℕ). had_of s l x c a) f
+    ∙ ap (λ (n : ℕ). had_of s u n c a) g ∙ ap (λ (n : ℕ). had_of s u y n a) h
+    ∙ ap (λ (o : Option Ahead). had_of s u y d o) i
+
+pub had_same : (a b : Had) → same_had a b ≡ true → a ≡ b
+unfolding had_of
 had_same a b e =
+    let most = both (((same_read a.read b.read && bytes_eq a.text.items b.text.items)
+    && a.at == b.at) && a.count == b.count) (same_ahead a.ahead b.ahead) e in
     let whole = both ((same_read a.read b.read && bytes_eq a.text.items b.text.items)
-    && a.at == b.at) (a.count == b.count) e in
+    && a.at == b.at) (a.count == b.count) most.0 in
     let all = both (same_read a.read b.read && bytes_eq a.text.items b.text.items)
     (a.at == b.at) whole.0 in
     let outer = both (same_read a.read b.read) (bytes_eq a.text.items b.text.items) all.0 in
     had_equal a.read b.read a.text.items b.text.items a.at b.at a.count b.count
-    (read_same a.read b.read outer.0) (bytes_same a.text.items b.text.items outer.1)
-    (eqb-true a.at b.at all.1) (eqb-true a.count b.count whole.1)
+    a.ahead b.ahead (read_same a.read b.read outer.0)
+    (bytes_same a.text.items b.text.items outer.1) (eqb-true a.at b.at all.1)
+    (eqb-true a.count b.count whole.1) (ahead_same a.ahead b.ahead most.1)
 
 asked_covers : (read : Bool) (state : IsduState) → IsHanded read state → IsAsked read state
 asked_covers read (Handed request) h = h
@@ -82,6 +110,11 @@ covers_under_way size (known.Asked read) (known.Asked reads) state e h =
     subst (λ (r : Bool). IsAsked r state) (sym (read_same read reads e)) h
 covers_under_way size (known.Answered had) (known.Answered other) state e h =
     subst (λ (a : Had). IsAnswered size a state) (sym (had_same had other e)) h
+covers_under_way size (known.Perhaps had) (known.Answered other) state e h =
+    inl (subst (λ (a : Had). IsAnswered size a state) (sym (had_same had other e)) h)
+covers_under_way size (known.Perhaps had) (known.Perhaps other) state e h =
+    subst (λ (a : Had). IsAnswered size a state ⊎ (state ≡ Empty)) (sym (had_same had other e)) h
+covers_under_way size (known.Perhaps had) known.Quiet state e h = inr h
 covers_under_way size a b state e h = absurd (cc)
 
 -- once the application answered
@@ -95,3 +128,7 @@ handed_answers size (known.Whole read last) request answer e h = absurd h
 handed_answers size (known.Handed read) request answer e h = (h, e)
 handed_answers size (known.Asked read) request answer e h = (h, e)
 handed_answers size (known.Answered had) request answer e h = absurd h
+handed_answers size (known.Perhaps had) request answer e h = elim h [
+  | inl never ↦ absurd never
+  | inr never ↦ absurd (cc)
+]

@@ -1,6 +1,7 @@
 mod Turns
 mod Shown
 mod Segments
+mod Totals
 mod Begun
 mod Covering
 mod Transferring

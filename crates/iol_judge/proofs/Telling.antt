@@ -1,11 +1,9 @@
 -- What is known of an ISDU transfer explains what a read of the ISDU channel brings, and holds once
 -- that was had.
-use Rattle.std.proofs.Common.{◌≡◌, ℕ, zero, suc, ◌+◌, ◌-◌, ◌*◌, ◌%◌, ◌<◌, ◌≤◌, Bool, true, false, List, [], ◌∷◌, ◌++◌, length, take, drop, replicate, refl, sym, ◌∙◌, ap, subst, arith, eqb-true, ⊎_elim}
-use Rattle.std.proofs.lemmas.Bool.{cases_lt, ltb-true, ltb-false}
-use Rattle.std.proofs.Math.Nat.{mul-le-mul_right}
-use Rattle.std.specs.Prelude.{Option, Some, None, ◌&&◌, ◌==◌, nat_eq, nat_lt, nat_le, IsTrue, if◌then◌else◌, slice_index}
+use Rattle.std.proofs.Common.{◌≡◌, inl, inr, ℕ, zero, suc, ◌+◌, ◌-◌, ◌*◌, ◌%◌, ◌<◌, ◌≤◌, Bool, true, false, List, [], ◌∷◌, ◌++◌, length, take, drop, replicate, refl, sym, ◌∙◌, ap, subst, arith, eqb-true, ⊎_elim}
+use Rattle.std.proofs.lemmas.Bool.{cases_lt, leb-false, ltb-true, leb-true}
+use Rattle.std.specs.Prelude.{Option, Some, None, Result, Ok, Err, is_some, not, IfSome, ◌&&◌, ◌||◌, ◌==◌, nat_eq, nat_lt, nat_le, IsTrue, if◌then◌else◌, slice_index}
 use Rattle.std.specs.Cmp.Lexicographic.{pointwise}
-use Rattle.std.specs.List.{starts_with}
 use Rattle.iol_octets.specs.declared.control.Channel.{Channel}
 use Rattle.iol_octets.specs.declared.control.Channel.TheVariants.{Process, Page, Diagnosis, Isdu}
 use Rattle.iol_octets.specs.declared.flow_control.Flow.{Flow}
@@ -13,6 +11,7 @@ use Rattle.iol_octets.specs.declared.flow_control.Flow.TheVariants.{Start, Count
 use Rattle.iol_isdu.specs.declared.values.Request.{Request}
 use Rattle.iol_isdu.specs.declared.values.Answer.{Answer}
 use Rattle.iol_isdu.specs.Answers.{is_read, answer_fault}
+use Rattle.iol_isdu.specs.Frame.{total_at}
 use Rattle.iol_segment.specs.Cut.{segment}
 use Rattle.iol_segment.specs.TextLaws.{joined, HoldsLength}
 use Rattle.iol_far.specs.declared.kind.Kind.{Kind}
@@ -21,18 +20,21 @@ use Rattle.iol_far.specs.Far.{isdu_after}
 use Rattle.std.specs.Option.{option_or}
 use Rattle.iol_isdu.specs.declared.fault.IsduFault.{IsduFault}
 use Rattle.iol_segment.specs.Join.{Stage}
+use Rattle.iol_judge.specs.declared.had.Ahead.{Ahead}
 use Rattle.iol_judge.specs.declared.had.Had.{Had}
-use Rattle.iol_judge.specs.declared.had.TheConstants.{MOST_HAD}
+use Rattle.iol_judge.specs.declared.had.TheConstants.{MOST_AHEAD, MOST_HAD}
+use Rattle.iol_judge.specs.declared.reason.Reason.{Reason}
 use Rattle.iol_judge.specs.declared.reason.Reason.TheVariants.{NoAnswerDue, NotBusy, BusyAgain, SegmentChanged, AnswerPadding}
 use Rattle.iol_judge.specs.declared.transfer.Transfer.{Transfer}
 use Rattle.iol_judge.specs.declared.transfer.Transfer.TheVariants as known
 use Rattle.iol_judge.specs.Octets.{are_zeros}
-use Rattle.iol_judge.specs.Answers.{first_had, had_with, is_busy, open_fault, segment_fault, reason_of, text_fault, text_fault_at}
-use Rattle.iol_judge.specs.Transfers.{asked_told, isdu_fault, told_by}
-use Rattle.iol_judge.specs.UnderWay.{AreHad, IsUnderWay, IsAsked}
+use Rattle.iol_judge.specs.Answers.{ahead_fault, behind_fault, first_had, had_with, is_busy, next_fault, open_fault, same_fault, segment_fault, reason_of, text_fault, text_fault_at, again_fault, ahead_told, ahead_with, one_ahead, place_in}
+use Rattle.iol_judge.specs.Transfers.{asked_told, isdu_fault, perhaps_told, told_by}
+use Rattle.iol_judge.specs.UnderWay.{AreHad, first_ones, IsUnderWay, IsAnswered, IsAsked, AreAhead, later_ones}
 use Rattle.iol_segment.proofs.TextLaws.{joined-front}
 use Rattle.iol_judge.proofs.Begun.{begun_fits}
-use Rattle.iol_judge.proofs.Segments.{length_joined, part_of_joined, pointwise_self, zeros_behind}
+use Rattle.iol_judge.proofs.Segments.{first_grow, length_first, part_of_first, pointwise_self, zeros_behind, zeros_within, length_later, part_of_later}
+use Rattle.iol_judge.proofs.Totals.{total_of_first}
 use Rattle.iol_judge.proofs.Transferring.{AreTexts, below_by, same_by}
 
 -- Behind a read of the ISDU channel an answer was sent, if there is one
@@ -103,6 +105,20 @@ no_answer size = ap (λ (b : Bool). if b then None else Some NoAnswerDue) (zeros
 busy_is : (size : ℕ) → is_busy (1 ∷ replicate (size - 1) 0) ≡ true
 busy_is size = zeros_are (size - 1)
 
+neither : (a b : Option Reason) → a ≡ None → b ≡ None → option_or a b ≡ None
+neither None b e f = f
+neither (Some x) b e f = absurd (cc)
+
+mul_add : (a b c : ℕ) → (a + b) * c ≡ a * c + b * c
+mul_add zero b c = omega arith
+mul_add (suc a) b c = let e = mul_add a b c in omega (arith, e)
+
+-- octets begin with those that are there
+same_octets : (octets od : List ℕ) → take (length od) octets ≡ od → same_fault octets od ≡ None
+same_octets octets od is =
+    ap (λ (b : Bool). if b then None else Some SegmentChanged)
+    (ap (λ (l : List ℕ). pointwise nat_eq od l) is ∙ pointwise_self od)
+
 module _ (size : ℕ) (law : AreTexts size) (request : Request) (answer : Answer)
     (fit : IsTrue (fits request answer)) where
   not_busy : is_busy (segment size (answer_text request answer) 0) ≡ false
@@ -152,9 +168,9 @@ module _ (size : ℕ) (law : AreTexts size) (request : Request) (answer : Answer
 
   module _ (had : Had) (sent : ℕ) (are : AreHad size had (answer_text request answer) sent)
       (read : is_read request ≡ had.read) where
-    long : length had.text.items ≡ suc are.last * size
+    long : length had.text.items ≡ are.many * size
     long = ap (λ (l : List ℕ). length l) are.octets
-        ∙ length_joined law.sized size (answer_text request answer) are.last
+        ∙ length_first law.sized size (answer_text request answer) are.many
 
     not_again : (had.at == 0 && is_busy (segment size (answer_text request answer) sent)) ≡ false
     not_again = split (had.at == 0) refl
@@ -171,112 +187,277 @@ module _ (size : ℕ) (law : AreTexts size) (request : Request) (answer : Answer
 
     -- a segment that was had before
     same_again : had.at < length had.text.items
-        → starts_with nat_eq (drop had.at had.text.items)
-        (segment size (answer_text request answer) sent) ≡ true
+        → same_fault (drop had.at had.text.items)
+        (segment size (answer_text request answer) sent) ≡ None
     same_again lt =
         let at = are.at in
         let whole = long in
-        let most : sent < suc are.last =
-        below_by size law.some sent (suc are.last) (omega (arith, lt, at, whole)) in
-        let part : take (length (segment size (answer_text request answer) sent))
-        (drop had.at had.text.items) ≡ segment size (answer_text request answer) sent =
-        ap (λ n. take n (drop had.at had.text.items))
-        (law.sized size (answer_text request answer) sent)
-        ∙ ap (λ n. take size (drop n had.text.items)) are.at
+        let before : sent < are.many =
+        below_by size law.some sent are.many (omega (arith, lt, at, whole)) in
+        let part : take size (drop had.at had.text.items)
+        ≡ segment size (answer_text request answer) sent =
+        ap (λ n. take size (drop n had.text.items)) are.at
         ∙ ap (λ (l : List ℕ). take size (drop (sent * size) l)) are.octets
-        ∙ part_of_joined law.sized size (answer_text request answer) are.last sent
-        (omega (arith, most)) in
-        ap (λ (l : List ℕ). pointwise nat_eq (segment size (answer_text request answer) sent) l)
-        part
-        ∙ pointwise_self (segment size (answer_text request answer) sent)
+        ∙ part_of_first law.sized size (answer_text request answer) are.many sent before in
+        same_octets (drop had.at had.text.items) (segment size (answer_text request answer) sent)
+        (ap (λ n. take n (drop had.at had.text.items))
+        (law.sized size (answer_text request answer) sent) ∙ part)
+
+    -- so is one behind others that weren't
+    again_fits : (ahead : Ahead) → AreAhead size (answer_text request answer) ahead
+        → nat_le ahead.at had.at ≡ true
+        → nat_lt (had.at - ahead.at) (length ahead.octets.items) ≡ true
+        → same_fault (drop (had.at - ahead.at) ahead.octets.items)
+        (segment size (answer_text request answer) sent) ≡ None
+    again_fits ahead is e f =
+        let own = are.at in
+        let other = is.at in
+        let from = leb-true ahead.at had.at e in
+        let below = ltb-true (had.at - ahead.at) (length ahead.octets.items) f in
+        let long : length ahead.octets.items ≡ is.many * size =
+        ap (λ (l : List ℕ). length l) is.octets
+        ∙ length_later law.sized size (answer_text request answer) is.number is.many in
+        let product : (is.number + is.many) * size ≡ is.number * size + is.many * size =
+        mul_add is.number is.many size in
+        let first : is.number < suc sent =
+        below_by size law.some is.number (suc sent)
+        (let some = law.some in omega (arith, own, other, from, some)) in
+        let last : sent < is.number + is.many =
+        below_by size law.some sent (is.number + is.many)
+        (omega (arith, own, other, from, below, long, product)) in
+        let sum : is.number + (sent - is.number) ≡ sent = omega (arith, first) in
+        let parts : (is.number + (sent - is.number)) * size
+        ≡ is.number * size + (sent - is.number) * size =
+        mul_add is.number (sent - is.number) size in
+        let whole : (is.number + (sent - is.number)) * size ≡ sent * size =
+        ap (λ i. i * size) sum in
+        let place : had.at - ahead.at ≡ (sent - is.number) * size =
+        omega (arith, own, other, parts, whole) in
+        let part : take size (drop (had.at - ahead.at) ahead.octets.items)
+        ≡ segment size (answer_text request answer) sent =
+        ap (λ n. take size (drop n ahead.octets.items)) place
+        ∙ ap (λ (l : List ℕ). take size (drop ((sent - is.number) * size) l)) is.octets
+        ∙ part_of_later law.sized size (answer_text request answer) is.number is.many
+        (sent - is.number) (omega (arith, first, last))
+        ∙ ap (λ i. segment size (answer_text request answer) i) sum in
+        same_octets (drop (had.at - ahead.at) ahead.octets.items)
+        (segment size (answer_text request answer) sent)
+        (ap (λ n. take n (drop (had.at - ahead.at) ahead.octets.items))
+        (law.sized size (answer_text request answer) sent) ∙ part)
+
+    ahead_again : (ahead : Option Ahead)
+        → IfSome ahead (AreAhead size (answer_text request answer))
+        → ahead_fault ahead had.at (segment size (answer_text request answer) sent) ≡ None
+    ahead_again None is = refl
+    ahead_again (Some ahead) is = split (nat_le ahead.at had.at)
+        (nat_lt (had.at - ahead.at) (length ahead.octets.items)) refl refl
+      where
+        split : (from below : Bool) → nat_le ahead.at had.at ≡ from
+            → nat_lt (had.at - ahead.at) (length ahead.octets.items) ≡ below
+            → again_fault ahead (if from && below then Some (had.at - ahead.at) else None)
+            (segment size (answer_text request answer) sent) ≡ None
+        split false below e f = refl
+        split true false e f = refl
+        split true true e f = again_fits ahead is e f
 
     -- the next one
-    next_fits : length had.text.items ≤ had.at
-        → text_fault had.read (had.text.items ++ segment size (answer_text request answer) sent)
-        ≡ None
-    next_fits le =
+    next_is : had.at ≡ length had.text.items → sent ≡ are.many
+    next_is e =
         let at = are.at in
         let whole = long in
-        let most : suc are.last * size ≤ sent * size = omega (arith, le, at, whole) in
-        let next : sent ≡ suc are.last = next_is most in
-        let grown : (had.text.items ++ segment size (answer_text request answer) sent)
-        ≡ joined size (answer_text request answer) (suc are.last) =
-        ap (λ (l : List ℕ). l ++ segment size (answer_text request answer) sent) are.octets
-        ∙ ap (λ i. joined size (answer_text request answer) are.last
-        ++ segment size (answer_text request answer) i) next in
-        ap (λ (r : Bool). text_fault r
-        (had.text.items ++ segment size (answer_text request answer) sent)) (sym read)
-        ∙ ap (λ (l : List ℕ). text_fault (is_read request) l) grown
-        ∙ text_fits (suc are.last)
-        (subst (λ i. i * size < length (answer_text request answer)) next are.within)
-      where
-        next_is : suc are.last * size ≤ sent * size → sent ≡ suc are.last
-        next_is most = ⊎_elim under past (cases_lt sent (suc are.last))
-          where
-            under : sent < suc are.last → sent ≡ suc are.last
-            under lt =
-                let more : suc sent * size ≤ suc are.last * size = mul-le-mul_right size lt in
-                let some = law.some in
-                absurd (omega (arith, more, most, some))
+        same_by size law.some sent are.many (omega (arith, e, at, whole))
 
-            past : suc are.last ≤ sent → sent ≡ suc are.last
-            past le = let most = are.most in omega (arith, le, most)
+    grown : had.at ≡ length had.text.items
+        → (had.text.items ++ segment size (answer_text request answer) sent)
+        ≡ joined size (answer_text request answer) are.many
+    grown e =
+        ap (λ (l : List ℕ). l ++ segment size (answer_text request answer) sent) are.octets
+        ∙ ap (λ i. first_ones size (answer_text request answer) are.many
+        ++ segment size (answer_text request answer) i) (next_is e)
+        ∙ first_grow law.sized size (answer_text request answer) are.many
+
+    begins_next : had.at ≡ length had.text.items
+        → are.many * size < length (answer_text request answer)
+    begins_next e =
+        subst (λ i. i * size < length (answer_text request answer)) (next_is e) are.within
+
+    -- one behind a segment that wasn't had: there are zeros behind the text
+    behind_fits : (total : Result ℕ IsduFault) → total_at had.text.items ≡ total
+        → behind_fault total had.at (segment size (answer_text request answer) sent) ≡ None
+    behind_fits (Err fault) t = refl
+    behind_fits (Ok total) t = split
+        (nat_le (had.at + length (segment size (answer_text request answer) sent)) total) refl
+      where
+        is_total : total ≡ length (answer_text request answer)
+        is_total = total_of_first size (answer_text request answer) are.many total holds
+            are.begins (sym (ap total_at are.octets) ∙ t)
+
+        split : (b : Bool)
+            → nat_le (had.at + length (segment size (answer_text request answer) sent)) total ≡ b
+            → (if b || are_zeros (drop (total - had.at)
+            (segment size (answer_text request answer) sent)) then None else Some AnswerPadding)
+            ≡ None
+        split true e = refl
+        split false e =
+            let at = are.at in
+            let own = is_total in
+            let piece = law.sized size (answer_text request answer) sent in
+            let past = leb-false
+            (had.at + length (segment size (answer_text request answer) sent)) total e in
+            let within = are.within in
+            let zeros : are_zeros (drop (total - had.at)
+            (segment size (answer_text request answer) sent)) ≡ true =
+            ap (λ n. are_zeros (drop (n - had.at) (segment size (answer_text request answer) sent)))
+            is_total
+            ∙ ap (λ n. are_zeros (drop (length (answer_text request answer) - n)
+            (segment size (answer_text request answer) sent))) are.at
+            ∙ zeros_within law.sized size (answer_text request answer) sent
+            (omega (arith, within)) (omega (arith, at, own, piece, past)) in
+            ap (λ (z : Bool). if z then None else Some AnswerPadding) zeros
+
+    next_fits : next_fault had (segment size (answer_text request answer) sent) ≡ None
+    next_fits = split (had.at == length had.text.items) refl
+      where
+        split : (b : Bool) → (had.at == length had.text.items) ≡ b → (if b
+            then text_fault had.read
+            (had.text.items ++ segment size (answer_text request answer) sent)
+            else behind_fault (total_at had.text.items) had.at
+            (segment size (answer_text request answer) sent)) ≡ None
+        split false e = behind_fits (total_at had.text.items) refl
+        split true e =
+            let here : had.at ≡ length had.text.items =
+            eqb-true had.at (length had.text.items) e in
+            ap (λ (r : Bool). text_fault r
+            (had.text.items ++ segment size (answer_text request answer) sent)) (sym read)
+            ∙ ap (λ (l : List ℕ). text_fault (is_read request) l) (grown here)
+            ∙ text_fits are.many (begins_next here)
 
     segment_fits : segment_fault had (segment size (answer_text request answer) sent) ≡ None
     segment_fits = first (had.at == 0 && is_busy (segment size (answer_text request answer) sent))
         not_again
       where
         second : (before : Bool) → nat_lt had.at (length had.text.items) ≡ before
-            → (if before then (if starts_with nat_eq (drop had.at had.text.items)
-            (segment size (answer_text request answer) sent) then None
-            else Some SegmentChanged) else
-            text_fault had.read (had.text.items ++ segment size (answer_text request answer) sent))
-            ≡ None
-        second true e = ap (λ (b : Bool). if b then None else Some SegmentChanged)
-            (same_again (ltb-true had.at (length had.text.items) e))
-        second false e = next_fits (ltb-false had.at (length had.text.items) e)
+            → (if before then same_fault (drop had.at had.text.items)
+            (segment size (answer_text request answer) sent) else
+            option_or (ahead_fault had.ahead had.at
+            (segment size (answer_text request answer) sent))
+            (next_fault had (segment size (answer_text request answer) sent))) ≡ None
+        second true e = same_again (ltb-true had.at (length had.text.items) e)
+        second false e = neither
+            (ahead_fault had.ahead had.at (segment size (answer_text request answer) sent))
+            (next_fault had (segment size (answer_text request answer) sent))
+            (ahead_again had.ahead are.ahead) next_fits
 
         first : (again : Bool) → again ≡ false → (if again then Some BusyAgain else
-            if nat_lt had.at (length had.text.items) then
-            (if starts_with nat_eq (drop had.at had.text.items)
-            (segment size (answer_text request answer) sent) then None
-            else Some SegmentChanged) else
-            text_fault had.read (had.text.items ++ segment size (answer_text request answer) sent))
-            ≡ None
+            if nat_lt had.at (length had.text.items) then same_fault (drop had.at had.text.items)
+            (segment size (answer_text request answer) sent) else
+            option_or (ahead_fault had.ahead had.at
+            (segment size (answer_text request answer) sent))
+            (next_fault had (segment size (answer_text request answer) sent))) ≡ None
         first true e = absurd (cc)
         first false e = second (nat_lt had.at (length had.text.items)) refl
 
     -- and once it was had
+
+    one_holds : AreAhead size (answer_text request answer)
+        (one_ahead had.at (segment size (answer_text request answer) sent))
+    one_holds =
+        let none : sent ≡ sent + 0 = omega arith in
+        record {
+          number = sent;
+          many = 1;
+          at = are.at;
+          octets = ap (λ i. segment size (answer_text request answer) i) none;
+        }
+
+    with_holds : (ahead : Ahead) → AreAhead size (answer_text request answer) ahead
+        → AreAhead size (answer_text request answer)
+        (ahead_with ahead had.at (segment size (answer_text request answer) sent))
+    unfolding one_holds
+    with_holds ahead is = split (ahead.at + length ahead.octets.items == had.at)
+        (nat_le (length ahead.octets.items
+        + length (segment size (answer_text request answer) sent)) MOST_AHEAD) refl
+      where
+        split : (next room : Bool) → (ahead.at + length ahead.octets.items == had.at) ≡ next
+            → AreAhead size (answer_text request answer) (if (next && room)
+            then record ahead {
+              octets = record
+                  { items = ahead.octets.items ++ segment size (answer_text request answer) sent };
+            } else one_ahead had.at (segment size (answer_text request answer) sent))
+        split false room e = one_holds
+        split true false e = one_holds
+        split true true e =
+            let here : ahead.at + length ahead.octets.items ≡ had.at =
+            eqb-true (ahead.at + length ahead.octets.items) had.at e in
+            let own = are.at in
+            let other = is.at in
+            let long : length ahead.octets.items ≡ is.many * size =
+            ap (λ (l : List ℕ). length l) is.octets
+            ∙ length_later law.sized size (answer_text request answer) is.number is.many in
+            let product : (is.number + is.many) * size ≡ is.number * size + is.many * size =
+            mul_add is.number is.many size in
+            let number : sent ≡ is.number + is.many =
+            same_by size law.some sent (is.number + is.many)
+            (omega (arith, here, own, other, long, product)) in
+            record {
+              number = is.number;
+              many = suc is.many;
+              at = is.at;
+              octets = ap (λ (l : List ℕ). l ++ segment size (answer_text request answer) sent)
+                  is.octets
+                  ∙ ap (λ i. later_ones size (answer_text request answer) is.number is.many
+                  ++ segment size (answer_text request answer) i) number;
+            }
+
+    ahead_holds : (ahead : Option Ahead)
+        → IfSome ahead (AreAhead size (answer_text request answer))
+        → AreAhead size (answer_text request answer)
+        (ahead_told ahead had.at (segment size (answer_text request answer) sent))
+    unfolding one_holds
+    ahead_holds None is = one_holds
+    ahead_holds (Some ahead) is = split (is_some (place_in ahead had.at))
+      where
+        split : (b : Bool) → AreAhead size (answer_text request answer) (if b then ahead
+            else ahead_with ahead had.at (segment size (answer_text request answer) sent))
+        split true = is
+        split false = with_holds ahead is
+
     had_holds : AreHad size (had_with had (segment size (answer_text request answer) sent))
         (answer_text request answer) sent
-    had_holds = split (had.at == length had.text.items)
+    had_holds = split (nat_lt (length had.text.items) had.at) (had.at == length had.text.items)
         (nat_le (length had.text.items + length (segment size (answer_text request answer) sent))
         MOST_HAD) refl
       where
-        split : (new room : Bool) → (had.at == length had.text.items) ≡ new
-            → AreHad size (if (new && room) then record had {
+        split : (missed new room : Bool) → (had.at == length had.text.items) ≡ new
+            → AreHad size (if missed then record had {
+              ahead = Some (ahead_told had.ahead had.at
+                  (segment size (answer_text request answer) sent));
+            } else if (new && room) then record had {
               text = record
                   { items = had.text.items ++ segment size (answer_text request answer) sent };
             } else had)
             (answer_text request answer) sent
-        split false room e = are
-        split true false e = are
-        split true true e =
-            let new : had.at ≡ length had.text.items = eqb-true had.at (length had.text.items) e in
-            let at = are.at in
-            let whole = long in
-            let next : sent ≡ suc are.last =
-            same_by size law.some sent (suc are.last) (omega (arith, new, at, whole)) in
-            let within = are.within in
+        split true new room e = record {
+          many = are.many;
+          octets = are.octets;
+          begins = are.begins;
+          ahead = ahead_holds had.ahead are.ahead;
+          within = are.within;
+          at = are.at;
+          count = are.count;
+        }
+        split false false room e = are
+        split false true false e = are
+        split false true true e =
+            let here : had.at ≡ length had.text.items =
+            eqb-true had.at (length had.text.items) e in
+            let begins = begins_next here in
             record {
-              last = suc are.last;
-              octets = ap (λ (l : List ℕ). l ++ segment size (answer_text request answer) sent)
-                  are.octets
-                  ∙ ap (λ i. joined size (answer_text request answer) are.last
-                  ++ segment size (answer_text request answer) i) next;
-              begins = subst (λ i. i * size < length (answer_text request answer)) next within;
-              most = omega (arith, next);
-              within = within;
+              many = suc are.many;
+              octets = grown here;
+              begins = omega (arith, begins);
+              ahead = are.ahead;
+              within = are.within;
               at = are.at;
               count = are.count;
             }
@@ -288,10 +469,10 @@ module _ (size : ℕ) (law : AreTexts size) (request : Request) (answer : Answer
   first_holds =
       let some = filled in
       record {
-        last = 0;
+        many = 1;
         octets = refl;
         begins = omega (arith, some);
-        most = omega arith;
+        ahead = tt;
         within = omega (arith, some);
         at = omega arith;
         count = refl;
@@ -304,6 +485,21 @@ module _ (size : ℕ) (law : AreTexts size) (request : Request) (answer : Answer
           at_least : (text : List ℕ) → 2 ≤ slice_index text 0 → 0 < length text
           at_least [] h = absurd (omega (arith, h))
           at_least (x ∷ text) h = omega arith
+
+answered_fits : (size : ℕ) → AreTexts size → (had : Had) (state : IsduState)
+    → IsAnswered size had state → segment_fault had (isdu_data size state) ≡ None
+answered_fits size law had (Answered request answer (Some i)) h =
+    segment_fits size law request answer h.1 had i h.2 h.0
+answered_fits size law had (Answered request answer None) h = absurd h
+answered_fits size law had Empty h = absurd h
+answered_fits size law had (Receiving text a) h = absurd h
+answered_fits size law had (Whole request a) h = absurd h
+answered_fits size law had (Handed request) h = absurd h
+
+none_either : (b : Bool) (fault : Option Reason) → fault ≡ None
+    → (if b then None else fault) ≡ None
+none_either true fault e = refl
+none_either false fault e = e
 
 pub isdu_fits : (size : ℕ) → AreTexts size → (transfer : Transfer) (state : IsduState)
     → IsUnderWay size transfer state → IsSent state
@@ -335,19 +531,20 @@ isdu_fits size law (known.Asked read) (Answered request answer (Some zero)) h s 
     (not_busy size law request answer h.1)
     ∙ ap (λ (r : Bool). text_fault r (segment size (answer_text request answer) 0)) (sym h.0)
     ∙ text_fits size law request answer h.1 0
-    (first_holds size law request answer h.1).begins
+    (first_holds size law request answer h.1).within
 isdu_fits size law (known.Asked read) (Answered request answer None) h s = absurd s
 isdu_fits size law (known.Asked read) (Answered request answer (Some (suc i))) h s = absurd h
 isdu_fits size law (known.Asked read) Empty h s = absurd h
 isdu_fits size law (known.Asked read) (Receiving text a) h s = absurd h
 isdu_fits size law (known.Asked read) (Whole request a) h s = absurd h
-isdu_fits size law (known.Answered had) (Answered request answer (Some i)) h s =
-    segment_fits size law request answer h.1 had i h.2 h.0
-isdu_fits size law (known.Answered had) (Answered request answer None) h s = absurd h
-isdu_fits size law (known.Answered had) Empty h s = absurd h
-isdu_fits size law (known.Answered had) (Receiving text a) h s = absurd h
-isdu_fits size law (known.Answered had) (Whole request a) h s = absurd h
-isdu_fits size law (known.Answered had) (Handed request) h s = absurd h
+isdu_fits size law (known.Answered had) state h s = answered_fits size law had state h
+isdu_fits size law (known.Perhaps had) state h s = elim h [
+  | inl is ↦ none_either (are_zeros (isdu_data size state))
+      (segment_fault had (isdu_data size state)) (answered_fits size law had state is)
+  | inr none ↦ ap (λ (s : IsduState). isdu_fault (known.Perhaps had) (isdu_data size s)) none
+      ∙ ap (λ (b : Bool). if b then None else segment_fault had (replicate size 0))
+      (zeros_are size)
+]
 isdu_fits size law known.Free state h s = refl
 
 told_asked : (size : ℕ) → AreTexts size → (read : Bool) (state : IsduState) → IsAsked read state
@@ -376,13 +573,47 @@ told_asked size law read (Receiving text a) h s = absurd h
 told_asked size law read (Whole request a) h s = absurd h
 
 had_read : (had : Had) (od : List ℕ) → (had_with had od).read ≡ had.read
-had_read had od = split (had.at == length had.text.items
-    && nat_le (length had.text.items + length od) MOST_HAD)
+had_read had od = split (nat_lt (length had.text.items) had.at)
+    (had.at == length had.text.items && nat_le (length had.text.items + length od) MOST_HAD)
   where
-    split : (b : Bool) → (if b then record had { text = record { items = had.text.items ++ od } }
+    split : (missed b : Bool) → (if missed
+        then record had { ahead = Some (ahead_told had.ahead had.at od) } else if b
+        then record had { text = record { items = had.text.items ++ od } }
         else had).read ≡ had.read
-    split true = refl
-    split false = refl
+    split true b = refl
+    split false true = refl
+    split false false = refl
+
+told_answered : (size : ℕ) → AreTexts size → (had : Had) (state : IsduState)
+    → IsAnswered size had state → IsAnswered size (had_with had (isdu_data size state)) state
+told_answered size law had (Answered request answer (Some i)) h = (
+  h.0 ∙ sym (had_read had (segment size (answer_text request answer) i)),
+  h.1,
+  had_holds size law request answer h.1 had i h.2 h.0,
+)
+told_answered size law had (Answered request answer None) h = absurd h
+told_answered size law had Empty h = absurd h
+told_answered size law had (Receiving text a) h = absurd h
+told_answered size law had (Whole request a) h = absurd h
+told_answered size law had (Handed request) h = absurd h
+
+-- where it was sent, or the answer had ended before
+perhaps_answered : (size : ℕ) (had : Had) (state : IsduState) (zeros : Bool)
+    (fault : Option Reason) → fault ≡ None
+    → IsAnswered size (had_with had (isdu_data size state)) state
+    → IsUnderWay size (if not zeros then known.Answered (had_with had (isdu_data size state)) else
+    if is_some fault then known.Quiet else known.Perhaps (had_with had (isdu_data size state)))
+    state
+perhaps_answered size had state false fault e h = h
+perhaps_answered size had state true None e h = inl h
+perhaps_answered size had state true (Some reason) e h = absurd (cc)
+
+perhaps_ended : (size : ℕ) (had : Had) (zeros : Bool) (fault : Option Reason) → zeros ≡ true
+    → IsUnderWay size (if not zeros then known.Answered (had_with had (replicate size 0)) else
+    if is_some fault then known.Quiet else known.Perhaps (had_with had (replicate size 0))) Empty
+perhaps_ended size had false fault e = absurd (cc)
+perhaps_ended size had true None e = inr refl
+perhaps_ended size had true (Some reason) e = refl
 
 pub told_under_way : (size : ℕ) → AreTexts size → (transfer : Transfer) (state : IsduState)
     → IsUnderWay size transfer state → IsSent state
@@ -392,14 +623,13 @@ told_under_way size law (known.Receiving text last) state h s = h
 told_under_way size law (known.Whole read last) state h s = h
 told_under_way size law (known.Handed read) state h s = h
 told_under_way size law (known.Asked read) state h s = told_asked size law read state h s
-told_under_way size law (known.Answered had) (Answered request answer (Some i)) h s = (
-  h.0 ∙ sym (had_read had (segment size (answer_text request answer) i)),
-  h.1,
-  had_holds size law request answer h.1 had i h.2 h.0,
-)
-told_under_way size law (known.Answered had) (Answered request answer None) h s = absurd h
-told_under_way size law (known.Answered had) Empty h s = absurd h
-told_under_way size law (known.Answered had) (Receiving text a) h s = absurd h
-told_under_way size law (known.Answered had) (Whole request a) h s = absurd h
-told_under_way size law (known.Answered had) (Handed request) h s = absurd h
+told_under_way size law (known.Answered had) state h s = told_answered size law had state h
+told_under_way size law (known.Perhaps had) state h s = elim h [
+  | inl is ↦ perhaps_answered size had state (are_zeros (isdu_data size state))
+      (segment_fault had (isdu_data size state)) (answered_fits size law had state is)
+      (told_answered size law had state is)
+  | inr none ↦ subst (λ (s : IsduState). IsUnderWay size (perhaps_told had (isdu_data size s)) s)
+      (sym none) (perhaps_ended size had (are_zeros (replicate size 0))
+      (segment_fault had (replicate size 0)) (zeros_are size))
+]
 told_under_way size law known.Free state h s = tt

@@ -1,5 +1,5 @@
 -- What is known of an ISDU transfer holds once a message was worked.
-use Rattle.std.proofs.Common.{◌≡◌, ℕ, zero, suc, ◌+◌, ◌*◌, ◌%◌, ◌<◌, ◌≤◌, Bool, true, false, List, length, refl, sym, ◌∙◌, ap, subst, arith, eqb-true, ⊎_elim}
+use Rattle.std.proofs.Common.{◌≡◌, ◌⊎◌, inl, inr, ℕ, zero, suc, ◌+◌, ◌*◌, ◌%◌, ◌<◌, ◌≤◌, Bool, true, false, List, [], length, refl, sym, ◌∙◌, ap, subst, arith, eqb-true, ⊎_elim, Result, Ok, Err}
 use Rattle.std.proofs.lemmas.Bool.{cases_lt, lt-ltb, le-ltb, ltb-true, ltb-false}
 use Rattle.std.proofs.lemmas.Bool.Decides.{nat_tests}
 use Rattle.std.proofs.Math.Nat.{mul-le-mul_right}
@@ -8,13 +8,15 @@ use Rattle.iol_octets.specs.declared.control.Channel.{Channel}
 use Rattle.iol_octets.specs.declared.control.Channel.TheVariants.{Process, Page, Diagnosis, Isdu}
 use Rattle.iol_octets.specs.declared.flow_control.Flow.{Flow}
 use Rattle.iol_octets.specs.declared.flow_control.Flow.TheVariants.{Start, Count}
+use Rattle.iol_isdu.specs.declared.fault.IsduFault.{IsduFault}
 use Rattle.iol_isdu.specs.declared.values.Request.{Request}
 use Rattle.iol_isdu.specs.declared.values.Answer.{Answer}
 use Rattle.iol_isdu.specs.Answers.{is_read}
+use Rattle.iol_isdu.specs.Frame.{total_at}
 use Rattle.iol_isdu.specs.Parse.{request_of}
 use Rattle.iol_segment.specs.Cut.{SegmentsHaveSize}
 use Rattle.iol_segment.specs.Join.{Stage, Open, Complete, Wrong, stage, next_count, is_last}
-use Rattle.iol_segment.specs.TextLaws.{TextLaws, HoldsLength}
+use Rattle.iol_segment.specs.TextLaws.{TextLaws, HoldsLength, joined}
 use Rattle.iol_far.specs.Isdu.{IsduState, Empty, Receiving, Whole, Handed, Answered, answer_text, fits, has_segment, isdu_written, isdu_read, own}
 use Rattle.iol_far.specs.Isdu as far
 use Rattle.iol_far.specs.Far.{Far, isdu_after, layout_of}
@@ -24,10 +26,11 @@ use Rattle.iol_judge.specs.declared.had.Had.{Had}
 use Rattle.iol_judge.specs.declared.transfer.Transfer.{Transfer}
 use Rattle.iol_judge.specs.declared.transfer.Transfer.TheVariants as known
 use Rattle.iol_judge.specs.declared.transfer.TheConstants.{LONGEST}
-use Rattle.iol_judge.specs.Answers.{is_next, is_open, was_sent}
-use Rattle.iol_judge.specs.Transfers.{completed, count_read, count_written, is_quiet, next_read, received, received_at, start_read, transfer_after, transfer_by, transfer_on, transfer_unknown}
-use Rattle.iol_judge.specs.UnderWay.{AreHad, IsUnderWay, IsHanded, IsAsked, IsAnswered}
-use Rattle.iol_judge.proofs.Segments.{length_joined}
+use Rattle.iol_judge.specs.Answers.{is_next, is_open, none_had, was_sent}
+use Rattle.iol_judge.specs.Transfers.{answered_read, behind_missed, completed, count_read, count_written, is_quiet, longest_answer, next_read, or_ended, received, received_at, start_read, transfer_after, transfer_by, transfer_on, transfer_unknown}
+use Rattle.iol_judge.specs.UnderWay.{AreHad, first_ones, IsUnderWay, IsHanded, IsAsked, IsAnswered}
+use Rattle.iol_judge.proofs.Segments.{length_first}
+use Rattle.iol_judge.proofs.Totals.{most_octets, total_of_first}
 
 -- what the crates below say of the segments of a text
 pub record AreTexts (size : ℕ) : Type 0 where
@@ -152,9 +155,35 @@ count_under_way size (known.Asked read) state count octets h =
     asked_written size read state count octets h
 count_under_way size (known.Answered had) state count octets h =
     answered_written size had state count octets h
+count_under_way size (known.Perhaps had) state count octets h = elim h [
+  | inl is ↦ answered_written size had state count octets is
+  | inr none ↦ ap (λ (s : IsduState). isdu_written s (Count count) octets) none
+]
 count_under_way size known.Free state count octets h = tt
 
 -- A read under START
+
+answered_start : (size : ℕ) (had : Had) (state : IsduState) → IsAnswered size had state
+    → IsAnswered size (record had { at = 0; count = 0 }) (isdu_read size state Start)
+answered_start size had (Answered request answer (Some sent)) h =
+    let within = h.2.within in (
+      h.0,
+      h.1,
+      record {
+        many = h.2.many;
+        octets = h.2.octets;
+        begins = h.2.begins;
+        ahead = h.2.ahead;
+        within = omega (arith, within);
+        at = omega arith;
+        count = refl;
+      },
+    )
+answered_start size had (Answered request answer None) h = absurd h
+answered_start size had (Handed request) h = absurd h
+answered_start size had Empty h = absurd h
+answered_start size had (Receiving text a) h = absurd h
+answered_start size had (Whole request a) h = absurd h
 
 start_under_way : (size : ℕ) (transfer : Transfer) (state : IsduState)
     → IsUnderWay size transfer state
@@ -180,25 +209,11 @@ start_under_way size (known.Asked read) (Answered request answer (Some (suc sent
 start_under_way size (known.Asked read) Empty h = absurd h
 start_under_way size (known.Asked read) (Receiving text a) h = absurd h
 start_under_way size (known.Asked read) (Whole request a) h = absurd h
-start_under_way size (known.Answered had) (Answered request answer (Some sent)) h =
-    let within = h.2.within in (
-      h.0,
-      h.1,
-      record {
-        last = h.2.last;
-        octets = h.2.octets;
-        begins = h.2.begins;
-        most = omega arith;
-        within = omega (arith, within);
-        at = omega arith;
-        count = refl;
-      },
-    )
-start_under_way size (known.Answered had) (Answered request answer None) h = absurd h
-start_under_way size (known.Answered had) (Handed request) h = absurd h
-start_under_way size (known.Answered had) Empty h = absurd h
-start_under_way size (known.Answered had) (Receiving text a) h = absurd h
-start_under_way size (known.Answered had) (Whole request a) h = absurd h
+start_under_way size (known.Answered had) state h = answered_start size had state h
+start_under_way size (known.Perhaps had) state h = elim h [
+  | inl is ↦ inl (answered_start size had state is)
+  | inr none ↦ inr (ap (λ (s : IsduState). isdu_read size s Start) none)
+]
 start_under_way size known.Free state h = tt
 
 -- A read under COUNT
@@ -245,24 +260,24 @@ module _ (size : ℕ) (law : AreTexts size) (request : Request) (answer : Answer
   holds : HoldsLength (answer_text request answer)
   holds = law.texts.answers (is_read request) answer (law.fitting request answer fit)
 
-  length_had : length had.text.items ≡ suc are.last * size
+  length_had : length had.text.items ≡ are.many * size
   length_had = ap (λ (l : List ℕ). length l) are.octets
-      ∙ length_joined law.sized size (answer_text request answer) are.last
+      ∙ length_first law.sized size (answer_text request answer) are.many
 
-  -- the next segment, where it is one that was had, or the one behind them
-  next_had : (count : ℕ) → count ≡ (sent + 1) % 16 → sent ≤ are.last
+  -- the next segment, where there is one
+  next_had : (count : ℕ) → count ≡ (sent + 1) % 16
       → (sent + 1) * size < length (answer_text request answer)
-      → IsUnderWay size (known.Answered (record had { at = had.at + size; count = count }))
+      → IsAnswered size (record had { at = had.at + size; count = count })
       (Answered request answer (Some (sent + 1)))
-  next_had count e most within =
+  next_had count e within =
       let at = are.at in (
         read,
         fit,
         record {
-          last = are.last;
+          many = are.many;
           octets = are.octets;
           begins = are.begins;
-          most = omega (arith, most);
+          ahead = are.ahead;
           within = within;
           at = omega (arith, at);
           count = e;
@@ -272,8 +287,14 @@ module _ (size : ℕ) (law : AreTexts size) (request : Request) (answer : Answer
   counts : ((had.count + 1) % 16) ≡ ((sent + 1) % 16)
   counts = let count = are.count in ap (λ c. (c + 1) % 16) count ∙ counted_up sent
 
+  -- all up to the one sent last were had
+  joined_had : suc sent ≡ are.many
+      → had.text.items ≡ joined size (answer_text request answer) sent
+  joined_had same = subst (λ n. had.text.items ≡ first_ones size (answer_text request answer) n)
+      (sym same) are.octets
+
   -- there is a next segment where the octets had are no whole text
-  open_within : sent ≡ are.last → is_open (stage had.text.items) ≡ true
+  open_within : suc sent ≡ are.many → is_open (stage had.text.items) ≡ true
       → (sent + 1) * size < length (answer_text request answer)
   open_within same e = ⊎_elim fits whole
       (cases_lt ((sent + 1) * size) (length (answer_text request answer)))
@@ -285,17 +306,15 @@ module _ (size : ℕ) (law : AreTexts size) (request : Request) (answer : Answer
       whole : length (answer_text request answer) ≤ (sent + 1) * size
           → (sent + 1) * size < length (answer_text request answer)
       whole le =
-          let begins = are.begins in
-          let most : length (answer_text request answer) ≤ suc are.last * size =
-          subst (λ n. length (answer_text request answer) ≤ suc n * size) same
-          (omega (arith, le)) in
+          let begins = are.within in
+          let most : length (answer_text request answer) ≤ suc sent * size = omega (arith, le) in
           let ended : stage had.text.items ≡ Complete (answer_text request answer) =
-          ap stage are.octets
-          ∙ law.texts.ends (answer_text request answer) are.last holds (begins, most) in
+          ap stage (joined_had same)
+          ∙ law.texts.ends (answer_text request answer) sent holds (begins, most) in
           absurd (let no : false ≡ true = sym (ap is_open ended) ∙ e in cc)
 
   -- and none where they are
-  closed_within : sent ≡ are.last → is_open (stage had.text.items) ≡ false
+  closed_within : suc sent ≡ are.many → is_open (stage had.text.items) ≡ false
       → nat_lt ((sent + 1) * size) (length (answer_text request answer)) ≡ false
   closed_within same e = ⊎_elim fits whole
       (cases_lt ((sent + 1) * size) (length (answer_text request answer)))
@@ -307,80 +326,156 @@ module _ (size : ℕ) (law : AreTexts size) (request : Request) (answer : Answer
       fits : (sent + 1) * size < length (answer_text request answer)
           → nat_lt ((sent + 1) * size) (length (answer_text request answer)) ≡ false
       fits lt =
-          let before : suc are.last * size < length (answer_text request answer) =
-          subst (λ n. suc n * size < length (answer_text request answer)) same
-          (omega (arith, lt)) in
+          let before : suc sent * size < length (answer_text request answer) =
+          omega (arith, lt) in
           let grows : stage had.text.items ≡ Open =
-          ap stage are.octets ∙ law.texts.grows (answer_text request answer) are.last holds
+          ap stage (joined_had same) ∙ law.texts.grows (answer_text request answer) sent holds
           before in
           absurd (let no : true ≡ false = sym (ap is_open grows) ∙ e in cc)
 
-  Next : ℕ → Type 0
-  Next count = IsUnderWay size (next_read had count (had.at + size))
+  -- what is held behind the read, where the COUNT is the next
+  Next : Transfer → Type 0
+  Next transfer = IsUnderWay size transfer
       (if has_segment size (answer_text request answer) (sent + 1)
       then Answered request answer (Some (sent + 1)) else Empty)
 
-  next_within : (count : ℕ) → count ≡ (sent + 1) % 16 → sent ≤ are.last
+  next_within : (count : ℕ) → count ≡ (sent + 1) % 16
       → (sent + 1) * size < length (answer_text request answer)
-      → IsUnderWay size (known.Answered (record had { at = had.at + size; count = count }))
-      (if has_segment size (answer_text request answer) (sent + 1)
-      then Answered request answer (Some (sent + 1)) else Empty)
-  next_within count e most within =
+      → Next (known.Answered (record had { at = had.at + size; count = count }))
+  unfolding Next
+  next_within count e within =
       subst (λ (b : Bool). IsUnderWay size
       (known.Answered (record had { at = had.at + size; count = count }))
       (if b then Answered request answer (Some (sent + 1)) else Empty))
       (sym (lt-ltb ((sent + 1) * size) (length (answer_text request answer)) within))
-      (next_had count e most within)
+      (next_had count e within)
 
-  next_goes : (count : ℕ) → count ≡ (sent + 1) % 16 → Next count
+  next_past : length (answer_text request answer) ≤ (sent + 1) * size → Next known.Quiet
   unfolding Next
+  next_past le = ap (λ (b : Bool). if b then Answered request answer (Some (sent + 1)) else Empty)
+      (le-ltb ((sent + 1) * size) (length (answer_text request answer)) le)
+
+  -- behind a segment that wasn't had
+  next_missed : (count : ℕ) → count ≡ (sent + 1) % 16 → (total : Result ℕ IsduFault)
+      → total_at had.text.items ≡ total
+      → Next (behind_missed (record had { at = had.at + size; count = count }) total)
+  unfolding Next next_within next_past
+  next_missed count e (Ok total) t = split (nat_lt (had.at + size) total) refl
+    where
+      long : total ≡ length (answer_text request answer)
+      long = total_of_first size (answer_text request answer) are.many total holds are.begins
+          (sym (ap total_at are.octets) ∙ t)
+
+      split : (b : Bool) → nat_lt (had.at + size) total ≡ b
+          → IsUnderWay size
+          (if b then known.Answered (record had { at = had.at + size; count = count })
+          else known.Quiet) (if has_segment size (answer_text request answer) (sent + 1)
+          then Answered request answer (Some (sent + 1)) else Empty)
+      split true b =
+          let at = are.at in
+          let own = long in
+          let less = ltb-true (had.at + size) total b in
+          next_within count e (omega (arith, at, own, less))
+      split false b =
+          let at = are.at in
+          let own = long in
+          let more = ltb-false (had.at + size) total b in
+          next_past (omega (arith, at, own, more))
+  next_missed count e (Err fault) t =
+      split (nat_lt (had.at + size) (longest_answer had.read)) refl
+    where
+      either : IsAnswered size (record had { at = had.at + size; count = count })
+          (if has_segment size (answer_text request answer) (sent + 1)
+          then Answered request answer (Some (sent + 1)) else Empty)
+          ⊎ ((if has_segment size (answer_text request answer) (sent + 1)
+          then Answered request answer (Some (sent + 1)) else Empty) ≡ Empty)
+      either = ⊎_elim goes ends
+          (cases_lt ((sent + 1) * size) (length (answer_text request answer)))
+        where
+          goes : (sent + 1) * size < length (answer_text request answer)
+              → IsAnswered size (record had { at = had.at + size; count = count })
+              (if has_segment size (answer_text request answer) (sent + 1)
+              then Answered request answer (Some (sent + 1)) else Empty)
+              ⊎ ((if has_segment size (answer_text request answer) (sent + 1)
+              then Answered request answer (Some (sent + 1)) else Empty) ≡ Empty)
+          goes lt = inl (next_within count e lt)
+
+          ends : length (answer_text request answer) ≤ (sent + 1) * size
+              → IsAnswered size (record had { at = had.at + size; count = count })
+              (if has_segment size (answer_text request answer) (sent + 1)
+              then Answered request answer (Some (sent + 1)) else Empty)
+              ⊎ ((if has_segment size (answer_text request answer) (sent + 1)
+              then Answered request answer (Some (sent + 1)) else Empty) ≡ Empty)
+          ends le = inr (next_past le)
+
+      split : (b : Bool) → nat_lt (had.at + size) (longest_answer had.read) ≡ b
+          → IsUnderWay size
+          (if b then known.Perhaps (record had { at = had.at + size; count = count })
+          else known.Quiet) (if has_segment size (answer_text request answer) (sent + 1)
+          then Answered request answer (Some (sent + 1)) else Empty)
+      split true b = either
+      split false b =
+          let at = are.at in
+          let most : length (answer_text request answer) ≤ longest_answer had.read =
+          subst (λ (r : Bool). length (answer_text request answer) ≤ longest_answer r) read
+          (most_octets (is_read request) (answer_text request answer) holds
+          (law.texts.accepted (is_read request) answer (law.fitting request answer fit))) in
+          let more = ltb-false (had.at + size) (longest_answer had.read) b in
+          next_past (omega (arith, at, most, more))
+
+  next_goes : (count : ℕ) → count ≡ (sent + 1) % 16 → Next (next_read had count (had.at + size))
+  unfolding Next next_within next_missed
   next_goes count e = split (nat_lt (length had.text.items) (had.at + size))
       (nat_lt (had.at + size) (length had.text.items)) (is_open (stage had.text.items)) refl
       refl refl
     where
       -- by where the next segment begins
-      earlier : had.at + size < length had.text.items → sent < are.last
+      earlier : had.at + size < length had.text.items → suc sent < are.many
       earlier lt =
           let at = are.at in
           let long = length_had in
-          below_by size law.some sent are.last (omega (arith, lt, at, long))
+          below_by size law.some (suc sent) are.many (omega (arith, lt, at, long))
 
       equal : length had.text.items ≤ had.at + size → had.at + size ≤ length had.text.items
-          → sent ≡ are.last
+          → suc sent ≡ are.many
       equal le ge =
           let at = are.at in
           let long = length_had in
-          same_by size law.some sent are.last (omega (arith, le, ge, at, long))
+          same_by size law.some (suc sent) are.many (omega (arith, le, ge, at, long))
 
       split : (past before opened : Bool) → nat_lt (length had.text.items) (had.at + size) ≡ past
           → nat_lt (had.at + size) (length had.text.items) ≡ before
           → is_open (stage had.text.items) ≡ opened
-          → IsUnderWay size (if past then known.Free else
+          → IsUnderWay size (if past
+          then behind_missed (record had { at = had.at + size; count = count })
+          (total_at had.text.items) else
           if before then known.Answered (record had { at = had.at + size; count = count }) else
           if opened then known.Answered (record had { at = had.at + size; count = count }) else
           known.Quiet)
           (if has_segment size (answer_text request answer) (sent + 1)
           then Answered request answer (Some (sent + 1)) else Empty)
-      split true before opened p b o = tt
+      split true before opened p b o = next_missed count e (total_at had.text.items) refl
       split false true opened p b o =
-          let lt : sent < are.last =
+          let lt : suc sent < are.many =
           earlier (ltb-true (had.at + size) (length had.text.items) b) in
           let begins = are.begins in
-          let under : suc sent * size ≤ are.last * size =
+          let under : suc (suc sent) * size ≤ are.many * size =
           mul-le-mul_right size (omega (arith, lt)) in
-          next_within count e (omega (arith, lt)) (omega (arith, begins, under))
+          next_within count e (omega (arith, begins, under))
       split false false true p b o =
-          let same : sent ≡ are.last = equal (ltb-false (had.at + size) (length had.text.items) b)
+          let same : suc sent ≡ are.many =
+          equal (ltb-false (had.at + size) (length had.text.items) b)
           (ltb-false (length had.text.items) (had.at + size) p) in
-          next_within count e (omega (arith, same)) (open_within same o)
+          next_within count e (open_within same o)
       split false false false p b o =
-          let same : sent ≡ are.last = equal (ltb-false (had.at + size) (length had.text.items) b)
+          let same : suc sent ≡ are.many =
+          equal (ltb-false (had.at + size) (length had.text.items) b)
           (ltb-false (length had.text.items) (had.at + size) p) in
           ap (λ (b : Bool). if b then Answered request answer (Some (sent + 1)) else Empty)
           (closed_within same o)
 
   -- a read under COUNT
-  pub count_goes : (count : ℕ) → IsUnderWay size (count_read size (known.Answered had) count)
+  pub count_goes : (count : ℕ) → IsUnderWay size (answered_read size had count)
       (isdu_read size (Answered request answer (Some sent)) (Count count))
   unfolding Next
   count_goes count = rw_same (nat_lt 0 sent && count == sent % 16) (count == (sent + 1) % 16)
@@ -395,7 +490,7 @@ module _ (size : ℕ) (law : AreTexts size) (request : Request) (answer : Answer
 
       rw_same : (a b : Bool) → (nat_lt 0 sent && count == sent % 16) ≡ a
           → (count == (sent + 1) % 16) ≡ b
-          → IsUnderWay size (count_read size (known.Answered had) count)
+          → IsUnderWay size (answered_read size had count)
           (isdu_read size (Answered request answer (Some sent)) (Count count))
       rw_same a b p q =
           let left : was_sent had count ≡ a = was ∙ p in
@@ -412,6 +507,66 @@ module _ (size : ℕ) (law : AreTexts size) (request : Request) (answer : Answer
           split false true q = next_goes count (eqb-true count ((sent + 1) % 16) q)
           split false false q = refl
 
+answered_count : (size : ℕ) → AreTexts size → (had : Had) (state : IsduState) (count : ℕ)
+    → IsAnswered size had state
+    → IsUnderWay size (answered_read size had count) (isdu_read size state (Count count))
+answered_count size law had (Answered request answer (Some sent)) count h =
+    count_goes size law request answer had sent h.0 h.1 h.2 count
+answered_count size law had (Answered request answer None) count h = absurd h
+answered_count size law had Empty count h = absurd h
+answered_count size law had (Receiving text last) count h = absurd h
+answered_count size law had (Whole request last) count h = absurd h
+answered_count size law had (Handed request) count h = absurd h
+
+-- or the answer had ended before
+still_goes : (size : ℕ) (transfer : Transfer) (state : IsduState)
+    → IsUnderWay size transfer state → IsUnderWay size (or_ended transfer) state
+still_goes size (known.Answered had) state h = inl h
+still_goes size known.Quiet state h = h
+still_goes size (known.Receiving text last) state h = h
+still_goes size (known.Whole read last) state h = h
+still_goes size (known.Handed read) state h = h
+still_goes size (known.Asked read) state h = h
+still_goes size (known.Perhaps had) state h = h
+still_goes size known.Free state h = h
+
+missed_ended : (size : ℕ) (had : Had) (total : Result ℕ IsduFault)
+    → IsUnderWay size (or_ended (behind_missed had total)) Empty
+missed_ended size had (Ok total) = split (nat_lt had.at total)
+  where
+    split : (b : Bool) → IsUnderWay size
+        (or_ended (if b then known.Answered had else known.Quiet)) Empty
+    split true = inr refl
+    split false = refl
+missed_ended size had (Err fault) = split (nat_lt had.at (longest_answer had.read))
+  where
+    split : (b : Bool) → IsUnderWay size
+        (or_ended (if b then known.Perhaps had else known.Quiet)) Empty
+    split true = inr refl
+    split false = refl
+
+had_ended : (size : ℕ) (had : Had) (count : ℕ)
+    → IsUnderWay size (or_ended (answered_read size had count)) Empty
+had_ended size had count = split (was_sent had count) (is_next had count)
+    (nat_lt (length had.text.items) (had.at + size))
+    (nat_lt (had.at + size) (length had.text.items)) (is_open (stage had.text.items))
+  where
+    split : (was next past before opened : Bool) → IsUnderWay size (or_ended
+        (if was then known.Answered had else if next then
+        (if past then behind_missed (record had { at = had.at + size; count = count })
+        (total_at had.text.items) else
+        if before then known.Answered (record had { at = had.at + size; count = count }) else
+        if opened then known.Answered (record had { at = had.at + size; count = count }) else
+        known.Quiet) else known.Quiet)) Empty
+    split true next past before opened = inr refl
+    split false true true before opened =
+        missed_ended size (record had { at = had.at + size; count = count })
+        (total_at had.text.items)
+    split false true false true opened = inr refl
+    split false true false false true = inr refl
+    split false true false false false = refl
+    split false false past before opened = refl
+
 handed_count : (size : ℕ) (read : Bool) (state : IsduState) (count : ℕ) → IsHanded read state
     → isdu_read size state (Count count) ≡ Empty
 handed_count size read (Handed request) count h = refl
@@ -421,30 +576,78 @@ handed_count size read Empty count h = absurd h
 handed_count size read (Receiving text last) count h = absurd h
 handed_count size read (Whole request last) count h = absurd h
 
-asked_count : (size : ℕ) (read : Bool) (state : IsduState) (count : ℕ) → IsAsked read state
-    → IsUnderWay size (if count == 1 then known.Free else known.Quiet)
-    (isdu_read size state (Count count))
-asked_count size read (Answered request answer (Some zero)) count h = split (count == 1)
+-- the second segment, where there is one
+second_sent : Bool → ℕ → Had
+second_sent read size = record (none_had read) { at = size; count = 1 }
+
+module _ (size : ℕ) (law : AreTexts size) (request : Request) (answer : Answer)
+    (fit : IsTrue (fits request answer)) where
+  second_goes : (read : Bool) → is_read request ≡ read → (room more : Bool)
+      → nat_lt size (longest_answer read) ≡ room
+      → has_segment size (answer_text request answer) 1 ≡ more
+      → IsUnderWay size (if room then known.Perhaps (second_sent read size) else known.Quiet)
+      (if more then Answered request answer (Some 1) else Empty)
+  unfolding second_sent
+  second_goes read is true false r e = inr refl
+  second_goes read is false false r e = refl
+  second_goes read is true true r e =
+      let within = ltb-true (1 * size) (length (answer_text request answer)) e in
+      let some = law.some in
+      inl (
+        is,
+        fit,
+        record {
+          many = 0;
+          octets = refl;
+          begins = omega (arith, some);
+          ahead = tt;
+          within = within;
+          at = omega arith;
+          count = refl;
+        },
+      )
+  second_goes read is false true r e =
+      let within = ltb-true (1 * size) (length (answer_text request answer)) e in
+      let holds : HoldsLength (answer_text request answer) =
+      law.texts.answers (is_read request) answer (law.fitting request answer fit) in
+      let most : length (answer_text request answer) ≤ longest_answer read =
+      subst (λ (r : Bool). length (answer_text request answer) ≤ longest_answer r) is
+      (most_octets (is_read request) (answer_text request answer) holds
+      (law.texts.accepted (is_read request) answer (law.fitting request answer fit))) in
+      let past = ltb-false size (longest_answer read) r in
+      absurd (omega (arith, within, most, past))
+
+quiet_count : (size : ℕ) (read room b : Bool) → IsUnderWay size (if b
+    then (if room then known.Perhaps (second_sent read size) else known.Quiet) else known.Quiet)
+    Empty
+quiet_count size read true true = inr refl
+quiet_count size read false true = refl
+quiet_count size read room false = refl
+
+asked_count : (size : ℕ) → AreTexts size → (read : Bool) (state : IsduState) (count : ℕ)
+    → IsAsked read state → IsUnderWay size (if count == 1
+    then behind_missed (record (none_had read) { at = size; count = 1 }) (total_at [])
+    else known.Quiet) (isdu_read size state (Count count))
+unfolding second_sent
+asked_count size law read (Answered request answer (Some zero)) count h = split (count == 1)
   where
-    split : (b : Bool) → IsUnderWay size (if b then known.Free else known.Quiet)
+    split : (b : Bool) → IsUnderWay size (if b
+        then behind_missed (record (none_had read) { at = size; count = 1 }) (total_at [])
+        else known.Quiet)
         (if (b && has_segment size (answer_text request answer) 1)
         then Answered request answer (Some 1) else Empty)
-    split true = tt
+    split true = second_goes size law request answer h.1 read h.0
+        (nat_lt size (longest_answer read)) (has_segment size (answer_text request answer) 1) refl
+        refl
     split false = refl
-asked_count size read (Handed request) count h = split (count == 1)
-  where
-    split : (b : Bool) → IsUnderWay size (if b then known.Free else known.Quiet) Empty
-    split true = tt
-    split false = refl
-asked_count size read (Answered request answer None) count h = split (count == 1)
-  where
-    split : (b : Bool) → IsUnderWay size (if b then known.Free else known.Quiet) Empty
-    split true = tt
-    split false = refl
-asked_count size read (Answered request answer (Some (suc sent))) count h = absurd h
-asked_count size read Empty count h = absurd h
-asked_count size read (Receiving text last) count h = absurd h
-asked_count size read (Whole request last) count h = absurd h
+asked_count size law read (Handed request) count h =
+    quiet_count size read (nat_lt size (longest_answer read)) (count == 1)
+asked_count size law read (Answered request answer None) count h =
+    quiet_count size read (nat_lt size (longest_answer read)) (count == 1)
+asked_count size law read (Answered request answer (Some (suc sent))) count h = absurd h
+asked_count size law read Empty count h = absurd h
+asked_count size law read (Receiving text last) count h = absurd h
+asked_count size law read (Whole request last) count h = absurd h
 
 count_read_under_way : (size : ℕ) → AreTexts size → (transfer : Transfer) (state : IsduState)
     (count : ℕ) → IsUnderWay size transfer state
@@ -462,15 +665,15 @@ count_read_under_way size law (known.Whole read last) (Answered request answer a
 count_read_under_way size law (known.Handed read) state count h =
     handed_count size read state count h
 count_read_under_way size law (known.Asked read) state count h =
-    asked_count size read state count h
-count_read_under_way size law (known.Answered had) (Answered request answer (Some sent)) count h =
-    count_goes size law request answer had sent h.0 h.1 h.2 count
-count_read_under_way size law (known.Answered had) (Answered request answer None) count h =
-    absurd h
-count_read_under_way size law (known.Answered had) Empty count h = absurd h
-count_read_under_way size law (known.Answered had) (Receiving text a) count h = absurd h
-count_read_under_way size law (known.Answered had) (Whole request a) count h = absurd h
-count_read_under_way size law (known.Answered had) (Handed request) count h = absurd h
+    asked_count size law read state count h
+count_read_under_way size law (known.Answered had) state count h =
+    answered_count size law had state count h
+count_read_under_way size law (known.Perhaps had) state count h = elim h [
+  | inl is ↦ still_goes size (answered_read size had count) (isdu_read size state (Count count))
+      (answered_count size law had state count is)
+  | inr none ↦ subst (λ (s : IsduState). IsUnderWay size (or_ended (answered_read size had count))
+      (isdu_read size s (Count count))) (sym none) (had_ended size had count)
+]
 count_read_under_way size law known.Free state count h = tt
 
 -- A message
@@ -518,6 +721,7 @@ perhaps counted knows size (known.Whole request last) state read flow octets nev
 perhaps counted knows size (known.Handed request) state read flow octets never h = tt
 perhaps counted knows size (known.Asked request) state read flow octets never h = tt
 perhaps counted knows size (known.Answered had) state read flow octets never h = tt
+perhaps counted knows size (known.Perhaps had) state read flow octets never h = tt
 perhaps counted knows size known.Free state read flow octets never h = tt
 
 unknown_worked : (counted : Option ℕ) (knows : Bool) (size : ℕ) (transfer : Transfer)

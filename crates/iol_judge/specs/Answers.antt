@@ -1,5 +1,5 @@
--- What is known of an answer, once its first segment was had.
-use Rattle.std.specs.Prelude.{ℕ, ◌+◌, ◌/◌, ◌%◌, Bool, true, false, ◌&&◌, ◌==◌, nat_eq, nat_lt, nat_le, bytes_eq, if◌then◌else◌, List, ◌++◌, length, drop, slice_index, Option, Some, None, Result, Ok, Err}
+-- What is known of an answer, once a segment was sent.
+use Rattle.std.specs.Prelude.{ℕ, ◌+◌, ◌-◌, ◌/◌, ◌%◌, Bool, true, false, ◌&&◌, ◌||◌, ◌==◌, nat_eq, nat_lt, nat_le, bytes_eq, if◌then◌else◌, List, [], ◌++◌, length, drop, slice_index, Option, Some, None, is_some, Result, Ok, Err}
 use Rattle.std.specs.List.{starts_with}
 use Rattle.std.specs.Option.{option_or}
 use Rattle.iol_isdu.specs.Answers.{answer_accepts, answer_fault, answers_read}
@@ -7,23 +7,37 @@ use Rattle.iol_isdu.specs.Frame.{total_at}
 use Rattle.iol_isdu.specs.declared.fault.IsduFault.{IsduFault}
 use Rattle.iol_isdu.specs.declared.fault.IsduFault.TheVariants.{Truncated, BadIsduLength, BadChkpdu}
 use Rattle.iol_segment.specs.Join.{Stage, Open, Complete, Wrong, stage}
+use Rattle.iol_judge.specs.declared.had.Ahead.{Ahead}
 use Rattle.iol_judge.specs.declared.had.Had.{Had}
-use Rattle.iol_judge.specs.declared.had.TheConstants.{MOST_HAD}
+use Rattle.iol_judge.specs.declared.had.TheConstants.{MOST_AHEAD, MOST_HAD}
 use Rattle.iol_judge.specs.declared.reason.Reason.{Reason}
 use Rattle.iol_judge.specs.declared.reason.Reason.TheVariants.{BusyAgain, AnswerKind, AnswerLength, AnswerSum, AnswerPadding, SegmentChanged}
 use Rattle.iol_judge.specs.Octets.{are_zeros}
 
 abbrev pub first_had : Bool → List ℕ → Had
-first_had read od = record { read = read; text = record { items = od }; at = 0; count = 0 }
+first_had read od =
+    record { read = read; text = record { items = od }; at = 0; count = 0; ahead = None }
+
+-- the first segment was sent, and not had
+abbrev pub none_had : Bool → Had
+none_had read = first_had read []
 
 abbrev pub same_read : Bool → Bool → Bool
 same_read true true = true
 same_read false false = true
 same_read a b = false
 
+abbrev pub is_ahead : Ahead → Ahead → Bool
+is_ahead a b = a.at == b.at && bytes_eq a.octets.items b.octets.items
+
+abbrev pub same_ahead : Option Ahead → Option Ahead → Bool
+same_ahead None None = true
+same_ahead (Some a) (Some b) = is_ahead a b
+same_ahead a b = false
+
 abbrev pub same_had : Had → Had → Bool
 same_had a b = same_read a.read b.read && bytes_eq a.text.items b.text.items && a.at == b.at
-    && a.count == b.count
+    && a.count == b.count && same_ahead a.ahead b.ahead
 
 -- the segment sent last, behind the first, has this COUNT
 -- DEV-13
@@ -92,17 +106,75 @@ text_fault_at read Wrong octets = Some AnswerLength
 abbrev pub text_fault : Bool → List ℕ → Option Reason
 text_fault read octets = text_fault_at read (stage octets) octets
 
+-- why a segment that had these octets can't have others
+-- DEV-13
+abbrev pub same_fault : List ℕ → List ℕ → Option Reason
+same_fault octets od = if starts_with nat_eq octets od then None else Some SegmentChanged
+
+-- how far behind the first octet a place is that is in segments behind one that wasn't had
+abbrev pub place_in : Ahead → ℕ → Option ℕ
+place_in ahead at =
+    if nat_le ahead.at at && nat_lt (at - ahead.at) (length ahead.octets.items)
+    then Some (at - ahead.at) else None
+
+abbrev pub again_fault : Ahead → Option ℕ → List ℕ → Option Reason
+again_fault ahead None od = None
+again_fault ahead (Some place) od = same_fault (drop place ahead.octets.items) od
+
+-- why the segment at a place can't have these, where it was had behind one that wasn't
+-- DEV-13
+abbrev pub ahead_fault : Option Ahead → ℕ → List ℕ → Option Reason
+ahead_fault None at od = None
+ahead_fault (Some ahead) at od = again_fault ahead (place_in ahead at) od
+
+-- why an answer of this total length can't have these octets at a place
+-- SEG-1
+abbrev pub padding_fault : ℕ → ℕ → List ℕ → Option Reason
+padding_fault total at od =
+    if nat_le (at + length od) total || are_zeros (drop (total - at) od) then None
+    else Some AnswerPadding
+
+-- so where the length may be known
+abbrev pub behind_fault : Result ℕ IsduFault → ℕ → List ℕ → Option Reason
+behind_fault (Ok total) at od = padding_fault total at od
+behind_fault (Err fault) at od = None
+
+-- why the segment sent last can't, behind those from the first on
+-- SEG-1, SEG-5
+abbrev pub next_fault : Had → List ℕ → Option Reason
+next_fault had od = if had.at == length had.text.items
+    then text_fault had.read (had.text.items ++ od)
+    else behind_fault (total_at had.text.items) had.at od
+
 -- why the segment sent last can't have these octets: busy again, others than before, or no text
 -- DEV-13, ISDU-11
 abbrev pub segment_fault : Had → List ℕ → Option Reason
 segment_fault had od =
     if had.at == 0 && is_busy od then Some BusyAgain else
-    if nat_lt had.at (length had.text.items) then
-    (if starts_with nat_eq (drop had.at had.text.items) od then None else Some SegmentChanged) else
-    text_fault had.read (had.text.items ++ od)
+    if nat_lt had.at (length had.text.items) then same_fault (drop had.at had.text.items) od else
+    option_or (ahead_fault had.ahead had.at od) (next_fault had od)
+
+abbrev pub one_ahead : ℕ → List ℕ → Ahead
+one_ahead at od = record { at = at; octets = record { items = od } }
+
+-- with the segment at a place that isn't in them: right behind them, or alone
+abbrev pub ahead_with : Ahead → ℕ → List ℕ → Ahead
+ahead_with ahead at od =
+    if ahead.at + length ahead.octets.items == at
+    && nat_le (length ahead.octets.items + length od) MOST_AHEAD
+    then record ahead { octets = record { items = ahead.octets.items ++ od } } else
+    one_ahead at od
+
+-- once the segment at a place behind one that wasn't had had these octets
+abbrev pub ahead_told : Option Ahead → ℕ → List ℕ → Ahead
+ahead_told None at od = one_ahead at od
+ahead_told (Some ahead) at od =
+    if is_some (place_in ahead at) then ahead else ahead_with ahead at od
 
 -- once it had these octets
 abbrev pub had_with : Had → List ℕ → Had
 had_with had od =
+    if nat_lt (length had.text.items) had.at
+    then record had { ahead = Some (ahead_told had.ahead had.at od) } else
     if had.at == length had.text.items && nat_le (length had.text.items + length od) MOST_HAD
     then record had { text = record { items = had.text.items ++ od } } else had

@@ -1,5 +1,5 @@
 -- What is known of an ISDU transfer.
-use Rattle.std.specs.Prelude.{ℕ, ◌+◌, Bool, true, false, ◌&&◌, ◌==◌, nat_eq, nat_lt, nat_le, bytes_eq, if◌then◌else◌, List, ◌++◌, length, Option, Some, None, Result, Ok, Err}
+use Rattle.std.specs.Prelude.{ℕ, ◌+◌, Bool, true, false, not, ◌&&◌, ◌==◌, nat_eq, nat_lt, nat_le, bytes_eq, if◌then◌else◌, List, [], ◌++◌, length, Option, Some, None, is_some, Result, Ok, Err}
 use Rattle.std.specs.Option.{option_eq}
 use Rattle.iol_octets.specs.declared.control.Channel.{Channel}
 use Rattle.iol_octets.specs.declared.control.Channel.TheVariants.{Isdu}
@@ -7,7 +7,9 @@ use Rattle.iol_octets.specs.declared.flow_control.Flow.{Flow}
 use Rattle.iol_octets.specs.declared.flow_control.Flow.TheVariants.{Start, Count}
 use Rattle.iol_page.specs.declared.page.Layouts.{Layouts}
 use Rattle.iol_isdu.specs.declared.values.Request.{Request}
+use Rattle.iol_isdu.specs.declared.fault.IsduFault.{IsduFault}
 use Rattle.iol_isdu.specs.Answers.{is_read}
+use Rattle.iol_isdu.specs.Frame.{total_at}
 use Rattle.iol_isdu.specs.Parse.{request_of}
 use Rattle.iol_segment.specs.Join.{Stage, Open, Complete, Wrong, stage, next_count, is_last}
 use Rattle.iol_far.specs.Far.{WaitingCommand}
@@ -16,10 +18,10 @@ use Rattle.iol_judge.specs.declared.open.Open.{Open as Unsaid}
 use Rattle.iol_judge.specs.declared.reason.Reason.{Reason}
 use Rattle.iol_judge.specs.declared.reason.Reason.TheVariants.{NoAnswerDue, NotBusy}
 use Rattle.iol_judge.specs.declared.transfer.Transfer.{Transfer}
-use Rattle.iol_judge.specs.declared.transfer.Transfer.TheVariants.{Quiet, Receiving, Whole, Handed, Asked, Answered, Free}
-use Rattle.iol_judge.specs.declared.transfer.TheConstants.{LONGEST}
+use Rattle.iol_judge.specs.declared.transfer.Transfer.TheVariants.{Quiet, Receiving, Whole, Handed, Asked, Answered, Perhaps, Free}
+use Rattle.iol_judge.specs.declared.transfer.TheConstants.{LONGEST, LONGEST_TO_READ, LONGEST_TO_WRITE}
 use Rattle.iol_judge.specs.Octets.{are_zeros}
-use Rattle.iol_judge.specs.Answers.{first_had, had_with, is_busy, is_next, is_open, same_had, same_read, segment_fault, text_fault, was_sent}
+use Rattle.iol_judge.specs.Answers.{first_had, had_with, is_busy, is_next, is_open, none_had, same_had, same_read, segment_fault, text_fault, was_sent}
 
 -- what the first allows whatever the second does
 abbrev pub covers_transfer : Transfer → Transfer → Bool
@@ -33,6 +35,9 @@ covers_transfer (Handed read) (Handed reads) = same_read read reads
 covers_transfer (Asked read) (Handed reads) = same_read read reads
 covers_transfer (Asked read) (Asked reads) = same_read read reads
 covers_transfer (Answered had) (Answered other) = same_had had other
+covers_transfer (Perhaps had) (Answered other) = same_had had other
+covers_transfer (Perhaps had) (Perhaps other) = same_had had other
+covers_transfer (Perhaps had) Quiet = true
 covers_transfer a b = false
 
 -- A write on the ISDU channel
@@ -75,27 +80,55 @@ start_read (Whole read last) = Handed read
 start_read (Handed read) = Asked read
 start_read (Asked read) = Asked read
 start_read (Answered had) = Answered (record had { at = 0; count = 0 })
+start_read (Perhaps had) = Perhaps (record had { at = 0; count = 0 })
 start_read Free = Free
 start_read old = Quiet
 
--- The next segment of an answer: one that was had, or one that the octets had say there is. Of
--- one behind others that weren't had nothing is known
+-- how many octets the longest answer has, to a read or to a write
+-- ISDU-4
+abbrev pub longest_answer : Bool → ℕ
+longest_answer true = LONGEST_TO_READ
+longest_answer false = LONGEST_TO_WRITE
+
+-- a segment of an answer of this total length, behind one that wasn't had. Where the length isn't
+-- known the answer may have ended
+-- DEV-13
+abbrev pub behind_missed : Had → Result ℕ IsduFault → Transfer
+behind_missed had (Ok total) = if nat_lt had.at total then Answered had else Quiet
+behind_missed had (Err fault) =
+    if nat_lt had.at (longest_answer had.read) then Perhaps had else Quiet
+
+-- the next segment of an answer: one that was had, or one that the octets had say there is
 -- DEV-13
 abbrev pub next_read : Had → ℕ → ℕ → Transfer
 next_read had count next =
-    if nat_lt (length had.text.items) next then Free else
+    if nat_lt (length had.text.items) next
+    then behind_missed (record had { at = next; count = count }) (total_at had.text.items) else
     if nat_lt next (length had.text.items) then Answered (record had { at = next; count = count })
     else if is_open (stage had.text.items) then Answered (record had { at = next; count = count })
     else Quiet
 
+-- of an answer of which a segment was sent
 -- DEV-13, DEV-14
-abbrev pub count_read : ℕ → Transfer → ℕ → Transfer
-count_read size (Answered had) count =
+abbrev pub answered_read : ℕ → Had → ℕ → Transfer
+answered_read size had count =
     if was_sent had count then Answered had else
     if is_next had count then next_read had count (had.at + size) else
     Quiet
+
+-- or the answer had ended before
+abbrev pub or_ended : Transfer → Transfer
+or_ended (Answered had) = Perhaps had
+or_ended other = other
+
+-- DEV-13, DEV-14
+abbrev pub count_read : ℕ → Transfer → ℕ → Transfer
+count_read size (Answered had) count = answered_read size had count
+count_read size (Perhaps had) count = or_ended (answered_read size had count)
 -- where the answer's first segment was sent, and not had, there may be a second
-count_read size (Asked read) count = if count == 1 then Free else Quiet
+count_read size (Asked read) count =
+    if count == 1
+    then behind_missed (record (none_had read) { at = size; count = 1 }) (total_at []) else Quiet
 count_read size Free count = Free
 count_read size old count = Quiet
 
@@ -151,6 +184,7 @@ abbrev pub isdu_fault : Transfer → List ℕ → Option Reason
 isdu_fault (Handed read) od = if is_busy od then None else Some NotBusy
 isdu_fault (Asked read) od = if is_busy od then None else text_fault read od
 isdu_fault (Answered had) od = segment_fault had od
+isdu_fault (Perhaps had) od = if are_zeros od then None else segment_fault had od
 isdu_fault Free od = None
 isdu_fault transfer od = if are_zeros od then None else Some NoAnswerDue
 
@@ -158,9 +192,16 @@ isdu_fault transfer od = if are_zeros od then None else Some NoAnswerDue
 abbrev pub asked_told : Bool → List ℕ → Transfer
 asked_told read od = if is_busy od then Handed read else Answered (first_had read od)
 
+-- no answer any more, or a segment; zeros may be either
+abbrev pub perhaps_told : Had → List ℕ → Transfer
+perhaps_told had od =
+    if not (are_zeros od) then Answered (had_with had od) else
+    if is_some (segment_fault had od) then Quiet else Perhaps (had_with had od)
+
 abbrev pub told_by : Transfer → List ℕ → Transfer
 told_by (Asked read) od = asked_told read od
 told_by (Answered had) od = Answered (had_with had od)
+told_by (Perhaps had) od = perhaps_told had od
 told_by old od = old
 
 abbrev pub transfer_told : Transfer → Bool → Channel → List ℕ → Transfer

@@ -1,20 +1,41 @@
 -- Which ISDU states of a device are as known of its transfer.
-use Rattle.std.specs.Prelude.{◌≡◌, ◌≤◌, ◌<◌, ℕ, zero, suc, ◌*◌, ◌%◌, Bool, List, length, Option, Some, None, IsTrue}
+use Rattle.std.specs.Prelude.{◌≡◌, ◌⊎◌, ◌<◌, ℕ, zero, suc, ◌+◌, ◌*◌, ◌%◌, Bool, List, [], ◌++◌, length, Option, Some, None, IfSome, IsTrue}
 use Rattle.iol_isdu.specs.Answers.{is_read}
+use Rattle.iol_segment.specs.Cut.{segment}
 use Rattle.iol_segment.specs.TextLaws.{joined}
 use Rattle.iol_far.specs.Isdu.{IsduState, Empty, Receiving, Whole, Handed, Answered, answer_text, fits}
+use Rattle.iol_judge.specs.declared.had.Ahead.{Ahead}
 use Rattle.iol_judge.specs.declared.had.Had.{Had}
 use Rattle.iol_judge.specs.declared.transfer.Transfer.{Transfer}
 use Rattle.iol_judge.specs.declared.transfer.Transfer.TheVariants as known
 
--- The segments of a text up to one of them were had, of this size; the one sent last is one of
--- these, or the next
+-- so many segments of a text, of this size, from the first on
+abbrev pub first_ones : ℕ → List ℕ → ℕ → List ℕ
+first_ones size text zero = []
+first_ones size text (suc last) = joined size text last
+
+-- so many from another on
+abbrev pub later_ones : ℕ → List ℕ → ℕ → ℕ → List ℕ
+later_ones size text number zero = []
+later_ones size text number (suc many) =
+    later_ones size text number many ++ segment size text (number + many)
+
+-- segments of the text
+-- DEV-13
+pub record AreAhead (size : ℕ) (text : List ℕ) (ahead : Ahead) : Type 0 where
+  pub number : ℕ
+  pub many : ℕ
+  pub at : ahead.at ≡ number * size
+  pub octets : ahead.octets.items ≡ later_ones size text number many
+
+-- Segments of a text were had, of this size: so many from the first on, each of which begins within
+-- it, and some behind; and this one was sent last
 -- DEV-13
 pub record AreHad (size : ℕ) (had : Had) (text : List ℕ) (sent : ℕ) : Type 0 where
-  pub last : ℕ
-  pub octets : had.text.items ≡ joined size text last
-  pub begins : last * size < length text
-  pub most : sent ≤ suc last
+  pub many : ℕ
+  pub octets : had.text.items ≡ first_ones size text many
+  pub begins : many * size < length text + size
+  pub ahead : IfSome had.ahead (AreAhead size text)
   pub within : sent * size < length text
   pub at : had.at ≡ sent * size
   pub count : had.count ≡ sent % 16
@@ -55,4 +76,5 @@ IsUnderWay size (known.Whole read last) state = IsWhole read last state
 IsUnderWay size (known.Handed read) state = IsHanded read state
 IsUnderWay size (known.Asked read) state = IsAsked read state
 IsUnderWay size (known.Answered had) state = IsAnswered size had state
+IsUnderWay size (known.Perhaps had) state = IsAnswered size had state ⊎ (state ≡ Empty)
 IsUnderWay size known.Free state = Unit {0}

@@ -1,7 +1,7 @@
-//! What is known of an answer, once its first segment was had.
+//! What is known of an answer, once a segment was sent.
 ghost use Rattle.std.specs.Prelude.{◌≡◌, ◌<◌, ◌≤◌, ◌++◌, length, true, ◌&&◌, ◌==◌, nat_lt};
 ghost use Rattle.iol_segment.specs.Join.{stage};
-ghost use Rattle.iol_judge.specs.Answers.{first_had, had_with, is_busy, is_next, is_open, same_had, segment_fault, was_sent};
+ghost use Rattle.iol_judge.specs.Answers.{ahead_fault, ahead_told, ahead_with, first_had, had_with, is_ahead, is_busy, is_next, is_open, next_fault, none_had, one_ahead, padding_fault, place_in, same_ahead, same_fault, same_had, segment_fault, was_sent};
 
 use crate::answer::text_fault;
 use crate::octets::{are_zeros, first_octet, rest_of};
@@ -15,20 +15,87 @@ pub(crate) const MOST_HAD: usize = 270;
 /// With one segment more.
 const MOST_JOINED: usize = 302;
 
+/// The most octets that are kept of segments behind one that wasn't had.
+pub(crate) const MOST_AHEAD: usize = 64;
+
 /// Octets of an answer's segments.
 pub(crate) type Octets = ArrayVec<u8, MOST_HAD>;
 
-/// What is known of an answer that is sent.
+/// Segments of an answer that were had, one behind the other, behind one that wasn't.
+#[derive(Debug, Drop)]
+pub(crate) struct Ahead {
+    /// Where in the answer the first of them begins.
+    pub at: u16,
+    pub octets: ArrayVec<u8, MOST_AHEAD>,
+}
+
+impl Ahead {
+    /// One segment.
+    fn one(at: u16, od: &[u8]) -> Ahead
+        requires { length od.now ≤ 32 }
+        ensures { result ≡ one_ahead at od.now }
+    {
+        Ahead {
+            at,
+            octets: ArrayVec::try_from(od).unwrap(),
+        }
+    }
+
+    /// How far behind the first octet a place is that is in them.
+    fn place(&self, at: u16) -> Option<usize>
+        ensures { result ≡ place_in self.now at }
+    {
+        if at >= self.at && ((at - self.at) as usize) < self.octets.len() {
+            Some((at - self.at) as usize)
+        } else {
+            None
+        }
+    }
+
+    /// With the segment at a place that isn't in them: right behind them, or alone.
+    fn with(self, at: u16, od: &[u8]) -> Ahead
+        requires { length od.now ≤ 32 }
+        ensures { result ≡ ahead_with self at od.now }
+    {
+        let mut ahead = self;
+        let length = ahead.octets.len();
+        if ahead.at as usize + length != at as usize || length + od.len() > MOST_AHEAD {
+            return Ahead::one(at, od);
+        }
+        ahead.octets.try_extend_from_slice(od).unwrap();
+        ahead
+    }
+
+    fn copy(&self) -> Ahead
+        ensures { result ≡ self.now }
+    {
+        Ahead {
+            at: self.at,
+            octets: self.octets.clone().unwrap(),
+        }
+    }
+
+    fn is(&self, other: &Ahead) -> bool
+        ensures { result ≡ is_ahead self.now other.now }
+    {
+        self.at == other.at && self.octets.as_slice() == other.octets.as_slice()
+    }
+}
+
+/// What is known of an answer that is sent: the segments from the first on, up to one that wasn't
+/// had, and some of those behind it.
 #[derive(Debug, Drop)]
 pub(crate) struct Had {
     /// Whether it is one to a read.
     pub read: bool,
-    /// The segments that were had, from the first on.
+    /// The segments that were had from the first on.
     pub text: Octets,
-    /// Where in them the segment begins that was sent last.
+    /// Where in the answer the segment begins that was sent last.
     pub at: u16,
     /// Its COUNT, 0 for the first.
     pub count: u8,
+    /// Of the segments behind one that wasn't had those that were had last.
+    pub ahead: Option<Ahead>,
 }
 
 impl Had {
@@ -42,6 +109,20 @@ impl Had {
             text: Octets::try_from(od).unwrap(),
             at: 0,
             count: 0,
+            ahead: None,
+        }
+    }
+
+    /// The first segment was sent, and not had.
+    pub fn none(read: bool) -> Had
+        ensures { result ≡ none_had read }
+    {
+        Had {
+            read,
+            text: Octets::new(),
+            at: 0,
+            count: 0,
+            ahead: None,
         }
     }
 
@@ -53,6 +134,16 @@ impl Had {
             text: self.text.clone().unwrap(),
             at: self.at,
             count: self.count,
+            ahead: self.ahead_copy(),
+        }
+    }
+
+    fn ahead_copy(&self) -> Option<Ahead>
+        ensures { result ≡ self.now.ahead }
+    {
+        match &self.ahead {
+            Some(ahead) => Some(ahead.copy()),
+            None => None,
         }
     }
 
@@ -63,6 +154,17 @@ impl Had {
             && self.text.as_slice() == other.text.as_slice()
             && self.at == other.at
             && self.count == other.count
+            && self.ahead_as(other)
+    }
+
+    fn ahead_as(&self, other: &Had) -> bool
+        ensures { result ≡ same_ahead self.now.ahead other.now.ahead }
+    {
+        match (&self.ahead, &other.ahead) {
+            (None, None) => true,
+            (Some(a), Some(b)) => a.is(b),
+            _ => false,
+        }
     }
 
     /// The first segment was sent again.
@@ -81,6 +183,7 @@ impl Had {
             text: self.text,
             at,
             count,
+            ahead: self.ahead,
         }
     }
 
@@ -125,12 +228,41 @@ impl Had {
             return Some(Reason::BusyAgain);
         }
         let at = self.at as usize;
-        if at >= self.text.len() {
-            text_fault(self.read, &self.joined(od))
-        } else if self.text[at..].starts_with(od) {
-            None
+        if at < self.text.len() {
+            same_fault(&self.text[at..], od)
         } else {
-            Some(Reason::SegmentChanged)
+            self.ahead_fault(od).or(self.next_fault(od))
+        }
+    }
+
+    /// Why it can't, where it was had behind one that wasn't.
+    ///
+    /// Rule DEV-13.
+    fn ahead_fault(&self, od: &[u8]) -> Option<Reason>
+        ensures { result ≡ ahead_fault self.now.ahead self.now.at od.now }
+    {
+        match &self.ahead {
+            Some(ahead) => match ahead.place(self.at) {
+                Some(place) => same_fault(&ahead.octets[place..], od),
+                None => None,
+            },
+            None => None,
+        }
+    }
+
+    /// Why it can't, behind those that were had from the first on.
+    ///
+    /// Rules SEG-1, SEG-5.
+    fn next_fault(&self, od: &[u8]) -> Option<Reason>
+        requires { length od.now ≤ 32 }
+        ensures { result ≡ next_fault self.now od.now }
+    {
+        if self.at as usize == self.text.len() {
+            return text_fault(self.read, &self.joined(od));
+        }
+        match total_of(&self.text) {
+            Ok(total) => padding_fault(total, self.at, od),
+            Err(_) => None,
         }
     }
 
@@ -147,14 +279,58 @@ impl Had {
 
     /// Once it had these octets.
     pub fn with(self, od: &[u8]) -> Had
+        requires { length od.now ≤ 32 }
         ensures { result ≡ had_with self od.now }
     {
         let mut had = self;
         let length = had.text.len();
-        if had.at as usize == length && length + od.len() <= MOST_HAD {
+        let at = had.at;
+        if at as usize > length {
+            had.ahead = Some(ahead_told(had.ahead, at, od));
+        } else if at as usize == length && length + od.len() <= MOST_HAD {
             had.text.try_extend_from_slice(od).unwrap();
         }
         had
+    }
+}
+
+/// Once the segment at a place behind one that wasn't had had these octets.
+fn ahead_told(ahead: Option<Ahead>, at: u16, od: &[u8]) -> Ahead
+    requires { length od.now ≤ 32 }
+    ensures { result ≡ ahead_told ahead at od.now }
+{
+    match ahead {
+        Some(ahead) if ahead.place(at).is_some() => ahead,
+        Some(ahead) => ahead.with(at, od),
+        None => Ahead::one(at, od),
+    }
+}
+
+/// Why a segment that had these octets can't have others.
+///
+/// Rule DEV-13.
+fn same_fault(octets: &[u8], od: &[u8]) -> Option<Reason>
+    ensures { result ≡ same_fault octets.now od.now }
+{
+    if octets.starts_with(od) {
+        None
+    } else {
+        Some(Reason::SegmentChanged)
+    }
+}
+
+/// Why an answer of this total length can't have these octets at a place.
+///
+/// Rule SEG-1.
+fn padding_fault(total: usize, at: u16, od: &[u8]) -> Option<Reason>
+    requires { length od.now ≤ 32 }
+    ensures { result ≡ padding_fault total at od.now }
+{
+    let at = at as usize;
+    if at + od.len() <= total || are_zeros(&od[total.saturating_sub(at)..]) {
+        None
+    } else {
+        Some(Reason::AnswerPadding)
     }
 }
 

@@ -1,9 +1,10 @@
 //! What is known of an ISDU transfer.
 ghost use Rattle.std.specs.Prelude.{◌≡◌, ◌≤◌, ◌+◌, ◌++◌, None, Some, length};
+ghost use Rattle.iol_isdu.specs.Frame.{total_at};
 ghost use Rattle.iol_isdu.specs.Parse.{request_of};
 ghost use Rattle.iol_segment.specs.Join.{next_count};
 ghost use Rattle.iol_far.specs.Codec.{flow_of};
-ghost use Rattle.iol_judge.specs.Transfers.{completed, count_read, count_written, covers_transfer, is_quiet, isdu_fault, next_read, received, receiving, start_read, told_by, transfer_after, transfer_on, transfer_unknown};
+ghost use Rattle.iol_judge.specs.Transfers.{answered_read, behind_missed, completed, count_read, count_written, covers_transfer, is_quiet, isdu_fault, next_read, or_ended, perhaps_told, received, receiving, start_read, told_by, transfer_after, transfer_on, transfer_unknown};
 
 use crate::answer::text_fault;
 use crate::had::{Had, Octets, is_busy};
@@ -18,6 +19,12 @@ const START: u8 = 0x10;
 
 /// How many octets the longest text has.
 pub(crate) const LONGEST: usize = 238;
+
+/// How many octets the longest answer to a read has.
+pub(crate) const LONGEST_TO_READ: usize = 235;
+
+/// How many octets the longest answer to a write has.
+pub(crate) const LONGEST_TO_WRITE: usize = 4;
 
 /// What is known of the ISDU transfer of a device. A request is a read, or a write.
 #[derive(Debug, Drop)]
@@ -34,6 +41,8 @@ pub(crate) enum Transfer {
     Asked(bool),
     /// A segment of the answer was sent.
     Answered(Had),
+    /// So it was, or the answer had no more segments, and none is under way.
+    Perhaps(Had),
     /// Any of these.
     Free,
 }
@@ -55,7 +64,11 @@ impl Transfer {
             | (Transfer::Asked(read), Transfer::Handed(reads) | Transfer::Asked(reads)) => {
                 read == reads
             }
-            (Transfer::Answered(had), Transfer::Answered(other)) => had.is(other),
+            (Transfer::Answered(had), Transfer::Answered(other))
+            | (Transfer::Perhaps(had), Transfer::Answered(other) | Transfer::Perhaps(other)) => {
+                had.is(other)
+            }
+            (Transfer::Perhaps(_), Transfer::Quiet) => true,
             _ => false,
         }
     }
@@ -70,6 +83,7 @@ impl Transfer {
             Transfer::Handed(read) => Transfer::Handed(*read),
             Transfer::Asked(read) => Transfer::Asked(*read),
             Transfer::Answered(had) => Transfer::Answered(had.copy()),
+            Transfer::Perhaps(had) => Transfer::Perhaps(had.copy()),
             Transfer::Free => Transfer::Free,
         }
     }
@@ -156,6 +170,7 @@ impl Transfer {
             Transfer::Whole(read, _) => Transfer::Handed(read),
             Transfer::Handed(read) | Transfer::Asked(read) => Transfer::Asked(read),
             Transfer::Answered(had) => Transfer::Answered(had.from_the_first()),
+            Transfer::Perhaps(had) => Transfer::Perhaps(had.from_the_first()),
             Transfer::Free => Transfer::Free,
             _ => Transfer::Quiet,
         }
@@ -166,18 +181,23 @@ impl Transfer {
         ensures { result ≡ count_read size self count }
     {
         match self {
-            Transfer::Answered(had) => {
-                if had.was_sent(count) {
-                    Transfer::Answered(had)
-                } else if had.is_next(count) {
-                    next_read(had, count, size)
-                } else {
-                    Transfer::Quiet
-                }
+            Transfer::Answered(had) => answered_read(had, count, size),
+            Transfer::Perhaps(had) => answered_read(had, count, size).or_ended(),
+            Transfer::Asked(read) if count == 1 => {
+                behind_missed(Had::none(read), size as usize, count)
             }
-            Transfer::Asked(_) if count == 1 => Transfer::Free,
             Transfer::Free => Transfer::Free,
             _ => Transfer::Quiet,
+        }
+    }
+
+    /// So it is, or the answer had ended before.
+    fn or_ended(self) -> Transfer
+        ensures { result ≡ or_ended self }
+    {
+        match self {
+            Transfer::Answered(had) => Transfer::Perhaps(had),
+            other => other,
         }
     }
 
@@ -201,6 +221,8 @@ impl Transfer {
             Transfer::Asked(read) => text_fault(*read, od),
             Transfer::Free => None,
             Transfer::Answered(had) => had.fault(od),
+            Transfer::Perhaps(_) if are_zeros(od) => None,
+            Transfer::Perhaps(had) => had.fault(od),
             _ if are_zeros(od) => None,
             _ => Some(Reason::NoAnswerDue),
         }
@@ -217,8 +239,24 @@ impl Transfer {
             Transfer::Asked(read) if is_busy(od) => Transfer::Handed(read),
             Transfer::Asked(read) => Transfer::Answered(Had::first(read, od)),
             Transfer::Answered(had) => Transfer::Answered(had.with(od)),
+            Transfer::Perhaps(had) => perhaps_told(had, od),
             other => other,
         }
+    }
+}
+
+/// A read under COUNT, of an answer of which a segment was sent.
+///
+/// Rules DEV-13, DEV-14.
+fn answered_read(had: Had, count: u8, size: u8) -> Transfer
+    ensures { result ≡ answered_read size had count }
+{
+    if had.was_sent(count) {
+        Transfer::Answered(had)
+    } else if had.is_next(count) {
+        next_read(had, count, size)
+    } else {
+        Transfer::Quiet
     }
 }
 
@@ -231,13 +269,47 @@ fn next_read(had: Had, count: u8, size: u8) -> Transfer
     let length = had.text.len();
     let next = had.at as usize + size as usize;
     if next > length {
-        return Transfer::Free;
+        return behind_missed(had, next, count);
     }
     let next_had = next < length || had.is_open();
     if next_had {
         Transfer::Answered(had.going_on(next as u16, count))
     } else {
         Transfer::Quiet
+    }
+}
+
+/// A segment of an answer, behind one that wasn't had. Where the answer's length isn't known it may
+/// have ended.
+///
+/// Rule DEV-13.
+fn behind_missed(had: Had, at: usize, count: u8) -> Transfer
+    ensures { result ≡ behind_missed (record had { at = at; count = count })
+        (total_at had.text.items) }
+{
+    let longest = if had.read {
+        LONGEST_TO_READ
+    } else {
+        LONGEST_TO_WRITE
+    };
+    match total_of(&had.text) {
+        Ok(total) if at < total => Transfer::Answered(had.going_on(at as u16, count)),
+        Err(_) if at < longest => Transfer::Perhaps(had.going_on(at as u16, count)),
+        _ => Transfer::Quiet,
+    }
+}
+
+/// Octets of an answer's segment were had, or zeros, since there are no more.
+fn perhaps_told(had: Had, od: &[u8]) -> Transfer
+    requires { length od.now ≤ 32 }
+    ensures { result ≡ perhaps_told had od.now }
+{
+    if !are_zeros(od) {
+        return Transfer::Answered(had.with(od));
+    }
+    match had.fault(od) {
+        None => Transfer::Perhaps(had.with(od)),
+        Some(_) => Transfer::Quiet,
     }
 }
 
