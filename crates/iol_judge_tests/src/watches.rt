@@ -1,0 +1,394 @@
+//! The watch on lists of calls: a run by the rules, and the shortest list for each fault.
+
+use iol_judge::Wake;
+use iol_watch::{MasterFault, Verdict, Watch};
+use std::test::Fail;
+
+/// The octets that were sent, and those that came back, if any did.
+type Exchange = (&'static [u8], Option<&'static [u8]>);
+
+/// Two octets of process data in and one out, one octet of on-request data, ISDU; MinCycleTime is
+/// 2.3 ms.
+const PAGE: [u8; 10] = [0x17, 0x01, 0x11, 0x10, 0x08, 0x12, 0x34, 0x00, 0x01, 0x07];
+
+/// The reads of the page.
+const READS: [Exchange; 10] = [
+    (&[0xA2, 0x00], Some(&[0x17, 0x1B])),
+    (&[0xA3, 0x11], Some(&[0x01, 0x3C])),
+    (&[0xA4, 0x33], Some(&[0x11, 0x28])),
+    (&[0xA5, 0x22], Some(&[0x10, 0x39])),
+    (&[0xA6, 0x12], Some(&[0x08, 0x0F])),
+    (&[0xA7, 0x03], Some(&[0x12, 0x18])),
+    (&[0xA8, 0x03], Some(&[0x34, 0x0F])),
+    (&[0xA9, 0x12], Some(&[0x00, 0x2D])),
+    (&[0xAA, 0x22], Some(&[0x01, 0x3C])),
+    (&[0xAB, 0x33], Some(&[0x07, 0x0F])),
+];
+
+/// MasterIdent, DevicePreoperate, MasterCycleTime, DeviceOperate.
+const MODES: [Exchange; 4] = [
+    (&[0x20, 0x36, 0x95], Some(&[0x2D])),
+    (&[0x20, 0x36, 0x9A], Some(&[0x2D])),
+    (&[0x21, 0x2E, 0x17], Some(&[0x2D])),
+    (&[0x20, 0x06, 0x99], Some(&[0x2D])),
+];
+
+/// A read of 16/0: a reply is lost, it is busy, the answer comes in four segments.
+const READING: [Exchange; 12] = [
+    (&[0x70, 0xA1, 0x00, 0x93], Some(&[0x12, 0x34, 0x3A])),
+    (&[0x61, 0xBC, 0x00, 0x10], None),
+    (&[0x61, 0xBC, 0x00, 0x10], Some(&[0x12, 0x34])),
+    (&[0x61, 0xBC, 0x00, 0x10], Some(&[0x12, 0x34, 0x3A])),
+    (&[0x62, 0x80, 0x00, 0x83], Some(&[0x12, 0x34, 0x3A])),
+    (&[0xF0, 0x85, 0x00], Some(&[0x01, 0x12, 0x34, 0x2B])),
+    (&[0xF0, 0x85, 0x00], Some(&[0x01, 0x12, 0x34, 0x2B])),
+    (&[0xF0, 0x85, 0x00], Some(&[0xD4, 0x12, 0x34, 0x0C])),
+    (&[0xE1, 0x80, 0x00], Some(&[0x41, 0x12, 0x34, 0x33])),
+    (&[0xE2, 0xB0, 0x00], Some(&[0x42, 0x12, 0x34, 0x03])),
+    (&[0xE3, 0xA1, 0x00], Some(&[0xD7, 0x12, 0x34, 0x3C])),
+    (&[0xF1, 0x94, 0x00], Some(&[0x00, 0x12, 0x34, 0x3A])),
+];
+
+/// A write of 24/0: its text has 20 octets, so that COUNT goes on behind 15.
+const WRITING: [Exchange; 22] = [
+    (&[0x70, 0xA8, 0x00, 0x11], Some(&[0x12, 0x34, 0x3A])),
+    (&[0x61, 0xAE, 0x00, 0x14], Some(&[0x12, 0x34, 0x3A])),
+    (&[0x62, 0xAE, 0x00, 0x18], Some(&[0x12, 0x34, 0x3A])),
+    (&[0x63, 0x89, 0x00, 0x00], Some(&[0x12, 0x34, 0x3A])),
+    (&[0x64, 0xBA, 0x00, 0x01], Some(&[0x12, 0x34, 0x3A])),
+    (&[0x65, 0x9B, 0x00, 0x02], Some(&[0x12, 0x34, 0x3A])),
+    (&[0x66, 0xBA, 0x00, 0x03], Some(&[0x12, 0x34, 0x3A])),
+    (&[0x67, 0x89, 0x00, 0x04], Some(&[0x12, 0x34, 0x3A])),
+    (&[0x68, 0x98, 0x00, 0x05], Some(&[0x12, 0x34, 0x3A])),
+    (&[0x69, 0xB9, 0x00, 0x06], Some(&[0x12, 0x34, 0x3A])),
+    (&[0x6A, 0x98, 0x00, 0x07], Some(&[0x12, 0x34, 0x3A])),
+    (&[0x6B, 0x89, 0x00, 0x08], Some(&[0x12, 0x34, 0x3A])),
+    (&[0x6C, 0xBA, 0x00, 0x09], Some(&[0x12, 0x34, 0x3A])),
+    (&[0x6D, 0x9B, 0x00, 0x0A], Some(&[0x12, 0x34, 0x3A])),
+    (&[0x6E, 0xBA, 0x00, 0x0B], Some(&[0x12, 0x34, 0x3A])),
+    (&[0x6F, 0x89, 0x00, 0x0C], Some(&[0x12, 0x34, 0x3A])),
+    (&[0x60, 0x98, 0x00, 0x0D], Some(&[0x12, 0x34, 0x3A])),
+    (&[0x61, 0xB9, 0x00, 0x0E], Some(&[0x12, 0x34, 0x3A])),
+    (&[0x62, 0x98, 0x00, 0x0F], Some(&[0x12, 0x34, 0x3A])),
+    (&[0x63, 0xBC, 0x00, 0x1D], Some(&[0x12, 0x34, 0x3A])),
+    (&[0xF0, 0x85, 0x00], Some(&[0x52, 0x12, 0x34, 0x17])),
+    (&[0xE1, 0x80, 0x00], Some(&[0x52, 0x12, 0x34, 0x17])),
+];
+
+/// One event: the StatusCode, three octets, the confirm.
+const EVENTS: [Exchange; 7] = [
+    (&[0xF1, 0x94, 0x00], Some(&[0x00, 0x12, 0x34, 0x92])),
+    (&[0xC0, 0xB5, 0x00], Some(&[0x81, 0x12, 0x34, 0xAB])),
+    (&[0xC1, 0xA4, 0x00], Some(&[0x54, 0x12, 0x34, 0x8C])),
+    (&[0xC2, 0x94, 0x00], Some(&[0x18, 0x12, 0x34, 0xA4])),
+    (&[0xC3, 0x85, 0x00], Some(&[0x01, 0x12, 0x34, 0x83])),
+    (&[0x40, 0x9D, 0x00, 0x00], Some(&[0x12, 0x34, 0x3A])),
+    (&[0xF1, 0x94, 0x00], Some(&[0x00, 0x12, 0x34, 0x3A])),
+];
+
+/// Answers that are none: no service, and a wrong CHKPDU. An ABORT goes out for each.
+const ABORTS: [Exchange; 11] = [
+    (&[0x70, 0xA1, 0x00, 0x93], Some(&[0x12, 0x34, 0x3A])),
+    (&[0x61, 0xBC, 0x00, 0x10], Some(&[0x12, 0x34, 0x3A])),
+    (&[0x62, 0x80, 0x00, 0x83], Some(&[0x12, 0x34, 0x3A])),
+    (&[0xF0, 0x85, 0x00], Some(&[0x00, 0x12, 0x34, 0x3A])),
+    (&[0xFF, 0x85, 0x00], Some(&[0x00, 0x12, 0x34, 0x3A])),
+    (&[0x70, 0xA1, 0x00, 0x93], Some(&[0x12, 0x34, 0x3A])),
+    (&[0x61, 0xBC, 0x00, 0x10], Some(&[0x12, 0x34, 0x3A])),
+    (&[0x62, 0x80, 0x00, 0x83], Some(&[0x12, 0x34, 0x3A])),
+    (&[0xF0, 0x85, 0x00], Some(&[0xD2, 0x12, 0x34, 0x3F])),
+    (&[0xE1, 0x80, 0x00], Some(&[0xD3, 0x12, 0x34, 0x2E])),
+    (&[0xFF, 0x85, 0x00], Some(&[0x00, 0x12, 0x34, 0x3A])),
+];
+
+/// Process data out, valid and changed, then invalid again with the last octets.
+const OUTPUTS: [Exchange; 4] = [
+    (&[0x20, 0xB0, 0x5A, 0x98], Some(&[0x12, 0x34, 0x3A])),
+    (&[0xF1, 0x8A, 0x5B], Some(&[0x00, 0x12, 0x34, 0x3A])),
+    (&[0x20, 0xB0, 0x5B, 0x99], Some(&[0x12, 0x34, 0x3A])),
+    (&[0xF1, 0x8A, 0x5B], Some(&[0x00, 0x12, 0x34, 0x3A])),
+];
+
+/// A fourth attempt.
+const LOST: [Exchange; 4] = [
+    (&[0xF1, 0x94, 0x00], None),
+    (&[0xF1, 0x94, 0x00], None),
+    (&[0xF1, 0x94, 0x00], None),
+    (&[0xF1, 0x94, 0x00], None),
+];
+
+/// Other octets than those that had no good reply.
+const ANOTHER: [Exchange; 2] = [
+    (&[0xF1, 0x94, 0x00], Some(&[0xFF])),
+    (&[0xC0, 0xB5, 0x00], None),
+];
+
+/// DeviceStartup in OPERATE.
+const STARTUP_COMMAND: [Exchange; 1] = [(&[0x20, 0xBF, 0x00, 0x97], None)];
+
+/// MasterCycleTime shorter than MinCycleTime.
+const SHORT_CYCLE: [Exchange; 1] = [(&[0x21, 0x97, 0x00, 0x16], None)];
+
+/// A message of STARTUP, in OPERATE.
+const SHORT: [Exchange; 1] = [(&[0xA2, 0x00], None)];
+
+/// A wrong checksum.
+const DAMAGED: [Exchange; 1] = [(&[0xF1, 0x95, 0x00], None)];
+
+/// Another octet, and nobody said that it is valid.
+const CHANGED: [Exchange; 2] = [
+    (&[0xF1, 0x94, 0x00], Some(&[0x00, 0x12, 0x34, 0x3A])),
+    (&[0xF1, 0x9B, 0x5A], None),
+];
+
+/// COUNT without START.
+const NO_START: [Exchange; 1] = [(&[0x61, 0xBC, 0x00, 0x10], None)];
+
+/// START while a request is under way.
+const SECOND_START: [Exchange; 2] = [
+    (&[0x70, 0xA1, 0x00, 0x93], Some(&[0x12, 0x34, 0x3A])),
+    (&[0x70, 0xA1, 0x00, 0x93], None),
+];
+
+/// An answer is asked for, and the request isn't whole.
+const TOO_EARLY: [Exchange; 2] = [
+    (&[0x70, 0xA1, 0x00, 0x93], Some(&[0x12, 0x34, 0x3A])),
+    (&[0xF0, 0x85, 0x00], None),
+];
+
+/// COUNT of an answer that hasn't begun.
+const NO_ANSWER: [Exchange; 4] = [
+    (&[0x70, 0xA1, 0x00, 0x93], Some(&[0x12, 0x34, 0x3A])),
+    (&[0x61, 0xBC, 0x00, 0x10], Some(&[0x12, 0x34, 0x3A])),
+    (&[0x62, 0x80, 0x00, 0x83], Some(&[0x12, 0x34, 0x3A])),
+    (&[0xE1, 0x80, 0x00], None),
+];
+
+/// IDLE while a request is under way.
+const IDLE: [Exchange; 2] = [
+    (&[0x70, 0xA1, 0x00, 0x93], Some(&[0x12, 0x34, 0x3A])),
+    (&[0xF1, 0x94, 0x00], None),
+];
+
+/// ABORT of nothing.
+const NO_REQUEST: [Exchange; 1] = [(&[0xFF, 0x85, 0x00], None)];
+
+/// More is asked for where no service was answered.
+const GOES_ON: [Exchange; 5] = [
+    (&[0x70, 0xA1, 0x00, 0x93], Some(&[0x12, 0x34, 0x3A])),
+    (&[0x61, 0xBC, 0x00, 0x10], Some(&[0x12, 0x34, 0x3A])),
+    (&[0x62, 0x80, 0x00, 0x83], Some(&[0x12, 0x34, 0x3A])),
+    (&[0xF0, 0x85, 0x00], Some(&[0x00, 0x12, 0x34, 0x3A])),
+    (&[0xF0, 0x85, 0x00], None),
+];
+
+/// A flow that is reserved.
+const RESERVED: [Exchange; 1] = [(&[0xF3, 0xB5, 0x00], None)];
+
+/// Events are read, and the flag is 0.
+const NO_FLAG: [Exchange; 2] = [
+    (&[0xF1, 0x94, 0x00], Some(&[0x00, 0x12, 0x34, 0x3A])),
+    (&[0xC0, 0xB5, 0x00], None),
+];
+
+/// The second octet of an event before the first.
+const WRONG_PLACE: [Exchange; 3] = [
+    (&[0xF1, 0x94, 0x00], Some(&[0x00, 0x12, 0x34, 0x92])),
+    (&[0xC0, 0xB5, 0x00], Some(&[0x81, 0x12, 0x34, 0xAB])),
+    (&[0xC2, 0x94, 0x00], None),
+];
+
+/// The confirm before the events were read.
+const CONFIRM: [Exchange; 3] = [
+    (&[0xF1, 0x94, 0x00], Some(&[0x00, 0x12, 0x34, 0x92])),
+    (&[0xC0, 0xB5, 0x00], Some(&[0x81, 0x12, 0x34, 0xAB])),
+    (&[0x40, 0x9D, 0x00, 0x00], None),
+];
+
+/// A length that no text has.
+const NO_LENGTH: [Exchange; 1] = [(&[0x70, 0x91, 0x00, 0x90], None)];
+
+/// A wrong CHKPDU.
+const NO_REQUEST_TEXT: [Exchange; 3] = [
+    (&[0x70, 0xA1, 0x00, 0x93], Some(&[0x12, 0x34, 0x3A])),
+    (&[0x61, 0xBC, 0x00, 0x10], Some(&[0x12, 0x34, 0x3A])),
+    (&[0x62, 0x91, 0x00, 0x82], None),
+];
+
+/// A segment behind the request.
+const BEHIND: [Exchange; 4] = [
+    (&[0x70, 0xA1, 0x00, 0x93], Some(&[0x12, 0x34, 0x3A])),
+    (&[0x61, 0xBC, 0x00, 0x10], Some(&[0x12, 0x34, 0x3A])),
+    (&[0x62, 0x80, 0x00, 0x83], Some(&[0x12, 0x34, 0x3A])),
+    (&[0x63, 0x89, 0x00, 0x00], None),
+];
+
+/// COUNT 2 behind START.
+const SKIPPED: [Exchange; 2] = [
+    (&[0x70, 0xA1, 0x00, 0x93], Some(&[0x12, 0x34, 0x3A])),
+    (&[0x62, 0x8C, 0x00, 0x10], None),
+];
+
+/// COUNT 1 again, though it had a good reply.
+const TWICE: [Exchange; 3] = [
+    (&[0x70, 0xA1, 0x00, 0x93], Some(&[0x12, 0x34, 0x3A])),
+    (&[0x61, 0xBC, 0x00, 0x10], Some(&[0x12, 0x34, 0x3A])),
+    (&[0x61, 0xBC, 0x00, 0x10], None),
+];
+
+/// COUNT 2 is asked for behind the first segment.
+const ASKED_LATER: [Exchange; 5] = [
+    (&[0x70, 0xA1, 0x00, 0x93], Some(&[0x12, 0x34, 0x3A])),
+    (&[0x61, 0xBC, 0x00, 0x10], Some(&[0x12, 0x34, 0x3A])),
+    (&[0x62, 0x80, 0x00, 0x83], Some(&[0x12, 0x34, 0x3A])),
+    (&[0xF0, 0x85, 0x00], Some(&[0xD4, 0x12, 0x34, 0x0C])),
+    (&[0xE2, 0xB0, 0x00], None),
+];
+
+fn tell(watch: &mut Watch, exchanges: &[Exchange]) {
+    for (sent, answer) in exchanges {
+        watch.exchange(sent, *answer);
+    }
+}
+
+/// A watch of a capture in which OPERATE was just entered.
+fn operating() -> Watch {
+    let mut watch = Watch::new();
+    watch.page(&PAGE);
+    watch.wake(Wake::Answered);
+    tell(&mut watch, &MODES);
+    watch
+}
+
+/// Whether in OPERATE the last of these is the first fault, and this one.
+fn is_blamed(exchanges: &[Exchange], fault: MasterFault) -> bool {
+    let mut watch = operating();
+    let Some((last, before)) = exchanges.split_last() else {
+        return false;
+    };
+    tell(&mut watch, before);
+    let fair = watch.verdict() == Verdict::ByTheRules;
+    watch.exchange(last.0, last.1);
+    let number = 4 + exchanges.len() as u64;
+    fair && watch.verdict() == Verdict::NotByTheRules(number, fault)
+}
+
+/// A start-up that reads the page, and each kind of work in OPERATE; then a restart.
+#[test]
+fn work_is_by_the_rules(rt: HostRuntime) -> Result<(), Fail> {
+    let mut watch = Watch::new();
+    watch.exchange(&[0xFF], None);
+    assert!(rt; watch.verdict() == Verdict::Unjudged);
+    for _ in 0..2 {
+        watch.wake(Wake::Unanswered);
+        watch.wake(Wake::Answered);
+        tell(&mut watch, &READS);
+        tell(&mut watch, &MODES);
+        tell(&mut watch, &READING);
+        tell(&mut watch, &WRITING);
+        tell(&mut watch, &EVENTS);
+        tell(&mut watch, &ABORTS);
+        // The process data out goes on with other octets.
+        watch.wake(Wake::Answered);
+        tell(&mut watch, &READS);
+        tell(&mut watch, &MODES);
+        tell(&mut watch, &OUTPUTS);
+        assert!(rt; watch.verdict() == Verdict::ByTheRules);
+    }
+    Ok(())
+}
+
+#[test]
+fn wakes_are_due(rt: HostRuntime) -> Result<(), Fail> {
+    assert!(rt; is_blamed(&LOST, MasterFault::WakeDue));
+    let mut watch = Watch::new();
+    watch.wake(Wake::Unanswered);
+    tell(&mut watch, &READS[..1]);
+    assert!(rt; watch.verdict() == Verdict::NotByTheRules(1, MasterFault::WakeDue));
+    // Of what comes behind it nothing is said.
+    watch.wake(Wake::Answered);
+    tell(&mut watch, &SKIPPED);
+    assert!(rt; watch.verdict() == Verdict::NotByTheRules(1, MasterFault::WakeDue));
+    Ok(())
+}
+
+#[test]
+fn messages_are_repeated(rt: HostRuntime) -> Result<(), Fail> {
+    assert!(rt; is_blamed(&ANOTHER, MasterFault::NotRepeated));
+    Ok(())
+}
+
+/// The modes are entered in their order, by what was read of the page.
+#[test]
+fn start_ups_have_an_order(rt: HostRuntime) -> Result<(), Fail> {
+    assert!(rt; is_blamed(&STARTUP_COMMAND, MasterFault::NotStartUp));
+    assert!(rt; is_blamed(&SHORT_CYCLE, MasterFault::NotStartUp));
+    for (read, first, fair) in [(10, 1, 0), (4, 0, 1), (10, 3, 0)] {
+        let mut watch = Watch::new();
+        watch.wake(Wake::Answered);
+        tell(&mut watch, &READS[..read]);
+        tell(&mut watch, &MODES[first..]);
+        let number = (read + fair + 1) as u64;
+        assert!(rt; watch.verdict() == Verdict::NotByTheRules(number, MasterFault::NotStartUp));
+    }
+    Ok(())
+}
+
+#[test]
+fn messages_are_well_formed(rt: HostRuntime) -> Result<(), Fail> {
+    assert!(rt; is_blamed(&SHORT, MasterFault::NotWellFormed));
+    assert!(rt; is_blamed(&DAMAGED, MasterFault::NotWellFormed));
+    Ok(())
+}
+
+#[test]
+fn outputs_change_while_they_are_valid(rt: HostRuntime) -> Result<(), Fail> {
+    assert!(rt; is_blamed(&CHANGED, MasterFault::OutputOctets));
+    Ok(())
+}
+
+#[test]
+fn messages_are_due(rt: HostRuntime) -> Result<(), Fail> {
+    assert!(rt; is_blamed(&NO_START, MasterFault::NotDue));
+    assert!(rt; is_blamed(&SECOND_START, MasterFault::NotDue));
+    assert!(rt; is_blamed(&TOO_EARLY, MasterFault::NotDue));
+    assert!(rt; is_blamed(&NO_ANSWER, MasterFault::NotDue));
+    assert!(rt; is_blamed(&IDLE, MasterFault::NotDue));
+    assert!(rt; is_blamed(&NO_REQUEST, MasterFault::NotDue));
+    assert!(rt; is_blamed(&GOES_ON, MasterFault::NotDue));
+    assert!(rt; is_blamed(&RESERVED, MasterFault::NotDue));
+    Ok(())
+}
+
+#[test]
+fn events_are_read_in_order(rt: HostRuntime) -> Result<(), Fail> {
+    assert!(rt; is_blamed(&NO_FLAG, MasterFault::NotDue));
+    assert!(rt; is_blamed(&WRONG_PLACE, MasterFault::NotDue));
+    assert!(rt; is_blamed(&CONFIRM, MasterFault::NotDue));
+    Ok(())
+}
+
+#[test]
+fn requests_are_texts(rt: HostRuntime) -> Result<(), Fail> {
+    assert!(rt; is_blamed(&NO_LENGTH, MasterFault::RequestText));
+    assert!(rt; is_blamed(&NO_REQUEST_TEXT, MasterFault::RequestText));
+    assert!(rt; is_blamed(&BEHIND, MasterFault::RequestText));
+    Ok(())
+}
+
+#[test]
+fn counts_are_in_line(rt: HostRuntime) -> Result<(), Fail> {
+    assert!(rt; is_blamed(&SKIPPED, MasterFault::NotInLine));
+    assert!(rt; is_blamed(&TWICE, MasterFault::NotInLine));
+    assert!(rt; is_blamed(&ASKED_LATER, MasterFault::NotInLine));
+    Ok(())
+}
+
+/// The numbers and names are those of the documents.
+#[test]
+fn faults_have_numbers(rt: HostRuntime) -> Result<(), Fail> {
+    assert!(rt; MasterFault::RequestText.code() == 7);
+    let name = format!(in rt.alloc(); "{}", MasterFault::OutputOctets)?;
+    assert!(rt; name.as_str() == "OutputOctets");
+    Ok(())
+}

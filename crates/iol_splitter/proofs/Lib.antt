@@ -1,0 +1,4 @@
+pub mod Digits
+mod Gaps
+pub mod Splits
+pub mod Example

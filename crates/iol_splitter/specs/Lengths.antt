@@ -1,0 +1,43 @@
+-- What the octets of a message are, by the layout.
+use Rattle.std.specs.Prelude.{ℕ, ◌+◌, Bool, true, false, not, ◌&&◌, ◌==◌, nat_lt, nat_le, if◌then◌else◌, List, [], ◌∷◌, length, slice_index, bytes_eq}
+use Rattle.iol_mseq.specs.Shape.{Shape}
+use Rattle.iol_mseq.specs.Master.{sent_od}
+use Rattle.iol_mseq.specs.Replies.{answered_od}
+use Rattle.iol_splitter.specs.declared.message.Meaning.{Meaning}
+use Rattle.iol_splitter.specs.declared.message.Meaning.TheVariants.{Part, Whole, TestRead, ReadOrTest}
+use Rattle.iol_splitter.specs.declared.splitter.Requests.{Requests}
+use Rattle.iol_splitter.specs.declared.splitter.Requests.TheVariants.{Unshown, Shown}
+
+-- bit 7 of the first octet
+abbrev pub is_read : List ℕ → Bool
+is_read octets = nat_le 128 (slice_index octets 0)
+
+-- how many octets a message has that begins with these
+-- MSG-3
+abbrev pub message_length : Shape → List ℕ → ℕ
+message_length layout octets = 2 + layout.pd_out + sent_od layout (slice_index octets 0)
+
+-- how many the reply to it has
+-- MSG-4
+abbrev pub reply_length : Shape → List ℕ → ℕ
+reply_length layout sent = answered_od layout (is_read sent) + layout.pd_in + 1
+
+-- a read of page address 0x02 in STARTUP
+abbrev pub test_read : List ℕ
+test_read = 0xA2 ∷ 0 ∷ []
+
+abbrev pub is_test_read : List ℕ → Bool
+is_test_read octets = bytes_eq octets test_read
+
+abbrev pub is_unshown : Requests → Bool
+is_unshown Unshown = true
+is_unshown Shown = false
+
+-- What octets are that a message in this layout begins with. A test read stands behind a wake-up
+-- request, and is a message in a layout of M-sequence type 0 alone; there it may be any read
+-- MSG-3
+abbrev pub meaning_in : Shape → Requests → List ℕ → Meaning
+meaning_in layout requests octets =
+    if is_test_read octets && not (layout.kind == 0) then TestRead else
+    if nat_lt (length octets) (message_length layout octets) then Part else
+    if is_test_read octets && is_unshown requests then ReadOrTest else Whole

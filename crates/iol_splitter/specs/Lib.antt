@@ -1,0 +1,13 @@
+pub mod Numbers
+pub mod Times
+pub mod Linking
+pub mod Lengths
+pub mod Exchanged
+pub mod State
+pub mod Steps
+pub mod Waking
+pub mod Splitting
+pub mod Written
+pub mod OctetLines
+pub mod Fair
+pub mod Example

@@ -1,0 +1,48 @@
+-- The process data out of a master: which octets a new message may carry.
+use Rattle.std.specs.Prelude.{ℕ, Bool, true, false, ◌||◌, bytes_eq, if◌then◌else◌, List, Option, Some, Result, Ok, Err}
+use Rattle.iol_page.specs.declared.master_command.MasterCommand.{MasterCommand}
+use Rattle.iol_page.specs.declared.master_command.MasterCommand.TheVariants.{ProcessDataOutputOperate, DeviceOperate}
+use Rattle.iol_judge.specs.Octets.{are_zeros}
+use Rattle.iol_watch.specs.declared.fault.MasterFault.{MasterFault}
+use Rattle.iol_watch.specs.declared.fault.MasterFault.TheVariants.{OutputOctets}
+use Rattle.iol_watch.specs.declared.output.Carried.{Carried}
+use Rattle.iol_watch.specs.declared.output.Carried.TheVariants.{Unknown, Before, Last}
+use Rattle.iol_watch.specs.declared.output.Output.{Output}
+
+-- of a capture that just began
+abbrev pub no_output : Output
+no_output = record { carried = Unknown; valid = false }
+
+abbrev pub aged : Carried → Carried
+aged Unknown = Unknown
+aged (Before octets) = Before octets
+aged (Last octets) = Before octets
+
+-- once a wake-up request was made
+-- PD-6
+abbrev pub woken_output : Output → Output
+woken_output output = record { carried = aged output.carried; valid = false }
+
+-- whether a message may carry these octets that leaves the device's output invalid
+-- PD-4, PD-6
+abbrev pub allows_octets : Carried → List ℕ → Bool
+allows_octets Unknown octets = true
+allows_octets (Before before) octets = bytes_eq octets before.items || are_zeros octets
+allows_octets (Last last) octets = bytes_eq octets last.items
+
+-- whether the device's output is valid with a message
+-- PD-5
+abbrev pub valid_with : Bool → Option MasterCommand → Bool
+valid_with valid (Some ProcessDataOutputOperate) = true
+valid_with valid (Some DeviceOperate) = false
+valid_with valid command = valid
+
+abbrev pub carried_as : Bool → Output → List ℕ → Result Output MasterFault
+carried_as valid output octets = if valid || allows_octets output.carried octets
+    then Ok (record { carried = Last (record { items = octets }); valid = valid })
+    else Err OutputOctets
+
+-- once a new message of OPERATE carries these octets
+-- PD-4, PD-5
+abbrev pub carried : Output → Option MasterCommand → List ℕ → Result Output MasterFault
+carried output command octets = carried_as (valid_with output.valid command) output octets

@@ -1,0 +1,126 @@
+-- The ISDU transfer of a master: which message is due there, and what its reply tells.
+use Rattle.std.specs.Prelude.{ℕ, Bool, true, false, ◌==◌, nat_le, if◌then◌else◌, List, ◌++◌, length, drop, slice_index, Option, Some, None, Result, Ok, Err}
+use Rattle.iol_octets.specs.declared.flow_control.Flow.{Flow}
+use Rattle.iol_octets.specs.declared.flow_control.Flow.TheVariants.{Start, Count, Idle1, Idle2, Abort, Reserved}
+use Rattle.iol_isdu.specs.declared.fault.IsduFault.{IsduFault}
+use Rattle.iol_isdu.specs.declared.values.Request.{Request}
+use Rattle.iol_isdu.specs.Answers.{answer_fault, is_read}
+use Rattle.iol_isdu.specs.Parse.{request_of}
+use Rattle.iol_segment.specs.Join.{Stage, Open, Complete, Wrong, stage, next_count}
+use Rattle.iol_judge.specs.Octets.{are_zeros}
+use Rattle.iol_watch.specs.declared.fault.MasterFault.{MasterFault}
+use Rattle.iol_watch.specs.declared.fault.MasterFault.TheVariants.{NotDue, RequestText, NotInLine}
+use Rattle.iol_watch.specs.declared.transfer.Transfer.{Transfer}
+use Rattle.iol_watch.specs.declared.transfer.Transfer.TheVariants.{Quiet, Written, Asked, Answered, Refused}
+use Rattle.iol_watch.specs.declared.transfer.TheConstants.{LONGEST, NO_SERVICE, BUSY}
+
+-- The request's segments
+
+-- not all octets of a request
+abbrev pub begun : List ℕ → Option ℕ → Result Transfer MasterFault
+begun octets last = if nat_le (length octets) LONGEST
+    then Ok (Written (record { items = octets }) last) else Err RequestText
+
+-- a text, and the octets behind it
+-- ISDU-3, SEG-1
+abbrev pub whole : Option Request → List ℕ → Result Transfer MasterFault
+whole None rest = Err RequestText
+whole (Some request) rest =
+    if are_zeros rest then Ok (Asked (is_read request)) else Err RequestText
+
+abbrev pub written_at : Stage → List ℕ → Option ℕ → Result Transfer MasterFault
+written_at Open octets last = begun octets last
+written_at (Complete text) octets last = whole (request_of text) (drop (length text) octets)
+written_at Wrong octets last = Err RequestText
+
+-- of a request these octets were written, the last of them under this COUNT
+-- SEG-1, SEG-5
+abbrev pub written : List ℕ → Option ℕ → Result Transfer MasterFault
+written octets last = written_at (stage octets) octets last
+
+-- REQ-2, REQ-3
+abbrev pub start_sent : Bool → Transfer → List ℕ → Result Transfer MasterFault
+start_sent true Quiet octets = written octets None
+start_sent isdu transfer octets = Err NotDue
+
+-- REQ-4
+abbrev pub count_sent : Transfer → ℕ → List ℕ → Result Transfer MasterFault
+count_sent (Written text last) count octets = if count == next_count last
+    then written (text.items ++ octets) (Some count) else Err NotInLine
+count_sent (Asked read) count octets = Err RequestText
+count_sent transfer count octets = Err NotDue
+
+-- The answer's segments
+
+-- REQ-5
+abbrev pub start_asked : Transfer → Result Transfer MasterFault
+start_asked (Asked read) = Ok (Asked read)
+start_asked transfer = Err NotDue
+
+-- REQ-5
+abbrev pub count_asked : Transfer → ℕ → Result Transfer MasterFault
+count_asked (Answered read text last) count =
+    if count == next_count last then Ok (Answered read text (Some count)) else Err NotInLine
+count_asked transfer count = Err NotDue
+
+-- not all octets of an answer
+abbrev pub answer_begun : Bool → List ℕ → Option ℕ → Transfer
+answer_begun read octets last = if nat_le (length octets) LONGEST
+    then Answered read (record { items = octets }) last else Refused
+
+abbrev pub answer_by : Option IsduFault → Transfer
+answer_by None = Quiet
+answer_by (Some fault) = Refused
+
+-- ISDU-9, REQ-7
+abbrev pub answer_joined : Bool → List ℕ → Transfer
+answer_joined read text = answer_by (answer_fault read text)
+
+abbrev pub answered_at : Stage → Bool → List ℕ → Option ℕ → Transfer
+answered_at Open read octets last = answer_begun read octets last
+answered_at (Complete text) read octets last = answer_joined read text
+answered_at Wrong read octets last = Refused
+
+-- of an answer these octets came, the last of them under this COUNT
+-- REQ-5, REQ-7
+abbrev pub answered : Bool → List ℕ → Option ℕ → Transfer
+answered read octets last = answered_at (stage octets) read octets last
+
+-- busy, no service, or the answer's first segment
+-- REQ-5, REQ-7, ISDU-11
+abbrev pub asked_told : Bool → List ℕ → Transfer
+asked_told read octets =
+    if slice_index octets 0 == BUSY then Asked read else
+    if slice_index octets 0 == NO_SERVICE then Refused else
+    answered read octets None
+
+-- once the good reply to a read on the ISDU channel brought these octets
+-- REQ-5
+abbrev pub told : Transfer → List ℕ → Transfer
+told (Asked read) octets = asked_told read octets
+told (Answered read text last) octets = answered read (text.items ++ octets) last
+told transfer octets = transfer
+
+-- A message
+
+-- REQ-1
+abbrev pub idle_sent : Transfer → Result Transfer MasterFault
+idle_sent Quiet = Ok Quiet
+idle_sent transfer = Err NotDue
+
+-- REQ-9
+abbrev pub abort_sent : Transfer → Result Transfer MasterFault
+abort_sent Quiet = Err NotDue
+abort_sent transfer = Ok Quiet
+
+-- once a new message is sent on the ISDU channel, to a device that has ISDU or not
+-- REQ-1, REQ-9, OCT-2
+abbrev pub moved : Bool → Transfer → Bool → Flow → List ℕ → Result Transfer MasterFault
+moved isdu transfer true Start octets = start_asked transfer
+moved isdu transfer false Start octets = start_sent isdu transfer octets
+moved isdu transfer true (Count count) octets = count_asked transfer count
+moved isdu transfer false (Count count) octets = count_sent transfer count octets
+moved isdu transfer read Idle1 octets = idle_sent transfer
+moved isdu transfer read Idle2 octets = idle_sent transfer
+moved isdu transfer read Abort octets = abort_sent transfer
+moved isdu transfer read (Reserved address) octets = Err NotDue

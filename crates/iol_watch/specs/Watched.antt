@@ -1,0 +1,298 @@
+-- The watch: how far a master has come, and the verdict.
+use Rattle.std.specs.Prelude.{ℕ, ◌+◌, ◌-◌, ◌^◌, min, Bool, true, false, not, ◌&&◌, ◌==◌, bytes_eq, if◌then◌else◌, List, slice_index, Option, Some, None, is_some, option_and_then, Result, Ok, Err}
+use Rattle.iol_octets.specs.declared.control.Channel.{Channel}
+use Rattle.iol_octets.specs.declared.control.Channel.TheVariants.{Process, Page, Diagnosis, Isdu}
+use Rattle.iol_mseq.specs.Master.{master_in}
+use Rattle.iol_mseq.specs.Replies.{reply_in}
+use Rattle.iol_mseq.specs.declared.master.MasterMsg.{MasterMsg}
+use Rattle.iol_mseq.specs.declared.reply.Reply.{Reply}
+use Rattle.iol_page.specs.declared.page.Layouts.{Layouts}
+use Rattle.iol_page.specs.declared.master_command.MasterCommand.{MasterCommand}
+use Rattle.iol_page.specs.declared.master_command.MasterCommand.TheVariants.{MasterIdent}
+use Rattle.iol_far.specs.Codec.{flow_of}
+use Rattle.iol_far.specs.Far.{command_in}
+use Rattle.iol_judge.specs.Seen.{nothing_seen, octet_seen, page_noted, layouts_seen}
+use Rattle.iol_judge.specs.declared.verdict.Wake.{Wake}
+use Rattle.iol_judge.specs.declared.verdict.Wake.TheVariants.{Answered, Unanswered}
+use Rattle.iol_watch.specs.declared.fault.MasterFault.{MasterFault}
+use Rattle.iol_watch.specs.declared.fault.MasterFault.TheVariants.{WakeDue, NotRepeated, NotStartUp, NotWellFormed, NotDue}
+use Rattle.iol_watch.specs.declared.phase.Phase.{Phase}
+use Rattle.iol_watch.specs.declared.phase.Phase.TheVariants.{Down, Startup, Preoperate, Operate}
+use Rattle.iol_watch.specs.declared.output.Output.{Output}
+use Rattle.iol_watch.specs.declared.master.Master.{Master}
+use Rattle.iol_watch.specs.declared.master.Missed.{Missed}
+use Rattle.iol_watch.specs.declared.transfer.Transfer.{Transfer}
+use Rattle.iol_watch.specs.declared.transfer.Transfer.TheVariants.{Quiet}
+use Rattle.iol_watch.specs.declared.verdict.Verdict.{Verdict}
+use Rattle.iol_watch.specs.declared.verdict.Verdict.TheVariants.{Unjudged, ByTheRules, NotByTheRules}
+use Rattle.iol_watch.specs.Phases.{allows, allows_cycle, entered, in_operate, phase_layout}
+use Rattle.iol_watch.specs.Outputs.{no_output, woken_output, carried}
+use Rattle.iol_watch.specs.Readings.{no_events, is_due, read_on}
+use Rattle.iol_watch.specs.Transfers.{moved, told}
+
+-- of a capture that just began
+abbrev pub new_master : Master
+new_master = record {
+  phase = Down;
+  seen = nothing_seen;
+  done = record { ident = false; cycle = false };
+  out = None;
+  output = no_output;
+  events = no_events;
+  transfer = Quiet;
+}
+
+abbrev pub woken_phase : Wake → Phase
+woken_phase Answered = Startup
+woken_phase Unanswered = Down
+
+-- once a wake-up request was made, by what is known of the page
+-- LINK-1, PD-6, EVT-9, REQ-11
+abbrev pub woken : Master → List (Option ℕ) → Wake → Master
+woken master seen answer = record new_master {
+  phase = woken_phase answer;
+  seen = seen;
+  output = woken_output master.output;
+}
+
+-- A new message on the page channel
+
+-- LINK-6, LINK-7, LINK-8, LINK-10
+abbrev pub ident_after : Bool → Option MasterCommand → Bool
+ident_after ident (Some MasterIdent) = true
+ident_after ident command = ident
+
+abbrev pub command_sent : Master → Option MasterCommand → Result Master MasterFault
+command_sent master command =
+    if allows master.phase (layouts_seen master.seen) master.done command
+    then Ok (record master {
+      done = record { ident = ident_after master.done.ident command; cycle = master.done.cycle };
+    })
+    else Err NotStartUp
+
+-- LINK-12
+abbrev pub cycle_sent : Master → ℕ → Result Master MasterFault
+cycle_sent master octet = if allows_cycle (octet_seen master.seen 2) octet
+    then Ok (record master { done = record { ident = master.done.ident; cycle = true } })
+    else Err NotStartUp
+
+abbrev pub sent_to_page : Master → MasterMsg → Result Master MasterFault
+sent_to_page master message =
+    if message.mc.read then Ok master else
+    if message.mc.address == 0 then command_sent master (command_in message) else
+    if message.mc.address == 1 then cycle_sent master (slice_index message.od.items 0) else
+    Ok master
+
+-- in STARTUP
+abbrev pub startup_on : Channel → Master → MasterMsg → Result Master MasterFault
+startup_on Page master message = sent_to_page master message
+startup_on channel master message = Err NotStartUp
+
+abbrev pub sent_in_startup : Master → MasterMsg → Result Master MasterFault
+sent_in_startup master message = startup_on message.mc.channel master message
+
+-- On the other channels
+
+-- EVT-5, EVT-6, EVT-7, EVT-8
+abbrev pub event_sent : Master → MasterMsg → Result Master MasterFault
+event_sent master message = if is_due master.events message.mc.read message.mc.address
+    then Ok master else Err NotDue
+
+abbrev pub with_transfer : Master → Result Transfer MasterFault → Result Master MasterFault
+with_transfer master (Ok transfer) = Ok (record master { transfer = transfer })
+with_transfer master (Err fault) = Err fault
+
+abbrev pub isdu_sent : Master → Bool → MasterMsg → Result Master MasterFault
+isdu_sent master isdu message = with_transfer master
+    (moved isdu master.transfer message.mc.read (flow_of message.mc.address) message.od.items)
+
+-- in PREOPERATE or OPERATE
+abbrev pub sent_by : Channel → Master → Layouts → MasterMsg → Result Master MasterFault
+sent_by Process master layouts message = Ok master
+sent_by Page master layouts message = sent_to_page master message
+sent_by Diagnosis master layouts message = event_sent master message
+sent_by Isdu master layouts message = isdu_sent master layouts.isdu message
+
+abbrev pub sent_on : Master → Layouts → MasterMsg → Result Master MasterFault
+sent_on master layouts message = sent_by message.mc.channel master layouts message
+
+-- A message
+
+-- in OPERATE, where the process data out fits
+-- PD-4
+abbrev pub sent_carrying : Master → Layouts → MasterMsg → Result Output MasterFault
+    → Result Master MasterFault
+sent_carrying master layouts message (Ok output) =
+    sent_on (record master { output = output }) layouts message
+sent_carrying master layouts message (Err fault) = Err fault
+
+abbrev pub sent_at : Phase → Master → MasterMsg → Result Master MasterFault
+sent_at Down master message = sent_in_startup master message
+sent_at Startup master message = sent_in_startup master message
+sent_at (Preoperate layouts) master message = sent_on master layouts message
+sent_at (Operate layouts) master message =
+    sent_carrying master layouts message
+    (carried master.output (command_in message) message.out.items)
+
+abbrev pub sent_as : Master → Option MasterMsg → Result Master MasterFault
+sent_as master None = Err NotWellFormed
+sent_as master (Some message) = sent_at master.phase master message
+
+-- MSG-3
+abbrev pub sent_new : Master → List ℕ → Result Master MasterFault
+sent_new master octets = sent_as master (master_in (phase_layout master.phase) octets)
+
+-- LINK-2
+abbrev pub sent_again : Option Missed → Master → List ℕ → Result Master MasterFault
+sent_again None master octets = sent_new master octets
+sent_again (Some out) master octets =
+    if bytes_eq out.octets.items octets then Ok master else Err NotRepeated
+
+-- LINK-1, LINK-3
+abbrev pub sent_in : Phase → Master → List ℕ → Result Master MasterFault
+sent_in Down master octets = Err WakeDue
+sent_in phase master octets = sent_again master.out master octets
+
+-- once it sends these octets
+abbrev pub sent : Master → List ℕ → Result Master MasterFault
+sent master octets = sent_in master.phase master octets
+
+-- What comes back
+
+abbrev pub lost : Master → Master
+lost master = record master { phase = Down; out = None }
+
+-- these octets are to be sent again, after one attempt or two
+abbrev pub left_out : Master → List ℕ → Bool → Master
+left_out master octets twice =
+    record master { out = Some (record { octets = record { items = octets }; twice = twice }) }
+
+-- LINK-2, LINK-3
+abbrev pub missed_as : Option Missed → Master → List ℕ → Master
+missed_as None master octets = left_out master octets false
+missed_as (Some out) master octets =
+    if out.twice then lost master else left_out master octets true
+
+abbrev pub missed : Master → List ℕ → Master
+missed master octets = missed_as master.out master octets
+
+-- the good reply to a write to the page: another mode drops the transfer
+-- LINK-9, DEV-3
+abbrev pub mode_entered : Master → Option MasterCommand → Master
+mode_entered master command = record master {
+  phase = entered master.phase (layouts_seen master.seen) command;
+  transfer =
+      if is_some command && not (in_operate master.phase) then Quiet else master.transfer;
+}
+
+abbrev pub read_from : Channel → Master → MasterMsg → List ℕ → Master
+read_from Process master message octets = master
+read_from Page master message octets =
+    record master { seen = page_noted master.seen message.mc.address (slice_index octets 0) }
+read_from Diagnosis master message octets = record master {
+  events = record master.events {
+    reading = read_on true (slice_index octets 0) master.events.reading;
+  };
+}
+read_from Isdu master message octets =
+    record master { transfer = told master.transfer octets }
+
+abbrev pub written_to : Channel → Master → MasterMsg → List ℕ → Master
+written_to Page master message octets = mode_entered master (command_in message)
+written_to Diagnosis master message octets = record master {
+  events = record master.events {
+    reading = read_on false (slice_index octets 0) master.events.reading;
+  };
+}
+written_to channel master message octets = master
+
+abbrev pub answered : Master → MasterMsg → List ℕ → Master
+answered master message octets =
+    if message.mc.read then read_from message.mc.channel master message octets
+    else written_to message.mc.channel master message octets
+
+-- the message is out no more, and the Event flag is the reply's
+abbrev pub flagged : Master → Bool → Master
+flagged master flag =
+    record master { out = None; events = record master.events { flag = flag } }
+
+-- a good reply
+-- LINK-9, EVT-5
+abbrev pub replied : Master → MasterMsg → Reply → Master
+replied master message reply = answered (flagged master reply.event) message reply.od.items
+
+abbrev pub heard_reply : Master → List ℕ → MasterMsg → Option Reply → Master
+heard_reply master octets message None = missed master octets
+heard_reply master octets message (Some reply) = replied master message reply
+
+abbrev pub heard_as : Master → List ℕ → Option MasterMsg → Option (List ℕ) → Master
+heard_as master octets None answer = master
+heard_as master octets (Some message) answer =
+    heard_reply master octets message
+    (option_and_then (reply_in (phase_layout master.phase) message.mc.read) answer)
+
+-- once this came in the time of a reply to what was sent, if anything did
+-- LINK-2, LINK-3, MSG-4
+abbrev pub heard : Master → List ℕ → Option (List ℕ) → Master
+heard master octets answer =
+    heard_as master octets (master_in (phase_layout master.phase) octets) answer
+
+-- whether a message is a write to page address 0x00
+abbrev pub is_command_at : Bool → Channel → ℕ → Bool
+is_command_at false Page address = address == 0
+is_command_at read channel address = false
+
+abbrev pub is_command : MasterMsg → Bool
+is_command message = is_command_at message.mc.read message.mc.channel message.mc.address
+
+-- The watch
+
+pub record Watched : Type 0 where
+  -- what was told of the page
+  pub told : List (Option ℕ)
+  pub master : Master
+  pub verdict : Verdict
+  -- how many exchanges there were
+  pub exchanges : ℕ
+
+abbrev pub new_watch : Watched
+new_watch =
+    record { told = nothing_seen; master = new_master; verdict = Unjudged; exchanges = 0 }
+
+-- the device has this page
+abbrev pub paged : Watched → List (Option ℕ) → Watched
+paged watched page =
+    record watched { told = page; master = record watched.master { seen = page } }
+
+abbrev pub woke_with : Verdict → Watched → Wake → Watched
+woke_with (NotByTheRules number fault) watched wake = watched
+woke_with verdict watched wake = record watched {
+  master = woken watched.master watched.told wake;
+  verdict = ByTheRules;
+}
+
+-- the watch, told a wake-up request
+-- LINK-1
+abbrev pub woke : Watched → Wake → Watched
+woke watched wake = woke_with watched.verdict watched wake
+
+abbrev pub counted : Watched → Watched
+counted watched = record watched { exchanges = min (watched.exchanges + 1) (2 ^ 64 - 1) }
+
+abbrev pub judged_as : Watched → List ℕ → Option (List ℕ) → Result Master MasterFault → Watched
+judged_as watched octets answer (Ok master) =
+    record watched { master = heard master octets answer }
+judged_as watched octets answer (Err fault) = record watched {
+  master = new_master;
+  verdict = NotByTheRules watched.exchanges fault;
+}
+
+abbrev pub judged_by : Verdict → Watched → List ℕ → Option (List ℕ) → Watched
+judged_by ByTheRules watched octets answer =
+    judged_as watched octets answer (sent watched.master octets)
+judged_by verdict watched octets answer = watched
+
+-- the watch, told an exchange
+-- LINK-2, LINK-3
+abbrev pub exchanged : Watched → List ℕ → Option (List ℕ) → Watched
+exchanged watched octets answer = judged_by watched.verdict (counted watched) octets answer

@@ -1,0 +1,79 @@
+//! Why no master by the rules would have sent a message.
+ghost use Rattle.std.specs.Prelude.{◌≡◌};
+
+use thiserror::Error;
+
+/// Why no master by the rules would have sent a message.
+///
+/// A new message is one behind a good reply, or behind an answered wake-up request. Of a new
+/// message the first that holds is named.
+#[derive(Clone, Copy, Debug, PartialEq, Eq, Error)]
+pub enum MasterFault {
+    /// 1: a wake-up request was due: the last one wasn't answered, or three attempts in a row had
+    /// no good reply since (LINK-1, LINK-3).
+    #[error("WakeDue")]
+    WakeDue,
+    /// 2: the message before had no good reply, and these aren't its octets (LINK-2).
+    #[error("NotRepeated")]
+    NotRepeated,
+    /// 3: in STARTUP a message of another channel than the page's; a master command that isn't
+    /// allowed in the mode; or a MasterCycleTime that MinCycleTime doesn't allow, or before that
+    /// was read (LINK-6 to LINK-8, LINK-10, LINK-12).
+    ///
+    /// Allowed are, in STARTUP, MasterIdent and DeviceIdent; DevicePreoperate behind MasterIdent
+    /// to a device of V1.1, and DeviceOperate behind MasterCycleTime to one of V1.0, both only
+    /// where the page's octets 0x03 to 0x06 are known and ask for layouts (LINK-5); in PREOPERATE
+    /// DeviceOperate behind MasterCycleTime; in OPERATE ProcessDataOutputOperate and
+    /// DeviceOperate.
+    #[error("NotStartUp")]
+    NotStartUp,
+    /// 4: the octets are no message in the layout of the mode (MSG-3, LINK-9).
+    #[error("NotWellFormed")]
+    NotWellFormed,
+    /// 5: other process data out than the message before had, while the device's output isn't
+    /// valid, and the message doesn't make it valid (PD-4, PD-5). The first of a session may have
+    /// zeros (PD-6). Of the first in a capture nothing is said, since what went before isn't
+    /// known.
+    #[error("OutputOctets")]
+    OutputOctets,
+    /// 6: an ISDU or event message that nothing asks for.
+    ///
+    /// - START write while a request is under way, or to a device without ISDU (REQ-2, REQ-3);
+    /// - COUNT write without a request that was begun; START read without one that was written
+    ///   whole, or once its answer has begun; COUNT read before that (REQ-4, REQ-5);
+    /// - IDLE while a request is under way, ABORT while none is; behind "no service" or a refused
+    ///   answer all but ABORT (REQ-1, REQ-7, REQ-9);
+    /// - a flow that is reserved (OCT-2);
+    /// - a read of events without the Event flag in the last good reply, or behind a StatusCode
+    ///   that was refused; one at another address than the reading's next (EVT-5 to EVT-7);
+    /// - a confirm before the list was read whole; any other diagnosis write (EVT-8).
+    #[error("NotDue")]
+    NotDue,
+    /// 7: the segments written are the beginning of no request; they go on behind it; or the
+    /// octets behind it in its last segment aren't zeros (ISDU-1 to ISDU-3, SEG-1, REQ-4).
+    #[error("RequestText")]
+    RequestText,
+    /// 8: a COUNT, written or read, isn't the one behind the last (SEG-2, REQ-4, REQ-5).
+    #[error("NotInLine")]
+    NotInLine,
+}
+
+impl MasterFault {
+    ghost use Rattle.iol_watch.specs.Numbers.{fault_number};
+
+    /// The number of the fault.
+    pub fn code(&self) -> u8
+        ensures { result ≡ fault_number self.now }
+    {
+        match self {
+            MasterFault::WakeDue => 1,
+            MasterFault::NotRepeated => 2,
+            MasterFault::NotStartUp => 3,
+            MasterFault::NotWellFormed => 4,
+            MasterFault::OutputOctets => 5,
+            MasterFault::NotDue => 6,
+            MasterFault::RequestText => 7,
+            MasterFault::NotInLine => 8,
+        }
+    }
+}

@@ -1,0 +1,13 @@
+//! Laws of the watch, each carried by a function that does nothing when it runs.
+ghost use Rattle.iol_watch.specs.Laws.{FaultsStay, RepeatsAreFair, WakesAreFair};
+
+/// What the watch never blames, and that it stays with its verdict: a message without a good reply
+/// that is sent again, a wake-up request; the first fault, whatever comes behind it.
+///
+/// Rules LINK-1, LINK-2.
+#[tactic(auto, using(crate::proofs::Fair::repeats_are_fair, crate::proofs::Fair::wakes_are_fair, crate::proofs::Fair::faults_stay))]
+pub fn repeats_and_wakes_are_fair()
+    ensures repeats { RepeatsAreFair }
+    ensures wakes { WakesAreFair }
+    ensures faults { FaultsStay }
+{}

@@ -1,0 +1,300 @@
+//! How far a master has come, by what it sent and by the good replies that came.
+ghost use Rattle.std.specs.Prelude.{◌≡◌, ◌≤◌, length, option_copied};
+ghost use Rattle.iol_judge.specs.Seen.{layouts_seen};
+ghost use Rattle.iol_watch.specs.Phases.{allows, allows_cycle};
+ghost use Rattle.iol_watch.specs.Results.{result_with};
+ghost use Rattle.iol_watch.specs.Watched.{command_sent, cycle_sent, heard, missed, mode_entered, new_master, replied, sent, sent_in_startup, sent_new, sent_on, sent_to_page, woken};
+
+use crate::fault::MasterFault;
+use crate::message::{command_in, message_in, reply_in};
+use crate::output::Output;
+use crate::phase::Phase;
+use crate::reading::Events;
+use crate::seen::Seen;
+use crate::transfer::Transfer;
+use iol_judge::Wake;
+use iol_mseq::{MasterView, Message, ReplyView, first};
+use iol_octets::Channel;
+use iol_page::{Layouts, MasterCommand};
+use std::mem::replace;
+
+/// The page address of MinCycleTime.
+const MIN_CYCLE_TIME: u8 = 0x02;
+
+/// The first octet of a cycle time that has a reserved time base.
+const RESERVED: u8 = 192;
+
+/// What a start-up has done.
+#[derive(Clone, Copy, Debug, PartialEq, Eq)]
+pub(crate) struct StartUp {
+    /// MasterIdent was sent.
+    pub ident: bool,
+    /// MasterCycleTime was sent.
+    pub cycle: bool,
+}
+
+/// A message whose last attempts had no good reply.
+#[derive(Debug, Drop)]
+pub(crate) struct Missed {
+    pub octets: Message,
+    /// Whether these were two attempts, else one.
+    pub twice: bool,
+}
+
+/// How far a master has come.
+#[derive(Debug, Drop)]
+pub(crate) struct Master {
+    pub phase: Phase,
+    /// What it knows of the device's page.
+    pub seen: Seen,
+    pub done: StartUp,
+    /// The message that is to be sent again.
+    pub out: Option<Missed>,
+    pub output: Output,
+    pub events: Events,
+    pub transfer: Transfer,
+}
+
+impl Master {
+    /// Of a capture that just began.
+    pub fn new() -> Master
+        ensures { result ≡ new_master }
+    {
+        Master {
+            phase: Phase::Down,
+            seen: Seen::nothing(),
+            done: StartUp {
+                ident: false,
+                cycle: false,
+            },
+            out: None,
+            output: Output::new(),
+            events: Events::new(),
+            transfer: Transfer::Quiet,
+        }
+    }
+
+    /// Once a wake-up request was made, by what is known of the page.
+    ///
+    /// Rules LINK-1, PD-6, EVT-9, REQ-11.
+    pub fn woken(self, seen: Seen, answer: Wake) -> Master
+        ensures { result ≡ woken self seen answer }
+    {
+        let phase = match answer {
+            Wake::Answered => Phase::Startup,
+            Wake::Unanswered => Phase::Down,
+        };
+        Master {
+            phase,
+            seen,
+            output: self.output.woken(),
+            ..Master::new()
+        }
+    }
+
+    /// Once it sends these octets.
+    ///
+    /// Refusals: each `MasterFault`.
+    pub fn send(&mut self, octets: &[u8]) -> Result<(), MasterFault>
+        ensures { result_with result self.new ≡ sent self.old octets.now }
+    {
+        match (&self.phase, &self.out) {
+            (Phase::Down, _) => Err(MasterFault::WakeDue),
+            (_, Some(out)) if out.octets.as_slice() == octets => Ok(()),
+            (_, Some(_)) => Err(MasterFault::NotRepeated),
+            (_, None) => self.send_new(octets),
+        }
+    }
+
+    /// A new message. Refusals: 3 NotStartUp to 8 NotInLine.
+    fn send_new(&mut self, octets: &[u8]) -> Result<(), MasterFault>
+        ensures { result_with result self.new ≡ sent_new self.old octets.now }
+    {
+        let Some(message) = message_in(&self.phase.layout(), octets) else {
+            return Err(MasterFault::NotWellFormed);
+        };
+        match self.phase {
+            Phase::Down | Phase::Startup => self.send_in_startup(&message),
+            Phase::Preoperate(layouts) => self.send_on(&layouts, &message),
+            Phase::Operate(layouts) => {
+                self.output.carry(command_in(&message), message.out())?;
+                self.send_on(&layouts, &message)
+            }
+        }
+    }
+
+    /// Of STARTUP. Refusal 3 NotStartUp.
+    fn send_in_startup(&mut self, message: &MasterView<'_>) -> Result<(), MasterFault>
+        ensures { result_with result self.new ≡ sent_in_startup self.old message.now }
+    {
+        if message.mc().channel == Channel::Page {
+            self.send_to_page(message)
+        } else {
+            Err(MasterFault::NotStartUp)
+        }
+    }
+
+    /// Of PREOPERATE or OPERATE. Refusals: 3 NotStartUp, 6 NotDue to 8 NotInLine.
+    fn send_on(&mut self, layouts: &Layouts, message: &MasterView<'_>) -> Result<(), MasterFault>
+        ensures { result_with result self.new ≡ sent_on self.old layouts.now message.now }
+    {
+        let mc = message.mc();
+        match mc.channel {
+            Channel::Process => Ok(()),
+            Channel::Page => self.send_to_page(message),
+            Channel::Diagnosis if self.events.is_due(mc.read, mc.address) => Ok(()),
+            Channel::Diagnosis => Err(MasterFault::NotDue),
+            Channel::Isdu => {
+                let transfer = replace(&mut self.transfer, Transfer::Quiet);
+                self.transfer = transfer.moved(layouts.isdu, mc, message.od())?;
+                Ok(())
+            }
+        }
+    }
+
+    /// On the page channel. Refusal 3 NotStartUp.
+    ///
+    /// Rules LINK-6 to LINK-8, LINK-10, LINK-12.
+    fn send_to_page(&mut self, message: &MasterView<'_>) -> Result<(), MasterFault>
+        ensures { result_with result self.new ≡ sent_to_page self.old message.now }
+    {
+        let mc = message.mc();
+        match (mc.read, mc.address) {
+            (false, 0) => self.send_command(command_in(message)),
+            (false, 1) => self.send_cycle(first(message.od())),
+            _ => Ok(()),
+        }
+    }
+
+    /// A master command, or an octet that is none.
+    fn send_command(&mut self, command: Option<MasterCommand>) -> Result<(), MasterFault>
+        ensures { result_with result self.new ≡ command_sent self.old command }
+    {
+        if !self.allows(command) {
+            return Err(MasterFault::NotStartUp);
+        }
+        if command == Some(MasterCommand::MasterIdent) {
+            self.done.ident = true;
+        }
+        Ok(())
+    }
+
+    /// MasterCycleTime.
+    ///
+    /// Rule LINK-12.
+    fn send_cycle(&mut self, octet: u8) -> Result<(), MasterFault>
+        ensures { result_with result self.new ≡ cycle_sent self.old octet }
+    {
+        if !allows_cycle(self.seen.octet(MIN_CYCLE_TIME), octet) {
+            return Err(MasterFault::NotStartUp);
+        }
+        self.done.cycle = true;
+        Ok(())
+    }
+
+    /// Whether a new master command is allowed.
+    ///
+    /// Rules LINK-5 to LINK-8, LINK-10.
+    fn allows(&self, command: Option<MasterCommand>) -> bool
+        ensures { result ≡ allows self.now.phase (layouts_seen self.now.seen) self.now.done
+            command }
+    {
+        let asked = self.seen.layouts();
+        match (&self.phase, command) {
+            (Phase::Startup, Some(MasterCommand::MasterIdent | MasterCommand::DeviceIdent)) => true,
+            (Phase::Startup, Some(MasterCommand::DevicePreoperate)) => {
+                self.done.ident && matches!(asked, Ok(layouts) if layouts.pre.is_some())
+            }
+            (Phase::Startup, Some(MasterCommand::DeviceOperate)) => {
+                self.done.cycle && matches!(asked, Ok(layouts) if layouts.pre.is_none())
+            }
+            (Phase::Preoperate(_), Some(MasterCommand::DeviceOperate)) => self.done.cycle,
+            (Phase::Operate(_), Some(MasterCommand::ProcessDataOutputOperate)) => true,
+            (Phase::Operate(_), Some(MasterCommand::DeviceOperate)) => true,
+            _ => false,
+        }
+    }
+
+    /// Once this came in the time of a reply to what was sent, if anything did.
+    ///
+    /// Rules LINK-2, LINK-3.
+    pub fn hear(&mut self, sent: &[u8], answer: Option<&[u8]>)
+        ensures { self.new ≡ heard self.old sent.now (option_copied answer.entry) }
+    {
+        let layout = self.phase.layout();
+        let Some(message) = message_in(&layout, sent) else {
+            return;
+        };
+        match reply_in(&layout, message.mc().read, answer) {
+            Some(reply) => self.take(&message, &reply),
+            None => self.miss(sent),
+        }
+    }
+
+    /// Without a good reply.
+    ///
+    /// Rules LINK-2, LINK-3.
+    fn miss(&mut self, sent: &[u8])
+        requires { length sent.now ≤ 66 }
+        ensures { self.new ≡ missed self.old sent.now }
+    {
+        let twice = match &self.out {
+            None => false,
+            Some(out) if !out.twice => true,
+            Some(_) => {
+                self.phase = Phase::Down;
+                self.out = None;
+                return;
+            }
+        };
+        self.out = Some(Missed {
+            octets: Message::try_from(sent).unwrap(),
+            twice,
+        });
+    }
+
+    /// With one.
+    fn take(&mut self, message: &MasterView<'_>, reply: &ReplyView<'_>)
+        ensures { self.new ≡ replied self.old message.now reply.now }
+    {
+        let mc = message.mc();
+        self.out = None;
+        self.events.flag = reply.event();
+        match mc.channel {
+            Channel::Process => {}
+            Channel::Page if mc.read => self.seen.note(mc.address, first(reply.od())),
+            Channel::Page => self.enter(command_in(message)),
+            Channel::Diagnosis => self.events.go_on(mc.read, first(reply.od())),
+            Channel::Isdu if mc.read => {
+                let transfer = replace(&mut self.transfer, Transfer::Quiet);
+                self.transfer = transfer.told(reply.od());
+            }
+            Channel::Isdu => {}
+        }
+    }
+
+    /// Once the good reply to a write to the page came: another mode drops the transfer.
+    ///
+    /// Rules LINK-9, DEV-3.
+    fn enter(&mut self, command: Option<MasterCommand>)
+        ensures { self.new ≡ mode_entered self.old command }
+    {
+        let layouts = self.seen.layouts();
+        if command.is_some() && !self.phase.in_operate() {
+            self.transfer = Transfer::Quiet;
+        }
+        self.phase = self.phase.entered(layouts, command);
+    }
+}
+
+/// Whether MasterCycleTime may be this octet, by MinCycleTime, where that is known.
+///
+/// Rules LINK-12, PAGE-8.
+fn allows_cycle(least: Option<u8>, octet: u8) -> bool
+    ensures { result ≡ allows_cycle least octet }
+{
+    match least {
+        Some(least) => octet == least || (least < octet && octet < RESERVED),
+        None => false,
+    }
+}

@@ -1,0 +1,103 @@
+//! The process data out of a master.
+ghost use Rattle.std.specs.Prelude.{◌≡◌, ◌≤◌, length};
+ghost use Rattle.iol_watch.specs.Outputs.{aged, allows_octets, carried, no_output, valid_with, woken_output};
+ghost use Rattle.iol_watch.specs.Results.{result_with};
+
+use crate::fault::MasterFault;
+use crate::transfer::are_zeros;
+use iol_mseq::{Part, part_of};
+use iol_page::MasterCommand;
+
+/// What the messages before carried as process data out.
+#[derive(Debug, Drop)]
+pub(crate) enum Carried {
+    /// The capture has none of OPERATE yet.
+    Unknown,
+    /// These octets, in the session before.
+    Before(Part),
+    /// These octets, in this session.
+    Last(Part),
+}
+
+/// The process data out of a master.
+#[derive(Debug, Drop)]
+pub(crate) struct Output {
+    pub carried: Carried,
+    /// Whether the device was told that its output is valid.
+    pub valid: bool,
+}
+
+impl Carried {
+    /// Whether a message may carry these octets that leaves the device's output invalid.
+    ///
+    /// Rules PD-4, PD-6.
+    fn allows(&self, octets: &[u8]) -> bool
+        ensures { result ≡ allows_octets self.now octets.now }
+    {
+        match self {
+            Carried::Unknown => true,
+            Carried::Before(before) => octets == before.as_slice() || are_zeros(octets),
+            Carried::Last(last) => octets == last.as_slice(),
+        }
+    }
+
+    /// Once another session begins.
+    fn aged(self) -> Carried
+        ensures { result ≡ aged self }
+    {
+        match self {
+            Carried::Unknown => Carried::Unknown,
+            Carried::Before(octets) => Carried::Before(octets),
+            Carried::Last(octets) => Carried::Before(octets),
+        }
+    }
+}
+
+impl Output {
+    /// Of a capture that just began.
+    pub fn new() -> Output
+        ensures { result ≡ no_output }
+    {
+        Output {
+            carried: Carried::Unknown,
+            valid: false,
+        }
+    }
+
+    /// Once a wake-up request was made.
+    ///
+    /// Rule PD-6.
+    pub fn woken(self) -> Output
+        ensures { result ≡ woken_output self }
+    {
+        Output {
+            carried: self.carried.aged(),
+            valid: false,
+        }
+    }
+
+    /// Once a new message of OPERATE carries these octets, which may be a command. Refusal 5
+    /// OutputOctets.
+    ///
+    /// Rules PD-4, PD-5.
+    pub fn carry(
+        &mut self,
+        command: Option<MasterCommand>,
+        octets: &[u8],
+    ) -> Result<(), MasterFault>
+        requires { length octets.now ≤ 32 }
+        ensures { result_with result self.new ≡ carried self.old command octets.now }
+    {
+        let valid = match command {
+            Some(MasterCommand::ProcessDataOutputOperate) => true,
+            Some(MasterCommand::DeviceOperate) => false,
+            _ => self.valid,
+        };
+        if !valid && !self.carried.allows(octets) {
+            return Err(MasterFault::OutputOctets);
+        }
+        self.carried = Carried::Last(part_of(octets));
+        self.valid = valid;
+        Ok(())
+    }
+}

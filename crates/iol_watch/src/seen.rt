@@ -1,0 +1,112 @@
+//! What is known of a device's page.
+ghost use Rattle.std.specs.Prelude.{◌≡◌};
+ghost use Rattle.iol_judge.specs.Seen.{layouts_by};
+
+use iol_judge::Open;
+use iol_page::{Layouts, Page};
+use std::marker::Model;
+
+const CAPABILITY: u8 = 0x03;
+
+const REVISION: u8 = 0x04;
+
+const PROCESS_DATA_IN: u8 = 0x05;
+
+const PROCESS_DATA_OUT: u8 = 0x06;
+
+/// The layouts that a page asks for, where it is known.
+pub(crate) type Known = Result<Layouts, Open>;
+
+/// The octets of direct parameter page 1, 0x02 to 0x0B, as far as they are known.
+#[derive(Clone, Copy, Debug, PartialEq, Eq)]
+pub(crate) struct Seen {
+    octets: [Option<u8>; 10],
+}
+
+impl Model for Seen {
+    ghost use Rattle.std.specs.Prelude.{List, Option, ℕ};
+
+    ghost Value = { List (Option ℕ) };
+
+    ghost view = { λ s. s.octets };
+
+    ghost inverse = { λ octets. record { octets = octets } };
+}
+
+impl Seen {
+    ghost use Rattle.iol_judge.specs.Seen.{nothing_seen, whole_page, octet_seen, page_noted, layouts_seen};
+
+    /// None of them.
+    pub fn nothing() -> Seen
+        ensures { result ≡ nothing_seen }
+    {
+        Seen { octets: [None; 10] }
+    }
+
+    /// All of them.
+    pub fn whole(page: &[u8; 10]) -> Seen
+        ensures { result ≡ whole_page page.now }
+    {
+        Seen {
+            octets: [
+                Some(page[0]),
+                Some(page[1]),
+                Some(page[2]),
+                Some(page[3]),
+                Some(page[4]),
+                Some(page[5]),
+                Some(page[6]),
+                Some(page[7]),
+                Some(page[8]),
+                Some(page[9]),
+            ],
+        }
+    }
+
+    /// The octet that a page address other than 0x01 reads as, where it is known.
+    ///
+    /// Rule PAGE-1.
+    pub fn octet(&self, address: u8) -> Option<u8>
+        ensures { result ≡ octet_seen self.now address }
+    {
+        match address {
+            0x02..=0x0B => self.octets[address as usize - 2],
+            _ => Some(0),
+        }
+    }
+
+    /// A page address was read as this octet.
+    pub fn note(&mut self, address: u8, octet: u8)
+        ensures { self.new ≡ page_noted self.old address octet }
+    {
+        if let 0x02..=0x0B = address {
+            self.octets[address as usize - 2] = Some(octet);
+        }
+    }
+
+    /// The layouts that the page asks for, by the octets 0x03 to 0x06. Open: one of them isn't
+    /// known, or they ask for none.
+    ///
+    /// Rule PAGE-5.
+    pub fn layouts(&self) -> Known
+        ensures { result ≡ layouts_seen self.now }
+    {
+        let capability = self.octet(CAPABILITY).ok_or(Open::PageUnread)?;
+        let revision = self.octet(REVISION).ok_or(Open::PageUnread)?;
+        let input = self.octet(PROCESS_DATA_IN).ok_or(Open::PageUnread)?;
+        let output = self.octet(PROCESS_DATA_OUT).ok_or(Open::PageUnread)?;
+        layouts_of(capability, revision, input, output)
+    }
+}
+
+/// The layouts that a page with these octets at 0x03 to 0x06 asks for.
+#[tactic(auto, unfolding(iol_judge::specs::Seen::layouts_by))]
+fn layouts_of(capability: u8, revision: u8, input: u8, output: u8) -> Known
+    ensures { result ≡ layouts_by capability revision input output }
+{
+    let octets = [0, capability, revision, input, output, 0, 0, 0, 0, 0];
+    match Page::from_octets(&octets).layouts() {
+        Ok(layouts) => Ok(layouts),
+        Err(_) => Err(Open::PageRefused),
+    }
+}

@@ -1,0 +1,294 @@
+//! The ISDU transfer of a master.
+ghost use Rattle.std.specs.Prelude.{◌≡◌, ◌≤◌, ◌++◌, length};
+ghost use Rattle.iol_isdu.specs.Answers.{is_read};
+ghost use Rattle.iol_isdu.specs.Parse.{request_of};
+ghost use Rattle.iol_segment.specs.Join.{next_count};
+ghost use Rattle.iol_far.specs.Codec.{flow_of};
+ghost use Rattle.iol_judge.specs.Octets.{are_zeros};
+ghost use Rattle.iol_watch.specs.Transfers.{abort_sent, answer_begun, answer_joined, answered, asked_told, begun, count_asked, count_sent, idle_sent, moved, start_asked, start_sent, told, whole, written};
+
+use crate::fault::MasterFault;
+use arrayvec::ArrayVec;
+use iol_isdu::{IsduFault, Octets, Place, Request, Text, read_answer, read_request, total_of};
+use iol_octets::{Flow, Mc};
+
+/// How many octets the longest text has.
+const LONGEST: usize = 238;
+
+/// The first octet of "no service", in the reply to a START read.
+const NO_SERVICE: u8 = 0;
+
+/// That of "busy".
+const BUSY: u8 = 1;
+
+/// With one segment more.
+const MOST_JOINED: usize = 270;
+
+/// Octets of a text, and one segment more.
+type Joined = ArrayVec<u8, MOST_JOINED>;
+
+/// The ISDU transfer of a master. A request is a read, or a write.
+#[derive(Debug, Drop)]
+pub(crate) enum Transfer {
+    /// None is under way.
+    Quiet,
+    /// Segments of a request were written: their octets, and the last COUNT.
+    Written(Text, Option<u8>),
+    /// The request is whole: whether it is a read. Its answer is asked for.
+    Asked(bool),
+    /// Segments of the answer came, or the next one is asked for: whether it answers a read, their
+    /// octets, and the last COUNT that was asked for.
+    Answered(bool, Text, Option<u8>),
+    /// "No service" came, or what is no answer.
+    Refused,
+}
+
+impl Transfer {
+    /// Once a new message is sent on the ISDU channel, to a device that has ISDU or not.
+    ///
+    /// Refusals: 6 NotDue, 7 RequestText, 8 NotInLine.
+    ///
+    /// Rules REQ-1 to REQ-5, REQ-7, REQ-9.
+    pub fn moved(self, isdu: bool, mc: Mc, octets: &[u8]) -> Result<Transfer, MasterFault>
+        requires { length octets.now ≤ 32 }
+        ensures { result ≡ moved isdu self mc.read (flow_of mc.address) octets.now }
+    {
+        match flow_of(mc) {
+            Flow::Start if mc.read => self.start_asked(),
+            Flow::Start => self.start_sent(isdu, octets),
+            Flow::Count(count) if mc.read => self.count_asked(count),
+            Flow::Count(count) => self.count_sent(count, octets),
+            Flow::Idle1 | Flow::Idle2 => self.kept_if_quiet(),
+            Flow::Abort => self.aborted(),
+            Flow::Reserved(_) => Err(MasterFault::NotDue),
+        }
+    }
+
+    /// Rules REQ-2, REQ-3.
+    fn start_sent(self, isdu: bool, octets: &[u8]) -> Result<Transfer, MasterFault>
+        requires { length octets.now ≤ 32 }
+        ensures { result ≡ start_sent isdu self octets.now }
+    {
+        match self {
+            Transfer::Quiet if isdu => written(octets, None),
+            _ => Err(MasterFault::NotDue),
+        }
+    }
+
+    /// Rule REQ-4.
+    fn count_sent(self, count: u8, octets: &[u8]) -> Result<Transfer, MasterFault>
+        requires { length octets.now ≤ 32 }
+        ensures { result ≡ count_sent self count octets.now }
+    {
+        match self {
+            Transfer::Written(text, last) if count == next_count(last) => {
+                written(&joined(&text, octets), Some(count))
+            }
+            Transfer::Written(..) => Err(MasterFault::NotInLine),
+            Transfer::Asked(_) => Err(MasterFault::RequestText),
+            _ => Err(MasterFault::NotDue),
+        }
+    }
+
+    /// Rule REQ-5.
+    fn start_asked(self) -> Result<Transfer, MasterFault>
+        ensures { result ≡ start_asked self }
+    {
+        match self {
+            Transfer::Asked(read) => Ok(Transfer::Asked(read)),
+            _ => Err(MasterFault::NotDue),
+        }
+    }
+
+    /// Rule REQ-5.
+    fn count_asked(self, count: u8) -> Result<Transfer, MasterFault>
+        ensures { result ≡ count_asked self count }
+    {
+        match self {
+            Transfer::Answered(read, text, last) if count == next_count(last) => {
+                Ok(Transfer::Answered(read, text, Some(count)))
+            }
+            Transfer::Answered(..) => Err(MasterFault::NotInLine),
+            _ => Err(MasterFault::NotDue),
+        }
+    }
+
+    /// Rule REQ-1.
+    fn kept_if_quiet(self) -> Result<Transfer, MasterFault>
+        ensures { result ≡ idle_sent self }
+    {
+        match self {
+            Transfer::Quiet => Ok(Transfer::Quiet),
+            _ => Err(MasterFault::NotDue),
+        }
+    }
+
+    /// Rule REQ-9.
+    fn aborted(self) -> Result<Transfer, MasterFault>
+        ensures { result ≡ abort_sent self }
+    {
+        match self {
+            Transfer::Quiet => Err(MasterFault::NotDue),
+            _ => Ok(Transfer::Quiet),
+        }
+    }
+
+    /// Once the good reply to a read on the ISDU channel brought these octets.
+    ///
+    /// Rules REQ-5, REQ-7, ISDU-11.
+    pub fn told(self, octets: &[u8]) -> Transfer
+        requires { length octets.now ≤ 32 }
+        ensures { result ≡ told self octets.now }
+    {
+        match self {
+            Transfer::Asked(read) => asked_told(read, octets),
+            Transfer::Answered(read, text, last) => answered(read, &joined(&text, octets), last),
+            other => other,
+        }
+    }
+}
+
+/// The flow that a message on the ISDU channel has.
+///
+/// Rule OCT-2.
+#[tactic(auto, unfolding(iol_far::specs::Codec::flow_of))]
+fn flow_of(mc: Mc) -> Flow
+    ensures { result ≡ flow_of mc.address }
+{
+    match mc.address {
+        0x00..=0x0F => Flow::Count(mc.address),
+        0x10 => Flow::Start,
+        0x11 => Flow::Idle1,
+        0x12 => Flow::Idle2,
+        0x1F => Flow::Abort,
+        _ => Flow::Reserved(mc.address),
+    }
+}
+
+/// The COUNT behind the last.
+///
+/// Rule SEG-2.
+fn next_count(last: Option<u8>) -> u8
+    ensures { result ≡ next_count last }
+{
+    match last {
+        Some(count) => ((count as u16 + 1) % 16) as u8,
+        None => 1,
+    }
+}
+
+/// Octets behind those of a text.
+fn joined(text: &Text, octets: &[u8]) -> Joined
+    requires { length octets.now ≤ 32 }
+    ensures { result.items ≡ text.now.items ++ octets.now }
+{
+    let mut joined = Joined::new();
+    joined.try_extend_from_slice(text).unwrap();
+    joined.try_extend_from_slice(octets).unwrap();
+    joined
+}
+
+/// Of a request these octets were written, the last of them under this COUNT.
+///
+/// Rules SEG-1, SEG-5.
+fn written(octets: &[u8], last: Option<u8>) -> Result<Transfer, MasterFault>
+    ensures { result ≡ written octets.now last }
+{
+    match total_of(octets) {
+        Ok(total) if total <= octets.len() => whole(&octets[..total], &octets[total..]),
+        Ok(_) | Err(IsduFault::Truncated) => begun(octets, last),
+        Err(_) => Err(MasterFault::RequestText),
+    }
+}
+
+/// Not all octets of a request were written.
+fn begun(octets: &[u8], last: Option<u8>) -> Result<Transfer, MasterFault>
+    ensures { result ≡ begun octets.now last }
+{
+    if octets.len() <= LONGEST {
+        Ok(Transfer::Written(Text::try_from(octets).unwrap(), last))
+    } else {
+        Err(MasterFault::RequestText)
+    }
+}
+
+/// A text was written, and these octets behind it.
+///
+/// Rules ISDU-3, SEG-1.
+fn whole(text: &[u8], rest: &[u8]) -> Result<Transfer, MasterFault>
+    ensures { result ≡ whole (request_of text.now) rest.now }
+{
+    match read_request(text) {
+        Ok(Request::Read(_)) if are_zeros(rest) => Ok(Transfer::Asked(true)),
+        Ok(Request::Write(..)) if are_zeros(rest) => Ok(Transfer::Asked(false)),
+        _ => Err(MasterFault::RequestText),
+    }
+}
+
+/// Whether all octets are zeros.
+pub(crate) fn are_zeros(octets: &[u8]) -> bool
+    ensures { result ≡ are_zeros octets.now }
+{
+    octets.iter().all(|octet| *octet == 0)
+}
+
+/// The reply to a START read: busy, no service, or the answer's first segment.
+///
+/// Rules REQ-5, REQ-7, ISDU-11.
+fn asked_told(read: bool, octets: &[u8]) -> Transfer
+    ensures { result ≡ asked_told read octets.now }
+{
+    match octets.first() {
+        Some(&BUSY) => Transfer::Asked(read),
+        Some(&NO_SERVICE) | None => Transfer::Refused,
+        Some(_) => answered(read, octets, None),
+    }
+}
+
+/// Of an answer these octets came, the last of them under this COUNT.
+///
+/// Rules REQ-5, REQ-7.
+fn answered(read: bool, octets: &[u8], last: Option<u8>) -> Transfer
+    ensures { result ≡ answered read octets.now last }
+{
+    match total_of(octets) {
+        Ok(total) if total <= octets.len() => answer_joined(read, &octets[..total]),
+        Ok(_) | Err(IsduFault::Truncated) => answer_begun(read, octets, last),
+        Err(_) => Transfer::Refused,
+    }
+}
+
+/// Not all octets of an answer came.
+fn answer_begun(read: bool, octets: &[u8], last: Option<u8>) -> Transfer
+    ensures { result ≡ answer_begun read octets.now last }
+{
+    if octets.len() <= LONGEST {
+        Transfer::Answered(read, Text::try_from(octets).unwrap(), last)
+    } else {
+        Transfer::Refused
+    }
+}
+
+/// A text came.
+///
+/// Rules ISDU-9, REQ-7.
+fn answer_joined(read: bool, text: &[u8]) -> Transfer
+    ensures { result ≡ answer_joined read text.now }
+{
+    match read_answer(&request_of(read), text) {
+        Ok(_) => Transfer::Quiet,
+        Err(_) => Transfer::Refused,
+    }
+}
+
+/// Some read, or write.
+fn request_of(read: bool) -> Request
+    ensures { is_read result ≡ read }
+{
+    let place = Place { index: 0, sub: 0 };
+    if read {
+        Request::Read(place)
+    } else {
+        Request::Write(place, Octets::new())
+    }
+}
