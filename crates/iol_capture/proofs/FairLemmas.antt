@@ -14,14 +14,16 @@ use Rattle.iol_judge.specs.Admitted.{IsFair, IsPossible, NeverBlamed}
 use Rattle.iol_script.specs.Text.{lines_of}
 use Rattle.iol_capture.specs.declared.fault.LineFault.{LineFault}
 use Rattle.iol_capture.specs.declared.fault.LineFault.TheVariants.{BadForm, WrongNumber, ReplyMissing}
-use Rattle.iol_capture.specs.declared.fault.CaptureFault.{CaptureFault}
 use Rattle.iol_capture.specs.declared.fault.CaptureFault.TheVariants.{Line}
+use Rattle.iol_capture.specs.declared.telling.Telling.TheVariants as telling
 use Rattle.iol_capture.specs.declared.trace_line.TraceLine.{TraceLine}
 use Rattle.iol_capture.specs.declared.trace_line.TraceLine.TheVariants.{Other, Page, Wake, Sent, Came}
 use Rattle.iol_capture.specs.TraceLines.{trace_form}
 use Rattle.iol_capture.specs.Judging.{Judging, answered, begun, came_to, is_next, is_open, new_judging, one_more, paged, sending, told, woken}
-use Rattle.iol_capture.specs.Capture.{Reading, ended, line_read, line_told, new_reading, read_as}
+use Rattle.iol_capture.specs.Telling.{as_trace, told_as}
+use Rattle.iol_capture.specs.Capture.{Reading, ended, ended_as, line_read, read_as}
 use Rattle.iol_capture.specs.HonestCapture.{CapturesNeverBlamed, IsFromHonest, IsHonestReply, IsHonestTrace, said_before, said_in}
+use Rattle.iol_capture.proofs.ReadLemmas.{bad}
 
 -- the judge is fair to a device that brings the lines that are left
 record Goes (judging : Judging) (lines : List TraceLine) : Type 0 where
@@ -180,58 +182,47 @@ module _ (law : NeverBlamed) where
     far : Far
     fair : IsFair judging.judged far
 
-  stays_bad : (fault : CaptureFault) (lines : List (List ℕ))
-      → fold line_read (Err fault) lines ≡ Err fault
-  stays_bad fault [] = refl
-  stays_bad fault (line ∷ lines) = stays_bad fault lines
+  abbrev reading : ℕ → Judging → Reading
+  reading number judging = record { lines = number; telling = telling.Trace judging }
 
-  bad : (fault : CaptureFault) (lines : List (List ℕ)) (judging : Judging)
-      → ended (fold line_read (Err fault) lines) ≡ Ok judging → ⊥
-  bad fault lines judging e =
-      let is : ended (fold line_read (Err fault) lines) ≡ Err fault =
-      ap ended (stays_bad fault lines) in
-      cc
+  -- the judge is fair at the end of lines, whatever was read before
+  abbrev Later : List (List ℕ) → Type 0
+  Later lines = (number : ℕ) (old : Judging) → Goes old (said_in lines) → (judging : Judging)
+      → ended (fold line_read (Ok (reading number old)) lines) ≡ Ok judging → Ends judging
 
-  whole : (b : Bool) (reading : Reading) (fault : CaptureFault) (judging : Judging)
-      → cond b (Err fault) (Ok reading.judging) ≡ Ok judging → reading.judging ≡ judging
-  whole true reading fault judging e = cc
-  whole false reading fault judging e = cc
+  whole_is : (b : Bool) (old : Judging) (number : ℕ) (judging : Judging)
+      → ended_as number (cond b (Err ReplyMissing) (Ok old)) ≡ Ok judging → old ≡ judging
+  whole_is true old number judging e = cc
+  whole_is false old number judging e = cc
 
   told-goes : (line : TraceLine) (old : Judging) (number : ℕ) (lines : List (List ℕ))
-      → ((reading : Reading) → Goes reading.judging (said_in lines) → (judging : Judging)
-      → ended (fold line_read (Ok reading) lines) ≡ Ok judging → Ends judging)
-      → Goes old (line ∷ said_in lines) → (judging : Judging) (result : Result Judging LineFault)
-      → told old line ≡ result
-      → ended (fold line_read (line_told number result) lines) ≡ Ok judging → Ends judging
+      → Later lines → Goes old (line ∷ said_in lines) → (judging : Judging)
+      → (result : Result Judging LineFault) → told old line ≡ result
+      → ended (fold line_read (read_as number (as_trace result)) lines) ≡ Ok judging
+      → Ends judging
   told-goes line old number lines later h judging (Err fault) is e =
       absurd (bad (Line number fault) lines judging e)
   told-goes line old number lines later h judging (Ok next) is e =
-      later (record { lines = number; judging = next })
-      (line-goes line old next (said_in lines) h is) judging e
+      later number next (line-goes line old next (said_in lines) h is) judging e
 
   form-goes : (form : Option TraceLine) (old : Judging) (number : ℕ) (lines : List (List ℕ))
-      → ((reading : Reading) → Goes reading.judging (said_in lines) → (judging : Judging)
-      → ended (fold line_read (Ok reading) lines) ≡ Ok judging → Ends judging)
-      → Goes old (said_before form (said_in lines)) → (judging : Judging)
-      → ended (fold line_read (read_as old number form) lines) ≡ Ok judging → Ends judging
+      → Later lines → Goes old (said_before form (said_in lines)) → (judging : Judging)
+      → ended (fold line_read (read_as number (as_trace (told_as old form))) lines) ≡ Ok judging
+      → Ends judging
   form-goes None old number lines later h judging e =
       absurd (bad (Line number BadForm) lines judging e)
   form-goes (Some line) old number lines later h judging e =
       told-goes line old number lines later h judging (told old line) refl e
 
-  lines-go : (lines : List (List ℕ)) (reading : Reading) → Goes reading.judging (said_in lines)
-      → (judging : Judging) → ended (fold line_read (Ok reading) lines) ≡ Ok judging → Ends judging
-  lines-go [] reading h judging e =
-      let is : reading.judging ≡ judging =
-      whole (is_some reading.judging.sent) reading
-      (Line (one_more reading.lines) ReplyMissing) judging e in
+  lines-go : (lines : List (List ℕ)) → Later lines
+  lines-go [] number old h judging e =
+      let is : old ≡ judging = whole_is (is_some old.sent) old (one_more number) judging e in
       record {
         far = h.far;
         fair = subst (λ (j : Judging). IsFair j.judged h.far) is h.fair;
       }
-  lines-go (line ∷ lines) reading h judging e =
-      form-goes (trace_form line) reading.judging (one_more reading.lines) lines (lines-go lines) h
-      judging e
+  lines-go (line ∷ lines) number old h judging e =
+      form-goes (trace_form line) old (one_more number) lines (lines-go lines) h judging e
 
   unblamed : (verdict : Verdict) (far : Far) (judged : Judged) (exchange : ℕ) (reason : Reason)
       → IsPossible verdict judged.states far → verdict ≢ NotHonest exchange reason
@@ -244,7 +235,7 @@ module _ (law : NeverBlamed) where
       let start : Goes (new_judging odd) (said_in (lines_of text)) =
       goes h.far h.silence (new_judging odd) (said_in (lines_of text)) (law.begins odd h.far)
       h.honest in
-      lines-go (lines_of text) (new_reading odd) start judging h.judged
+      lines-go (lines_of text) 0 (new_judging odd) start judging h.judged
 
   pub captures : CapturesNeverBlamed
   captures = record {

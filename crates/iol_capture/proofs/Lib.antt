@@ -1,3 +1,4 @@
 pub mod LineLemmas
 pub mod FairLemmas
 pub mod ReadLemmas
+pub mod OctetLemmas

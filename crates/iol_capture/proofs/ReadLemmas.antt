@@ -7,19 +7,34 @@ use Rattle.iol_judge.specs.declared.verdict.Odd.{Odd}
 use Rattle.iol_script.specs.Text.{lines_of}
 use Rattle.iol_capture.specs.declared.fault.CaptureFault.{CaptureFault}
 use Rattle.iol_capture.specs.declared.fault.CaptureFault.TheVariants.{Line}
+use Rattle.iol_capture.specs.declared.fault.LineFault.{LineFault}
 use Rattle.iol_capture.specs.declared.fault.LineFault.TheVariants.{BadForm}
+use Rattle.iol_capture.specs.declared.telling.Form.{Form}
+use Rattle.iol_capture.specs.declared.telling.Telling.{Telling}
+use Rattle.iol_capture.specs.declared.telling.Telling.TheVariants.{Trace, Octets}
 use Rattle.iol_capture.specs.declared.trace_line.TraceLine.{TraceLine}
+use Rattle.iol_splitter.specs.declared.octet_line.OctetLine.{OctetLine}
 use Rattle.iol_capture.specs.TraceLines.{trace_form}
 use Rattle.iol_capture.specs.Judging.{Judging, one_more}
+use Rattle.iol_capture.specs.Octets.{octet_form, shown_as}
+use Rattle.iol_capture.specs.Telling.{as_octets, as_trace, line_told, told_as}
 use Rattle.iol_capture.specs.OpenLine.{IsOpenLine}
 use Rattle.iol_capture.specs.Capture.{Reading, Opened, line_read, read_as, ended, lines_judged, judged_with, capture_judged}
 use Rattle.iol_capture.proofs.LineLemmas.{BeginsWith, lines-ended, lines-last, lines-longer}
 
 -- a bad line stays the first
-stays_bad : (fault : CaptureFault) (lines : List (List ℕ))
+pub stays_bad : (fault : CaptureFault) (lines : List (List ℕ))
     → fold line_read (Err fault) lines ≡ Err fault
 stays_bad fault [] = refl
 stays_bad fault (line ∷ lines) = stays_bad fault lines
+
+-- and nothing is judged
+pub bad : (fault : CaptureFault) (lines : List (List ℕ)) (judging : Judging)
+    → ended (fold line_read (Err fault) lines) ≡ Ok judging → ⊥
+bad fault lines judging e =
+    let is : ended (fold line_read (Err fault) lines) ≡ Err fault =
+    ap ended (stays_bad fault lines) in
+    cc
 
 -- what the judge makes of lines behind the first
 abbrev behind : List (List ℕ) → Result Reading CaptureFault → Result Judging CaptureFault
@@ -43,8 +58,14 @@ feed-bad old fault rest h read =
     ap (lines_judged old.reading) (lines-ended old.line rest h)
     ∙ ap (behind (lines_of rest)) read ∙ ap ended (stays_bad fault (lines_of rest))
 
-too_long : (line : List ℕ) → 1024 < length line → trace_form line ≡ None
-too_long line long = grind (arith, nat_tests)
+too_long : (telling : Telling) (line : List ℕ) → 1024 < length line
+    → line_told telling line ≡ Err BadForm
+too_long (Trace judging) line long =
+    let none : trace_form line ≡ None = grind (arith, nat_tests) in
+    ap (λ (form : Option TraceLine). as_trace (told_as judging form)) none
+too_long (Octets hearing) line long =
+    let none : octet_form line ≡ None = grind (arith, nat_tests) in
+    ap (λ (form : Option OctetLine). as_octets (shown_as hearing form)) none
 
 -- another one, behind 1,024
 pub overfull : (old : Opened) (c : ℕ) (rest : List ℕ) → IsOpenLine old.line → (c == 10) ≡ false
@@ -58,10 +79,9 @@ overfull old c rest h other full =
     let number : ℕ = one_more old.reading.lines in
     let long : 1024 < length line =
     omega (arith, length-append old.line (c ∷ []), length-append front begins.more) in
-    let judging : Judging = old.reading.judging in
     ap (lines_judged old.reading) begins.is
-    ∙ ap (λ (form : Option TraceLine). behind begins.others (read_as judging number form))
-    (too_long line long)
+    ∙ ap (λ (told : Result Telling LineFault). behind begins.others (read_as number told))
+    (too_long old.reading.telling line long)
     ∙ ap ended (stays_bad (Line number BadForm) begins.others)
 
 -- the same of a call's result
@@ -108,25 +128,27 @@ end-line opened h some =
 -- From a reader
 
 -- so far these bytes were read
-pub record IsRead (odd : Odd) (bytes : List ℕ) (opened : Opened) : Type 0 where
-  pub judged : (rest : List ℕ) → capture_judged odd (bytes ++ rest) ≡ judged_with opened rest
+pub record IsRead (form : Form) (odd : Odd) (bytes : List ℕ) (opened : Opened) : Type 0 where
+  pub judged : (rest : List ℕ) → capture_judged form odd (bytes ++ rest) ≡ judged_with opened rest
 
 -- a reader of which these bytes were read, behind those before
-pub record IsReadOf (odd : Odd) (before after : Option (List ℕ)) (opened : Opened) : Type 0 where
+pub record IsReadOf (form : Form) (odd : Odd) (before after : Option (List ℕ))
+    (opened : Opened) : Type 0 where
   pub bytes : List ℕ
   pub consumes : Consumes before after bytes
-  pub read : IsRead odd bytes opened
+  pub read : IsRead form odd bytes opened
 
 -- one more piece
-pub read-more : (odd : Odd) (before mid after : Option (List ℕ)) (old new : Opened)
-    (piece : List ℕ) → IsReadOf odd before mid old → Consumes mid after piece
+pub read-more : (form : Form) (odd : Odd) (before mid after : Option (List ℕ))
+    (old new : Opened) (piece : List ℕ) → IsReadOf form odd before mid old
+    → Consumes mid after piece
     → ((rest : List ℕ) → judged_with old (piece ++ rest) ≡ judged_with new rest)
-    → IsReadOf odd before after new
-read-more odd before mid after old new piece was taken good = record {
+    → IsReadOf form odd before after new
+read-more form odd before mid after old new piece was taken good = record {
   bytes = was.bytes ++ piece;
   consumes = Consumes-trans before mid after was.bytes piece was.consumes taken;
   read = record {
-    judged = λ rest. ap (capture_judged odd) (append_assoc was.bytes piece rest)
+    judged = λ rest. ap (capture_judged form odd) (append_assoc was.bytes piece rest)
         ∙ was.read.judged (piece ++ rest) ∙ good rest;
   };
 }

@@ -1,54 +1,54 @@
 -- A whole text, told to a judge line by line.
-use Rattle.std.specs.Prelude.{ℕ, Option, Some, None, is_some, Result, Ok, Err, List, [], ◌++◌, fold, if◌then◌else◌}
+use Rattle.std.specs.Prelude.{ℕ, Result, Ok, Err, List, [], ◌++◌, fold}
 use Rattle.iol_judge.specs.declared.verdict.Odd.{Odd}
 use Rattle.iol_script.specs.Text.{lines_of}
 use Rattle.iol_capture.specs.declared.fault.LineFault.{LineFault}
-use Rattle.iol_capture.specs.declared.fault.LineFault.TheVariants.{BadForm, ReplyMissing}
 use Rattle.iol_capture.specs.declared.fault.CaptureFault.{CaptureFault}
 use Rattle.iol_capture.specs.declared.fault.CaptureFault.TheVariants.{Line}
-use Rattle.iol_capture.specs.declared.trace_line.TraceLine.{TraceLine}
-use Rattle.iol_capture.specs.TraceLines.{trace_form}
-use Rattle.iol_capture.specs.Judging.{Judging, new_judging, one_more, told}
+use Rattle.iol_capture.specs.declared.telling.Form.{Form}
+use Rattle.iol_capture.specs.declared.telling.Telling.{Telling}
+use Rattle.iol_capture.specs.Judging.{Judging, one_more}
+use Rattle.iol_capture.specs.Telling.{line_told, new_telling, whole}
 
 -- a capture, as far as its lines are read: their number, and the judge
 pub record Reading : Type 0 where
   pub lines : ℕ
-  pub judging : Judging
+  pub telling : Telling
 
-abbrev pub new_reading : Odd → Reading
-new_reading odd = record { lines = 0; judging = new_judging odd }
+abbrev pub new_reading : Form → Odd → Reading
+new_reading form odd = record { lines = 0; telling = new_telling form odd }
 
 -- Lines
 
-abbrev pub line_told : ℕ → Result Judging LineFault → Result Reading CaptureFault
-line_told number (Ok judging) = Ok (record { lines = number; judging = judging })
-line_told number (Err fault) = Err (Line number fault)
-
-abbrev pub read_as : Judging → ℕ → Option TraceLine → Result Reading CaptureFault
-read_as judging number None = Err (Line number BadForm)
-read_as judging number (Some line) = line_told number (told judging line)
+-- the line of this number was told
+abbrev pub read_as : ℕ → Result Telling LineFault → Result Reading CaptureFault
+read_as number (Ok telling) = Ok (record { lines = number; telling = telling })
+read_as number (Err fault) = Err (Line number fault)
 
 -- the capture after one more line, or the first bad line
 abbrev pub line_read : Result Reading CaptureFault → List ℕ → Result Reading CaptureFault
-line_read (Ok reading) line = read_as reading.judging (one_more reading.lines) (trace_form line)
+line_read (Ok reading) line = read_as (one_more reading.lines) (line_told reading.telling line)
 line_read (Err fault) line = Err fault
 
 -- A text
 
--- at the end no message waits for what came back
+-- the end stands for a line
+abbrev pub ended_as : ℕ → Result Judging LineFault → Result Judging CaptureFault
+ended_as number (Ok judging) = Ok judging
+ended_as number (Err fault) = Err (Line number fault)
+
 abbrev pub ended : Result Reading CaptureFault → Result Judging CaptureFault
-ended (Ok reading) =
-    if is_some reading.judging.sent then Err (Line (one_more reading.lines) ReplyMissing)
-    else Ok reading.judging
+ended (Ok reading) = ended_as (one_more reading.lines) (whole reading.telling)
 ended (Err fault) = Err fault
 
 -- what a judge makes of lines
 abbrev pub lines_judged : Reading → List (List ℕ) → Result Judging CaptureFault
 lines_judged reading lines = ended (fold line_read (Ok reading) lines)
 
--- what a judge makes of a capture, by what it does with odd replies; or its first bad line
-abbrev pub capture_judged : Odd → List ℕ → Result Judging CaptureFault
-capture_judged odd text = lines_judged (new_reading odd) (lines_of text)
+-- what a judge makes of a capture in this form, by what it does with odd replies; or its first bad
+-- line
+abbrev pub capture_judged : Form → Odd → List ℕ → Result Judging CaptureFault
+capture_judged form odd text = lines_judged (new_reading form odd) (lines_of text)
 
 -- A text that is read in pieces
 
@@ -57,8 +57,8 @@ pub record Opened : Type 0 where
   pub reading : Reading
   pub line : List ℕ
 
-abbrev pub new_opened : Odd → Opened
-new_opened odd = record { reading = new_reading odd; line = [] }
+abbrev pub new_opened : Form → Odd → Opened
+new_opened form odd = record { reading = new_reading form odd; line = [] }
 
 -- what the judge makes of a capture of which this was read, once the rest is read too
 abbrev pub judged_with : Opened → List ℕ → Result Judging CaptureFault

@@ -10,6 +10,7 @@ use Rattle.iol_judge.specs.declared.verdict.Verdict.TheVariants.{NotHonest}
 use Rattle.iol_script.specs.Text.{lines_of}
 use Rattle.iol_capture.specs.declared.trace_line.TraceLine.{TraceLine}
 use Rattle.iol_capture.specs.declared.trace_line.TraceLine.TheVariants.{Other, Page, Wake, Sent, Came}
+use Rattle.iol_capture.specs.declared.telling.Form.TheVariants as form
 use Rattle.iol_capture.specs.TraceLines.{trace_form}
 use Rattle.iol_capture.specs.Judging.{Judging}
 use Rattle.iol_capture.specs.Capture.{capture_judged}
@@ -50,7 +51,7 @@ IsHonestTrace far silence call waits (Came number came ∷ lines) =
 
 -- the judge is told a text that a device by the rules brings, and this is what it makes of it
 pub record IsFromHonest (odd : Odd) (text : List ℕ) (judging : Judging) : Type 0 where
-  pub judged : capture_judged odd text ≡ Ok judging
+  pub judged : capture_judged form.Trace odd text ≡ Ok judging
   pub far : Far
   pub silence : ℕ
   pub honest : IsHonestTrace far silence 0 None (said_in (lines_of text))

@@ -8,6 +8,8 @@ use Rattle.iol_judge.specs.declared.verdict.Verdict.TheVariants.{Unjudged, Hones
 use Rattle.iol_judge.specs.declared.verdict.Wake.{Wake as WakeAnswer}
 use Rattle.iol_judge.specs.Seen.{whole_page}
 use Rattle.iol_judge.specs.Judged.{Judged, new_judge, exchanged, woke}
+use Rattle.iol_splitter.specs.declared.passed.Passed.{Passed}
+use Rattle.iol_splitter.specs.declared.passed.Passed.TheVariants as passed
 use Rattle.iol_capture.specs.declared.fault.LineFault.{LineFault}
 use Rattle.iol_capture.specs.declared.fault.LineFault.TheVariants.{WrongNumber, ReplyMissing, MessageMissing}
 use Rattle.iol_capture.specs.declared.judgement.Counts.{Counts}
@@ -68,16 +70,18 @@ is_open (CantSay exchange why) = false
 abbrev pub is_next : ℕ → ℕ → Bool
 is_next call number = (call == 0) || (number == call + 1)
 
+-- the call of this number has begun
+abbrev pub called : Judging → ℕ → Judging
+called judging number = record judging {
+  call = number;
+  decided = if is_open judging.judged.verdict then number else judging.decided;
+}
+
 -- a call begins, where the one before has ended
 abbrev pub begun : Judging → ℕ → Result Judging LineFault
 begun judging number =
     if is_some judging.sent then Err ReplyMissing else
-    if is_next judging.call number
-    then Ok (record judging {
-      call = number;
-      decided = if is_open judging.judged.verdict then number else judging.decided;
-    })
-    else Err WrongNumber
+    if is_next judging.call number then Ok (called judging number) else Err WrongNumber
 
 abbrev pub woken : WakeAnswer → Result Judging LineFault → Result Judging LineFault
 woken wake (Ok judging) = Ok (record judging { judged = woke judging.judged wake })
@@ -122,3 +126,15 @@ told judging (Page octets) = Ok (paged judging octets)
 told judging (Wake number answer) = woken answer (begun judging number)
 told judging (Sent number octets) = sending octets.items (begun judging number)
 told judging (Came number came) = came_to judging.sent judging number (octets_in came)
+
+-- What a splitter tells
+
+-- it went over the line in the call that began last
+abbrev pub passed_on : Judging → Passed → Judging
+passed_on judging (passed.Exchange exchange) = answered judging exchange.sent exchange.answer
+passed_on judging (passed.Wake answer) =
+    record judging { judged = woke judging.judged answer }
+
+-- in the next call
+abbrev pub passed_next : Judging → Passed → Judging
+passed_next judging what = passed_on (called judging (one_more judging.call)) what

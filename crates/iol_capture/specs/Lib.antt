@@ -1,6 +1,9 @@
 pub mod TraceLines
 pub mod Judging
+pub mod Octets
+pub mod Telling
 pub mod OpenLine
 pub mod Capture
 pub mod Findings
 pub mod HonestCapture
+pub mod HonestOctets

@@ -6,24 +6,29 @@ ghost use Rattle.iol_capture.specs.declared.fault.CaptureFault.TheVariants.{Read
 use crate::fault::CaptureFault;
 use crate::judgement::Judgement;
 use crate::opened::Opened;
+use crate::telling::Form;
 use iol_judge::Odd;
 use std::io::Read;
 
 /// How many bytes are asked for at once.
 const PIECE: usize = 4096;
 
-/// Reads a capture to its end, line by line, and tells what its lines say to a judge that does this
-/// with odd replies.
+/// Reads a capture in this form to its end, line by line, and tells what its lines say to a judge
+/// that does this with odd replies.
 ///
 /// It takes no memory, and keeps one line at a time. The first bad line ends it; of the text behind
 /// that, part may be read. No read follows one that failed.
-pub fn judge_capture<R: Read>(odd: Odd, reader: &mut R) -> Result<Judgement, CaptureFault>
+pub fn judge_capture<R: Read>(
+    form: Form,
+    odd: Odd,
+    reader: &mut R,
+) -> Result<Judgement, CaptureFault>
     ensures judged { IfOk result (λ judgement. IfSome (R.remaining reader.old)
-        (λ text. capture_judged odd text ≡ Ok judgement)) }
+        (λ text. capture_judged form odd text ≡ Ok judgement)) }
     ensures bad { IfErr result (λ fault. fault ≢ ReadFailed → IfSome (R.remaining reader.old)
-        (λ text. capture_judged odd text ≡ Err fault)) }
+        (λ text. capture_judged form odd text ≡ Err fault)) }
 {
-    let mut opened = Opened::new(odd);
+    let mut opened = Opened::new(form, odd);
     let mut piece = [0u8; PIECE];
     for _ in 0..u64::MAX {
         let Ok(count) = reader.read(&mut piece) else {

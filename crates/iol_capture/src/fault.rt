@@ -1,4 +1,5 @@
 //! Why a text is no capture.
+use iol_splitter::SplitFault;
 use thiserror::Error;
 
 /// What is wrong with a line of a capture.
@@ -16,6 +17,9 @@ pub enum LineFault {
     /// It says what came back, and no line before it what was sent.
     #[error("no message line")]
     MessageMissing,
+    /// What it shows can't be split into messages and replies.
+    #[error("{0}")]
+    Split(SplitFault),
 }
 
 /// Why a capture isn't judged.

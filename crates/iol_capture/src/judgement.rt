@@ -1,13 +1,14 @@
 //! A judge, told the lines of a trace.
-ghost use Rattle.std.specs.Prelude.{◌≡◌, ◌≤◌, ◌<◌, Ok, Err, IfErr, OnOk, is_some};
+ghost use Rattle.std.specs.Prelude.{◌≡◌, ◌≤◌, ◌<◌, Ok, Err, IfErr, OnOk, is_some, option_copied};
 ghost use Rattle.iol_far.specs.Octets.{octets_in};
-ghost use Rattle.iol_capture.specs.Judging.{answered, begun, came_to, counted_by, is_next, is_open, new_judging, no_counts, one_more, paged, told, with_odd};
+ghost use Rattle.iol_capture.specs.Judging.{answered, begun, called, came_to, counted_by, is_next, is_open, new_judging, no_counts, one_more, paged, passed_next, passed_on, told, with_odd};
 
 use crate::fault::LineFault;
 use crate::trace_line::TraceLine;
 use arrayvec::ArrayVec;
 use iol_judge::{Judge, Odd, Reason, Verdict};
 use iol_script::LineOctets;
+use iol_splitter::Passed;
 use std::marker::Model;
 
 /// How many exchanges there were. Each count stops at 2^64 - 1.
@@ -34,8 +35,8 @@ impl Counts {
     }
 
     /// One more exchange, while the verdict was this.
-    fn with(self, verdict: Verdict, came: &Option<LineOctets>) -> Counts
-        ensures { result ≡ counted_by verdict self (octets_in came.now) }
+    fn with(self, verdict: Verdict, came: Option<&[u8]>) -> Counts
+        ensures { result ≡ counted_by verdict self (option_copied came.entry) }
     {
         let mut counts = self;
         match verdict {
@@ -178,11 +179,18 @@ impl Judgement {
         if !is_next(self.call, number) {
             return Err(LineFault::WrongNumber);
         }
+        self.call(number);
+        Ok(())
+    }
+
+    /// The call of this number has begun.
+    fn call(&mut self, number: u64)
+        ensures { self.new ≡ called self.old number }
+    {
         self.call = number;
         if is_open(self.judge.verdict()) {
             self.decided = number;
         }
-        Ok(())
     }
 
     /// What came back to the message that waits.
@@ -198,11 +206,42 @@ impl Judgement {
         if number != self.call {
             return Err(LineFault::WrongNumber);
         }
-        self.counts = self.counts.with(self.judge.verdict(), &came);
-        let reply = came.as_ref().map(|octets| octets.as_slice());
-        self.judge.exchange(sent.as_slice(), reply);
-        note_odd(&mut self.odd, self.call, self.judge.oddity());
+        self.exchange(
+            sent.as_slice(),
+            came.as_ref().map(|octets| octets.as_slice()),
+        );
         Ok(())
+    }
+
+    /// A message, and what came back.
+    fn exchange(&mut self, sent: &[u8], came: Option<&[u8]>)
+        ensures { self.new ≡ answered self.old sent.now (option_copied came.entry) }
+    {
+        self.sent = None;
+        self.counts = self.counts.with(self.judge.verdict(), came);
+        self.judge.exchange(sent, came);
+        note_odd(&mut self.odd, self.call, self.judge.oddity());
+    }
+
+    /// What went over the line next.
+    pub(crate) fn pass_next(&mut self, passed: &Passed)
+        ensures { self.new ≡ passed_next self.old passed.now }
+    {
+        self.call(one_more(self.call));
+        self.pass(passed);
+    }
+
+    /// What went over the line, in the call that began last.
+    pub(crate) fn pass(&mut self, passed: &Passed)
+        ensures { self.new ≡ passed_on self.old passed.now }
+    {
+        match passed {
+            Passed::Wake(answer) => self.judge.wake(*answer),
+            Passed::Exchange(exchange) => self.exchange(
+                exchange.sent.as_slice(),
+                exchange.answer.as_ref().map(|octets| octets.as_slice()),
+            ),
+        }
     }
 }
 

@@ -1,7 +1,9 @@
-//! The law of captures, carried by a function that does nothing when it runs.
+//! The laws of captures, each carried by a function that does nothing when it runs.
 ghost use Rattle.iol_capture.specs.HonestCapture.{CapturesNeverBlamed};
+ghost use Rattle.iol_capture.specs.HonestOctets.{OctetTextsNeverBlamed};
 
 use iol_judge::honest_lines_are_never_blamed;
+use iol_splitter::octets_are_never_blamed;
 
 /// Whatever device by the rules brings a capture over a line that loses messages and replies, or
 /// damages them so that it shows, what is printed of it isn't that it is not honest, nor that
@@ -12,4 +14,15 @@ pub fn honest_captures_are_never_blamed()
     ensures { CapturesNeverBlamed }
 {
     honest_lines_are_never_blamed();
+}
+
+/// Whatever device by the rules brings octets over a line that loses messages and replies, or
+/// damages them so that it shows, what is printed of their export isn't that it is not honest,
+/// where they are written by the rules.
+///
+/// Rules WIRE-1 to WIRE-3.
+pub fn honest_octets_are_never_blamed()
+    ensures { OctetTextsNeverBlamed }
+{
+    octets_are_never_blamed();
 }

@@ -5,7 +5,8 @@ ghost use Rattle.iol_capture.specs.OpenLine.{IsOpenLine};
 
 use crate::fault::{CaptureFault, LineFault};
 use crate::judgement::{Judgement, one_more};
-use crate::trace_line::{LONGEST, TraceLine};
+use crate::telling::{Form, Telling};
+use crate::trace_line::LONGEST;
 use arrayvec::ArrayVec;
 use iol_judge::Odd;
 use std::marker::Model;
@@ -15,7 +16,7 @@ use std::marker::Model;
 pub(crate) struct Opened {
     /// How many lines ended.
     lines: u64,
-    judgement: Judgement,
+    telling: Telling,
     /// The bytes of the line that is open.
     line: ArrayVec<u8, LONGEST>,
 }
@@ -27,7 +28,7 @@ impl Model for Opened {
     ghost Value = { Opened };
 
     ghost view = { λ o. record {
-      reading = record { lines = o.lines; judging = o.judgement };
+      reading = record { lines = o.lines; telling = o.telling };
       line = o.line.items;
     } };
 
@@ -36,12 +37,12 @@ impl Model for Opened {
 
 impl Opened {
     /// Nothing is read.
-    pub(crate) fn new(odd: Odd) -> Opened
-        ensures { result ≡ new_opened odd }
+    pub(crate) fn new(form: Form, odd: Odd) -> Opened
+        ensures { result ≡ new_opened form odd }
     {
         Opened {
             lines: 0,
-            judgement: Judgement::new(odd),
+            telling: Telling::new(form, odd),
             line: ArrayVec::new(),
         }
     }
@@ -86,10 +87,7 @@ impl Opened {
         ensures no_feed { IsOpenLine self.old.line }
     {
         let number = one_more(self.lines);
-        let Some(line) = TraceLine::parse(self.line.as_slice()) else {
-            return Err(CaptureFault::Line(number, LineFault::BadForm));
-        };
-        if let Err(fault) = self.judgement.tell(line) {
+        if let Err(fault) = self.telling.tell_line(self.line.as_slice()) {
             return Err(CaptureFault::Line(number, fault));
         }
         self.lines = number;
@@ -114,9 +112,10 @@ impl Opened {
     fn judged(self) -> Result<Judgement, CaptureFault>
         ensures { result ≡ ended (Ok self.reading) }
     {
-        if self.judgement.waits() {
-            return Err(CaptureFault::Line(one_more(self.lines), LineFault::ReplyMissing));
+        let number = one_more(self.lines);
+        match self.telling.finish() {
+            Ok(judgement) => Ok(judgement),
+            Err(fault) => Err(CaptureFault::Line(number, fault)),
         }
-        Ok(self.judgement)
     }
 }

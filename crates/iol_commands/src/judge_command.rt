@@ -8,7 +8,7 @@ ghost use Rattle.iol_commands.specs.declared.judge_command.JudgeFault.TheVariant
 ghost use Rattle.iol_commands.specs.JudgePrinted.{Judges};
 
 use crate::streams::write_output;
-use iol_capture::{CaptureFault, Finding, judge_capture};
+use iol_capture::{CaptureFault, Finding, Form, judge_capture};
 use iol_judge::Odd;
 use std::alloc::{AllocError, Allocator};
 use std::io::{Read, Write};
@@ -44,7 +44,7 @@ impl From<CaptureFault> for JudgeFault {
     }
 }
 
-/// Reads a capture as `trace` prints it, of any length, and prints whether a device by the rules
+/// Reads a capture in this form, of any length, and prints whether a device by the rules
 /// could have brought it over a line that loses messages and replies, or damages them so that it
 /// shows. Odd replies are blamed, or passed over.
 ///
@@ -53,23 +53,24 @@ impl From<CaptureFault> for JudgeFault {
 /// each in one. Where any fault is met but that of a write, nothing is.
 pub fn judge<A: Allocator, R: Read, W: Write>(
     alloc: A,
+    form: Form,
     odd: Odd,
     reader: &mut R,
     writer: &mut W,
 ) -> Result<Finding, JudgeFault>
     // What is read.
     ensures bad_line { (n : ℕ) → (why : LineFault) → result ≡ Err (Capture (Line n why))
-        → IfSome (R.remaining reader.old) (λ capture. capture_judged odd capture
+        → IfSome (R.remaining reader.old) (λ capture. capture_judged form odd capture
         ≡ Err (Line n why)) }
 
     // What is written.
     ensures printed { IfOk result (λ finding. (text : List ℕ)
         × Appends (W.contents writer.old) (W.contents writer.new) text
-        × IfSome (R.remaining reader.old) (λ capture. Judges odd capture finding text)) }
+        × IfSome (R.remaining reader.old) (λ capture. Judges form odd capture finding text)) }
     ensures nothing { OnErr result (result ≢ Err WriteFailed
         → Keeps (W.contents writer.old) (W.contents writer.new)) }
 {
-    let judgement = judge_capture(odd, reader)?;
+    let judgement = judge_capture(form, odd, reader)?;
     let text = judgement.text(alloc)?;
     if write_output(writer, text.as_str()).is_err() {
         return Err(JudgeFault::WriteFailed);

@@ -3,7 +3,9 @@ ghost use Rattle.std.specs.Prelude.{◌≡◌};
 
 use crate::help;
 use clap::{Arg, ArgAction, ArgMatches, Command, Error};
+use iol_capture::Form;
 use iol_judge::Odd;
+use iol_link::Rate;
 use std::alloc::{AllocError, Global};
 use std::convert::AsStr;
 
@@ -42,20 +44,21 @@ impl Mode {
 pub(crate) enum Asked {
     /// A command that ends well where all is printed.
     Mode(Mode),
-    /// Says whether a device by the rules could have brought a capture, and does this with odd
-    /// replies.
-    Judge(Odd),
+    /// Says whether a device by the rules could have brought a capture in this form, and does this
+    /// with odd replies.
+    Judge(Form, Odd),
 }
 
 impl Asked {
     ghost use Rattle.iolink.specs.Command.{asked_named};
 
-    /// What this name asks for, where that is to be done with odd replies.
-    fn named(name: &str, odd: Odd) -> Option<Asked>
-        ensures { result ≡ asked_named name.now odd }
+    /// What this name asks for, with the form of a capture, and where that is to be done with odd
+    /// replies.
+    fn named(name: &str, form: Form, odd: Odd) -> Option<Asked>
+        ensures { result ≡ asked_named name.now form odd }
     {
         match name.as_bytes() {
-            b"judge" => Some(Asked::Judge(odd)),
+            b"judge" => Some(Asked::Judge(form, odd)),
             _ => Some(Asked::Mode(Mode::named(name)?)),
         }
     }
@@ -65,15 +68,56 @@ impl Asked {
 pub(crate) fn asked_by<'a, S: AsStr>(alloc: Global, words: &'a [S]) -> Result<Asked, Error> {
     let matches = command(alloc)?.try_get_matches_from(words)?;
     // One of the five is named, since clap refuses all other words.
-    let (name, odd) = match matches.subcommand() {
-        Some((name, words)) => (name, odd_of(words)),
-        None => ("check", Odd::Blamed),
+    let (name, form, odd) = match matches.subcommand() {
+        Some((name, words)) => (name, form_of(octets_rate(words)), odd_of(words)),
+        None => ("check", Form::Trace, Odd::Blamed),
     };
-    Ok(Asked::named(name, odd).unwrap_or(Asked::Mode(Mode::Check)))
+    Ok(Asked::named(name, form, odd).unwrap_or(Asked::Mode(Mode::Check)))
 }
+
+/// The option of `judge` that has octets read.
+const OCTETS: &str = "octets";
 
 /// The flag of `judge`.
 const ODD: &str = "odd";
+
+/// The rate of the octets that are to be read, by the words behind the command.
+fn octets_rate(words: &ArgMatches<'_>) -> Option<Rate> {
+    rate_named(words.get_str(OCTETS)?)
+}
+
+ghost use Rattle.iolink.specs.Command.{form_of, rate_named};
+
+/// The rate of a word.
+fn rate_named(word: &str) -> Option<Rate>
+    ensures { result ≡ rate_named word.now }
+{
+    match word.as_bytes() {
+        b"com1" => Some(Rate::Com1),
+        b"com2" => Some(Rate::Com2),
+        b"com3" => Some(Rate::Com3),
+        _ => None,
+    }
+}
+
+/// The form of a capture, by the rate of its octets.
+fn form_of(rate: Option<Rate>) -> Form
+    ensures { result ≡ form_of rate }
+{
+    match rate {
+        Some(rate) => Form::Octets(rate),
+        None => Form::Trace,
+    }
+}
+
+/// The option that has octets read.
+fn octets_option<'a>(alloc: Global) -> Arg<'a> {
+    Arg::new(alloc, OCTETS)
+        .long(OCTETS)
+        .value_name("RATE")
+        .value_parser(["com1", "com2", "com3"].as_slice())
+        .help("Reads what a decoder shows of a line with this rate")
+}
 
 /// What is to be done with odd replies, by the words behind the command.
 fn odd_of(words: &ArgMatches<'_>) -> Odd {
@@ -115,6 +159,7 @@ fn command<'a>(alloc: Global) -> Result<Command<'a>, AllocError> {
             "Reads what trace prints, and says whether a device by the rules could have brought it",
         )
         .after_help(help::JUDGE)
+        .arg(octets_option(alloc))?
         .arg(odd_flag(alloc))?;
     Command::new(alloc, "iolink")
         .about("IO-Link master and device")

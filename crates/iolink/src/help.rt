@@ -147,6 +147,14 @@ process data, another octet at page address 01 than was written, octets that are
   N odd: NUMBER NAME: TEXT (RULE)
 for each of the first 100, in front of all else, and behind it 'odd COUNT', if there were any.
 
+With --octets standard input is what the UART decoder of a logic analyser exports, octets of both sides in one stream:
+  SECONDS OCTET           an octet, as A2 or 0xA2, and when it begins: 12.000042
+  SECONDS wake            a wake-up request, where the decoder shows them
+  # ..                    a comment; an empty line is skipped too
+They are split by their times and by the layouts that the page gives: a pause is a missing reply, and where no wake-up
+requests are shown, their test reads tell them. N counts wake-up requests and exchanges, from 1. What can't be split
+ends it, as a bad line does.
+
 Example:
   printf '1 wake COM2\\n2 > A2 00\\n2 < 17 1B\\n3 > A2 00\\n3 < 18 1B\\n' | iolink judge
 prints

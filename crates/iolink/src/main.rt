@@ -40,7 +40,9 @@ fn work<R: Runtime<A = Global> + Threads + Wait + Sync>(rt: &R) -> Result<(), En
     let (mut reader, mut writer) = (rt.reader(), io::writer(rt));
     match asked_by(rt.alloc(), words.as_slice())? {
         Asked::Mode(mode) => perform(rt, rt.alloc(), mode, &mut reader, &mut writer)?,
-        Asked::Judge(odd) => perform_judge(rt.alloc(), odd, &mut reader, &mut writer)?,
+        Asked::Judge(form, odd) => {
+            perform_judge(rt.alloc(), form, odd, &mut reader, &mut writer)?
+        }
     }
     Ok(())
 }

@@ -8,7 +8,7 @@ ghost use Rattle.iol_commands.specs.Input.{IsTooLong, OfLines, TakesInput, Write
 
 use crate::command::Mode;
 use crate::ending::Ending;
-use iol_capture::Finding;
+use iol_capture::{Finding, Form};
 use iol_commands::{ProgramFault, check, judge, many, run, trace};
 use iol_judge::Odd;
 use std::alloc::Global;
@@ -59,10 +59,11 @@ ghost use Rattle.iolink.specs.declared.ending.Ending.TheVariants.{NotHonest, Not
 ghost use Rattle.iol_commands.specs.declared.judge_command.JudgeFault.TheVariants as judge_fault;
 ghost use Rattle.iol_commands.specs.JudgePrinted.{Judges};
 
-/// Judges a capture, and does this with odd replies. It ends well where nothing was found, but
-/// what is passed over.
+/// Judges a capture in this form, and does this with odd replies. It ends well where nothing was
+/// found, but what is passed over.
 pub(crate) fn perform_judge<R: Read, W: Write>(
     alloc: Global,
+    form: Form,
     odd: Odd,
     reader: &mut R,
     writer: &mut W,
@@ -71,21 +72,21 @@ pub(crate) fn perform_judge<R: Read, W: Write>(
     ensures bad_line { (n : ℕ) → (why : LineFault)
         → result ≡ Err (NotJudged (judge_fault.Capture (capture_fault.Line n why)))
         → IfSome (R.remaining reader.old)
-        (λ capture. capture_judged odd capture ≡ Err (capture_fault.Line n why)) }
+        (λ capture. capture_judged form odd capture ≡ Err (capture_fault.Line n why)) }
 
     // What is written.
     ensures honest { OnOk result ((text : List ℕ)
         × Appends (W.contents writer.old) (W.contents writer.new) text
-        × IfSome (R.remaining reader.old) (λ capture. Judges odd capture Honest text)) }
+        × IfSome (R.remaining reader.old) (λ capture. Judges form odd capture Honest text)) }
     ensures not_honest { result ≡ Err NotHonest
         → (finding : Finding) × (text : List ℕ) × (finding ≢ Honest)
         × Appends (W.contents writer.old) (W.contents writer.new) text
-        × IfSome (R.remaining reader.old) (λ capture. Judges odd capture finding text) }
+        × IfSome (R.remaining reader.old) (λ capture. Judges form odd capture finding text) }
     ensures nothing { OnErr result
         (result ≢ Err NotHonest → result ≢ Err (NotJudged judge_fault.WriteFailed)
         → Keeps (W.contents writer.old) (W.contents writer.new)) }
 {
-    match judge(alloc, odd, reader, writer)? {
+    match judge(alloc, form, odd, reader, writer)? {
         Finding::Honest => Ok(()),
         Finding::NotHonest | Finding::CantSay => Err(Ending::NotHonest),
     }

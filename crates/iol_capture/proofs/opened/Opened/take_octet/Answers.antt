@@ -19,7 +19,7 @@ returns-then-octet-eq10-clause-bad c =
 pub returns-then-is_full-clause-bad : goal.returns-then-is_full-clause-bad
 returns-then-is_full-clause-bad c = λ rest.
     let old : Opened = record {
-      reading = record { lines = c.self.inside.lines; judging = c.self.inside.judgement };
+      reading = record { lines = c.self.inside.lines; telling = c.self.inside.telling };
       line = c.self.inside.line.items;
     } in
     let full : length old.line ≡ 1024 = search rules in

@@ -1,0 +1,70 @@
+-- A judge, told what a decoder shows.
+use Rattle.std.specs.Prelude.{ℕ, nat_le, Option, Some, None, Result, Ok, Err, List, length, if◌then◌else◌}
+use Rattle.iol_judge.specs.declared.verdict.Odd.{Odd}
+use Rattle.iol_judge.specs.declared.verdict.Wake.TheVariants.{Unanswered}
+use Rattle.iol_link.specs.declared.wire.Rate.{Rate}
+use Rattle.iol_splitter.specs.declared.fault.SplitFault.{SplitFault}
+use Rattle.iol_splitter.specs.declared.octet_line.OctetLine.{OctetLine}
+use Rattle.iol_splitter.specs.declared.octet_line.OctetLine.TheVariants as line
+use Rattle.iol_splitter.specs.declared.passed.Passed.{Passed}
+use Rattle.iol_splitter.specs.declared.passed.Passed.TheVariants.{Wake}
+use Rattle.iol_splitter.specs.OctetLines.{line_form}
+use Rattle.iol_splitter.specs.State.{Splitting, new_splitter}
+use Rattle.iol_splitter.specs.Splitting.{ended, octet_split, wake_split}
+use Rattle.iol_splitter.specs.Steps.{Step}
+use Rattle.iol_capture.specs.declared.fault.LineFault.{LineFault}
+use Rattle.iol_capture.specs.declared.fault.LineFault.TheVariants.{BadForm, Split}
+use Rattle.iol_capture.specs.Judging.{Judging, new_judging, passed_next, passed_on}
+
+-- the octets that are split, and what the judge makes of what they are split into
+pub record Hearing : Type 0 where
+  pub splitting : Splitting
+  pub judging : Judging
+
+abbrev pub new_hearing : Rate → Odd → Hearing
+new_hearing rate odd = record { splitting = new_splitter rate; judging = new_judging odd }
+
+-- what a line of at most 1,024 bytes shows, where it fits a form
+abbrev pub octet_form : List ℕ → Option OctetLine
+octet_form line = if nat_le (length line) 1024 then line_form line else None
+
+-- What went over the line, told by an octet. An unanswered wake-up request that isn't shown may be
+-- none: the read that may be its test read is the next call, and it has no number of its own
+abbrev pub passed_by_octet : Judging → Option Passed → Judging
+passed_by_octet judging None = judging
+passed_by_octet judging (Some (Wake Unanswered)) = passed_on judging (Wake Unanswered)
+passed_by_octet judging (Some passed) = passed_next judging passed
+
+abbrev pub passed_by_request : Judging → Option Passed → Judging
+passed_by_request judging None = judging
+passed_by_request judging (Some passed) = passed_next judging passed
+
+abbrev pub octet_heard : Judging → Splitting → Result (Option Passed) SplitFault
+    → Result Hearing LineFault
+octet_heard judging splitting (Ok passed) =
+    Ok (record { splitting = splitting; judging = passed_by_octet judging passed })
+octet_heard judging splitting (Err fault) = Err (Split fault)
+
+abbrev pub request_heard : Judging → Splitting → Result (Option Passed) SplitFault
+    → Result Hearing LineFault
+request_heard judging splitting (Ok passed) =
+    Ok (record { splitting = splitting; judging = passed_by_request judging passed })
+request_heard judging splitting (Err fault) = Err (Split fault)
+
+-- what a line shows
+abbrev pub shown : Hearing → OctetLine → Result Hearing LineFault
+shown hearing line.Other = Ok hearing
+shown hearing (line.Octet time octet) =
+    let step = octet_split hearing.splitting time octet in
+    octet_heard hearing.judging step.state step.told
+shown hearing (line.Wake time) =
+    let step = wake_split hearing.splitting time in
+    request_heard hearing.judging step.state step.told
+
+abbrev pub shown_as : Hearing → Option OctetLine → Result Hearing LineFault
+shown_as hearing None = Err BadForm
+shown_as hearing (Some line) = shown hearing line
+
+-- the stream has ended
+abbrev pub heard_whole : Hearing → Judging
+heard_whole hearing = passed_by_request hearing.judging (ended hearing.splitting)
