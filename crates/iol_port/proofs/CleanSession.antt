@@ -200,7 +200,8 @@ module _ {W : Type 0} (facts : WireFacts W) where
             (t.exchange.passes stood.is_honest).regular.sized) in
             let quiet : IsQuiet x.ready.events = subst IsQuiet (sym same.events) stood.quiet in
             let found = heard_well read_back layouts message link x.ready accepted channel
-            (same.awake ∙ stood.awake) (same.kind ∙ stood.own) (ap knows_isdu same.page ∙ stood.isdu)
+            (same.awake ∙ stood.awake) (same.kind ∙ stood.own)
+            (ap knows_isdu same.page ∙ stood.isdu)
             (same.link_is ∙ stood.at) quiet sized in
             let reply : Reply = found.0 in
             let well : HeardWell layouts message x.ready (far (wire_of new.link))

@@ -96,7 +96,8 @@ IsLevelBetween {W} facts p =
 module _ {W : Type 0} (facts : WireFacts W) where
   open facts use {honest, far, clean}
 
-  -- in OPERATE over a clean wire, with no message out; the device is awake, of our own kind, in that
+  -- in OPERATE over a clean wire, with no message out; the device is awake, of our own kind, in
+  -- that
   -- link, has ISDU, as the port was told, and has no events
   pub record Stood (layouts : Layouts) (link : Link) (station : StationState W)
       (wire : W) : Type 0 where

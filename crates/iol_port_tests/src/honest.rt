@@ -55,8 +55,8 @@ fn wake<P: App>(device: &mut Device<P>)
 /// The device works, and these octets come to it and its reply comes back.
 fn pass<P: App>(device: &mut Device<P>, sent: &[u8]) -> Option<Message>
     ensures kind { device.new.far.kind ≡ device.old.far.kind }
-    ensures honest { (silence : ℕ) → HonestExchange device.old.far silence sent.now (octets_in result)
-        device.new.far (silence_after silence (octets_in result)) }
+    ensures honest { (silence : ℕ) → HonestExchange device.old.far silence sent.now
+        (octets_in result) device.new.far (silence_after silence (octets_in result)) }
 {
     page_and_room_stay();
     device.parts_are_regular();
@@ -67,8 +67,8 @@ fn pass<P: App>(device: &mut Device<P>, sent: &[u8]) -> Option<Message>
 /// The same, and the octets are lost.
 fn lose<P: App>(device: &mut Device<P>, sent: &[u8]) -> Option<Message>
     ensures kind { device.new.far.kind ≡ device.old.far.kind }
-    ensures honest { (silence : ℕ) → HonestExchange device.old.far silence sent.now (octets_in result)
-        device.new.far (silence_after silence (octets_in result)) }
+    ensures honest { (silence : ℕ) → HonestExchange device.old.far silence sent.now
+        (octets_in result) device.new.far (silence_after silence (octets_in result)) }
 {
     let _ = sent;
     page_and_room_stay();
@@ -80,8 +80,8 @@ fn lose<P: App>(device: &mut Device<P>, sent: &[u8]) -> Option<Message>
 /// The same, and the reply is lost.
 fn lose_reply<P: App>(device: &mut Device<P>, sent: &[u8]) -> Option<Message>
     ensures kind { device.new.far.kind ≡ device.old.far.kind }
-    ensures honest { (silence : ℕ) → HonestExchange device.old.far silence sent.now (octets_in result)
-        device.new.far (silence_after silence (octets_in result)) }
+    ensures honest { (silence : ℕ) → HonestExchange device.old.far silence sent.now
+        (octets_in result) device.new.far (silence_after silence (octets_in result)) }
 {
     page_and_room_stay();
     device.parts_are_regular();
@@ -93,8 +93,8 @@ fn lose_reply<P: App>(device: &mut Device<P>, sent: &[u8]) -> Option<Message>
 /// What comes back, as the fate of the exchange is.
 fn exchange<P: App>(device: &mut Device<P>, sent: &[u8], fate: Fate) -> Option<Message>
     ensures kind { device.new.far.kind ≡ device.old.far.kind }
-    ensures honest { (silence : ℕ) → HonestExchange device.old.far silence sent.now (octets_in result)
-        device.new.far (silence_after silence (octets_in result)) }
+    ensures honest { (silence : ℕ) → HonestExchange device.old.far silence sent.now
+        (octets_in result) device.new.far (silence_after silence (octets_in result)) }
 {
     match fate {
         Fate::Clean => pass(device, sent),
