@@ -9,4 +9,6 @@ returns-clause-honest g c =
 
 pub returns-clause-own : goal.returns-clause-own
 returns-clause-own g c = ap (λ (f : Far). f.kind) c.wake.ensures.far
-    ∙ worked_kind _ _ _ _ _ c.work.ensures.carried c.page_and_room_stay.ensures.much ∙ c.requires
+    ∙ worked_kind g.P.App.carry_out_gives c.args.device.now.far c.args.device.now.app
+    c.work.new.self.far c.work.new.self.app c.work.ensures.carried
+    c.page_and_room_stay.ensures.much ∙ c.requires
