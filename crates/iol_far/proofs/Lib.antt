@@ -2,7 +2,11 @@ mod Pages
 mod Segments
 mod Replies
 mod Once
-mod Standing
+mod Hearings
+mod Zeros
+mod AnyStanding
+mod AnyMoves
+mod AnyLevels
 mod Levels
 mod Sized
 mod Eventful

@@ -9,7 +9,7 @@ use Rattle.iol_far.specs.Local.{LocalStep, Carry, Raise, Input, NoInput, Power, 
 use Rattle.iol_far.specs.Level.{Link, link_of, taken, taken_by, turned, Happening, Own, Hears, happened, hearings}
 use Rattle.iol_far.specs.Linked.{IsAt, IsLinked, LinkSays, LinkLaws}
 use Rattle.iol_far.proofs.Once.{waits_again, mine_after, reads_again, carried_awake}
-use Rattle.iol_far.proofs.Levels.{hear_there, mine_taken, carried_page, carried_link, happened_more, hearings_more}
+use Rattle.iol_far.proofs.Hearings.{hear_there, mine_taken, carried_page, carried_link, happened_more, hearings_more}
 
 -- the far end in the layout in which it accepts the octets
 record There (page : List ℕ) (link : Link) (found : Option (Far × MasterMsg)) (m : MasterMsg)
@@ -195,6 +195,15 @@ module _ (page : List ℕ) (link : Link) (o : List ℕ) (m : MasterMsg)
   linking most g (inl h) = asleep h.0 h.1
   linking most g (inr h) = rw h.4 (linking_happened h.1 h.0 (unheard h.2))
 
+  -- another message in its place
+  linking_replaced : (most : ℕ) (g : Far) → IsLinked page link o most g → (other : List ℕ)
+      → IsLinked page link other 0 g ⊎ IsLinked page (turned page link o m) other 0 g
+  linking_replaced most g l other = elim (linking most g l) [
+    | asleep w s ↦ inl (inl (w, s))
+    | unheard h ↦ inl (inr (g, [], h, omega arith, refl))
+    | heard h ↦ inr (inr (g, [], h, omega arith, refl))
+  ]
+
 -- What keeps both ends so
 
 module _ (page : List ℕ) (link : Link) (o : List ℕ) where
@@ -247,5 +256,6 @@ link_laws = record {
   };
   replies = λ page link o m spells most g l r e. hear_linking page link o m spells g
       (linking page link o m spells most g l) r e;
+  replaced = linking_replaced;
   unheard = happened_unheard;
 }

@@ -57,6 +57,12 @@ pub record LinkLaws : Type 0 where
       → (most : ℕ) (far : Far) → IsLinked page link octets most far → (reply : List ℕ)
       → (hear far octets).reply ≡ Some reply
       → LinkSays page link octets message (hear far octets)
+  -- another message goes out in its place: the far end is where it was before it, or behind it
+  pub replaced : (page : List ℕ) (link : Link) (octets : List ℕ) (message : MasterMsg)
+      → message_in (layout_in page (taken link octets).mode) octets ≡ Some message
+      → (most : ℕ) (far : Far) → IsLinked page link octets most far → (other : List ℕ)
+      → IsLinked page link other 0 far
+      ⊎ IsLinked page (turned page link octets message) other 0 far
   -- where nothing was heard, it doesn't matter what was out
   pub unheard : (far : Far) (octets other : List ℕ) (rest : List Happening) → hearings rest ≤ 0
       → happened far octets rest ≡ happened far other rest
