@@ -100,6 +100,7 @@ begin_gives s t g far n request h suits known =
     (subst (λ (e : Option Exchange). OutSuits e None) k suits) in
     record {
       stands = record {
+        devices = h.devices;
         page = h.page;
         fits = h.fits;
         link = h.link;
@@ -165,6 +166,7 @@ pub aborts_by : (cause : Cause) (asks : Bool) (s : Operate) (t : SessionState)
     → AbortAt t.limit (waiting current.abort cause) g.request.busy asks
     → Stands (operate_core s t (Some (aborted cause current))) (asking_ghost asks g) far n
 aborts_by cause asks s t current g far n h may = record {
+  devices = h.devices;
   page = h.page;
   fits = h.fits;
   link = h.link;

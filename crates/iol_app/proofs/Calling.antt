@@ -10,6 +10,7 @@ use Rattle.iol_isdu.specs.declared.values.Answer.{Answer}
 use Rattle.iol_far.specs.declared.carried.Carried.{Carried}
 use Rattle.iol_far.specs.Far.{Far}
 use Rattle.iol_mode.specs.declared.configuration.Configuration.{Configuration}
+use Rattle.iol_mode.specs.declared.configuration.Devices.{Devices}
 use Rattle.iol_mode.specs.declared.states.State.{State}
 use Rattle.iol_mode.specs.declared.why.Why.{Why}
 use Rattle.iol_steps.specs.declared.mode.Mode.{Mode}
@@ -22,12 +23,14 @@ use Rattle.iol_steps.specs.Exchange.{hidden_lost}
 use Rattle.iol_app.proofs.KindsSession.{lost_opens}
 use Rattle.iol_app.specs.Requests.{request_in}
 use Rattle.iol_app.specs.State.{SessionState, wanting}
+use Rattle.iol_mode.specs.declared.configuration.Devices.TheVariants.{Own}
 use Rattle.iol_app.specs.StationState.{StateFits as Joined}
 use Rattle.iol_app.specs.Core.{Core, Ghost, Stands, RequestStands, session_in, opened_core, opened_ghost, wanting_core, restarted_core, restarted_ghost}
 
-pub opens : (limit : ℕ) (far : Far) (silence : ℕ) (told : Bool) (due : Event × List Event)
-    → Stands (opened_core limit) (opened_ghost far told due) far silence
-opens limit far silence told due = grind (arith, common_steps)
+pub opens : (devices : Devices) (limit : ℕ) (far : Far) (silence : ℕ) (told : Bool)
+    (due : Event × List Event)
+    → devices ≡ Own → Stands (opened_core devices limit) (opened_ghost far told due) far silence
+opens devices limit far silence told due own = grind (arith, common_steps)
 
 joined_want : (state : State) (t : SessionState) (image : Option (List ℕ)) → Joined state t
     → Joined state (wanting image t)
@@ -43,9 +46,9 @@ joined_asks : (state : State) (t : SessionState) (k : Configuration) → Joined 
 joined_asks state t k h = grind (arith, common_steps)
 
 pub asks_else : (c : Core) (g : Ghost) (far : Far) (silence : ℕ) (k : Configuration)
-    → Stands c g far silence
+    → k.devices ≡ c.session.configuration.devices → Stands c g far silence
     → Stands (record c { session = record c.session { configuration = k } }) g far silence
-asks_else c g far silence k h = grind (arith, common_steps, joined_asks)
+asks_else c g far silence k same h = grind (arith, common_steps, joined_asks)
 
 -- a restart, in every mode
 request_opens : (state : State) (t : SessionState) (g : Ghost) (far : Far) → Joined state t

@@ -33,7 +33,7 @@ use Rattle.iol_app.proofs.KindsSession.{busy_session, answered_session, aborted_
 use Rattle.iol_app.proofs.Moves.{asks_data, answers_base}
 use Rattle.iol_app.specs.declared.request.Current.{Current}
 use Rattle.iol_app.specs.declared.request.Progress.{Progress as Cursor}
-use Rattle.iol_app.specs.declared.request.Progress.TheVariants.{Sending as Cut, Asking, Receiving, Refused}
+use Rattle.iol_app.specs.declared.request.Progress.TheVariants.{Sending as Cut, Doubting, Asking, Receiving, Refused}
 use Rattle.iol_app.specs.declared.session.Exchange.{Exchange}
 use Rattle.iol_app.specs.declared.session.Exchange.TheVariants.{Abort, ReadEvent, ConfirmEvents, Request as NextMessage, Idle}
 use Rattle.iol_app.specs.Requests.{text_of, sending, sent_on, one_more, waited, waiting, Outcome, GoesOn, HasText, asked, replied_at, going, current_after, IsOutcomeSaid, Suits, request_in}
@@ -73,8 +73,13 @@ module _ (names : TextNamesAnswer) (taken : AnswersAreTakenUp)
   abbrev For : Exchange → Option Current → Type 0
   For e current = Replied laws readers turn e current
 
+  -- a request of which nothing is in doubt
+  abbrev cursor : Cutting Request → Cursor → Option Cause → Current
+  cursor cutter p abort =
+      record { cutter = cutter; progress = p; again = false; abort = abort }
+
   abbrev at : Cutting Request → Cursor → Option Cause → Option Current
-  at cutter p abort = Some (record { cutter = cutter; progress = p; abort = abort })
+  at cutter p abort = Some (cursor cutter p abort)
 
   abbrev Had_by : (e : Exchange) (current : Option Current) → For e current → Option Current
       → Type 0
@@ -229,24 +234,24 @@ module _ (names : TextNamesAnswer) (taken : AnswersAreTakenUp)
       → after (progress_of (at cutter p abort)) (move_at cutter p) od
       ≡ IsHad cutter.source (next_segment p) (octets_had p od)
       → IsOutcomeSaid (is_read cutter.source)
-      (replied_at p t.limit od (record { cutter = cutter; progress = p; abort = abort })) said
+      (replied_at p t.limit od (cursor cutter p abort)) said
       → Had_by NextMessage (at cutter p abort) a
       (going (replied_at p t.limit od
-      (record { cutter = cutter; progress = p; abort = abort })))
+      (cursor cutter p abort)))
   answer_segment cutter p abort a reading asks had says =
-      let current : Current = record { cutter = cutter; progress = p; abort = abort } in
+      let current : Current = cursor cutter p abort in
       let size : cutter.size ≡ layouts.run.od = a.valid.size ∙ ap od_size a.stands.joined.told.0 in
       let found = text laws readers turn NextMessage (Some current) a asks cutter.source
       (next_segment p) (octets_had p od) had in
       by_outcome found.0 (replied_at p t.limit od current)
-      (taken current t.limit od found.0 a.valid.current reading found.1
+      (taken current t.limit od found.0 a.valid.current refl reading found.1
       (found.2 ∙ ap (λ (k : ℕ). joined_octets k (answer_text cutter.source found.0)
       (next_segment p)) (sym size))
       (subst (λ (k : ℕ). next_segment p * k < length (answer_text cutter.source found.0))
       (sym size) found.3)) says
     where
       by_outcome : (x : Answer) (outcome : Outcome)
-          → IsTakenUp (record { cutter = cutter; progress = p; abort = abort }) x
+          → IsTakenUp (cursor cutter p abort) x
           (next_segment p) (octets_had p od) outcome
           → IsOutcomeSaid (is_read cutter.source) outcome said
           → Had_by NextMessage (at cutter p abort) a (going outcome)
@@ -319,12 +324,12 @@ module _ (names : TextNamesAnswer) (taken : AnswersAreTakenUp)
   request_message : (cutter : Cutting Request) (p : Cursor) (abort : Option Cause)
       (a : For NextMessage (at cutter p abort))
       → IsOutcomeSaid (is_read cutter.source)
-      (replied_at p t.limit od (record
-      { cutter = cutter; progress = p; abort = abort })) said
+      (replied_at p t.limit od (cursor cutter p abort)) said
       → Had_by NextMessage (at cutter p abort) a
       (going (replied_at p t.limit od
-      (record { cutter = cutter; progress = p; abort = abort })))
+      (cursor cutter p abort)))
   request_message cutter (Cut flow piece) abort a says = segment cutter flow piece abort a says
+  request_message cutter Doubting abort a says = absurd a.stands.request.busy.0
   request_message cutter (Asking counted) abort a says = start_read cutter counted abort a says
   request_message cutter (Receiving joining last) abort a says =
       answer_segment cutter (Receiving joining last) abort a tt tt refl says
@@ -410,14 +415,30 @@ module _ (names : TextNamesAnswer) (taken : AnswersAreTakenUp)
           { due = k.due; fit = k.fit; form = k.form; same = λ e. same }) refl is says
       by_list (Some l) is says = reported current a k l is says
 
+  -- of a request nothing is in doubt at a port for devices of our own kind
+  abbrev IsMessage : Exchange → Current → Type 0
+  IsMessage e c = (a : For e (Some c)) → IsTaken e od (core_out layouts w t e (Some c)).session said
+      → Had_by e (Some c) a (current_after e t.limit od (Some c))
+
+  sure_is : (c : Current) → c.again ≡ false → cursor c.cutter c.progress c.abort ≡ c
+  sure_is c once = λ i. record
+      { cutter = c.cutter; progress = c.progress; again = sym once i; abort = c.abort }
+
+  of_sure : (e : Exchange) (c : Current) → IsMessage e (cursor c.cutter c.progress c.abort)
+      → IsMessage e c
+  of_sure e c is a says = subst (IsMessage e)
+      (sure_is c (a.valid.sure a.stands.devices).0) is a says
+
   -- every message
   pub message : (e : Exchange) (current : Option Current) (a : For e current)
       → IsTaken e od (core_out layouts w t e current).session said
       → Had_by e current a (current_after e t.limit od current)
   message NextMessage None a says = absurd (let z : false ≡ true = a.valid.out in cc)
-  message NextMessage (Some c) a says = request_message c.cutter c.progress c.abort a says
+  message NextMessage (Some c) a says = of_sure NextMessage c
+      (λ b said. request_message c.cutter c.progress c.abort b said) a says
   message Abort None a says = absurd (let z : false ≡ true = a.valid.out in cc)
-  message Abort (Some c) a says = abort_message c.cutter c.progress c.abort a a.valid.out says
+  message Abort (Some c) a says = of_sure Abort c
+      (λ b said. abort_message c.cutter c.progress c.abort b b.valid.out said) a says
   message Idle None a says = idle a says
   message Idle (Some c) a says = idle_first c a a.valid.out says
   message ReadEvent None a says = events_message None a

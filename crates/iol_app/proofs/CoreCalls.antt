@@ -1,5 +1,5 @@
 -- The calls that aren't turns, over the core's own data.
-use Rattle.std.proofs.Common.{◌≡◌, ℕ, true, false, refl, sym, subst, Option, Some, None}
+use Rattle.std.proofs.Common.{◌≡◌, ◌∙◌, ap, ℕ, true, false, refl, sym, subst, Option, Some, None}
 use Rattle.std.specs.Prelude.{IsSome, IfSome}
 use Rattle.iol_isdu.specs.declared.values.Request.{Request}
 use Rattle.iol_isdu.specs.declared.values.Cause.{Cause}
@@ -7,6 +7,7 @@ use Rattle.iol_isdu.specs.declared.values.Cause.TheVariants.{BusyTooLong, Cancel
 use Rattle.iol_image.specs.Image.{IsImage}
 use Rattle.iol_mode.specs.declared.states.Operate.{Operate}
 use Rattle.iol_mode.specs.declared.configuration.Configuration.{Configuration}
+use Rattle.iol_mode.specs.declared.configuration.Devices.{Devices}
 use Rattle.iol_mode.specs.declared.states.State.{State}
 use Rattle.iol_mode.specs.declared.states.State.TheVariants.{Down as AtDown, Operate as AtOperate}
 use Rattle.iol_steps.specs.declared.mode.Mode.TheVariants.{Operate as ModeOperate}
@@ -22,10 +23,13 @@ use Rattle.iol_app.proofs.Calling.{asks_else, opens, wants, restarts, restarted_
 use Rattle.iol_app.specs.Core.{Core, Stands, BeginGives, session_in, operate_core, asking_ghost, opened_core, opened_ghost, wanting_core, restarted_core, restarted_ghost}
 use Rattle.iol_app.specs.Seen.{NewSteps, BeginSteps, DenySteps, AbortSteps, CancelSteps, WantSteps, RestartSteps}
 
-pub new_steps : (busy : ℕ) (new : Core) → new ≡ opened_core busy → NewSteps new
+pub new_steps : (devices : Devices) (busy : ℕ) (new : Core) → new ≡ opened_core devices busy
+    → NewSteps new
 unfolding NewSteps
-new_steps busy new e = λ far n told due. subst
-    (λ (c : Core). Stands c (opened_ghost far told due) far n) (sym e) (opens busy far n told due)
+new_steps devices busy new e = λ own far n told due. subst
+    (λ (c : Core). Stands c (opened_ghost far told due) far n) (sym e)
+    (opens devices busy far n told due
+    (ap (λ (c : Core). c.session.configuration.devices) (sym e) ∙ own))
 
 -- in OPERATE with no request under way
 at_free : (P : Core → Type 0) (state : State) (session : SessionState)
@@ -120,10 +124,11 @@ want_steps wanted old new image e =
     (wants old g far n wanted image stands)
 
 pub ask_steps : (k : Configuration) (old new : Core)
+    → k.devices ≡ old.session.configuration.devices
     → new ≡ record old { session = record old.session { configuration = k } } → WantSteps old new
 unfolding WantSteps
-ask_steps k old new e = λ g far n stands.
-    subst (λ (c : Core). Stands c g far n) (sym e) (asks_else old g far n k stands)
+ask_steps k old new same e = λ g far n stands.
+    subst (λ (c : Core). Stands c g far n) (sym e) (asks_else old g far n k same stands)
 
 pub restart_steps_of : (old new : Core) → new ≡ restarted_core old → RestartSteps old new
 unfolding RestartSteps

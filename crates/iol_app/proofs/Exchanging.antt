@@ -47,7 +47,8 @@ use Rattle.iol_app.specs.StationState.{StateFits as Joined, mode_in}
 use Rattle.iol_app.proofs.OperateMessages.{exchange_confirms}
 use Rattle.iol_app.proofs.SmallFacts.{confirms_is, more_silence}
 use Rattle.iol_app.proofs.Telling.{told_layout}
-use Rattle.iol_app.specs.Core.{Core, Ghost, Stands, ReceiveGives, OperateRequest, RequestStands, EventsStand, OutputStands, CalmAt, ShownStands, core_out, reading_in, ordered_by, moment_of, seen_in, shown_in, images_in, after_exchange}
+use Rattle.iol_app.specs.Core.{Core, Ghost, Stands, ReceiveGives, OperateRequest, RequestStands, EventsStand, OutputStands, CalmAt, ShownStands, core_out, reading_in, ordered_by, moment_of, seen_in, shown_in, images_in, settled_core}
+use Rattle.iol_mode.specs.declared.configuration.Configuration.{Configuration}
 
 -- what the far end's own part is, however far the message came
 pub record Passes (layouts : Layouts) (w : Sending) (t : SessionState) (g : Ghost) (far : Far)
@@ -212,6 +213,7 @@ module _ (laws : Laws) (layouts : Layouts) (w : Sending) (t : SessionState) (g :
               image_is_last = b.last;
               output_is_wanted = λ k. b.wanted k.2;
               stands = record {
+                devices = ap (λ (k : Configuration). k.devices) b.configuration ∙ stands.devices;
                 page = page' ∙ sym b.page;
                 fits = state_fits;
                 link = subst (λ (f : Far). StateStands next.state n' f) far_is link;
@@ -287,7 +289,7 @@ module _ (laws : Laws) (layouts : Layouts) (w : Sending) (t : SessionState) (g :
       }
 
       pub loses : said ≡ lost_said request → 3 ≤ min 3 (n + 1)
-          → Ends (Exchanged false) (after_exchange (InDown (record { why = Some Lost }))
+          → Ends (Exchanged false) (settled_core (InDown (record { why = Some Lost }))
           c.session) (record away {
             request =
                 record g.request { hidden = hidden_lost request h };

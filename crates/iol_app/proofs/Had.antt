@@ -56,7 +56,7 @@ use Rattle.iol_image.specs.Image.{IsImage}
 use Rattle.iol_app.specs.State.{SessionState, IsSession, absorbed, image_in}
 use Rattle.iol_app.specs.StationState.{StateFits as Joined}
 use Rattle.iol_app.specs.declared.output.Output.{Output}
-use Rattle.iol_app.specs.Core.{Core, Ghost, Stands, ReceiveGives, OperateRequest, core_out, reading_at, reading_in, moment_of, seen_in, shown_in, after_exchange}
+use Rattle.iol_app.specs.Core.{Core, Ghost, Stands, ReceiveGives, OperateRequest, core_out, reading_at, reading_in, moment_of, seen_in, shown_in, settled_core}
 use Rattle.iol_app.proofs.ReadingOn.{Took, reads_next}
 use Rattle.iol_app.proofs.SmallFacts.{confirms_is, same_output, input_is, input_hear, input_locals, image_octets, HasOctets}
 use Rattle.iol_app.proofs.Exchanging.{Passes, gives, at, tied', confirms, told'}
@@ -347,11 +347,11 @@ module _ (laws : Laws) (readers : ReaderLaws) (turn : Good) where
         (InOperate (record { out = None; layouts = layouts }) (Some r)))
         → Joined (state_of (InOperate (record { out = None; layouts = layouts }) (Some r)))
         (absorbed e r c.session)
-        → ReceiveGives c g far n said (after_exchange
+        → ReceiveGives c g far n said (settled_core
         (InOperate (record { out = None; layouts = layouts }) (Some r)) c.session) far' n'
     had reads kind busy b link fits joined =
         gives laws layouts w t g far n steps Clean e current a.stands far' n' a.far_is said
-        a.passes (Exchanged true) (after_exchange
+        a.passes (Exchanged true) (settled_core
         (InOperate (record { out = None; layouts = layouts }) (Some r)) c.session)
         (record g {
           request = record {

@@ -1,6 +1,6 @@
 -- The segments of an answer, one after the other.
 use Rattle.std.proofs.lemmas.Grind.{common_steps}
-use Rattle.std.proofs.Common.{◌≡◌, ℕ, zero, suc, ◌*◌, ◌%◌, ◌<◌, false, List, ◌++◌, length, refl, arith, ◌+◌, Option, Some}
+use Rattle.std.proofs.Common.{◌≡◌, ℕ, zero, suc, ◌*◌, ◌%◌, ◌<◌, Bool, true, false, ◌&&◌, if◌then◌else◌, List, ◌++◌, length, refl, arith, ◌+◌, Option, Some}
 use Rattle.std.proofs.lemmas.List.{length-append}
 use Rattle.iol_isdu.specs.declared.fault.IsduFault.{IsduFault}
 use Rattle.iol_segment.specs.Join.{Open, stage, Stage, Joining, staged, taken}
@@ -11,7 +11,7 @@ use Rattle.iol_isdu.specs.declared.values.Request.{Request}
 use Rattle.iol_app.specs.declared.request.Current.{Current}
 use Rattle.iol_segment.specs.Cut.{Cutting}
 use Rattle.iol_segment.specs.JoinLaws.{count_at}
-use Rattle.iol_app.specs.Requests.{Outcome, GoesOn, HasText, finished, joined, received, refused, IsJoining, IsCurrent}
+use Rattle.iol_app.specs.Requests.{Outcome, GoesOn, HasText, finished, joined, received, refused, forgotten_by, IsJoining, IsCurrent}
 
 -- octets before them aren't whole either
 open_before : (xs ys : List ℕ) → stage (xs ++ ys) ≡ Open → stage xs ≡ Open
@@ -72,13 +72,25 @@ module _ (current : Current) (h : IsCurrent current) where
       (staged false (count_at had) octets at).joining)
   joined_stays had octets at e size = grind (arith, common_steps, finished_stays, refused_stays)
 
-  -- the reply to a COUNT read
-  pub received_stays : (j : Joining) (had : ℕ) (od : List ℕ)
+  -- a segment that is joined to those before it
+  next_stays : (j : Joining) (had : ℕ) (od : List ℕ)
       → IsJoining current.cutter.size had j → length od ≡ current.cutter.size
-      → StaysCurrent current.cutter (received current.cutter current.abort j (had + 1) od)
-  received_stays j had od joining size =
+      → StaysCurrent current.cutter (joined current.cutter current.abort (had + 1)
+      (taken j (Count ((had + 1) % 16)) od).took (taken j (Count ((had + 1) % 16)) od).joining)
+  next_stays j had od joining size =
       let all = length-append j.text od in
       let before : length j.text ≡ suc had * current.cutter.size = joining.size_of in
       let long : length (j.text ++ od) ≡ suc (suc had) * current.cutter.size = omega arith in
       rw (taken_next current.cutter.size had j od joining, add-one had)
       (joined_stays (suc had) (j.text ++ od) (stage (j.text ++ od)) refl long)
+
+  -- the reply to a COUNT read
+  pub received_stays : (again : Bool) (j : Joining) (had : ℕ) (od : List ℕ)
+      → IsJoining current.cutter.size had j → length od ≡ current.cutter.size
+      → StaysCurrent current.cutter (received again current.cutter current.abort j (had + 1) od)
+  received_stays again j had od joining size =
+      elim (again && forgotten_by (taken j (Count ((had + 1) % 16)) od).took od) as
+      (λ b. StaysCurrent current.cutter (if b then GoesOn (refused current.cutter current.abort)
+      else joined current.cutter current.abort (had + 1)
+      (taken j (Count ((had + 1) % 16)) od).took (taken j (Count ((had + 1) % 16)) od).joining))
+      [ true ↦ refused_stays | false ↦ next_stays j had od joining size ]

@@ -25,6 +25,7 @@ pub mod TakingUp
 pub mod Stations
 pub mod Turns
 pub mod Settling
+pub mod Doubts
 pub mod StartMessages
 pub mod Telling
 pub mod DueFacts

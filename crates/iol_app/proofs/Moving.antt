@@ -24,10 +24,10 @@ use Rattle.iol_far.specs.Level.{Quiet, Written, Had, Begin, More, Ask, Next, IsM
 use Rattle.iol_app.specs.declared.event_work.Reading.{Reading}
 use Rattle.iol_app.specs.declared.request.Current.{Current}
 use Rattle.iol_app.specs.declared.request.Progress.{Progress as Cursor}
-use Rattle.iol_app.specs.declared.request.Progress.TheVariants.{Sending, Asking, Receiving, Refused}
+use Rattle.iol_app.specs.declared.request.Progress.TheVariants.{Sending, Doubting, Asking, Receiving, Refused}
 use Rattle.iol_app.specs.declared.session.Exchange.{Exchange}
 use Rattle.iol_app.specs.declared.session.Exchange.TheVariants.{Request as NextMessage}
-use Rattle.iol_app.specs.Requests.{text_of, ProgressFits, IsAllGiven, IsJoining, IsCurrent, sent_on, one_more, IsUnsent}
+use Rattle.iol_app.specs.Requests.{text_of, is_doubting, ProgressFits, IsAllGiven, IsJoining, IsCurrent, IsSure, sent_on, one_more, IsUnsent}
 use Rattle.iol_app.specs.State.{od_size}
 use Rattle.iol_app.specs.Messages.{head_for, data_for, progress_head, progress_data, request_head, request_data}
 use Rattle.iol_app.specs.Moves.{before_last, asked_for, progress_of, progress_at, segment_move, move_at, request_move, IsMoveOf, MessagesAreMoves}
@@ -81,47 +81,49 @@ receiving_moves fit size laws request joining had h = (
 )
 
 progress_moves : AnswersFit → (laws : (size : ℕ) → 1 ≤ size → TextLaws size) (current : Current)
-    (p : Cursor) → current.progress ≡ p → IsCurrent current
+    (p : Cursor) → current.progress ≡ p → IsCurrent current → is_doubting p ≡ false
     → IsMove current.cutter.size (move_at current.cutter p) (progress_at current.cutter p)
     (progress_head p).channel (progress_head p).read (flow_of (progress_head p).address)
     (progress_data p)
 unfolding flow_of
-progress_moves fit laws current (Sending flow piece) e h =
+progress_moves fit laws current (Sending flow piece) e h sure =
     segment_moves current.cutter.size current.cutter.source flow piece current.cutter.given
     h.request (subst (ProgressFits current.cutter current.abort) e h.progress)
-progress_moves fit laws current (Asking busy) e h =
+progress_moves fit laws current Doubting e h sure =
+    absurd (let k : true ≡ false = sure in cc)
+progress_moves fit laws current (Asking busy) e h sure =
     asking_moves current.cutter busy current.cutter.given refl
     (subst (ProgressFits current.cutter current.abort) e h.progress)
-progress_moves fit laws current (Receiving joining had) e h =
+progress_moves fit laws current (Receiving joining had) e h sure =
     let moves = receiving_moves fit current.cutter.size (laws current.cutter.size h.some)
     current.cutter.source joining had
     (subst (ProgressFits current.cutter current.abort) e h.progress) in
     rw (add-one had, flow_of_count (suc had)) moves
-progress_moves fit laws current Refused e h = tt
+progress_moves fit laws current Refused e h sure = tt
 
 request_moves : AnswersFit → (laws : (size : ℕ) → 1 ≤ size → TextLaws size) (size : ℕ)
     (current : Option Current) → IfSome current IsCurrent
-    → IfSome current (λ c. c.cutter.size ≡ size)
+    → IfSome current (λ c. c.cutter.size ≡ size) → IfSome current IsSure
     → IsMove size (request_move current) (progress_of current) (request_head current).channel
     (request_head current).read (flow_of (request_head current).address) (request_data current)
 unfolding flow_of
-request_moves fit laws size current h same = grind (arith, common_steps, progress_moves)
+request_moves fit laws size current h same sure = grind (arith, common_steps, progress_moves)
 
 messages_move : AnswersFit → (laws : (size : ℕ) → 1 ≤ size → TextLaws size)
     (exchange : Exchange) (size : ℕ) (reading : Reading) (current : Option Current)
     → IfSome current IsCurrent → IfSome current (λ c. c.cutter.size ≡ size)
-    → IsMoveOf size exchange current (head_for exchange reading current)
+    → IfSome current IsSure → IsMoveOf size exchange current (head_for exchange reading current)
     (data_for exchange size current)
 unfolding flow_of
-messages_move fit laws NextMessage size _ current h same =
-    request_moves fit laws size current h same
-messages_move fit laws other size _ current h same = tt
+messages_move fit laws NextMessage size _ current h same sure =
+    request_moves fit laws size current h same sure
+messages_move fit laws other size _ current h same sure = tt
 
 pub messages_are_moves : AnswersFit → ((size : ℕ) → 1 ≤ size → TextLaws size) → MessagesAreMoves
-messages_are_moves fit laws s layout exchange h told =
+messages_are_moves fit laws s layout exchange h told own =
     messages_move fit laws exchange layout.od s.events.reading s.current h.current
     (subst (λ (l : Option Shape). IfSome s.current (λ c. c.cutter.size ≡ od_size l)) told
-    h.size)
+    h.size) (h.sure own)
 
 -- A segment of the request was written
 

@@ -7,13 +7,16 @@ use Rattle.iol_mseq.specs.Master.{HasMasterParts}
 use Rattle.iol_mseq.specs.declared.master.MasterMsg.{MasterMsg}
 use Rattle.iol_mseq.specs.declared.reply.Reply.{Reply}
 use Rattle.iol_page.specs.declared.page.Layouts.{Layouts}
+use Rattle.iol_page.specs.declared.master_command.MasterCommand.TheVariants.{DeviceStartup}
 use Rattle.iol_far.specs.Far.{Far}
 use Rattle.iol_link.specs.Attempts.{Sending, good_reply, attempt_of}
 use Rattle.iol_link.specs.Honest.{HonestExchange}
+use Rattle.iol_mode.specs.declared.configuration.Devices.{Devices}
+use Rattle.iol_mode.specs.declared.configuration.Devices.TheVariants.{Own, Any}
 use Rattle.iol_mode.specs.declared.states.Operate.{Operate}
 use Rattle.iol_mode.specs.declared.states.State.{State}
 use Rattle.iol_mode.specs.declared.states.State.TheVariants.{Down as AtDown, Operate as AtOperate}
-use Rattle.iol_mode.specs.Messages.{page_read, unsent}
+use Rattle.iol_mode.specs.Messages.{page_read, command_message, unsent}
 use Rattle.iol_mode.specs.Next.{EnteredFits}
 use Rattle.iol_mode.specs.States.{Outcome, OutcomeFits, StateFits, IsDown, is_starting, state_of, waked, operate_by, counted}
 use Rattle.iol_mode.specs.Exchanges.{IsSending, AreFew, ExchangeGives, AcceptedBy, StandsOn, WakeStands, judged, text_out}
@@ -30,7 +33,8 @@ use Rattle.iol_app.specs.Outputs.{carried_by}
 use Rattle.iol_app.specs.State.{SessionState, IsSession, IsOutBy, IsMessageFor, sending}
 use Rattle.iol_app.specs.StationState.{StateFits as Joined, IsStill, NextFits, IsSettledSaid, settled_session, waked_session, mode_in}
 use Rattle.iol_app.specs.StationLaws.{StationLaws}
-use Rattle.iol_app.specs.Core.{came_of, Core, Ghost, Stands, CallGives, ReceiveGives, SendGives, made_ghost, IsAttempted, ordered, moment_of, images_in, after_exchange, after_wake, core_out}
+use Rattle.iol_app.specs.Core.{came_of, Core, Ghost, Stands, CallGives, ReceiveGives, SendGives, made_ghost, IsAttempted, ordered, moment_of, images_in, after_exchange, settled_core, after_wake, core_out}
+use Rattle.iol_app.proofs.Doubts.{own_settled}
 use Rattle.iol_app.specs.Pieces.{SendSteps, Received, WakeSteps, ReceiveSteps}
 use Rattle.iol_app.proofs.Turns.{startup_next, preoperate_next, operate_next}
 use Rattle.iol_app.proofs.Settling.{settled_fits}
@@ -39,14 +43,25 @@ first_parts : HasMasterParts startup_shape (page_read 2)
 unfolding control_of
 first_parts = record { out = refl; od = refl }
 
-waked_fits : (answered : Bool) → OutcomeFits (waked answered)
-waked_fits true = record { message_is = refl; parts = first_parts; step = lit< tt; admitted = tt }
-waked_fits false = tt
+reset_parts : HasMasterParts startup_shape (command_message startup_shape DeviceStartup)
+unfolding control_of
+reset_parts = record { out = refl; od = refl }
+
+waked_fits : (devices : Devices) (answered : Bool) → OutcomeFits (waked devices answered)
+waked_fits Own true = record {
+  message_is = refl;
+  parts = first_parts;
+  step = lit< tt;
+  admitted = tt;
+}
+waked_fits Any true = record { message_is = refl; parts = reset_parts; step = tt; admitted = tt }
+waked_fits devices false = tt
 
 -- a wake says nothing
-pub idle_said : (answered : Bool) (s : SessionState) (said : Said) → s.current ≡ None
-    → said ≡ Idle → IsSettledSaid (waked answered) (waked_session answered s) said
-idle_said answered s said free idle = grind (arith, common_steps)
+pub idle_said : (devices : Devices) (answered : Bool) (s : SessionState) (said : Said)
+    → s.current ≡ None → said ≡ Idle
+    → IsSettledSaid (waked devices answered) (waked_session answered s) said
+idle_said devices answered s said free idle = grind (arith, common_steps)
 
 -- in a start-up nothing is said
 pub still_said : (outcome : Outcome) (s : SessionState) (said : Said) → IsStill s
@@ -71,8 +86,9 @@ entered_tried : (outcome : Outcome) (n : ℕ) (far : Far) → EnteredFits outcom
     → IsAttempted (state_of outcome)
 entered_tried outcome n far h = grind (arith, common_steps)
 
-waked_tried : (answered : Bool) → IsAttempted (state_of (waked answered))
-waked_tried answered = grind (arith, common_steps)
+waked_tried : (devices : Devices) (answered : Bool)
+    → IsAttempted (state_of (waked devices answered))
+waked_tried devices answered = grind (arith, common_steps)
 
 pub wanted_at : (state : State) (t : SessionState) (n : ℕ) (far : Far) → IsAttempted state
     → StateStands state n far → n ≡ 0 → ordered state t ≡ t.output.wanted
@@ -131,10 +147,12 @@ module _ (laws : StationLaws) (t : SessionState) (came : Option (List ℕ)) (sai
       (after_exchange (judged t.configuration state came) t) far' n'
   rise_gives state starting down still next stands x fits risen says =
       let outcome : Outcome = judged t.configuration state came in
-      let given : CallGives (at state) g far n Idle (after_exchange outcome t) far' n' =
+      let given : CallGives (at state) g far n Idle (settled_core outcome t) far' n' =
       laws.rises.gives (at state) g far far' n n' came starting stands valid x risen fits
       (settled_fits outcome t fits next) in
-      subst (λ (k : Said). Received (at state) g far n k (after_exchange outcome t) far' n')
+      subst (λ (c : Core). Received (at state) g far n said c far' n')
+      (sym (own_settled outcome t stands.devices))
+      (subst (λ (k : Said). Received (at state) g far n k (settled_core outcome t) far' n')
       (sym (still_said outcome t said still says))
       (record {
         given = given;
@@ -142,7 +160,7 @@ module _ (laws : StationLaws) (t : SessionState) (came : Option (List ℕ)) (sai
             unmade (moment_of (at state) g n given.call) given.steps (images_in (at state) g far)
             down given.images.0;
         attempted = entered_tried outcome n' far' risen.entered;
-      })
+      }))
 
   -- in OPERATE, where the message is for this
   out_gives : (layouts : Layouts) (w : Sending) (e : Exchange) → t.exchange ≡ Some e
@@ -156,19 +174,21 @@ module _ (laws : StationLaws) (t : SessionState) (came : Option (List ℕ)) (sai
       let joined : Joined (state_of outcome) (settled_session outcome t) =
       settled_fits outcome t fits (out_next (Some w) layouts came t refl stands.joined) in
       let got : ReceiveGives (core_out layouts w t e t.current) g far n said
-      (after_exchange outcome named) far' n' =
+      (settled_core outcome named) far' n' =
       laws.receives.gives layouts w t e g far far' n n' came said
       (subst (λ (s : SessionState). let c : Core = record { state = state; session = s } in
       Stands c g far n) same stands) (subst IsSession same valid) x few given.0 fits given.1
       (subst (λ (s : SessionState). Joined (state_of outcome) (settled_session outcome s)) same
       joined) (subst (λ (s : SessionState). IsSettledSaid outcome s said) same says) in
-      subst (λ (s : SessionState). let c : Core = record { state = state; session = s } in
-      Received c g far n said (after_exchange outcome s) far' n') (sym same)
+      subst (λ (c : Core). Received (at state) g far n said c far' n')
+      (sym (own_settled outcome t stands.devices))
+      (subst (λ (s : SessionState). let c : Core = record { state = state; session = s } in
+      Received c g far n said (settled_core outcome s) far' n') (sym same)
       (record {
         given = got.given;
         unmade = got.unmade;
         attempted = operate_tried w layouts (good_reply layouts.run w.message came);
-      })
+      }))
 
   operate_gives : (out : Option Sending) (layouts : Layouts)
       → IsSending (AtOperate (record { out = out; layouts = layouts }))
@@ -227,19 +247,20 @@ module _ (laws : StationLaws) (layouts : Layouts) (t : SessionState) (room : Boo
 -- A wake
 
 pub wake_steps : StationLaws → (old : Core) (answered : Bool) (new : Core) → IsDown old.state
-    → WakeStands answered → new ≡ after_wake answered old.session → WakeSteps old answered new
+    → WakeStands old.session.configuration.devices answered
+    → new ≡ after_wake answered old.session → WakeSteps old answered new
 unfolding WakeSteps
 wake_steps laws old answered new down stands_by e = λ g far far' n stands x.
     let given : CallGives old g far n Idle (after_wake answered old.session) far' n =
     laws.wakes.gives old g far far' n answered stands down x (stands_by far far' n x)
-    (waked_fits answered) in
+    (waked_fits old.session.configuration.devices answered) in
     subst (λ (k : Core). Received old g far n Idle k far' n) (sym e)
     (record {
       given = given;
       unmade =
           unmade (moment_of old g n given.call) given.steps (images_in old g far)
           (not_up old.state down) given.images.0;
-      attempted = waked_tried answered;
+      attempted = waked_tried old.session.configuration.devices answered;
     })
   where
     not_up : (state : State) → IsDown state → mode_in state ≡ ModeOperate → ⊥

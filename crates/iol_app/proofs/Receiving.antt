@@ -38,7 +38,7 @@ use Rattle.iol_app.specs.StationState.{StateFits as Joined, settled_session, IsS
 use Rattle.iol_app.proofs.OperateMessages.{exchange_command}
 use Rattle.iol_app.proofs.Turns.{good_parts}
 use Rattle.iol_mseq.specs.Shape.{Shape}
-use Rattle.iol_app.specs.Core.{Core, Ghost, Stands, ReceiveGives, Receives, core_out, after_exchange}
+use Rattle.iol_app.specs.Core.{Core, Ghost, Stands, ReceiveGives, Receives, core_out, settled_core}
 use Rattle.iol_app.proofs.SmallFacts.{operating, third_time}
 use Rattle.iol_app.proofs.FarSide.{Goes, silent, replied, says_of, outputs_sent, outputs_after, opens_after, replied_told, replied_out}
 use Rattle.iol_app.proofs.Exchanging.{Passes, gives, misses, loses, at, level_here, tied'}
@@ -120,7 +120,7 @@ module _ (names : TextNamesAnswer) (taken : AnswersAreTakenUp) (laws : Laws)
           (if b then WasLost else Again) in
           IsMet o n' far' → OutcomeFits o → Joined (state_of o) (settled_session o c.session)
           → IsSettledSaid o c.session said
-          → ReceiveGives c g far n said (after_exchange o c.session) far' n'
+          → ReceiveGives c g far n said (settled_core o c.session) far' n'
       by_tries true two silence met fits joined says =
           gives laws layouts w t g far n x.steps x.passage e t.current stands far' n' x.far_is
           said (passes laws layouts w t g far n x.steps e t.current stands x.passage)
@@ -141,7 +141,7 @@ module _ (names : TextNamesAnswer) (taken : AnswersAreTakenUp) (laws : Laws)
           → IsMet (after_by reply) n' far' → OutcomeFits (after_by reply)
           → Joined (state_of (after_by reply)) (settled_session (after_by reply) c.session)
           → IsSettledSaid (after_by reply) c.session said
-          → ReceiveGives c g far n said (after_exchange (after_by reply) c.session) far' n'
+          → ReceiveGives c g far n said (settled_core (after_by reply) c.session) far' n'
       by_reply None good met fits joined says =
           by_tries (w.tries == 2) refl
           (silent laws g.page layouts.run g.request.base stands.request.link

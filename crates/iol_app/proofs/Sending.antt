@@ -162,7 +162,7 @@ module _ (levels : (size : ℕ) → 1 ≤ size → LevelLaws size) (modes : Mode
     size_of = ap (λ (l : Shape). l.od) there;
     move = subst (λ (h : Head). IsMoved h m.od.items) (sym is.head)
         (subst (λ (d : List ℕ). IsMoved (head_for e t.events.reading t.current) d) (sym od)
-        (moves t layouts.run e valid stands.joined.told.0));
+        (moves t layouts.run e valid stands.joined.told.0 stands.devices));
     begins = may_begin (move_for e t.current) refl;
     quiet = still link stands.request.linked;
   }
@@ -178,6 +178,7 @@ module _ (levels : (size : ℕ) → 1 ≤ size → LevelLaws size) (modes : Mode
       → SendGives (free_core layouts t) next g (made_ghost t g) far n
   sends linked fits = record {
     stands = record {
+      devices = stands.devices;
       page = stands.page;
       fits = fits;
       link = linked;

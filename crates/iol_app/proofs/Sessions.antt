@@ -1,7 +1,8 @@
 -- What always holds of a session.
 use Rattle.std.proofs.lemmas.Grind.{common_steps}
-use Rattle.std.proofs.Common.{◌≡◌, ℕ, ◌<◌, ◌≤◌, Bool, true, if◌then◌else◌, List, length, refl, sym, ap, subst, ◌∙◌, arith, Option, Some, None}
-use Rattle.std.specs.Prelude.{is_some, IfSome, IsTrue, unwrap_or}
+use Rattle.std.proofs.lemmas.Bool.Decides.{nat_tests}
+use Rattle.std.proofs.Common.{◌≡◌, ℕ, ◌+◌, ◌%◌, ◌<◌, ◌≤◌, Bool, true, false, ◌&&◌, ◌==◌, Result, Ok, Err, if◌then◌else◌, List, length, refl, sym, ap, subst, ◌∙◌, arith, Option, Some, None}
+use Rattle.std.specs.Prelude.{not, slice_index, is_some, IfSome, IsTrue, unwrap_or}
 use Rattle.std.proofs.lemmas.List.{length-append}
 use Rattle.iol_mseq.specs.Shape.{Shape, IsLayout}
 use Rattle.iol_mseq.specs.Master.{HasMasterParts}
@@ -13,25 +14,46 @@ use Rattle.iol_isdu.specs.declared.values.Cause.{Cause}
 use Rattle.iol_isdu.specs.Texts.{request_front}
 use Rattle.iol_mseq.specs.Parts.{first_of_zeros}
 use Rattle.iol_segment.specs.Cut.{Cutting}
+use Rattle.iol_segment.specs.Join.{Joining, taken, empty}
+use Rattle.arrayvec.specs.ArrayVec.{ArrayVec}
+use Rattle.iol_octets.specs.Control.{control_of}
+use Rattle.iol_octets.specs.declared.flow_control.Flow.{Flow}
+use Rattle.iol_octets.specs.declared.flow_control.Flow.TheVariants.{Start, Count}
+use Rattle.iol_segment.specs.declared.took.Took.{Took}
+use Rattle.iol_segment.specs.declared.took.Took.TheVariants.{Repeat, More, Whole}
+use Rattle.iol_isdu.specs.Answers.{is_read, answer_fault}
+use Rattle.iol_isdu.specs.declared.fault.IsduFault.{IsduFault}
+use Rattle.iol_segment.specs.declared.took.JoinFault.{JoinFault}
 use Rattle.iol_app.specs.declared.output.Output.{Output}
 use Rattle.iol_app.specs.declared.event_work.Reading.{Reading}
 use Rattle.iol_app.specs.declared.request.Current.{Current}
 use Rattle.iol_app.specs.declared.request.Progress.{Progress}
-use Rattle.iol_app.specs.declared.request.Progress.TheVariants.{Asking}
+use Rattle.iol_app.specs.declared.request.Progress.TheVariants.{Sending, Doubting, Asking, Receiving, Refused}
 use Rattle.iol_app.specs.declared.session.Exchange.{Exchange}
-use Rattle.iol_app.specs.declared.session.Exchange.TheVariants.{Request as NextMessage}
+use Rattle.iol_app.specs.declared.session.Exchange.TheVariants.{Abort, Request as NextMessage}
 use Rattle.iol_steps.specs.declared.said.Said.{Said}
 use Rattle.iol_steps.specs.declared.said.Said.TheVariants.{Cut}
 use Rattle.iol_app.specs.Outputs.{output_after, carried_by, IsOutput}
-use Rattle.iol_app.specs.Requests.{text_of, Outcome, asked, replied_at, replied, going, current_after, request_in, request_after, IsOutcomeSaid, IsSaid, Suits, ProgressFits, IsCurrent}
+use Rattle.iol_app.specs.Requests.{text_of, Outcome, GoesOn, asked, doubted, sent_anew, finished, joined, forgotten_by, refused, waited, one_more, sending, is_doubting, replied_at, replied, going, current_after, request_in, request_after, IsOutcomeSaid, IsSaid, Suits, ProgressFits, IsAllGiven, IsCurrent, IsSure}
 use Rattle.iol_app.specs.State.{SessionState, IsSession, od_size, output_length, absorbed}
-use Rattle.iol_app.specs.Messages.{head_of, head_for, data_for, progress_head, progress_data, request_head, request_data}
+use Rattle.iol_app.specs.Messages.{ask_of, question, head_of, head_for, data_for, progress_head, progress_data, request_head, request_data}
 use Rattle.iol_app.proofs.Cutting.{length-segment, is_pair, given_goes_on, sent_on_fits}
 use Rattle.iol_app.proofs.Joining.{StaysCurrent, refused_stays, joined_stays, received_stays}
 
 -- a text has an octet
 text_some : (cutter : Cutting Request) → 0 < length (text_of cutter)
 text_some cutter = let whole = length-append (request_front cutter.source) in omega (arith, whole)
+
+-- the one segment of a request is all of it
+one_given : (cutter : Cutting Request) → ProgressFits cutter None Doubting
+    → IsAllGiven cutter.size (text_of cutter) 1
+one_given cutter h = grind (arith, common_steps, nat_tests, text_some)
+
+-- and goes out anew
+anew_stays : (current : Current) → IsCurrent current
+    → ProgressFits current.cutter current.abort Doubting
+    → StaysCurrent current.cutter (GoesOn (sent_anew current.cutter current.abort))
+anew_stays current h whole = grind (arith, common_steps)
 
 -- the reply to a START read
 asked_stays : (current : Current) (busy limit : ℕ) (od : List ℕ) → IsCurrent current
@@ -44,11 +66,97 @@ asked_stays current busy limit od h all size =
 abbrev pub IsAnswered : ℕ → Progress → List ℕ → Type 0
 IsAnswered size p od = (progress_head p).read ≡ true → length od ≡ size
 
+-- the reply to the question whether the device has the one segment
+doubted_stays : (current : Current) (again : Bool) (limit : ℕ) (od : List ℕ) → IsCurrent current
+    → ProgressFits current.cutter current.abort Doubting → length od ≡ current.cutter.size
+    → StaysCurrent current.cutter (doubted again current.cutter current.abort limit od)
+doubted_stays current again limit od h whole size =
+    let all : ProgressFits current.cutter current.abort (Asking 0) =
+    rw whole.0 (one_given current.cutter whole) in
+    elim ((slice_index od 0 == 0) && not again) as (λ b. StaysCurrent current.cutter
+    (if b then GoesOn (sent_anew current.cutter current.abort)
+    else asked current.cutter current.abort 0 limit od))
+    [ true ↦ anew_stays current h whole | false ↦ asked_stays current 0 limit od h all size ]
+
+-- no good reply leaves anything in doubt
+finished_sure : (cutter : Cutting Request) (abort : Option Cause) (text : List ℕ)
+    (fault : Option IsduFault) → IfSome (going (finished cutter abort text fault)) IsSure
+finished_sure cutter abort text None = tt
+finished_sure cutter abort text (Some fault) = (refl, refl)
+
+joined_sure : (cutter : Cutting Request) (abort : Option Cause) (had : ℕ)
+    (took : Result Took JoinFault) (joining : Joining)
+    → IfSome (going (joined cutter abort had took joining)) IsSure
+joined_sure cutter abort had (Err fault) joining = (refl, refl)
+joined_sure cutter abort had (Ok Whole) joining = finished_sure cutter abort joining.text
+    (answer_fault (is_read cutter.source) joining.text)
+joined_sure cutter abort had (Ok More) joining = (refl, refl)
+joined_sure cutter abort had (Ok Repeat) joining = (refl, refl)
+
+sending_sure : (piece : Option (Flow × ArrayVec ℕ)) → is_doubting (sending piece) ≡ false
+sending_sure None = refl
+sending_sure (Some piece) = refl
+
+-- the first segment of an answer
+abbrev first_had : Cutting Request → Option Cause → List ℕ → Outcome
+first_had cutter abort od = joined cutter abort 0 (taken (empty false) Start od).took
+    (taken (empty false) Start od).joining
+
+asked_sure : (cutter : Cutting Request) (abort : Option Cause) (busy limit : ℕ) (od : List ℕ)
+    → IfSome (going (asked cutter abort busy limit od)) IsSure
+asked_sure cutter abort busy limit od =
+    elim (slice_index od 0 == 1) as (λ b. IfSome (going
+    (if b then GoesOn (waited cutter abort (one_more busy) limit) else
+    if slice_index od 0 == 0 then GoesOn (refused cutter abort) else
+    first_had cutter abort od)) IsSure) [
+      | true ↦ (refl, refl)
+      | false ↦ elim (slice_index od 0 == 0) as (λ b. IfSome (going
+          (if b then GoesOn (refused cutter abort) else first_had cutter abort od)) IsSure) [
+            | true ↦ (refl, refl)
+            | false ↦ joined_sure cutter abort 0 (taken (empty false) Start od).took
+                (taken (empty false) Start od).joining
+          ]
+    ]
+
+replied_sure : (p : Progress) (limit : ℕ) (od : List ℕ) (current : Current)
+    → current.progress ≡ p → IfSome (going (replied_at p limit od current)) IsSure
+replied_sure (Sending flow segment) limit od current is = (refl, sending_sure _)
+replied_sure Doubting limit od current is =
+    elim ((slice_index od 0 == 0) && not current.again) as (λ b. IfSome (going
+    (if b then GoesOn (sent_anew current.cutter current.abort)
+    else asked current.cutter current.abort 0 limit od)) IsSure) [
+      | true ↦ (refl, sending_sure _)
+      | false ↦ asked_sure current.cutter current.abort 0 limit od
+    ]
+replied_sure (Asking busy) limit od current is =
+    asked_sure current.cutter current.abort busy limit od
+replied_sure (Receiving joining had) limit od current is =
+    elim (current.again && forgotten_by (taken joining (Count ((had + 1) % 16)) od).took od) as
+    (λ b. IfSome (going (if b then GoesOn (refused current.cutter current.abort)
+    else joined current.cutter current.abort (had + 1)
+    (taken joining (Count ((had + 1) % 16)) od).took
+    (taken joining (Count ((had + 1) % 16)) od).joining)) IsSure) [
+      | true ↦ (refl, refl)
+      | false ↦ joined_sure current.cutter current.abort (had + 1)
+          (taken joining (Count ((had + 1) % 16)) od).took
+          (taken joining (Count ((had + 1) % 16)) od).joining
+    ]
+replied_sure Refused limit od current is = (refl, ap is_doubting is)
+
 replied_stays : (current : Current) (p : Progress) (limit : ℕ) (od : List ℕ) → IsCurrent current
     → current.progress ≡ p → IsAnswered current.cutter.size p od
     → StaysCurrent current.cutter (replied_at p limit od current)
 replied_stays current p limit od h e size =
-    grind (arith, common_steps, asked_stays, received_stays, sent_on_fits, given_goes_on, text_some)
+    grind (
+      arith,
+      common_steps,
+      asked_stays,
+      doubted_stays,
+      received_stays,
+      sent_on_fits,
+      given_goes_on,
+      text_some,
+    )
 
 -- the reply has on-request data of the layout's size where the request's message was a read
 answered_as : (layout : Option Shape) (current : Current) (od : List ℕ) → IsCurrent current
@@ -93,7 +201,12 @@ module _ (layout : Option Shape) (reading : Reading) (limit : ℕ) (od : List �
       → IfSome current IsCurrent → IfSome current (λ c. c.cutter.size ≡ od_size layout)
       → Fits exchange current
       → StaysGoing (od_size layout) (current_after exchange limit od current)
-  current_stays exchange current h size fits = grind (arith, common_steps, going_stays, stays)
+  current_stays exchange None h size fits = (tt, tt)
+  current_stays Abort (Some current) h size fits = (tt, tt)
+  current_stays NextMessage (Some current) h size fits =
+      subst (λ (n : ℕ). StaysGoing n (going (replied limit od current))) size
+      (going_stays current.cutter (replied limit od current) (stays current h size fits))
+  current_stays any (Some current) h size fits = (h, size)
 
   pub current_request : (exchange : Exchange) (current : Option Current) (said : Said)
       → IfSome current IsCurrent → IfSome current (λ c. c.cutter.size ≡ od_size layout)
@@ -101,8 +214,23 @@ module _ (layout : Option Shape) (reading : Reading) (limit : ℕ) (od : List �
       → Suits exchange current → IsSaid exchange limit od current said
       → request_in (current_after exchange limit od current)
       ≡ request_after (request_in current) said
-  current_request exchange current said h size fits suits said_is =
-      grind (arith, common_steps, going_request, aborted_request, stays)
+  current_request exchange None said h size fits suits said_is =
+      ap (request_after None) (sym said_is)
+  current_request Abort (Some current) said h size fits suits said_is =
+      aborted_request current.cutter.source current.abort said suits said_is
+  current_request NextMessage (Some current) said h size fits suits said_is =
+      going_request current.cutter (is_read current.cutter.source) (replied limit od current) said
+      (stays current h size fits) said_is
+  current_request any (Some current) said h size fits suits said_is =
+      ap (request_after (Some current.cutter.source)) (sym said_is)
+
+sure_after : (exchange : Exchange) (limit : ℕ) (od : List ℕ) (current : Option Current)
+    → IfSome current IsSure → IfSome (current_after exchange limit od current) IsSure
+sure_after exchange limit od None h = tt
+sure_after Abort limit od (Some current) h = tt
+sure_after NextMessage limit od (Some current) h = replied_sure current.progress limit od current
+    refl
+sure_after any limit od (Some current) h = h
 
 output_stays : (size : ℕ) (exchange : Exchange) (output : Output) → IsOutput size output
     → IsOutput size (output_after exchange output)
@@ -122,6 +250,7 @@ absorbed_stays s exchange reply h fits =
       current = going.0;
       size = going.1;
       out = tt;
+      sure = λ own. sure_after exchange s.limit reply.od.items s.current (h.sure own);
     }
 
 -- A new message has the parts of the layout
@@ -182,3 +311,20 @@ parts_fit s exchange message layout h told head od out =
           (od_some layout valid) h.current size ∙ ap (λ b. if b then 0 else layout.od) (sym read);
     } in
     subst (λ (l : Option Shape). IfSome l (λ k. HasMasterParts k message)) (sym told) parts
+
+-- The question in place of a message that holds a whole text
+
+pub question_head : (out : List ℕ) → head_of (question out).mc ≡ ask_of Start
+unfolding control_of
+question_head out = refl
+
+-- has the parts of the layout too
+pub question_parts : (size : Option Shape) (output : Output)
+    → IsOutput (output_length size) output
+    → IfSome size (λ layout. HasMasterParts layout (question (carried_by output)))
+question_parts None output h = tt
+question_parts (Some layout) output h = record {
+  out = carried_length layout.pd_out output.wanted output.carried.items h.carried h.wanted;
+  od = ap (λ (b : Bool). if b then 0 else layout.od)
+      (sym (ap (λ x. x.read) (question_head (carried_by output))));
+}

@@ -61,7 +61,8 @@ use Rattle.iol_app.specs.State.{SessionState, IsSession, told, entered}
 use Rattle.iol_app.specs.StationState.{StateFits as Joined, settled_session, mode_in, why_in}
 use Rattle.iol_app.proofs.StartMessages.{step_channel, sends_channel, preoperate_turns, page_confirms}
 use Rattle.iol_app.proofs.Telling.{startup_layout, told_layout, told_told, told_shown}
-use Rattle.iol_app.specs.Core.{Core, Ghost, Stands, CallGives, RequestStands, EventsStand, OutputStands, OutputOff, CalmAt, ShownStands, moment_of, seen_in, shown_in, images_in, after_exchange}
+use Rattle.iol_app.specs.Core.{Core, Ghost, Stands, CallGives, RequestStands, EventsStand, OutputStands, OutputOff, CalmAt, ShownStands, moment_of, seen_in, shown_in, images_in, settled_core}
+use Rattle.iol_mode.specs.declared.configuration.Configuration.{Configuration}
 use Rattle.iol_mode.specs.Exchanges.{text_out}
 use Rattle.iol_app.proofs.FarSide.{Goes, outputs_sent, outputs_after, opens_after}
 
@@ -105,6 +106,7 @@ is_still t a b c d e = λ i. record {
   output = record t.output { told = e i };
   events = record t.events { reading = d i };
   image = c i;
+  clear = t.clear;
 }
 
 none_due : (b awake : Bool) → false ≡ (awake && is_due (reading_flagged b))
@@ -334,7 +336,7 @@ module _ (laws : Laws) (heard : TextsAreHeard) (start : Start) (session : Sessio
       → (ys : List Step) → Ends answered (record { state = state_of outcome; session = u }) ys
       → IsRisen outcome n' far far' → OutcomeFits outcome
       → Joined (state_of outcome) (settled_session outcome (still session))
-      → CallGives c g far n Idle (after_exchange outcome (still session)) far' n'
+      → CallGives c g far n Idle (settled_core outcome (still session)) far' n'
   gives answered silence outcome u same ys b risen fits joined =
       let next : Core = record { state = state_of outcome; session = u } in
       let m = moment_of c g n (Exchanged answered) in
@@ -372,6 +374,7 @@ module _ (laws : Laws) (heard : TextsAreHeard) (start : Start) (session : Sessio
         image_is_last = ((λ e. absurd (below start e.0)), (λ e. b.image), (λ e f. b.image));
         output_is_wanted = λ e. absurd (below start e.0);
         stands = record {
+          devices = ap (λ (k : Configuration). k.devices) b.configuration ∙ stands.devices;
           page = page_passed laws x.passage (locals far x.steps) o ∙ page_here ∙ stands.page;
           fits = fits;
           link = subst (λ (f : Far). StateStands (state_of outcome) n' f) x.far_is
@@ -454,7 +457,7 @@ module _ (laws : Laws) (heard : TextsAreHeard) (start : Start) (session : Sessio
   -- it goes down, for a cause
   pub falls : (answered : Bool) (why : Why)
       → MayMove (moment_of c g n (Exchanged answered)) (mode_at start) ModeDown (Some why)
-      → Ends answered (after_exchange (InDown (record { why = Some why })) (still session))
+      → Ends answered (settled_core (InDown (record { why = Some why })) (still session))
       (MoveTo ModeDown (Some why) ∷ [])
   falls answered why may =
       moves answered session.events.flag (AtDown (record { why = Some why })) may

@@ -26,7 +26,7 @@ use Rattle.iol_mode.specs.declared.states.Startup.{Startup}
 use Rattle.iol_mode.specs.declared.states.Preoperate.{Preoperate}
 use Rattle.iol_mode.specs.declared.states.Told.{Told}
 use Rattle.iol_mode.specs.declared.states.Step.{Step as PageStep}
-use Rattle.iol_mode.specs.declared.states.Step.TheVariants.{Read, Ident, Leave, Cycle, Enter}
+use Rattle.iol_mode.specs.declared.states.Step.TheVariants.{Reset, Read, Ident, Leave, Cycle, Enter}
 use Rattle.iol_mode.specs.declared.states.State.{State}
 use Rattle.iol_mode.specs.declared.states.State.TheVariants.{Startup as AtStartup, Preoperate as AtPreoperate}
 use Rattle.iol_mode.specs.declared.why.Why.TheVariants.{Lost, WrongDevice}
@@ -44,7 +44,7 @@ use Rattle.iol_app.proofs.EventReading.{ends_hold}
 use Rattle.iol_app.specs.State.{SessionState, IsSession, told, entered}
 use Rattle.iol_app.specs.StationState.{StateFits as Joined, IsTold as IsToldBy, settled_session, told_in}
 use Rattle.iol_app.proofs.Telling.{told_stays}
-use Rattle.iol_app.specs.Core.{Ghost, Stands, CallGives, Rises, moment_of, after_exchange}
+use Rattle.iol_app.specs.Core.{Ghost, Stands, CallGives, Rises, moment_of, settled_core}
 use Rattle.iol_mode.specs.Exchanges.{text_out, judged}
 use Rattle.iol_app.proofs.FarSide.{silent, replied, IsReplied}
 use Rattle.iol_app.proofs.SmallFacts.{third_time}
@@ -62,7 +62,7 @@ module _ (known : Known) (session : SessionState) (valid : IsSession (still sess
 
   abbrev CallGivesBy : State → Outcome → Type 0
   CallGivesBy state outcome = CallGives (record { state = state; session = still session }) g
-      far n Idle (after_exchange outcome (still session)) far' n'
+      far n Idle (settled_core outcome (still session)) far' n'
 
   asked_by : (layouts : Layouts) → layouts_of g.page ≡ Ok layouts → IsAskedBy g.page layouts
   asked_by layouts e = subst (λ (q : Result Layouts PageFault). IfOk q (IsAskedBy g.page)) e
@@ -289,6 +289,8 @@ module _ (known : Known) (session : SessionState) (valid : IsSession (still sess
 
       by_step : (step : PageStep) → StepFits step → StepStands step far
           → IsToldBy (read_by step) (still session) → Rising (step_after asks_now step r)
+      by_step Reset proper at before risen fits joined =
+          goes (Read (record { items = [] })) refl risen fits joined
       by_step (Read read) proper at before risen fits joined =
           by_octets (length (read.items ++ slice_index r.od.items 0 ∷ []) == 10)
           (read.items ++ slice_index r.od.items 0 ∷ []) risen fits joined
@@ -330,7 +332,7 @@ rises_at : Known → (state : State) (t : SessionState) (g : Ghost) (far far' : 
     → HonestExchange far n (text_out state) came far' n'
     → let o : Outcome = judged t.configuration state came in
     IsRisen o n' far far' → OutcomeFits o → Joined (state_of o) (settled_session o t)
-    → CallGives (record { state = state; session = t }) g far n Idle (after_exchange o t) far' n'
+    → CallGives (record { state = state; session = t }) g far n Idle (settled_core o t) far' n'
 rises_at known (AtStartup s) t g far far' n n' came up stands valid x risen fits joined =
     let e : t ≡ still t = is_still t stands.joined.0.0 stands.joined.0.1
     (stands.shown.image (λ k. absurd (let z : ModeStartup ≡ ModeOperate = k in cc)))
@@ -338,7 +340,7 @@ rises_at known (AtStartup s) t g far far' n n' came up stands valid x risen fits
     let o : Outcome = startup_turned t.configuration s
     (good_reply startup_shape s.sent.message came) in
     subst (λ (u : SessionState). CallGives (record { state = AtStartup s; session = u }) g far n
-    Idle (after_exchange o u) far' n') (sym e)
+    Idle (settled_core o u) far' n') (sym e)
     (start_rises known t (subst IsSession e valid) g far far' n n' came s
     (subst (λ (u : SessionState). Stands (record { state = AtStartup s; session = u }) g far
     n) e stands) x (good_reply startup_shape s.sent.message came) refl risen fits
@@ -349,7 +351,7 @@ rises_at known (AtPreoperate s) t g far far' n n' came up stands valid x risen f
     stands.events.0 stands.output.untold in
     let o : Outcome = preoperate_turned s (good_reply s.pre s.sent.message came) in
     subst (λ (u : SessionState). CallGives (record { state = AtPreoperate s; session = u }) g
-    far n Idle (after_exchange o u) far' n') (sym e)
+    far n Idle (settled_core o u) far' n') (sym e)
     (pre_rises known t (subst IsSession e valid) g far far' n n' came s
     (subst (λ (u : SessionState). Stands (record { state = AtPreoperate s; session = u }) g
     far n) e stands) x (good_reply s.pre s.sent.message came) refl risen fits

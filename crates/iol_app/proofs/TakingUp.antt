@@ -111,13 +111,14 @@ joined_up current answer had h low octets same =
     by_stage at e = subst IsUp (sym e)
 
 taken_up : (current : Current) (p : Cursor) (limit : ℕ) (od : List ℕ) (answer : Answer)
-    → IsCurrent current → current.progress ≡ p → IsReading p → Fitting current.cutter answer
+    → IsCurrent current → current.again ≡ false → current.progress ≡ p → IsReading p
+    → Fitting current.cutter answer
     → octets_had p od ≡ joined_octets current.cutter.size
     (answer_text current.cutter.source answer) (next_segment p)
     → next_segment p * current.cutter.size < length (answer_text current.cutter.source answer)
     → IsTakenUp current answer (next_segment p) (octets_had p od)
     (replied_at p limit od current)
-taken_up current (Asking busy) limit od answer c e reading h is low =
+taken_up current (Asking busy) limit od answer c once e reading h is low =
     let not_busy : (slice_index od 0 == 1) ≡ false =
     ap (λ (xs : List ℕ). slice_index xs 0 == 1) is
     ∙ h.laws.busy (is_read current.cutter.source) answer h.valid in
@@ -125,17 +126,18 @@ taken_up current (Asking busy) limit od answer c e reading h is low =
     ap (λ (xs : List ℕ). slice_index xs 0 == 0) is
     ∙ h.laws.silent (is_read current.cutter.source) answer h.valid in
     rw (not_busy, not_none) (joined_up current answer 0 h low od is)
-taken_up current (Receiving joining had) limit od answer c e reading h is low =
+taken_up current (Receiving joining had) limit od answer c once e reading h is low =
     rw (
+      once,
       taken_next current.cutter.size had joining od
           (subst (ProgressFits current.cutter current.abort) e c.progress),
       add-one had,
     )
     (joined_up current answer (suc had) h low (joining.text ++ od) is)
-taken_up current other limit od answer c e reading h is low = absurd reading
+taken_up current other limit od answer c once e reading h is low = absurd reading
 
 pub answers_are_taken_up : AnswersFit → ((size : ℕ) → 1 ≤ size → TextLaws size) → OneAnswerText
     → AnswersAreTakenUp
-answers_are_taken_up fit_answers laws one current limit od answer c reading fit is low =
-    taken_up current current.progress limit od answer c refl reading
+answers_are_taken_up fit_answers laws one current limit od answer c once reading fit is low =
+    taken_up current current.progress limit od answer c once refl reading
     (fitting fit_answers laws one current.cutter answer c.some fit) is low

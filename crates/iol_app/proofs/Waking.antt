@@ -1,17 +1,22 @@
 -- A wake.
 use Rattle.std.proofs.Common.{◌≡◌, ◌≢◌, ℕ, ◌≤◌, Bool, true, false, List, [], ◌∷◌, ◌++◌, refl, sym, ◌∙◌, ap, subst, arith}
 use Rattle.std.proofs.lemmas.Grind.{common_steps}
-use Rattle.std.specs.Prelude.{Some, None}
+use Rattle.std.specs.Prelude.{Option, Some, None}
 use Rattle.iol_event.specs.declared.event.Event.{Event}
 use Rattle.iol_far.specs.Far.{Far}
 use Rattle.iol_far.specs.Local.{LocalStep, locals, woken}
 use Rattle.iol_far.specs.Laws.{RepliesAreRead, InputStaysSized, MuchStays, LevelLaws, EventLaws, ModesHaveLayouts}
 use Rattle.iol_link.specs.Honest.{HonestWake}
+use Rattle.iol_mode.specs.declared.configuration.Devices.{Devices}
+use Rattle.iol_mode.specs.declared.configuration.Devices.TheVariants.{Own, Any}
 use Rattle.iol_mode.specs.declared.states.Down.{Down}
+use Rattle.iol_mode.specs.declared.states.Step.{Step}
+use Rattle.iol_mode.specs.declared.states.Told.{Told}
 use Rattle.iol_mode.specs.declared.states.State.{State}
 use Rattle.iol_mode.specs.declared.states.State.TheVariants.{Down as AtDown}
 use Rattle.iol_mode.specs.declared.why.Why.TheVariants.{NoWake}
-use Rattle.iol_mode.specs.States.{StateFits, IsDown, state_of, waked}
+use Rattle.iol_mode.specs.Next.{read_by}
+use Rattle.iol_mode.specs.States.{StateFits, IsDown, begun, state_of, waked, woken_step}
 use Rattle.iol_mode.specs.Stands.{StateStands}
 use Rattle.iol_steps.specs.declared.mode.Mode.TheVariants.{Down as ModeDown, Startup as ModeStartup, Operate as ModeOperate}
 use Rattle.iol_steps.specs.declared.said.Said.TheVariants.{Idle}
@@ -25,11 +30,17 @@ use Rattle.iol_app.proofs.FrozenPart.{frozen_runs-append, wake_frozen}
 use Rattle.iol_app.proofs.ImagesPart.{images_runs-append, wake_images}
 use Rattle.iol_app.proofs.Clash.{wake_before}
 use Rattle.iol_app.specs.Requests.{request_in}
-use Rattle.iol_app.specs.State.{SessionState}
+use Rattle.iol_app.specs.State.{SessionState, started}
+use Rattle.iol_app.specs.StationState.{IsTold, told_in}
 use Rattle.iol_app.specs.Core.{Core, Ghost, Stands, CallGives, Wakes, moment_of, seen_in, shown_in, images_in, after_wake}
 
 untold_of : (f : List Event) (t : Bool) → untold (frozen_of f t) ≡ frozen_of f false
 untold_of f t = grind (arith, common_steps)
+
+-- right behind a wake nothing of the page is known
+unread : (devices : Devices) → read_by (woken_step devices) ≡ None
+unread Own = refl
+unread Any = refl
 
 module _ (laws : Laws) (s : Down) (t : SessionState) (g : Ghost) (far : Far) (silence : ℕ)
     (stands : Stands (record { state = AtDown s; session = t }) g far silence)
@@ -49,10 +60,15 @@ module _ (laws : Laws) (s : Down) (t : SessionState) (g : Ghost) (far : Far) (si
   page_now : (locals far steps).page ≡ g.page
   page_now = page_locals laws steps far ∙ stands.page
 
-  answers : StateStands (state_of (waked true)) silence (woken (locals far steps))
-      → StateFits (state_of (waked true))
-      → CallGives c g far silence Idle (after_wake true t) (woken (locals far steps)) silence
-  answers link fits =
+  abbrev begins : Step → Core
+  begins step = record { state = state_of (begun step); session = started t }
+
+  -- a start-up begins with a step that knows nothing of the page
+  answers : (step : Step) → read_by step ≡ None
+      → StateStands (state_of (begun step)) silence (woken (locals far steps))
+      → StateFits (state_of (begun step))
+      → CallGives c g far silence Idle (begins step) (woken (locals far steps)) silence
+  answers step none link fits =
       let m = moment_of c g silence (Woke true) in
       let xs = wake_steps far steps true in
       let before = wake_before far steps true (Reset ∷ []) refl refl in
@@ -77,7 +93,7 @@ module _ (laws : Laws) (s : Down) (t : SessionState) (g : Ghost) (far : Far) (si
         said_book = before.book;
         said_reports = before.reports;
         session = session_runs-append m (seen_in c g) (seen_in c g)
-            (seen_in (after_wake true t) after) g.request.hidden h after.request.hidden
+            (seen_in (begins step) after) g.request.hidden h after.request.hidden
             far.carried far'.carried far'.carried xs (Reset ∷ [])
             (wake_session m (seen_in c g) g.request.hidden far steps true free opens)
             (((refl, refl), tt), rw free refl);
@@ -86,7 +102,7 @@ module _ (laws : Laws) (s : Down) (t : SessionState) (g : Ghost) (far : Far) (si
             (wake_frozen far steps true g.events.told)
             ((tt, tt), untold_of far'.events.frozen (told_wake far steps true g.events.told));
         images = images_runs-append m (images_in c g far) i'
-            (images_in (after_wake true t) after far') xs (Reset ∷ [])
+            (images_in (begins step) after far') xs (Reset ∷ [])
             (wake_images m (shown_in t g.sent) far steps true) ((tt, tt), refl);
         image_is_last = (
           (λ k. absurd (below k.0)),
@@ -95,10 +111,11 @@ module _ (laws : Laws) (s : Down) (t : SessionState) (g : Ghost) (far : Far) (si
         );
         output_is_wanted = λ k. absurd (below k.0);
         stands = record {
+          devices = stands.devices;
           page = page_now;
           fits = fits;
           link = link;
-          joined = (stands.joined, tt);
+          joined = (stands.joined, subst (λ (q : Option Told). IsTold q (started t)) (sym none) tt);
           calm = tt;
           fresh = λ k. absurd (let z : false ≡ true = k in cc);
           sent = stands.sent;
@@ -115,6 +132,19 @@ module _ (laws : Laws) (s : Down) (t : SessionState) (g : Ghost) (far : Far) (si
           };
         };
       }
+
+  abbrev devices : Devices
+  devices = t.configuration.devices
+
+  awakes : StateStands (state_of (waked devices true)) silence (woken (locals far steps))
+      → StateFits (state_of (waked devices true))
+      → CallGives c g far silence Idle (after_wake true t) (woken (locals far steps)) silence
+  awakes link fits =
+      let step = woken_step devices in
+      subst (λ (q : Option Told). CallGives c g far silence Idle
+      (record { state = state_of (begun step); session = told_in q (started t) })
+      (woken (locals far steps)) silence) (sym (unread devices))
+      (answers step (unread devices) link fits)
 
   opens_woken : (wakes : Bool) → IsOpen (woken_if wakes (locals far steps)).isdu None
       (hidden_through None far steps g.request.hidden)
@@ -170,6 +200,7 @@ module _ (laws : Laws) (s : Down) (t : SessionState) (g : Ghost) (far : Far) (si
         );
         output_is_wanted = λ k. absurd (below k.0);
         stands = record {
+          devices = stands.devices;
           page = page_woken wakes;
           fits = tt;
           link = tt;
@@ -204,8 +235,8 @@ wakes level much reads sized events layouts =
     by_answer : (s : Down) (t : SessionState) (g : Ghost) (far far_new : Far) (silence : ℕ)
         (answered : Bool) → Stands (record { state = AtDown s; session = t }) g far silence
         → (w : HonestWake far answered far_new)
-        → StateStands (state_of (waked answered)) silence far_new
-        → StateFits (state_of (waked answered))
+        → StateStands (state_of (waked t.configuration.devices answered)) silence far_new
+        → StateFits (state_of (waked t.configuration.devices answered))
         → CallGives (record { state = AtDown s; session = t }) g far silence Idle
         (after_wake answered t) far_new silence
     by_answer s t g far far_new silence true stands w link fits =
@@ -214,8 +245,8 @@ wakes level much reads sized events layouts =
         ∙ ap (λ (b : Bool). woken_if b (locals far w.steps)) (w.answered_is refl) in
         subst (λ (f : Far). CallGives (record { state = AtDown s; session = t }) g far silence
         Idle (after_wake true t) f silence) (sym k)
-        (answers laws s t g far silence stands w.steps
-        (subst (StateStands (state_of (waked true)) silence) k link) fits)
+        (awakes laws s t g far silence stands w.steps
+        (subst (StateStands (state_of (waked t.configuration.devices true)) silence) k link) fits)
     by_answer s t g far far_new silence false stands w link fits =
         let laws : Laws = all_laws level much reads sized events layouts in
         subst (λ (f : Far). CallGives (record { state = AtDown s; session = t }) g far silence
@@ -225,8 +256,8 @@ wakes level much reads sized events layouts =
     at : (state : State) (t : SessionState) (g : Ghost) (far far_new : Far) (silence : ℕ)
         (answered : Bool) → Stands (record { state = state; session = t }) g far silence
         → IsDown state → (w : HonestWake far answered far_new)
-        → StateStands (state_of (waked answered)) silence far_new
-        → StateFits (state_of (waked answered))
+        → StateStands (state_of (waked t.configuration.devices answered)) silence far_new
+        → StateFits (state_of (waked t.configuration.devices answered))
         → CallGives (record { state = state; session = t }) g far silence Idle
         (after_wake answered t) far_new silence
     at (AtDown s) t g far far_new silence answered stands down w link fits =

@@ -12,9 +12,11 @@ use Rattle.iol_far.specs.declared.mode.Mode.TheVariants.{Operate as FarOperate}
 use Rattle.iol_far.specs.Level.{Link, Progress, Quiet, IsBefore, IsLevel, IsSent, taken}
 use Rattle.iol_link.specs.Attempts.{Sending}
 use Rattle.iol_link.specs.Honest.{HonestWake, HonestExchange}
+use Rattle.iol_mode.specs.declared.configuration.Devices.{Devices}
 use Rattle.iol_mode.specs.declared.states.State.{State}
 use Rattle.iol_mode.specs.declared.states.State.TheVariants.{Down as AtDown, Startup as AtStartup, Preoperate as AtPreoperate, Operate as AtOperate}
 use Rattle.iol_mode.specs.declared.states.Operate.{Operate}
+use Rattle.iol_mode.specs.declared.configuration.Devices.TheVariants.{Own}
 use Rattle.iol_mode.specs.States.{Outcome, OutcomeFits, StateFits, IsDown, state_of, is_starting, waked}
 use Rattle.iol_mode.specs.Exchanges.{text_out, judged}
 use Rattle.iol_mode.specs.Turns.{IsRisen, IsMet}
@@ -45,7 +47,7 @@ use Rattle.iol_app.specs.Ends.{OutputTold, EventsTold, OperateLink, BusySeen, Se
 use Rattle.iol_app.specs.State.{IsSession, IsMessageFor, sending, SessionState, opened, wanting, left}
 use Rattle.iol_app.specs.Due.{due_of}
 use Rattle.iol_app.specs.Outputs.{carried_by}
-use Rattle.iol_app.specs.StationState.{IsSettledSaid, IsPresent, StateFits as Joined, waked_session, settled_session, mode_in, why_in}
+use Rattle.iol_app.specs.StationState.{IsSettledSaid, IsPresent, StateFits as Joined, waked_session, settled_session, missed_state, missed_session, mode_in, why_in}
 use Rattle.iol_app.specs.declared.session.Exchange.{Exchange}
 use Rattle.iol_app.specs.declared.session.Exchange.TheVariants.{ReadEvent, ConfirmEvents}
 use Rattle.iol_page.specs.declared.page.Layouts.{Layouts}
@@ -241,6 +243,8 @@ pub record ShownStands (c : Core) (page : List ℕ) : Type 0 where
 
 -- both ends stand together
 pub record Stands (c : Core) (g : Ghost) (far : Far) (silence : ℕ) : Type 0 where
+  -- of a port for any device nothing is said here
+  pub devices : c.session.configuration.devices ≡ Own
   pub page : far.page ≡ g.page
   -- the link's part is the lower crate's, word for word
   pub fits : StateFits c.state
@@ -335,21 +339,32 @@ pub record CallGives (c : Core) (g : Ghost) (far : Far) (silence : ℕ) (said : 
 -- a wake: the code's own functions say what becomes of the data
 abbrev pub after_wake : Bool → SessionState → Core
 after_wake answered s = record {
-  state = state_of (waked answered);
-  session = settled_session (waked answered) (waked_session answered s);
+  state = state_of (waked s.configuration.devices answered);
+  session = settled_session (waked s.configuration.devices answered) (waked_session answered s);
 }
 
 pub record Wakes : Type 0 where
   pub gives : (c : Core) (g : Ghost) (far far_new : Far) (silence : ℕ) (answered : Bool)
       → Stands c g far silence → IsDown c.state → HonestWake far answered far_new
       -- the link's own law
-      → StateStands (state_of (waked answered)) silence far_new
-      → StateFits (state_of (waked answered))
+      → StateStands (state_of (waked c.session.configuration.devices answered)) silence far_new
+      → StateFits (state_of (waked c.session.configuration.devices answered))
       → CallGives c g far silence Idle (after_wake answered c.session) far_new silence
 
--- an exchange of a start-up: the link says what becomes of the mode
+-- an exchange: the link says what becomes of the mode
+abbrev pub settled_core : Outcome → SessionState → Core
+settled_core outcome t = record { state = state_of outcome; session = settled_session outcome t }
+
+-- what is left of an attempt without a good reply, where what is out goes out again
+-- REQ-14
+abbrev pub after_missed : Core → Core
+after_missed c = record {
+  state = missed_state c.state c.session;
+  session = missed_session c.state c.session;
+}
+
 abbrev pub after_exchange : Outcome → SessionState → Core
-after_exchange outcome t = record { state = state_of outcome; session = settled_session outcome t }
+after_exchange outcome t = after_missed (settled_core outcome t)
 
 -- what comes back to the message that is out is judged by it, and by what start-ups ask
 abbrev pub came_of : Core → Option (List ℕ) → Outcome
@@ -365,7 +380,7 @@ pub record Rises : Type 0 where
       -- the link's own laws, and the session's
       IsRisen outcome silence_new far far_new → OutcomeFits outcome
       → Joined (state_of outcome) (settled_session outcome c.session)
-      → CallGives c g far silence Idle (after_exchange outcome c.session) far_new silence_new
+      → CallGives c g far silence Idle (settled_core outcome c.session) far_new silence_new
 
 -- in a session whose page was checked, the device is the one that was expected then
 -- LINK-11
@@ -379,8 +394,9 @@ IsRight c = IsRightIn c.state c.session
 
 -- The calls that are no turns
 
-abbrev pub opened_core : ℕ → Core
-opened_core limit = record { state = AtDown (record { why = None }); session = opened limit }
+abbrev pub opened_core : Devices → ℕ → Core
+opened_core devices limit =
+    record { state = AtDown (record { why = None }); session = opened devices limit }
 
 abbrev pub opened_ghost : Far → Bool → Event × List Event → Ghost
 opened_ghost far told due = record {
@@ -506,4 +522,4 @@ pub record Receives : Type 0 where
       -- the session's own
       → Joined (state_of outcome) (settled_session outcome c.session)
       → IsSettledSaid outcome c.session said
-      → ReceiveGives c g far silence said (after_exchange outcome c.session) far_new silence_new
+      → ReceiveGives c g far silence said (settled_core outcome c.session) far_new silence_new

@@ -5,6 +5,8 @@ use Rattle.iol_app.specs.declared.event_work.Reading.TheVariants.{Resting, Under
 use Rattle.iol_app.specs.declared.session.Exchange.{Exchange}
 use Rattle.iol_app.specs.declared.session.Exchange.TheVariants.{TellOutput, DropOutput, Abort, ReadEvent, ConfirmEvents, Request, Idle}
 use Rattle.iol_app.specs.Requests.{aborts}
+use Rattle.iol_mode.specs.declared.configuration.Devices.{Devices}
+use Rattle.iol_mode.specs.declared.configuration.Devices.TheVariants.{Own, Any}
 use Rattle.iol_app.specs.State.{SessionState}
 
 -- the exchange at the first test that holds
@@ -40,7 +42,14 @@ abbrev pub is_idle : Exchange → Bool
 is_idle Idle = true
 is_idle other = false
 
--- no message is out, and the next one is IDLE 1
--- REQ-2
+-- a request may follow: at a port for any device where that surely holds no text
+-- REQ-14
+abbrev pub may_follow : Devices → Bool → Bool
+may_follow Own clear = true
+may_follow Any clear = clear
+
+-- no message is out, the next one is IDLE 1, and a request may follow
+-- REQ-2, REQ-14
 abbrev pub is_ready : SessionState → Bool → Bool
 is_ready s room = is_none s.exchange && is_idle (due_of s room)
+    && may_follow s.configuration.devices s.clear

@@ -13,7 +13,7 @@ use Rattle.iol_steps.specs.Station.{Shown, Reading, EventsFit, WaitsElsewhere, i
 use Rattle.iol_steps.specs.Exchange.{MayAbort}
 use Rattle.iol_app.specs.declared.request.Current.{Current}
 use Rattle.iol_app.specs.declared.request.Progress.{Progress as Cursor}
-use Rattle.iol_app.specs.declared.request.Progress.TheVariants.{Sending, Asking, Receiving, Refused as NoText}
+use Rattle.iol_app.specs.declared.request.Progress.TheVariants.{Sending, Doubting, Asking, Receiving, Refused as NoText}
 use Rattle.iol_app.specs.declared.session.Exchange.{Exchange}
 use Rattle.iol_app.specs.declared.session.Exchange.TheVariants.{TellOutput, DropOutput}
 use Rattle.iol_app.specs.State.{SessionState}
@@ -22,6 +22,7 @@ use Rattle.iol_app.specs.State.{SessionState}
 -- an answer was refused
 abbrev pub BusyAt : Cursor → ℕ → Type 0
 BusyAt (Sending flow segment) busy = busy ≡ 0
+BusyAt Doubting busy = ⊥
 BusyAt (Asking counted) busy = counted ≡ min busy 65535
 BusyAt (Receiving joining had) busy = ⊤
 BusyAt NoText busy = ⊥

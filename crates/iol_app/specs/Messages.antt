@@ -1,5 +1,6 @@
 -- What the messages of OPERATE say (IEC 61131-9, A.1.2 and 7.3.6).
 use Rattle.std.specs.Prelude.{◌≡◌, ℕ, ◌+◌, ◌%◌, Bool, true, false, List, [], Option, Some, None}
+use Rattle.iol_octets.specs.Control.{control_of}
 use Rattle.iol_octets.specs.declared.control.Mc.{Mc}
 use Rattle.iol_octets.specs.declared.control.Channel.{Channel}
 use Rattle.iol_octets.specs.declared.control.Channel.TheVariants.{Page, Diagnosis, Isdu}
@@ -14,7 +15,7 @@ use Rattle.iol_mseq.specs.declared.master.MasterMsg.{MasterMsg}
 use Rattle.iol_app.specs.declared.event_work.Reading.{Reading}
 use Rattle.iol_app.specs.declared.request.Current.{Current}
 use Rattle.iol_app.specs.declared.request.Progress.{Progress}
-use Rattle.iol_app.specs.declared.request.Progress.TheVariants.{Sending, Asking, Receiving, Refused}
+use Rattle.iol_app.specs.declared.request.Progress.TheVariants.{Sending, Doubting, Asking, Receiving, Refused}
 use Rattle.iol_app.specs.declared.session.Exchange.{Exchange}
 use Rattle.iol_app.specs.declared.session.Exchange.TheVariants.{TellOutput, DropOutput, Abort, ReadEvent, ConfirmEvents, Request, Idle}
 use Rattle.iol_app.specs.EventReading.{reader_of}
@@ -44,9 +45,10 @@ abbrev pub ask_of : Flow → Head
 ask_of flow = read_of Isdu (flow_address flow)
 
 -- the request's next message: the segment, START until the answer begins, then COUNT
--- REQ-4
+-- REQ-4, REQ-14
 abbrev pub progress_head : Progress → Head
 progress_head (Sending flow segment) = write_of Isdu (flow_address flow)
+progress_head Doubting = ask_of Start
 progress_head (Asking busy) = ask_of Start
 progress_head (Receiving joining had) = ask_of (Count ((had + 1) % 16))
 progress_head Refused = ask_of Idle1
@@ -83,3 +85,12 @@ data_for DropOutput size current = first_of_zeros size (command_octet DeviceOper
 data_for ConfirmEvents size current = first_of_zeros size 0
 data_for Request size current = request_data current
 data_for any size current = []
+
+-- a START read that carries these process data: whether the device has a request
+-- REQ-14
+abbrev pub question : List ℕ → MasterMsg
+question out = record {
+  mc = control_of 0xF0;
+  out = record { items = out };
+  od = record { items = [] };
+}

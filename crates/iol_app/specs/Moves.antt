@@ -13,11 +13,12 @@ use Rattle.iol_far.specs.Isdu.{answer_text, fits}
 use Rattle.iol_far.specs.Level.{Progress, Quiet, Written, Busy, Had, Move, Begin, More, Ask, Next, Leave, Other, IsMove}
 use Rattle.iol_app.specs.declared.request.Current.{Current}
 use Rattle.iol_app.specs.declared.request.Progress.{Progress as Cursor}
-use Rattle.iol_app.specs.declared.request.Progress.TheVariants.{Sending, Asking, Receiving, Refused}
+use Rattle.iol_app.specs.declared.request.Progress.TheVariants.{Sending, Doubting, Asking, Receiving, Refused}
 use Rattle.iol_app.specs.declared.session.Exchange.{Exchange}
 use Rattle.iol_app.specs.declared.session.Exchange.TheVariants.{Abort, ConfirmEvents, Request as NextMessage, Idle}
 use Rattle.iol_app.specs.Requests.{Outcome, GoesOn, HasText, replied, IsCurrent}
 use Rattle.iol_app.specs.State.{SessionState, IsSession}
+use Rattle.iol_mode.specs.declared.configuration.Devices.TheVariants.{Own}
 use Rattle.iol_app.specs.Messages.{Head, head_for, data_for}
 
 -- so many segments of the request had a good reply
@@ -37,6 +38,7 @@ asked_for cutter (suc busy) = Busy cutter.source
 
 abbrev pub progress_at : Cutting Request → Cursor → Progress
 progress_at cutter (Sending flow segment) = before_last cutter.source cutter.given
+progress_at cutter Doubting = Quiet
 progress_at cutter (Asking busy) = asked_for cutter busy
 progress_at cutter (Receiving joining had) = Had cutter.source had joining.text
 progress_at cutter Refused = Quiet
@@ -54,6 +56,7 @@ segment_move request (suc (suc i)) = More
 
 abbrev pub move_at : Cutting Request → Cursor → Move
 move_at cutter (Sending flow segment) = segment_move cutter.source cutter.given
+move_at cutter Doubting = Ask
 move_at cutter (Asking busy) = Ask
 move_at cutter (Receiving joining had) = Next
 move_at cutter Refused = Leave
@@ -75,10 +78,12 @@ IsMoveOf size exchange current head od =
     IsMove size (move_for exchange current) (progress_of current) head.channel head.read
     (flow_of head.address) od
 
--- each new message is the move that the request's progress asks for
+-- at a port for devices of our own kind each new message is the move that the request's progress
+-- asks for
 abbrev pub MessagesAreMoves : Type 0
 MessagesAreMoves =
     (s : SessionState) (layout : Shape) (exchange : Exchange) → IsSession s → s.layout ≡ Some layout
+    → s.configuration.devices ≡ Own
     → IsMoveOf layout.od exchange s.current (head_for exchange s.events.reading s.current)
     (data_for exchange layout.od s.current)
 
@@ -106,17 +111,19 @@ IsReading any = ⊥
 -- the request goes on with these octets of its answer, up to that segment, or has this answer
 abbrev pub IsTakenUp : Current → Answer → ℕ → List ℕ → Outcome → Type 0
 IsTakenUp current answer i octets (GoesOn next) = (joining : Joining)
-    × (next ≡ record current { progress = Receiving joining i }) × (joining.text ≡ octets)
+    × (next ≡ record current { progress = Receiving joining i; again = false })
+    × (joining.text ≡ octets)
 IsTakenUp current answer i octets (HasText text) =
     BeginsWithAnswer (is_read current.cutter.source) text answer
     × BeginsWithAnswer (is_read current.cutter.source) octets answer
 
--- no segment of an answer that fits the request is refused: it is taken up, and the
--- answer at its last one is that answer
+-- no segment of an answer that fits the request is refused, where it was asked for once: it is
+-- taken up, and the answer at its last one is that answer
 abbrev pub AnswersAreTakenUp : Type 0
 AnswersAreTakenUp =
     (current : Current) (limit : ℕ) (od : List ℕ) (answer : Answer) → IsCurrent current
-    → IsReading current.progress → IsTrue (fits current.cutter.source answer)
+    → current.again ≡ false → IsReading current.progress
+    → IsTrue (fits current.cutter.source answer)
     → octets_had current.progress od
     ≡ joined current.cutter.size (answer_text current.cutter.source answer)
     (next_segment current.progress)

@@ -12,9 +12,9 @@ use Rattle.iol_link.specs.Honest.{HonestWake, HonestExchange}
 use Rattle.iol_link.specs.WireFacts.{WireFacts, Passes}
 use Rattle.iol_mode.specs.declared.states.State.{State}
 use Rattle.iol_mode.specs.declared.states.State.TheVariants.{Operate as AtOperate}
-use Rattle.iol_mode.specs.Exchanges.{IsSending, AreFew, ExchangeGives, text_out, layout_out}
+use Rattle.iol_mode.specs.Exchanges.{IsSending, AreFew, ExchangeGives, StandsOn, text_out, layout_out}
 use Rattle.iol_mode.specs.Messages.{unsent}
-use Rattle.iol_mode.specs.States.{IsDown, OutcomeFits}
+use Rattle.iol_mode.specs.States.{IsDown, OutcomeFits, state_of}
 use Rattle.iol_steps.specs.Step.{no_make}
 use Rattle.iol_steps.specs.declared.said.Said.{Said}
 use Rattle.iol_steps.specs.declared.said.Said.TheVariants.{Idle}
@@ -87,6 +87,7 @@ pub record IsPassed {W : Type 0} (facts : WireFacts W) (wire wire_new : W) (old 
   pub is : new ≡ after_exchange (came_of old (octets_in came)) old.session
   pub said_is : IsSettledSaid (came_of old (octets_in came)) old.session said
   pub brought_is : brought ≡ brought_in old.state (octets_in came)
+  pub on : StandsOn (state_of (came_of old (octets_in came))) new.state
 
 -- Over an honest wire
 

@@ -5,7 +5,7 @@ ghost use Rattle.std.specs.Option.{option_copied, option_map};
 ghost use Rattle.iol_far.specs.Octets.{octets_in};
 ghost use Rattle.iol_link.specs.Attempts.{attempt_in};
 ghost use Rattle.iol_link.specs.WireFacts.{Wakes};
-ghost use Rattle.iol_mode.specs.States.{IsDown, OutcomeFits, outcome_with};
+ghost use Rattle.iol_mode.specs.States.{IsDown, OutcomeFits, outcome_with, state_of};
 ghost use Rattle.iol_mode.specs.Stands.{StateStands};
 ghost use Rattle.iol_mode.specs.Exchanges.{IsSending, AreFew, ExchangeGives, StandsOn, WakeStands, tries_in, text_out};
 ghost use Rattle.iol_app.specs.EventReading.{is_refused};
@@ -16,7 +16,7 @@ ghost use Rattle.iol_app.specs.Reports.{is_reading, ReadingAfter};
 ghost use Rattle.iol_app.specs.StationState.{mode_in, why_in, page_in, operates, settled_session, NextFits, IsSettledSaid, IsTurn, StateFits as Joined};
 ghost use Rattle.iol_app.specs.Asking.{asked_in, beginning_in, asked_of, outgoing, IsCall};
 ghost use Rattle.iol_app.specs.Brought.{brought_in, brought_facts};
-ghost use Rattle.iol_app.specs.Core.{after_exchange, after_wake, came_of, opened_core, restarted_core, wanting_core, IsRight};
+ghost use Rattle.iol_app.specs.Core.{after_exchange, after_missed, settled_core, after_wake, came_of, opened_core, restarted_core, wanting_core, IsRight};
 ghost use Rattle.iol_app.specs.Pieces.{IsAskedOut, IsOut, IsSent, IsPassed, ReadsOn, SendSteps, WakeSteps, ReceiveSteps};
 ghost use Rattle.iol_app.specs.Seen.{station_of, NewSteps, BeginSteps, DenySteps, AbortSteps, CancelSteps, WantSteps, RestartSteps, TurnSteps};
 
@@ -29,7 +29,7 @@ use crate::session::Session;
 use iol_image::Image;
 use iol_isdu::{Cause, Request};
 use iol_link::{AttemptView, Rate, Wire};
-use iol_mode::{Down, State, Why};
+use iol_mode::{Devices, Down, State, Why};
 use iol_mseq::{Layout, Message, encode_master};
 use iol_page::{CycleTime, Identity, Page};
 use iol_steps::{Mode, Said};
@@ -73,14 +73,15 @@ impl Model for Core {
 }
 
 impl Core {
-    /// A core whose link is down; a request is cut off at the busy reply of this number.
-    pub fn new(busy: u16) -> Core
-        ensures core { result ≡ opened_core busy }
+    /// A core for these devices whose link is down; a request is cut off at the busy reply of
+    /// this number.
+    pub fn new(busy: u16, devices: Devices) -> Core
+        ensures core { result ≡ opened_core devices busy }
         ensures steps { NewSteps result }
     {
         Core {
             state: State::Down(Down { why: None }),
-            session: Session::new(busy),
+            session: Session::new(busy, devices),
         }
     }
 
@@ -327,6 +328,8 @@ impl Core {
     }
 
     /// Takes what a wake brought: a start-up begins, or the link is still down.
+    ///
+    /// Rule LINK-13.
     pub fn receive_wake(&mut self, rate: Option<Rate>)
         requires { IsDown self.old.state }
         ensures core { self.new ≡ after_wake (is_some rate) self.old.session }
@@ -344,9 +347,10 @@ impl Core {
         requires { IsDown self.old.state }
         ensures core { self.new ≡ after_wake (is_some rate) self.old.session }
         ensures still { Joined self.old.state self.old.session }
-        ensures stands { WakeStands (is_some rate) }
+        ensures stands { WakeStands self.old.session.configuration.devices (is_some rate) }
     {
-        self.state.receives_wake(rate);
+        let devices = self.session.configuration().devices;
+        self.state.receives_wake(rate, devices);
         match rate {
             Some(_) => self.session.start(),
             None => {
@@ -356,8 +360,8 @@ impl Core {
     }
 
     /// Takes what came back to the message that is out: octets, or nothing. It is judged by the
-    /// message that was sent; without a good reply that stays out, and the third attempt in a
-    /// row has lost the link.
+    /// message that was sent; without a good reply that stays out, or at a port for any device a
+    /// question in its place, and the third attempt in a row has lost the link.
     ///
     /// It says `Reported`, `Answered` or `Cut` where that happened, else `Busy` where a request
     /// is under way afterwards, else `Idle`, and then writes nothing. It answers what the exchange
@@ -397,12 +401,58 @@ impl Core {
         ensures gives { ExchangeGives self.old.state (octets_in came.now)
             (came_of self.old (octets_in came.now)) }
         ensures brought { result ≡ brought_in self.old.state (octets_in came.now) }
+        ensures on { StandsOn (state_of (came_of self.old (octets_in came.now))) self.new.state }
+    {
+        let brought = self.settle(came, said);
+        self.miss();
+        brought
+    }
+
+    /// The same, but that a message that has to go out again stays as it is.
+    fn settle(&mut self, came: &Option<Message>, said: &mut Said) -> Brought
+        requires idle { said.old ≡ Said.Idle }
+        requires out { IsSending self.old.state }
+        ensures core { self.new
+            ≡ settled_core (came_of self.old (octets_in came.now)) self.old.session }
+        ensures said { IsSettledSaid (came_of self.old (octets_in came.now))
+            self.old.session said.new }
+        ensures request { request_in self.new.session.current
+            ≡ request_after (request_in self.old.session.current) said.new }
+        ensures few { AreFew self.old.state }
+        ensures fits { OutcomeFits (came_of self.old (octets_in came.now)) }
+        ensures valid { IsSession self.old.session }
+        ensures joined { Joined self.old.state self.old.session }
+        ensures gives { ExchangeGives self.old.state (octets_in came.now)
+            (came_of self.old (octets_in came.now)) }
+        ensures brought { result ≡ brought_in self.old.state (octets_in came.now) }
     {
         self.session.is_valid();
         let out = Out::of(&self.state);
         let attempt = self.state.receives(came, self.session.configuration());
         settled(&self.state, &attempt, &mut self.session, said);
         out.brought(&attempt, came)
+    }
+
+    /// In OPERATE a message that is out after an exchange goes out again; at a port for any device
+    /// it may be another one.
+    ///
+    /// Rule REQ-14.
+    fn miss(&mut self)
+        ensures core { self.new ≡ after_missed self.old }
+        ensures request { request_in self.new.session.current
+            ≡ request_in self.old.session.current }
+        ensures on { StandsOn self.old.state self.new.state }
+    {
+        station_laws();
+        let State::Operate(operate) = &self.state else {
+            return;
+        };
+        if operate.out.is_none() {
+            return;
+        }
+        if let Some(message) = self.session.miss() {
+            self.state.put_instead(message);
+        }
     }
 
     /// One turn over this wire: `send`, one call of the wire, and `receive` or `receive_wake`. It

@@ -5,7 +5,7 @@ ghost use Rattle.iol_octets.specs.declared.control.Channel.TheVariants.{Page, Is
 ghost use Rattle.iol_mseq.specs.Parts.{first_of_zeros as octet_and_zeros};
 ghost use Rattle.iol_page.specs.Commands.{command_octet};
 ghost use Rattle.iol_app.specs.Requests.{IsCurrent};
-ghost use Rattle.iol_app.specs.Messages.{IsBlank, head_of, head_for, data_for, request_head, request_data, read_of, write_of};
+ghost use Rattle.iol_app.specs.Messages.{IsBlank, head_of, head_for, data_for, question, request_head, request_data, read_of, write_of};
 
 use crate::event_work::Events;
 use crate::request::{Current, Progress};
@@ -13,6 +13,9 @@ use crate::session::Exchange;
 use iol_mseq::{MasterMsg, Part, first_of_zeros};
 use iol_octets::{Channel, Flow, Mc};
 use iol_page::MasterCommand;
+
+/// The control octet of a START read (IEC 61131-9, A.1.2 and 7.3.6).
+const START_READ: u8 = 0xF0;
 
 /// A message that says nothing yet.
 pub(crate) fn blank() -> MasterMsg
@@ -84,9 +87,22 @@ fn request_body(current: &Option<Current>, od: &mut Part) -> Mc
             put(od, segment);
             write(Channel::Isdu, flow.address())
         }
-        Progress::Asking(_) => ask(Flow::Start),
+        Progress::Doubting | Progress::Asking(_) => ask(Flow::Start),
         Progress::Receiving(_, had) => ask(Flow::Count((*had + 1) % 16)),
         Progress::Refused => ask(Flow::Idle1),
+    }
+}
+
+/// A START read that carries these process data: whether the device has a request.
+///
+/// Rule REQ-14.
+pub(crate) fn question(out: Part) -> MasterMsg
+    ensures { result ≡ question out.items }
+{
+    MasterMsg {
+        mc: Mc::from_octet(START_READ),
+        out,
+        od: Part::new(),
     }
 }
 

@@ -16,13 +16,13 @@ use Rattle.iol_mode.specs.declared.states.State.TheVariants.{Down as AtDown, Sta
 use Rattle.iol_mode.specs.States.{Outcome, any_device, OperateFits, OutcomeFits, StateFits, Takes, is_starting, counted, operate_by, sending_of}
 use Rattle.iol_mode.specs.Stands.{StateStands, IsTold}
 use Rattle.iol_mode.specs.Turns.{IsEnd, IsOperateTurn, IsStartTurn, IsStartTried}
-use Rattle.iol_mode.specs.Exchanges.{AreFew, text_out, putting, judged, attempted, OutGives, ExchangeGives, StandsOn, OutAccepted, AcceptedBy}
+use Rattle.iol_mode.specs.Exchanges.{AreFew, text_out, putting, instead, putting_instead, judged, attempted, OutGives, ExchangeGives, StandsOn, OutAccepted, AcceptedBy}
 use Rattle.iol_mode.specs.Laws.{Laws}
 use Rattle.iol_mode.specs.Messages.{stays}
 use Rattle.iol_mseq.specs.Master.{HasMasterParts}
 use Rattle.iol_mode.proofs.Startups.{startup_risen}
 use Rattle.iol_mode.proofs.Preoperates.{preoperate_risen}
-use Rattle.iol_mode.proofs.Operates.{accepted, operate_both, operate_accepted}
+use Rattle.iol_mode.proofs.Operates.{accepted, replaced_stands, operate_both, operate_accepted}
 
 out_gives : (laws : Laws) (c : Configuration) (out : Option Sending) (layouts : Layouts)
     → OperateFits (record { out = out; layouts = layouts })
@@ -76,6 +76,22 @@ put_fits (AtDown s) m fits takes stay = absurd takes
 put_fits (AtStartup s) m fits takes stay = absurd takes
 put_fits (AtPreoperate s) m fits takes stay = absurd takes
 put_fits (AtOperate s) m fits takes stay = put_fits_out s.out s.layouts m fits takes stay
+
+-- another message in place of the one that is out: both ends stand on
+instead_on : (laws : Laws) (out : Option Sending) (layouts : Layouts) (m : MasterMsg)
+    → OperateFits (record { out = out; layouts = layouts })
+    → StandsOn (AtOperate (record { out = out; layouts = layouts }))
+    (AtOperate (record { out = instead m out; layouts = layouts }))
+instead_on laws None layouts m fits = λ far n stands. stands
+instead_on laws (Some sent) layouts m fits =
+    λ far n stands. replaced_stands laws layouts sent m n far fits stands
+
+pub instead_stands : (laws : Laws) (s : State) (m : MasterMsg) → StateFits s
+    → StandsOn s (putting_instead m s)
+instead_stands laws (AtOperate s) m fits = instead_on laws s.out s.layouts m fits
+instead_stands laws (AtDown s) m fits = λ far n stands. stands
+instead_stands laws (AtStartup s) m fits = λ far n stands. stands
+instead_stands laws (AtPreoperate s) m fits = λ far n stands. stands
 
 -- in OPERATE the attempt alone says what becomes of the mode
 pub is_end : (s : State) (m : MasterMsg) → Takes s m

@@ -12,6 +12,7 @@ use Rattle.iol_link.specs.declared.handler.Attempt.TheVariants.{Again}
 use Rattle.iol_link.specs.Attempts.{Sending, good_reply, attempt_of}
 use Rattle.iol_link.specs.Honest.{HonestWake, HonestExchange}
 use Rattle.iol_mode.specs.declared.configuration.Configuration.{Configuration}
+use Rattle.iol_mode.specs.declared.configuration.Devices.{Devices}
 use Rattle.iol_mode.specs.declared.states.State.{State}
 use Rattle.iol_mode.specs.declared.states.State.TheVariants.{Down as AtDown, Startup as AtStartup, Preoperate as AtPreoperate, Operate as AtOperate}
 use Rattle.iol_mode.specs.States.{Outcome, InDown, InOperate, counted, operate_by, startup_turned, preoperate_turned, sending_of, state_of, waked}
@@ -62,6 +63,15 @@ abbrev pub putting : MasterMsg → State → State
 putting message (AtOperate s) =
     AtOperate (record { out = Some (sending_of s.out message); layouts = s.layouts })
 putting message s = s
+
+-- in OPERATE this message is out in place of the one that is, whose attempts count on
+abbrev pub instead : MasterMsg → Option Sending → Option Sending
+instead message None = None
+instead message (Some sent) = Some (record sent { message = message })
+
+abbrev pub putting_instead : MasterMsg → State → State
+putting_instead message (AtOperate s) = AtOperate (record s { out = instead message s.out })
+putting_instead message s = s
 
 -- what is made of what comes back to it
 abbrev pub judged_out : Option Sending → Layouts → Option (List ℕ) → Outcome
@@ -134,7 +144,8 @@ abbrev pub AcceptedBy : State → Far → Type 0
 AcceptedBy (AtOperate s) far = IsTold s.layouts far → OutAccepted s.out s.layouts far
 AcceptedBy s far = ⊤
 
--- one wake, which was answered or not
-abbrev pub WakeStands : Bool → Type 0
-WakeStands answered = (far far_new : Far) (silence : ℕ) → HonestWake far answered far_new
-    → StateStands (state_of (waked answered)) silence far_new
+-- one wake of a port for these devices, which was answered or not
+abbrev pub WakeStands : Devices → Bool → Type 0
+WakeStands devices answered =
+    (far far_new : Far) (silence : ℕ) → HonestWake far answered far_new
+    → StateStands (state_of (waked devices answered)) silence far_new

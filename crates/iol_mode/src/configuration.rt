@@ -1,9 +1,20 @@
-//! What a start-up asks of the device.
+//! What a start-up asks of the device, and for which devices a port is.
 ghost use Rattle.std.specs.Prelude.{◌≡◌};
 
 use iol_page::{CycleTime, Identity};
 
-/// What a start-up asks of the device whose page it has read.
+/// For which devices the promise is to hold that a request is carried out at most once.
+#[derive(Clone, Copy, Debug, PartialEq, Eq)]
+pub enum Devices {
+    /// Our own, which hand a request over at the first START read, on a line where a wake that is
+    /// answered has reset the device. A start-up begins with the page.
+    Own,
+    /// Any by the standard. One that answers a wake which didn't reset it still has its mode, and
+    /// a request with it: a start-up begins with DeviceStartup, so that it leaves both first.
+    Any,
+}
+
+/// What a start-up asks of the device.
 #[derive(Clone, Copy, Debug, PartialEq, Eq)]
 pub struct Configuration {
     /// The device that is expected; none where any may be there.
@@ -11,18 +22,21 @@ pub struct Configuration {
     /// The cycle time to be written to MasterCycleTime, where it is at least the device's
     /// MinCycleTime; else, and where none is given, MinCycleTime is written.
     pub cycle: Option<CycleTime>,
+    /// For which devices a start-up is.
+    pub devices: Devices,
 }
 
 impl Configuration {
     ghost use Rattle.iol_mode.specs.States.{any_device};
 
-    /// Any device, as fast as it allows.
+    /// Whichever device of our own kind is there, as fast as it allows.
     pub fn any() -> Configuration
         ensures { result ≡ any_device }
     {
         Configuration {
             expected: None,
             cycle: None,
+            devices: Devices::Own,
         }
     }
 }

@@ -9,10 +9,10 @@ ghost use Rattle.iol_far.specs.Octets.{octets_in};
 ghost use Rattle.iol_link.specs.Attempts.{attempt_in, attempt_of, good_reply};
 ghost use Rattle.iol_mode.specs.Messages.{stays};
 ghost use Rattle.iol_mode.specs.States.{StateFits, Takes, IsDown, IsStartup, IsPreoperate, outcome_with, state_of, waked, counted, left_by, any_device};
-ghost use Rattle.iol_mode.specs.Exchanges.{IsSending, IsOperateSending, AreFew, text_out, layout_out, putting, judged, attempted, ExchangeGives, StandsOn, AcceptedBy, WakeStands};
+ghost use Rattle.iol_mode.specs.Exchanges.{IsSending, IsOperateSending, AreFew, text_out, layout_out, putting, putting_instead, judged, attempted, ExchangeGives, StandsOn, AcceptedBy, WakeStands};
 ghost use Rattle.iol_mode.specs.Laws.{Laws};
 
-use crate::configuration::Configuration;
+use crate::configuration::{Configuration, Devices};
 use crate::states::{Startup, State, operate_done, preoperate_done, startup_done, woken};
 use iol_far::{ends_stay_level, links_stay_level, page_and_room_stay, texts_are_heard};
 use iol_link::{AttemptView, Handler, Rate, exchanges_keep_ends_level};
@@ -98,6 +98,23 @@ impl State {
         put_out(self, message);
     }
 
+    /// In OPERATE: this message is out in place of the one that is, whose attempts count on.
+    pub fn put_instead(&mut self, message: MasterMsg)
+        requires fits { StateFits self.old }
+        requires sends { IsOperateSending self.old }
+        requires takes { Takes self.old message }
+        requires stays { IsTrue (stays message) }
+        ensures state { self.new ≡ putting_instead message self.old }
+        ensures fits { StateFits self.new }
+        ensures sends { IsOperateSending self.new }
+
+        // over an honest wire
+        ensures stands { StandsOn self.old self.new }
+    {
+        laws();
+        put_instead(self, message);
+    }
+
     /// Takes what came back to the message that is out, and judges it: octets, or nothing.
     ///
     /// Without a good reply the message stays out, and the third attempt in a row has lost
@@ -133,20 +150,20 @@ impl State {
         matches!(self, State::Down(_))
     }
 
-    /// Takes what a wake brought: STARTUP, where the device answered it, else Down
-    /// with `NoWake`.
+    /// Takes what a wake brought: STARTUP, where the device answered it, else Down with `NoWake`.
+    /// In a port for any device STARTUP begins with DeviceStartup, else with the page.
     ///
-    /// Rule LINK-1.
-    pub fn receives_wake(&mut self, rate: Option<Rate>)
+    /// Rules LINK-1, LINK-13.
+    pub fn receives_wake(&mut self, rate: Option<Rate>, devices: Devices)
         requires { IsDown self.old }
-        ensures state { self.new ≡ state_of (waked (is_some rate)) }
+        ensures state { self.new ≡ state_of (waked devices (is_some rate)) }
         ensures fits { StateFits self.new }
 
         // over an honest wire
-        ensures stands { WakeStands (is_some rate) }
+        ensures stands { WakeStands devices (is_some rate) }
     {
         laws();
-        woken(self, rate.is_some());
+        woken(self, rate.is_some(), devices);
     }
 }
 
@@ -180,6 +197,18 @@ fn put_out(state: &mut State, message: MasterMsg)
     };
     if operate.out.is_none() {
         operate.out = Some(Handler::new(message));
+    }
+}
+
+fn put_instead(state: &mut State, message: MasterMsg)
+    requires sends { IsOperateSending state.old }
+    ensures { state.new ≡ putting_instead message state.old }
+{
+    let State::Operate(operate) = state else {
+        unreachable!()
+    };
+    if let Some(sent) = operate.out.take() {
+        operate.out = Some(sent.with(message));
     }
 }
 

@@ -15,7 +15,7 @@ ghost use Rattle.iol_mode.specs.Next.{wire_of, outcome_of, told_by, message_out}
 ghost use Rattle.iol_mode.specs.Turns.{IsStartTurn, IsStartTried, IsOperateTurn, IsRise, IsCycle, IsEnd};
 ghost use Rattle.iol_mode.specs.Exchanges.{IsSending, AreFew, text_out, judged, attempted, ExchangeGives};
 
-use crate::configuration::Configuration;
+use crate::configuration::{Configuration, Devices};
 use crate::exchange::laws;
 use crate::messages::copy_of;
 use crate::states::{Down, Mode, Operate, Preoperate, Startup, State, Up};
@@ -25,7 +25,7 @@ use iol_mseq::{Layout, MasterMsg, Message, Reply};
 use iol_page::Layouts;
 use std::marker::Model;
 
-/// A link in the mode `S`, which owns the wire.
+/// A link in the mode `S`, which owns the wire. It is for our own devices.
 ///
 /// A clause sees the wire, and what is kept in the mode. On an honest wire both
 /// ends are level, outside `Down`: the device sleeps, or it comes from the state
@@ -156,16 +156,16 @@ impl<W: Wire> Link<W, State> {
         // the wire is woken once; its answer alone says what becomes of the mode
         ensures called { W.facts.wake_gives self.old.wire result self.new.wire }
         ensures passes { Wakes W.facts self.old.wire result self.new.wire }
-        ensures state { self.new.state ≡ state_of (waked (is_some result)) }
+        ensures state { self.new.state ≡ state_of (waked Devices.Own (is_some result)) }
 
         // on an honest wire
         ensures stands { IsTrue (W.facts.honest self.old.wire)
-            → OutcomeStands (waked (is_some result)) (W.facts.silence self.new.wire)
+            → OutcomeStands (waked Devices.Own (is_some result)) (W.facts.silence self.new.wire)
             (W.facts.far self.new.wire) }
     {
         laws();
         let rate = self.wire.wake();
-        self.state.receives_wake(rate);
+        self.state.receives_wake(rate, Devices::Own);
         rate
     }
 
@@ -279,7 +279,7 @@ impl<W: Wire> Link<W, Down> {
         ensures wakes { (answer : Option Rate)
             × W.facts.wake_gives self.wire answer (wire_of result)
             × Wakes W.facts self.wire answer (wire_of result)
-            × (outcome_of result ≡ waked (is_some answer)) }
+            × (outcome_of result ≡ waked Devices.Own (is_some answer)) }
 
         // on an honest wire
         ensures stands { IsTrue (W.facts.honest self.wire)

@@ -1,5 +1,5 @@
 -- Both ends stand together as before where start-ups ask something else of the device.
-use Rattle.std.proofs.Common.{rules}
+use Rattle.std.proofs.Common.{rules, refl}
 use Rattle.iol_mode.specs.declared.configuration.Configuration.{Configuration}
 use Rattle.iol_app.proofs.CoreCalls.{ask_steps}
 use Rattle.iol_app.proofs.core_data.Core.expect.Goals as goal
@@ -7,5 +7,5 @@ use Rattle.iol_app.proofs.core_data.Core.expect.Goals as goal
 pub returns-clause-steps : goal.returns-clause-steps
 returns-clause-steps c =
     let asks : Configuration =
-    record { expected = c.args.identity; cycle = c.args.self.now.session.configuration.cycle } in
-    ask_steps asks c.args.self.now _ (search rules)
+    record c.args.self.now.session.configuration { expected = c.args.identity } in
+    ask_steps asks c.args.self.now _ refl (search rules)

@@ -4,7 +4,7 @@ use Rattle.std.proofs.Common.{refl, arith}
 use Rattle.iol_far.specs.Octets.{octets_in}
 use Rattle.iol_app.specs.Core.{came_of}
 use Rattle.iol_app.proofs.Ending.{settled_ends}
-use Rattle.iol_app.proofs.Reporting.{judged_reading}
+use Rattle.iol_app.proofs.Reporting.{judged_left}
 use Rattle.iol_app.proofs.Pieces.{receive_steps}
 use Rattle.iol_app.proofs.core_data.Core.receive.Goals as goal
 
@@ -14,7 +14,7 @@ returns-clause-ends c = settled_ends c.args.self.now.session
     c.args.self.now.session.current refl c.take.ensures.said
 
 pub returns-clause-reading : goal.returns-clause-reading
-returns-clause-reading c = grind (arith, common_steps, judged_reading)
+returns-clause-reading c = grind (arith, common_steps, judged_left)
 
 pub returns-clause-steps : goal.returns-clause-steps
 returns-clause-steps c = grind (arith, common_steps, receive_steps)

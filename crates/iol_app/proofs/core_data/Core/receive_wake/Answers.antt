@@ -2,18 +2,22 @@
 use Rattle.std.proofs.lemmas.Grind.{common_steps}
 use Rattle.std.proofs.Common.{◌≡◌, true, false, refl, sym, Bool, None, arith}
 use Rattle.std.specs.Prelude.{is_some}
+use Rattle.iol_mode.specs.declared.configuration.Devices.{Devices}
+use Rattle.iol_mode.specs.declared.configuration.Devices.TheVariants.{Own, Any}
+use Rattle.iol_mode.specs.States.{waked}
 use Rattle.iol_app.specs.State.{SessionState}
-use Rattle.iol_app.specs.Core.{after_wake}
+use Rattle.iol_app.specs.StationState.{settled_session, waked_session}
 use Rattle.iol_app.proofs.Settling.{still_down}
 use Rattle.iol_app.proofs.Reporting.{woken_reading}
 use Rattle.iol_app.proofs.Pieces.{wake_steps, idle_said}
 use Rattle.iol_app.proofs.core_data.Core.receive_wake.Goals as goal
 
 -- in down no request is under way
-woken_current : (answered : Bool) (s : SessionState) → s.current ≡ None
-    → (after_wake answered s).session.current ≡ s.current
-woken_current true s free = refl
-woken_current false s free = sym free
+woken_current : (devices : Devices) (answered : Bool) (s : SessionState) → s.current ≡ None
+    → (settled_session (waked devices answered) (waked_session answered s)).current ≡ s.current
+woken_current Own true s free = refl
+woken_current Any true s free = refl
+woken_current devices false s free = sym free
 
 pub returns-clause-request : goal.returns-clause-request
 returns-clause-request c = grind (arith, common_steps, still_down, woken_current)

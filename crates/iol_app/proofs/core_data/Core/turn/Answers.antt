@@ -4,7 +4,7 @@ use Rattle.std.proofs.Common.{◌≡◌, ◌∙◌, Bool, true, false, List, ℕ
 use Rattle.std.specs.Prelude.{is_some}
 use Rattle.iol_far.specs.Octets.{octets_in}
 use Rattle.iol_mode.specs.States.{IsDown, StateFits as ModeFits}
-use Rattle.iol_mode.specs.Exchanges.{text_out, layout_out, tries_in}
+use Rattle.iol_mode.specs.Exchanges.{WakeStands, text_out, layout_out, tries_in}
 use Rattle.iol_app.specs.declared.asked.Outgoing.{Outgoing}
 use Rattle.iol_app.specs.declared.asked.Asked.{Asked}
 use Rattle.iol_app.specs.declared.asked.Asked.TheVariants.{Exchange}
@@ -150,7 +150,9 @@ returns-else-put_next-clause-exact g c =
     (tries_in c.args.self.now.state) c.of_wake.result
     (subst (λ (k : Core). IsDown k.state) same out.0)
     (subst (λ (k : Core). Joined k.state k.session) same c.take_wake.ensures.still)
-    c.requires.idle c.take_wake.ensures.stands
+    c.requires.idle
+    (subst (λ (k : Core). WakeStands k.session.configuration.devices
+    (is_some c.wake-rate.result)) same c.take_wake.ensures.stands)
     (subst (λ (k : Core). c.take_wake.new.self ≡ after_wake (is_some c.wake-rate.result) k.session)
     same c.take_wake.ensures.core)
     c.wake-rate.ensures.wakes c.wake-rate.ensures.honesty c.wake-rate.ensures.quiet

@@ -4,4 +4,4 @@ use Rattle.iol_mode.proofs.Startups.{wake_stands}
 use Rattle.iol_mode.proofs.states.State.receives_wake.Goals as goal
 
 pub returns-clause-stands : goal.returns-clause-stands
-returns-clause-stands c = wake_stands c.laws.ensures (is_some c.args.rate)
+returns-clause-stands c = wake_stands c.laws.ensures c.args.devices (is_some c.args.rate)

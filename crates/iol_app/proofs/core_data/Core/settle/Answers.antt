@@ -13,7 +13,7 @@ use Rattle.iol_app.specs.Core.{Core, came_of}
 use Rattle.iol_app.proofs.Settling.{outcome_state, settled_fits}
 use Rattle.iol_app.proofs.Pieces.{judged_next}
 use Rattle.iol_app.proofs.Verdicts.{brought_is}
-use Rattle.iol_app.proofs.core_data.Core.take.Goals as goal
+use Rattle.iol_app.proofs.core_data.Core.settle.Goals as goal
 
 -- what came is judged by what start-ups ask
 is_judged : (o : Outcome) (state : State) (t : SessionState) (k : Configuration)
