@@ -222,6 +222,26 @@ static void close_both(void)
     IS(iol_device_close(&device), IOL_CLOSED);
 }
 
+/* The first message of a start-up, and whether a second opening is refused. */
+static void first_message_for(uint8_t devices, size_t length, uint8_t first)
+{
+    iol_message asked;
+    IS(iol_port_open_for(&port, devices, 1000, 100, 64, 0), 0);
+    IS(iol_port_open_for(&port, 2, 1000, 100, 64, 0), IOL_IS_OPEN);
+    IS(iol_port_asks(&port, &asked), 0);
+    IS(iol_port_turn_woken(&port, 2), 0);
+    IS(iol_port_asks(&port, &asked), 0);
+    IS(asked.length, length);
+    IS(asked.octets[0], first);
+    IS(iol_port_close(&port), 0);
+}
+
+static void opened_for(void)
+{
+    first_message_for(IOL_DEVICES_OWN, 2, 0xA2);
+    first_message_for(IOL_DEVICES_ANY, 3, 0x20);
+}
+
 static void refusals_at_opening(void)
 {
     uint8_t page[10];
@@ -231,6 +251,9 @@ static void refusals_at_opening(void)
     IS(iol_port_open(&port, 4, 2, 0, 0), IOL_OUT_OF_RANGE);
     IS(iol_port_open(&port, 4, 2, 65, 0), IOL_OUT_OF_RANGE);
     IS(iol_port_open(&port, 4, 2, 255, 0), IOL_OUT_OF_RANGE);
+    IS(iol_port_open_for(&port, 2, 1000, 100, 64, 0), IOL_OUT_OF_RANGE);
+    IS(iol_port_open_for(&port, 255, 1000, 100, 64, 0), IOL_OUT_OF_RANGE);
+    IS(iol_port_open_for(&port, IOL_DEVICES_ANY, 3, 100, 64, 0), IOL_OUT_OF_RANGE);
     memcpy(page, plain, 10);
     page[2] = 0x12;
     IS(iol_device_open(&device, page), 8);
@@ -608,6 +631,7 @@ int main(void)
     closed_handles();
     closed_to_devices();
     closed_to_counters();
+    opened_for();
     refusals_at_opening();
     open_both(plain);
     requests();

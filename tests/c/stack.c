@@ -13,7 +13,8 @@ enum { KB = 1024, OF_OPENING = 8 * KB, OF_CALL = 4 * KB, ROOM = 64 * KB, SKIPPED
 #define PAINT UINT64_C(0xA5C3A5C3A5C3A5C3)
 
 #define EACH_CALL(X)                                                                                                   \
-    X(iol_port_open) X(iol_port_close) X(iol_port_asks) X(iol_port_turn_woken) X(iol_port_turn_answered)               \
+    X(iol_port_open) X(iol_port_open_for) X(iol_port_close) X(iol_port_asks) X(iol_port_turn_woken)                    \
+    X(iol_port_turn_answered)                                                                                          \
     X(iol_port_read) X(iol_port_read_urgent) X(iol_port_write) X(iol_port_write_urgent) X(iol_port_collect)            \
     X(iol_port_withdraw) X(iol_port_cancel) X(iol_port_restart) X(iol_port_set_output) X(iol_port_clear_output)        \
     X(iol_port_image) X(iol_port_take_event) X(iol_port_status) X(iol_port_archive) X(iol_port_entry)                  \
@@ -34,7 +35,7 @@ static size_t deepest[CALLS];
 /* Below how many octets a call has to stay. */
 static size_t bound(int call)
 {
-    return call == at_iol_port_open || call == at_iol_device_open ? OF_OPENING : OF_CALL;
+    return call == at_iol_port_open || call == at_iol_port_open_for || call == at_iol_device_open ? OF_OPENING : OF_CALL;
 }
 
 /* Paints what lies below the caller, but for the little that this function stands on itself. */
@@ -224,6 +225,9 @@ static void run(const uint8_t page[10])
 {
     ticket = 0;
     CALL(iol_device_open, &device, page);
+    CALL(iol_port_open_for, &port, IOL_DEVICES_ANY, 1000, 100, 64, 0);
+    turns(4, 0);
+    CALL(iol_port_close, &port);
     CALL(iol_port_open, &port, 1000, 100, 64, 0);
     turns(20, 0);
     requests(0);

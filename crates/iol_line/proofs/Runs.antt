@@ -3,6 +3,7 @@ use Rattle.std.proofs.Common.{◌∷◌, ◌++◌, [], List, ℕ, Bool, Option, 
 use Rattle.iol_far.specs.Far.{Far}
 use Rattle.iol_link.specs.Honest.{HonestWake}
 use Rattle.iol_book.specs.declared.entries.Limits.{Limits}
+use Rattle.iol_mode.specs.declared.configuration.Devices.{Devices}
 use Rattle.iol_port.specs.declared.call.Call.{Call}
 use Rattle.iol_port.specs.declared.call.Answered.{Answered}
 use Rattle.iol_port.specs.declared.call.Answered.TheVariants as answered
@@ -11,7 +12,7 @@ use Rattle.iol_port.specs.View.{Parts, StandsFor, Follows}
 use Rattle.iol_port.specs.Clean.{IsLevelBetween}
 use Rattle.iol_port.specs.Sound.{IsSound}
 use Rattle.iol_port.specs.Promises.{OpensSound, PiecesSound}
-use Rattle.iol_port.specs.CorePort.{CoreDoes, CoreOpens, CoreKeeps, SendDoes, ReceiveDoes, WakeDoes}
+use Rattle.iol_port.specs.CorePort.{CoreDoes, CoreOpensFor, CoreKeeps, SendDoes, ReceiveDoes, WakeDoes}
 use Rattle.iol_line.specs.Standing.{Standing}
 use Rattle.iol_line.specs.Honestly.{HonestPort, IsRun, BeganWell, Keeps, Exchanges, line_at}
 
@@ -67,10 +68,12 @@ woken p next came after is does premise =
     goes_on p next (record p.at { far = after }) Receive answered.Nothing is
     (does p.at.far after p.at.silence premise)
 
-pub began : (p : Parts (Unit {0})) (limits : Limits) (from : Standing) → CoreOpens limits p
-    → IsRun (record { parts = p; at = from; limits = limits; from = from })
+pub began : (p : Parts (Unit {0})) (devices : Devices) (limits : Limits) (from : Standing)
+    → CoreOpensFor devices limits p
+    → IsRun
+    (record { parts = p; at = from; devices = devices; limits = limits; from = from })
 unfolding IsRun
-began p limits from opens well = (
+began p devices limits from opens well = (
   [],
   [],
   opened limits from.far from.silence,

@@ -3,6 +3,7 @@ use Rattle.std.specs.Prelude.{◌≡◌, ℕ, List, Option}
 use Rattle.iol_link.specs.WireFacts.{WireFacts}
 use Rattle.iol_link.specs.Honest.{HonestExchange}
 use Rattle.iol_mode.specs.Exchanges.{text_out}
+use Rattle.iol_mode.specs.declared.configuration.Devices.{Devices}
 use Rattle.iol_book.specs.declared.entries.Limits.{Limits}
 use Rattle.iol_port.specs.declared.call.Call.{Call}
 use Rattle.iol_port.specs.declared.call.Answered.{Answered}
@@ -16,7 +17,8 @@ pub record HonestPort : Type 0 where
   pub parts : Parts (Unit {0})
   -- where the line stands
   pub at : Standing
-  -- with what it was opened: its limits, and where the line stood then
+  -- with what it was opened: for which devices, its limits, and where the line stood then
+  pub devices : Devices
   pub limits : Limits
   pub from : Standing
 
@@ -24,9 +26,9 @@ pub record HonestPort : Type 0 where
 abbrev pub line_at : Standing → WireFacts (Unit {0})
 line_at at = at_end at.far at.silence
 
--- the device had been handed no request when the port was opened
+-- it was opened for devices of our own kind, and the device had been handed no request then
 abbrev pub BeganWell : HonestPort → Type 0
-BeganWell p = OpensWell (opened_at p.limits p.from.far p.from.silence)
+BeganWell p = OpensWell (opened_at p.devices p.limits p.from.far p.from.silence)
 
 -- What every such port keeps: where it began well, it stands, with the device that the line
 -- stands at, for an abstract port that is a run, in pieces, of the one that was opened

@@ -17,7 +17,7 @@ ghost use Rattle.iol_port.specs.EveryWire.{ArchiveGives, TakeEventGives, SetOutp
 ghost use Rattle.iol_port.specs.EveryWire.{ClearOutputGives, RestartGives};
 ghost use Rattle.iol_port.specs.EveryWire.{ExpectGives, SetCycleGives};
 ghost use Rattle.iol_port.specs.RightDevice.{IsForRightDevice};
-ghost use Rattle.iol_port.specs.CorePort.{IsNew, CoreOpens, awaited, SendGives, SendDoes};
+ghost use Rattle.iol_port.specs.CorePort.{IsNew, IsNewFor, CoreOpens, CoreOpensFor, awaited, SendGives, SendDoes};
 ghost use Rattle.iol_port.specs.CorePort.{ReceiveGives, ReceiveDoes, WakeGives, WakeDoes};
 ghost use Rattle.iol_port.specs.Replies.{ticket_reply, outcome_reply, nothing_reply, event_reply};
 ghost use Rattle.iol_port.specs.Replies.{reply_of};
@@ -30,6 +30,7 @@ use iol_event::Event;
 use iol_image::Image;
 use iol_isdu::Request;
 use iol_link::Rate;
+use iol_mode::Devices;
 use iol_mseq::Message;
 use iol_page::{CycleTime, Identity};
 use iol_port::{Counting, PortCore, PortFault, record_fits_journal};
@@ -61,6 +62,7 @@ use std::snapshot::Snapshot;
 pub struct HonestPort<A: Allocator + Copy = Global> {
     core: PortCore<A>,
     at: Place,
+    devices: Snapshot<Devices>,
     limits: Snapshot<Limits>,
     from: Place,
 }
@@ -73,6 +75,7 @@ impl<A: Allocator + Copy> Model for HonestPort<A> {
     ghost view = { λ p. record {
       parts = p.core;
       at = p.at.at;
+      devices = p.devices.value;
       limits = p.limits.value;
       from = p.from.at;
     } };
@@ -80,6 +83,7 @@ impl<A: Allocator + Copy> Model for HonestPort<A> {
     ghost invariant = { λ p. IsRun (record {
       parts = p.core;
       at = p.at.at;
+      devices = p.devices.value;
       limits = p.limits.value;
       from = p.from.at;
     }) };
@@ -97,15 +101,46 @@ impl<A: Allocator + Copy> HonestPort<A> {
         ensures parts { IfOk result (λ p. IsNew limits.now p.parts) }
         ensures opens { IfOk result (λ p. CoreOpens limits.now p.parts) }
         ensures stands { IfOk result (λ p. p
-            ≡ record { parts = p.parts; at = at; limits = limits.now; from = at }) }
+            ≡ record {
+              parts = p.parts;
+              at = at;
+              devices = Devices.Own;
+              limits = limits.now;
+              from = at;
+            }) }
+        ensures refused { IfErr result (λ e. e ≡ fault.Book OutOfMemory) }
+    {
+        HonestPort::open_for(alloc, limits, Devices::Own, near)
+    }
+
+    /// A port as [`PortCore::open_for`] gives it, whose line stands there.
+    pub fn open_for<T>(
+        alloc: A,
+        limits: &Limits,
+        devices: Devices,
+        near: &T,
+    ) -> Result<HonestPort<A>, PortFault>
+        ghost at: { Standing }
+        requires limits { AreLimits limits.now }
+        ensures parts { IfOk result (λ p. IsNewFor devices limits.now p.parts) }
+        ensures opens { IfOk result (λ p. CoreOpensFor devices limits.now p.parts) }
+        ensures stands { IfOk result (λ p. p
+            ≡ record {
+              parts = p.parts;
+              at = at;
+              devices = devices;
+              limits = limits.now;
+              from = at;
+            }) }
         ensures refused { IfErr result (λ e. e ≡ fault.Book OutOfMemory) }
     {
         let at = Place::of(near);
         let from = Place::of(near);
-        match PortCore::open(alloc, limits) {
+        match PortCore::open_for(alloc, limits, devices) {
             Ok(core) => Ok(HonestPort {
                 core,
                 at,
+                devices: Snapshot::of(&devices),
                 limits: Snapshot::of(limits),
                 from,
             }),

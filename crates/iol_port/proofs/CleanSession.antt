@@ -35,6 +35,7 @@ use Rattle.iol_link.specs.Honest.{CleanExchange}
 use Rattle.iol_link.specs.WireFacts.{WireFacts}
 use Rattle.iol_port.specs.Clean.{ExchangesCleanly, IsQuiet, IsCalm, Stood}
 use Rattle.iol_port.proofs.CleanHearing.{HeardWell, heard_well}
+use Rattle.iol_mode.specs.declared.configuration.Devices.TheVariants.{Own}
 
 -- What is due
 
@@ -50,10 +51,10 @@ ready_calm s e = grind (arith, common_steps)
 pub ready_any : (s : SessionState) (room : Bool) → is_ready s true ≡ true → is_ready s room ≡ true
 ready_any s room e = grind (arith, common_steps)
 
--- and a calm session without a request would send it
+-- and a calm session without a request would send it, at a port for devices of our own kind
 pub calm_ready : (s : SessionState) (room : Bool) → IsCalm s → s.current ≡ None
-    → is_ready s room ≡ true
-calm_ready s room calm free = grind (arith, common_steps)
+    → s.configuration.devices ≡ Own → is_ready s room ≡ true
+calm_ready s room calm free own = grind (arith, common_steps)
 
 -- and with a request begun it is calm too
 pub begun_calm : (s : SessionState) (current : Option Current) → IsCalm s

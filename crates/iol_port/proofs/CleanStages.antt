@@ -78,12 +78,13 @@ abbrev pub sends : Request → ℕ → ℕ → Current
 sends request size i = record {
   cutter = cutting request size (suc i);
   progress = Sending (flow_at i) (record { items = segment size (request_text request) i });
+  again = false;
   abort = None;
 }
 
 abbrev pub asks : Request → ℕ → ℕ → ℕ → Current
 asks request size given busy = record
-    { cutter = cutting request size given; progress = Asking busy; abort = None }
+    { cutter = cutting request size given; progress = Asking busy; again = false; abort = None }
 
 pub sends_is : (request : Request) (size i : ℕ) → i * size < length (request_text request)
     → sent_on (cutting request size i) None ≡ sends request size i
@@ -169,6 +170,7 @@ module _ (size : ℕ) (texts : TextLaws size) (joins : JoinLaws size) (one : One
   gets given j = record {
     cutter = cutting request size given;
     progress = Receiving (standing false size text j) j;
+    again = false;
     abort = None;
   }
 
@@ -200,7 +202,7 @@ module _ (size : ℕ) (texts : TextLaws size) (joins : JoinLaws size) (one : One
       rw (texts.busy read answer fits_answer, texts.silent read answer fits_answer, took) refl
 
   pub next_joined : (given j : ℕ) → suc j * size < length text
-      → received_with (cutting request size given) None (standing false size text j) (j + 1)
+      → received_with false (cutting request size given) None (standing false size text j) (j + 1)
       (segment size text (suc j)) ≡ joined_with (cutting request size given) None (suc j)
       (Ok (took_at size text (suc j))) (standing false size text (suc j))
   next_joined given j more =

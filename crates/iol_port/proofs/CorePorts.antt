@@ -10,6 +10,7 @@ use Rattle.iol_far.specs.Far.{Far}
 use Rattle.iol_link.specs.WireFacts.{WireFacts}
 use Rattle.iol_book.specs.declared.entries.Ticket.{Ticket}
 use Rattle.iol_book.specs.BookModel.{BookState, BookValue, next_taken, took, denied}
+use Rattle.iol_mode.specs.declared.configuration.Devices.{Devices}
 use Rattle.iol_mode.specs.declared.states.State.{State}
 use Rattle.iol_mode.specs.States.{IsDown, waked, state_of as state_after}
 use Rattle.iol_mode.specs.Exchanges.{IsSending}
@@ -33,9 +34,9 @@ use Rattle.iol_port.specs.declared.call.Answered.TheVariants as answered
 use Rattle.iol_port.specs.Steps.{MayBookAll, book_through, kept_through}
 use Rattle.iol_port.specs.Run.{PortState, Pending, PieceOf, Send, Receive, opened, is_sending, is_take, moment_by}
 use Rattle.iol_port.specs.declared.awaited.Awaited.TheVariants.{Nothing, Wake, Reply}
-use Rattle.iol_port.specs.View.{Parts, Choice, IsOut, IsTied, PendingAt, ShowsAt, StandsFor, OpensWell, IsOpened, opening_of, Follows, Does, BeginsNext, TakesNext, state_of}
+use Rattle.iol_port.specs.View.{Parts, Choice, IsOut, IsTied, PendingAt, ShowsAt, StandsFor, OpensWell, IsOpened, opening_for, Follows, Does, BeginsNext, TakesNext, state_of}
 use Rattle.iol_book.specs.declared.entries.Limits.{Limits}
-use Rattle.iol_port.specs.CorePort.{IsNew, CoreOpens, bare, awaited, at_end, parts_over, CoreDoes, PieceDoes, SendDoes, ReceiveDoes, WakeDoes}
+use Rattle.iol_port.specs.CorePort.{IsNewFor, CoreOpensFor, bare, awaited, at_end, parts_over, CoreDoes, PieceDoes, SendDoes, ReceiveDoes, WakeDoes}
 use Rattle.iol_port.proofs.Filters.{book_through-filter, MayBookAll-filter, kept_through-filter, clash_free-deny, is_beside, may_book_said}
 use Rattle.iol_port.proofs.TurnLemmas.{none_down, terms_of}
 use Rattle.iol_port.proofs.CallLemmas.{none_pending}
@@ -418,10 +419,10 @@ receive_does p next came said sent sends steps free posts keeps = λ far far' n 
     (posts ∙ ap (λ (l : List Step). book_through (l ++ book_said said) p.book.state)
     (sym (none_woke p.station.link.state (mode_in next.station.link.state) sends))) keeps
 
-woken_steps : (state : State) (answered : Bool) → IsDown state
-    → woke_up (mode_in state) (mode_in (state_after (waked answered)))
+woken_steps : (state : State) (devices : Devices) (answered : Bool) → IsDown state
+    → woke_up (mode_in state) (mode_in (state_after (waked devices answered)))
     ≡ cond answered (Reset ∷ []) []
-woken_steps state answered down = grind (arith, common_steps)
+woken_steps state devices answered down = grind (arith, common_steps)
 
 pub wake_does : (p next : Bare) (answered : Bool) → p.sent ≡ true → IsDown p.station.link.state
     → WakeSteps (core_of p.station) answered (core_of next.station)
@@ -434,7 +435,8 @@ wake_does p next answered sent down steps core free posts keeps = λ far far' n 
     (posts ∙ ap (λ (l : List Step). book_through l p.book.state)
     (sym (append-nil (woke_up (mode_in p.station.link.state) (mode_in next.station.link.state))
     ∙ ap (λ (k : Core). woke_up (mode_in p.station.link.state) (mode_in k.state)) core
-    ∙ woken_steps p.station.link.state answered down))) keeps
+    ∙ woken_steps p.station.link.state p.station.session.configuration.devices answered
+    down))) keeps
 
 -- what goes out a second time changes nothing
 pub sent_same : (room : Bool) (old new : Core) → IsOut old.state → IsSent room old new → new ≡ old
@@ -490,9 +492,9 @@ module _ {W : Type 0} (facts : WireFacts W) (wire : W) where
       (u, record { is_honest = is_honest; both = shows.both; out = shows.out }, is)
 
   -- a port that is new is so over a wire
-  pub new_over : (limits : Limits) (p : Bare) → IsNew limits p
-      → IsOpened (opening_of facts limits wire) (parts_over wire p)
-  new_over limits p new =
+  pub new_over : (devices : Devices) (limits : Limits) (p : Bare) → IsNewFor devices limits p
+      → IsOpened (opening_for facts devices limits wire) (parts_over wire p)
+  new_over devices limits p new =
       let is = new (far wire) (silence wire) in
       record {
         wire_is = refl;
@@ -507,11 +509,11 @@ module _ {W : Type 0} (facts : WireFacts W) (wire : W) where
         counters = is.counters;
       }
 
-  pub opens_over : (limits : Limits) (p : Bare) → CoreOpens limits p
-      → OpensWell (opening_of facts limits wire)
+  pub opens_over : (devices : Devices) (limits : Limits) (p : Bare) → CoreOpensFor devices limits p
+      → OpensWell (opening_for facts devices limits wire)
       → StandsFor facts (parts_over wire p) (opened limits (far wire) (silence wire))
-  opens_over limits p opens (is_honest, quiet) =
-      over_wire p _ is_honest (opens (far wire) (silence wire) (refl, quiet))
+  opens_over devices limits p opens (is_honest, quiet, own) =
+      over_wire p _ is_honest (opens (far wire) (silence wire) (refl, quiet, own))
 
   pub call_over : (p next : Bare) (c : Call) (reply : Answered) → CoreDoes p c reply next
       → Does facts (parts_over wire p) c reply (parts_over wire next)

@@ -48,9 +48,12 @@ port_send W A g h w a y f =
           (
             search (crosses, sendable) depth 20,
             (
-              option.the_field_send (Writer.the_row A h)
-                  (search (writer.the_send, sendable) depth 20),
-              tt,
+              search (crosses, sendable) depth 20,
+              (
+                option.the_field_send (Writer.the_row A h)
+                    (search (writer.the_send, sendable) depth 20),
+                tt,
+              ),
             ),
           ),
         ),

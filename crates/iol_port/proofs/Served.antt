@@ -27,6 +27,8 @@ use Rattle.iol_port.specs.View.{Parts}
 use Rattle.iol_port.specs.Turns.{Stage, Written, Waiting, Reading, Ended, turns_at, turns_needed}
 use Rattle.iol_port.specs.Clean.{CleanLaws, IsAt, MayStart, MayServe, IsAfter, CleanTurn, takes_all, record_of, IsOnTime, IsOnItsWay, AreServed, CleanRuns, CleanServes}
 use Rattle.iol_port.proofs.CleanStages.{segment_within}
+use Rattle.iol_mode.specs.declared.configuration.Configuration.{Configuration}
+use Rattle.iol_mode.specs.declared.configuration.Devices.TheVariants.{Own}
 use Rattle.iol_port.proofs.CleanSession.{calm_ready}
 
 -- Room in the record
@@ -112,17 +114,23 @@ module _ {W : Type 0} (facts : WireFacts W) where
   record_at layouts ticket request base book stage now is =
       ap (λ (l : AnyLink W). (far (wire_of l)).carried) is.at.stood.link_is
 
-  -- the wire is honest, and the device's record has this room
-  pub record Steady (room : Option ℕ) (now : Parts W) : Type 0 where
+  -- the wire is honest, the device's record has this room, and start-ups ask this
+  pub record Steady (room : Option ℕ) (asks : Configuration) (now : Parts W) : Type 0 where
     pub is_honest : IsTrue (honest (wire_of now.station.link))
     pub room_is : (far (wire_of now.station.link)).room ≡ room
+    pub asks_is : now.station.session.configuration ≡ asks
 
-  steady_more : (room : Option ℕ) (mid next : Parts W) → Steady room mid
-      → CleanTurn facts mid next → Steady room next
-  steady_more room mid next steady turn = record {
+  steady_more : (room : Option ℕ) (asks : Configuration) (mid next : Parts W)
+      → Steady room asks mid → CleanTurn facts mid next → Steady room asks next
+  steady_more room asks mid next steady turn = record {
     is_honest = subst IsTrue (sym turn.honesty) steady.is_honest;
     room_is = turn.room steady.is_honest ∙ steady.room_is;
+    asks_is = turn.asks ∙ steady.asks_is;
   }
+
+  -- where another request follows, the port is for devices of our own kind
+  abbrev pub Follows : List (Ticket × Request) → Parts W → Type 0
+  Follows rest now = 1 ≤ length rest → now.station.session.configuration.devices ≡ Own
 
   module _ (layouts : Layouts) where
     abbrev pub needed : Request → Answer → ℕ
@@ -132,17 +140,18 @@ module _ {W : Type 0} (facts : WireFacts W) where
     After n next base book now = IsAfter facts layouts next.0 next.1 base book n now
 
     -- between requests: the next one may start, if there is one and the record has room
-    pub record Idle (base : List Carried) (book : BookState) (now : Parts W) : Type 0 where
+    pub record Idle (rest : List (Ticket × Request)) (base : List Carried) (book : BookState)
+        (now : Parts W) : Type 0 where
       pub record_is : record_of facts now ≡ base
       pub book_is : now.book.state ≡ book
-      pub may : (ticket : Ticket) (request : Request)
+      pub may : 1 ≤ length rest → (ticket : Ticket) (request : Request)
           → next_taken now.book.state.standing ≡ Some (ticket, request)
           → IsTrue (has_room (far (wire_of now.station.link)))
           → MayStart facts layouts ticket request now
 
     -- where the port stands after so many turns
     abbrev pub Going : ℕ → List (Ticket × Request) → List Carried → BookState → Parts W → Type 0
-    Going zero requests base book now = Idle base book now
+    Going zero requests base book now = Idle requests base book now
     Going (suc n) [] base book now = (more : List Carried) × (record_of facts now ≡ base ++ more)
     Going (suc n) (next ∷ rest) base book now =
         ((after : After (suc n) next base book now)
@@ -152,19 +161,19 @@ module _ {W : Type 0} (facts : WireFacts W) where
         (posted (took book next) (Done answer)) now)
 
     idle_at : (ticket : Ticket) (request : Request) (base : List Carried) (book : BookState)
-        (answer : Answer) (now : Parts W)
-        → IsAt facts layouts ticket request base book (Ended answer) now
-        → Idle (grown_by base request answer)
+        (answer : Answer) (now : Parts W) (rest : List (Ticket × Request))
+        → IsAt facts layouts ticket request base book (Ended answer) now → Follows rest now
+        → Idle rest (grown_by base request answer)
         (posted (took book (ticket, request)) (Done answer)) now
-    idle_at ticket request base book answer now is = record {
+    idle_at ticket request base book answer now rest is own = record {
       record_is = record_at layouts ticket request base book (Ended answer) now is ∙ is.at.fits.1;
       book_is = is.book_is;
-      may = λ next other is_next room. record {
+      may = λ more next other is_next room. record {
         wire = is.wire;
         link_is = is.at.stood.link_is;
         is_honest = is.at.stood.is_honest;
         is_clean = is.at.stood.is_clean;
-        ready = calm_ready now.station.session true is.at.stood.calm is.at.fits.0;
+        ready = calm_ready now.station.session true is.at.stood.calm is.at.fits.0 (own more);
         link = operate_link;
         operating = is.at.stood.operating;
         level = record {
@@ -188,8 +197,9 @@ module _ {W : Type 0} (facts : WireFacts W) where
     -- a request after one more turn
     went : (n : ℕ) (next : Ticket × Request) (rest : List (Ticket × Request))
         (base : List Carried) (book : BookState) (now : Parts W)
-        → After (suc n) next base book now → Going (suc n) (next ∷ rest) base book now
-    went n next rest base book now after = by after.stage after.is_at after.turns_are
+        → Follows rest now → After (suc n) next base book now
+        → Going (suc n) (next ∷ rest) base book now
+    went n next rest base book now own after = by after.stage after.is_at after.turns_are
       where
         by : (stage : Stage) → IsAt facts layouts next.0 next.1 base book stage now
             → turns_at layouts.run.od next.1 stage ≡ suc n
@@ -200,7 +210,7 @@ module _ {W : Type 0} (facts : WireFacts W) where
           subst (λ (k : ℕ). Going k rest (grown_by base next.1 answer)
               (posted (took book next) (Done answer)) now)
               (sym (none_left (needed next.1 answer) n turns))
-              (idle_at next.0 next.1 base book answer now is),
+              (idle_at next.0 next.1 base book answer now rest is own),
         )
         by stage is turns = inl (
           record { stage = stage; is_at = is; turns_are = turns },
@@ -208,49 +218,60 @@ module _ {W : Type 0} (facts : WireFacts W) where
               answer e. cc,
         )
 
+    next_own : {room : Option ℕ} (asks : Configuration) (mid next : Parts W)
+        (rest : List (Ticket × Request)) → Steady room asks mid → CleanTurn facts mid next
+        → (1 ≤ length rest → asks.devices ≡ Own) → Follows rest next
+    next_own asks mid next rest steady turn own more =
+        ap (λ (k : Configuration). k.devices) (turn.asks ∙ steady.asks_is) ∙ own more
+
     -- one turn more
-    going_more : (room : Option ℕ) (n : ℕ) (requests : List (Ticket × Request))
-        (base : List Carried) (book : BookState) (mid next : Parts W)
-        → Queue book requests → takes_all room base (length requests) ≡ true → Steady room mid
-        → CleanTurn facts mid next
+    going_more : (room : Option ℕ) (asks : Configuration) (n : ℕ)
+        (requests : List (Ticket × Request)) (base : List Carried) (book : BookState)
+        (mid next : Parts W) → Queue book requests
+        → takes_all room base (length requests) ≡ true → Steady room asks mid
+        → (2 ≤ length requests → asks.devices ≡ Own) → CleanTurn facts mid next
         → Going n requests base book mid → Going (suc n) requests base book next
-    going_more room zero [] base book mid next queue fits steady turn idle =
+    going_more room asks zero [] base book mid next queue fits steady own turn idle =
         let grown = turn.grows steady.is_honest in
         (grown.0, grown.1 ∙ ap (λ (xs : List Carried). xs ++ grown.0) idle.record_is)
-    going_more room (suc n) [] base book mid next queue fits steady turn (more, is) =
+    going_more room asks (suc n) [] base book mid next queue fits steady own turn (more, is) =
         let grown = turn.grows steady.is_honest in (
           more ++ grown.0,
           grown.1 ∙ ap (λ (xs : List Carried). xs ++ grown.0) is
               ∙ append_assoc base more grown.0,
         )
-    going_more room zero (first ∷ rest) base book mid next queue fits steady turn idle =
+    going_more room asks zero (first ∷ rest) base book mid next queue fits steady own turn idle =
         let some : has_room (far (wire_of mid.station.link)) ≡ true =
         rw (steady.room_is, idle.record_is) (takes_first room base (length rest) fits) in
         let is_next : next_taken mid.book.state.standing ≡ Some first =
         ap (λ (b : BookState). next_taken b.standing) idle.book_is
         ∙ queue_next book first rest queue in
         let after : After 1 first (record_of facts mid) mid.book.state next =
-        turn.starts layouts first.0 first.1 (idle.may first.0 first.1 is_next some) in
+        turn.starts layouts first.0 first.1 (idle.may (omega arith) first.0 first.1 is_next some) in
         went 0 first rest base book next
+        (next_own asks mid next rest steady turn (λ more. own (omega (arith, more))))
         (subst (λ (b : BookState). After 1 first base b next) idle.book_is
         (subst (λ (xs : List Carried). After 1 first xs mid.book.state next) idle.record_is
         after))
-    going_more room (suc n) (first ∷ rest) base book mid next queue fits steady turn
+    going_more room asks (suc n) (first ∷ rest) base book mid next queue fits steady own turn
         (inl (after, goes)) =
         went (suc n) first rest base book next
+        (next_own asks mid next rest steady turn (λ more. own (omega (arith, more))))
         (subst (λ (k : ℕ). After (suc k) first base book next) after.turns_are
         (turn.goes_on layouts first.0 first.1 base book after.stage after.is_at goes))
-    going_more room (suc n) (first ∷ rest) base book mid next queue fits steady turn
+    going_more room asks (suc n) (first ∷ rest) base book mid next queue fits steady own turn
         (inr (answer, few, going)) = inr (
           answer,
           omega (arith, few),
           subst (λ (k : ℕ). Going k rest (grown_by base first.1 answer)
               (posted (took book first) (Done answer)) next)
               (one_more (needed first.1 answer) n few)
-              (going_more room (suc n - needed first.1 answer) rest (grown_by base first.1 answer)
+              (going_more room asks (suc n - needed first.1 answer) rest
+              (grown_by base first.1 answer)
               (posted (took book first) (Done answer)) mid next
               (queue_rest book first rest answer queue)
-              (takes_rest room base (length rest) first.1 answer fits) steady turn going),
+              (takes_rest room base (length rest) first.1 answer fits) steady
+              (λ more. own (omega (arith, more))) turn going),
         )
 
     -- what that says of the record and of the book
@@ -332,7 +353,7 @@ module _ {W : Type 0} (facts : WireFacts W) where
     begins first rest p may = record {
       record_is = refl;
       book_is = refl;
-      may = λ ticket request is_next room.
+      may = λ more ticket request is_next room.
           let found : Some first ≡ Some (ticket, request) = sym may.starts.next ∙ is_next in
           let same : first ≡ (ticket, request) = cc in
           subst (λ (next : Ticket × Request). MayStart facts layouts next.0 next.1 p) same
@@ -340,11 +361,13 @@ module _ {W : Type 0} (facts : WireFacts W) where
     }
 
     steady_first : (ticket : Ticket) (request : Request) (p : Parts W)
-        → MayStart facts layouts ticket request p → Steady (far (wire_of p.station.link)).room p
+        → MayStart facts layouts ticket request p
+        → Steady (far (wire_of p.station.link)).room p.station.session.configuration p
     steady_first ticket request p may = record {
       is_honest = subst (λ (l : AnyLink W). IsTrue (honest (wire_of l))) (sym may.link_is)
           may.is_honest;
       room_is = refl;
+      asks_is = refl;
     }
 
     queue_first : (first : Ticket × Request) (rest : List (Ticket × Request)) (p : Parts W)
@@ -374,6 +397,7 @@ module _ {W : Type 0} (facts : WireFacts W) where
           others = drop 1 list;
           in_order = headed list (ticket, request) head;
           room = takes_one (far (wire_of p.station.link)).room (record_of facts p) some;
+          own = λ more. absurd (omega (arith, more));
         }
 
   -- Whole runs
@@ -384,7 +408,7 @@ module _ {W : Type 0} (facts : WireFacts W) where
       (n : ℕ) → calls ≡ replicate n call.Turn
       → (layouts : Layouts) (first : Ticket × Request) (rest : List (Ticket × Request))
       → MayServe facts layouts first rest p
-      → Steady (far (wire_of p.station.link)).room now
+      → Steady (far (wire_of p.station.link)).room p.station.session.configuration now
       × Going layouts n (first ∷ rest) (record_of facts p) p.book.state now
 
   pub so_far_none : (p : Parts W) → SoFar p [] p
@@ -400,12 +424,13 @@ module _ {W : Type 0} (facts : WireFacts W) where
       let mid_is = so_far (length calls) found.1 layouts first rest may in
       let t : CleanTurn facts mid next = turn found.2 in
       let room : Option ℕ = (far (wire_of p.station.link)).room in (
-        steady_more room mid next mid_is.0 t,
+        steady_more room p.station.session.configuration mid next mid_is.0 t,
         subst (λ (k : ℕ). Going layouts k (first ∷ rest) (record_of facts p) p.book.state next)
             (sym found.0)
-            (going_more layouts room (length calls) (first ∷ rest) (record_of facts p)
-            p.book.state mid next (queue_first layouts first rest p may) may.room mid_is.0 t
-            mid_is.1),
+            (going_more layouts room p.station.session.configuration (length calls)
+            (first ∷ rest) (record_of facts p) p.book.state mid next
+            (queue_first layouts first rest p may) may.room mid_is.0
+            (λ more. may.own (omega (arith, more))) t mid_is.1),
       )
 
   pub so_far_more : (p mid next : Parts W) (calls : List Call) (i : ℕ) (d : Call)

@@ -26,6 +26,7 @@ use Rattle.iol_book.specs.declared.entries.Ticket.{Ticket}
 use Rattle.iol_book.specs.declared.entries.Outcome.TheVariants.{Done}
 use Rattle.iol_book.specs.BookModel.{BookState, next_taken, took, posted}
 use Rattle.iol_mode.specs.Next.{in_operate as InOperate}
+use Rattle.iol_mode.specs.declared.configuration.Devices.TheVariants.{Own}
 use Rattle.iol_app.specs.Due.{is_under_way, is_confirm_due, is_resting, is_ready}
 use Rattle.iol_app.specs.State.{SessionState}
 use Rattle.iol_app.specs.StationState.{StationState, wire_of}
@@ -175,7 +176,8 @@ module _ {W : Type 0} (facts : WireFacts W) where
       × (turns_needed layouts.run.od request answer < n))
 
   -- From here requests that wait take the sum of their turns: the first may start, they wait in
-  -- this order before all others, and the device's record has room for the pairs of all of them
+  -- this order before all others, and the device's record has room for the pairs of all of them.
+  -- A port for any device sends IDLE 1 between two
   -- REQ-13
   pub record MayServe (layouts : Layouts) (first : Ticket × Request)
       (rest : List (Ticket × Request)) (p : Parts W) : Type 0 where
@@ -185,6 +187,7 @@ module _ {W : Type 0} (facts : WireFacts W) where
         ≡ first ∷ (rest ++ others)
     pub room : IsTrue (takes_all (far (wire_of p.station.link)).room (record_of facts p)
         (suc (length rest)))
+    pub own : 1 ≤ length rest → p.station.session.configuration.devices ≡ Own
 
   -- how a request stands that is taken and not done after so many turns, the record having been
   -- `base` and the book this one: nothing entered the record yet, or its answer did
@@ -235,6 +238,7 @@ module _ {W : Type 0} (facts : WireFacts W) where
         → IsAfter layouts ticket request base book
         (suc (turns_at layouts.run.od request stage)) next
     pub honesty : honest (wire_of next.station.link) ≡ honest (wire_of p.station.link)
+    pub asks : next.station.session.configuration ≡ p.station.session.configuration
     pub grows : IsTrue (honest (wire_of p.station.link))
         → (more : List Carried) × (record_of facts next ≡ record_of facts p ++ more)
     pub room : IsTrue (honest (wire_of p.station.link))

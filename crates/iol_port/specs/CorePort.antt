@@ -6,6 +6,8 @@ use Rattle.iol_link.specs.Honest.{HonestWake, HonestExchange}
 use Rattle.iol_mode.specs.declared.states.State.{State}
 use Rattle.iol_mode.specs.declared.states.State.TheVariants.{Down as AtDown}
 use Rattle.iol_mode.specs.Exchanges.{text_out}
+use Rattle.iol_mode.specs.declared.configuration.Devices.{Devices}
+use Rattle.iol_mode.specs.declared.configuration.Devices.TheVariants.{Own}
 use Rattle.iol_book.specs.declared.entries.Limits.{Limits}
 use Rattle.iol_steps.specs.declared.said.Said.{Said}
 use Rattle.iol_steps.specs.Step.{Reset, book_said, reports_said}
@@ -26,7 +28,7 @@ use Rattle.iol_port.specs.Counters.{call_counted, said_counted}
 use Rattle.iol_port.specs.Steps.{book_through, kept_through}
 use Rattle.iol_port.specs.Clean.{IsLevelBetween}
 use Rattle.iol_port.specs.Sound.{IsSound}
-use Rattle.iol_port.specs.View.{Parts, Opening, OpensWell, IsOpened, StandsFor, Does, KeepsRecord, opening_of}
+use Rattle.iol_port.specs.View.{Parts, Opening, OpensWell, IsOpened, StandsFor, Does, KeepsRecord, opening_for}
 
 -- its parts over a wire
 abbrev pub parts_over : {W : Type 0} → W → Parts (Unit {0}) → Parts W
@@ -62,24 +64,33 @@ at_end far silence = record {
   exchange_gives = λ w sent answer next. ⊤;
 }
 
-abbrev pub opened_at : Limits → Far → ℕ → Opening (Unit {0})
-opened_at limits far silence =
-    let none : Unit {0} = tt in opening_of (at_end far silence) limits none
+abbrev pub opened_at : Devices → Limits → Far → ℕ → Opening (Unit {0})
+opened_at devices limits far silence =
+    let none : Unit {0} = tt in opening_for (at_end far silence) devices limits none
 
 -- a call is one of each abstract port that the port stands for, with whatever far end
 -- PORT-4
 abbrev pub CoreDoes : Parts (Unit {0}) → Call → Answered → Parts (Unit {0}) → Type 0
 CoreDoes p c reply next = (far : Far) (silence : ℕ) → Does (at_end far silence) p c reply next
 
--- a port that is new
-abbrev pub IsNew : Limits → Parts (Unit {0}) → Type 0
-IsNew limits p = (far : Far) (silence : ℕ) → IsOpened (opened_at limits far silence) p
+-- a port that is new, for these devices
+abbrev pub IsNewFor : Devices → Limits → Parts (Unit {0}) → Type 0
+IsNewFor devices limits p =
+    (far : Far) (silence : ℕ) → IsOpened (opened_at devices limits far silence) p
 
--- it stands for the abstract port that is opened, with each far end that was handed no request
-abbrev pub CoreOpens : Limits → Parts (Unit {0}) → Type 0
-CoreOpens limits p = (far : Far) (silence : ℕ)
-    → OpensWell (opened_at limits far silence)
+-- a port that is new, for devices of our own kind
+abbrev pub IsNew : Limits → Parts (Unit {0}) → Type 0
+IsNew limits p = IsNewFor Own limits p
+
+-- it stands for the abstract port that is opened, with each far end that was handed no request,
+-- where it is for devices of our own kind
+abbrev pub CoreOpensFor : Devices → Limits → Parts (Unit {0}) → Type 0
+CoreOpensFor devices limits p = (far : Far) (silence : ℕ)
+    → OpensWell (opened_at devices limits far silence)
     → StandsFor (at_end far silence) p (opened limits far silence)
+
+abbrev pub CoreOpens : Limits → Parts (Unit {0}) → Type 0
+CoreOpens limits p = CoreOpensFor Own limits p
 
 -- with each far end of which it stands for a sound abstract port, the record fits the journal,
 -- and between requests both ends are level

@@ -19,7 +19,7 @@ ghost use Rattle.iol_port.specs.EveryWire.{TurnGives, CallGives, RunGives};
 ghost use Rattle.iol_port.specs.EveryWire.{ExpectGives, SetCycleGives, page_shown};
 ghost use Rattle.iol_port.specs.RightDevice.{IsForRightDevice};
 ghost use Rattle.iol_port.specs.WireCalls.{ComesFrom};
-ghost use Rattle.iol_port.specs.View.{Does, Runs, StandsFor, IsOpened, IsRun, KeepsLimits, OpensWell, opening_of};
+ghost use Rattle.iol_port.specs.View.{Does, Runs, StandsFor, IsOpened, IsRun, KeepsLimits, OpensWell, opening_for, opening_of};
 ghost use Rattle.iol_port.specs.View.{KeepsRecord, shown_in, status_of};
 ghost use Rattle.iol_port.specs.Clean.{CleanTurn, CleanRuns, CleanServes, IsLevelBetween};
 ghost use Rattle.iol_port.specs.Replies.{ticket_reply, outcome_reply, nothing_reply, event_reply, reply_of};
@@ -35,6 +35,7 @@ use iol_event::Event;
 use iol_image::Image;
 use iol_isdu::Request;
 use iol_link::Wire;
+use iol_mode::Devices;
 use iol_page::{CycleTime, Identity, Page};
 use std::alloc::{Allocator, Global};
 use std::marker::Model;
@@ -55,29 +56,32 @@ pub struct Port<W: Wire, A: Handle = Global> {
     core: PortCore<A>,
     wire: W,
     wire_then: Snapshot<W>,
+    devices: Snapshot<Devices>,
     limits: Snapshot<Limits>,
     writer: Option<ImageWriter<A>>,
 }
 
 impl<W: Wire, A: Handle> Model for Port<W, A> {
-    ghost use Rattle.iol_port.specs.View.{Port, IsPort, opening_of};
+    ghost use Rattle.iol_port.specs.View.{Port, IsPort, opening_for};
     ghost use Rattle.iol_port.specs.CorePort.{parts_over};
 
     ghost Value = { Port W };
 
     ghost view = { λ p. record {
       parts = parts_over p.wire p.core;
-      opening = opening_of W.facts p.limits.value p.wire_then.value;
+      opening = opening_for W.facts p.devices.value p.limits.value p.wire_then.value;
       writer = p.writer;
     } };
 
     ghost invariant = { λ p. IsPort W.facts
-        (opening_of W.facts p.limits.value p.wire_then.value) (parts_over p.wire p.core) };
+        (opening_for W.facts p.devices.value p.limits.value p.wire_then.value)
+        (parts_over p.wire p.core) };
 }
 
 #[tactic(auto, using(crate::proofs::CorePorts::call_over, crate::proofs::OverWire::over_wire))]
 impl<W: Wire, A: Handle> Port<W, A> {
-    /// A port over this wire, whose link is down and whose first ticket is `given` + 1.
+    /// A port for devices of our own kind over this wire, whose link is down and whose first
+    /// ticket is `given` + 1.
     ///
     /// Refused by 24 where there is no memory for its book; the wire is handed back.
     pub fn open(alloc: A, wire: W, limits: &Limits) -> Result<Port<W, A>, (PortFault, W)>
@@ -90,12 +94,33 @@ impl<W: Wire, A: Handle> Port<W, A> {
         ensures refused { IfErr result (λ e. e.0 ≡ fault.Book OutOfMemory) }
         ensures back { IfErr result (λ e. e.1 ≡ wire) }
     {
+        Port::open_for(alloc, wire, limits, Devices::Own)
+    }
+
+    /// The same, for these devices, of which its start-ups know from then on.
+    pub fn open_for(
+        alloc: A,
+        wire: W,
+        limits: &Limits,
+        devices: Devices,
+    ) -> Result<Port<W, A>, (PortFault, W)>
+        requires limits { AreLimits limits.now }
+        ensures opening { IfOk result (λ p. p.opening
+            ≡ opening_for W.facts devices limits.now wire) }
+        ensures parts { IfOk result (λ p. IsOpened p.opening p.parts) }
+        ensures stands { IfOk result (λ p. OpensWell p.opening → StandsFor W.facts p.parts
+            (opened limits.now (W.facts.far wire) (W.facts.silence wire))) }
+        ensures writer { IfOk result (λ p. p.writer ≡ None) }
+        ensures refused { IfErr result (λ e. e.0 ≡ fault.Book OutOfMemory) }
+        ensures back { IfErr result (λ e. e.1 ≡ wire) }
+    {
         let wire_then = Snapshot::of(&wire);
-        match PortCore::open(alloc, limits) {
+        match PortCore::open_for(alloc, limits, devices) {
             Ok(core) => Ok(Port {
                 core,
                 wire,
                 wire_then,
+                devices: Snapshot::of(&devices),
                 limits: Snapshot::of(limits),
                 writer: None,
             }),
@@ -234,8 +259,9 @@ impl<W: Wire, A: Handle> Port<W, A> {
     /// Expects this device from the next page on that a start-up reads whole.
     ///
     /// Where that page is another device's, the link goes down in the very turn, with
-    /// `Why::WrongDevice` and the identity that was found, and nothing was written to the device.
-    /// Requests wait on. A page that was checked already is not checked again.
+    /// `Why::WrongDevice` and the identity that was found, and nothing but DeviceStartup (LINK-13)
+    /// was written to the device. Requests wait on. A page that was checked already is not checked
+    /// again.
     pub fn expect(&mut self, identity: Identity) -> Counting
         ensures does { Does W.facts self.old.parts (call.Expect (Some identity))
             (answered.Counts result) self.new.parts }
@@ -514,6 +540,7 @@ impl<W: Wire, A: Handle> Port<W, A> {
             core: _,
             wire,
             wire_then: _,
+            devices: _,
             limits: _,
             writer: _,
         } = self;

@@ -20,7 +20,7 @@ ghost use Rattle.iol_port.specs.EveryWire.{ExpectGives, SetCycleGives, page_show
 ghost use Rattle.iol_port.specs.RightDevice.{IsForRightDevice};
 ghost use Rattle.iol_port.specs.Run.{counting};
 ghost use Rattle.iol_port.specs.Clean.{CleanTurn};
-ghost use Rattle.iol_port.specs.CorePort.{CoreDoes, CoreOpens, CoreKeeps, IsNew, awaited, parts_over, SendGives, SendDoes, ReceiveGives, ReceiveDoes, WakeGives, WakeDoes};
+ghost use Rattle.iol_port.specs.CorePort.{CoreDoes, CoreOpens, CoreOpensFor, CoreKeeps, IsNew, IsNewFor, awaited, parts_over, SendGives, SendDoes, ReceiveGives, ReceiveDoes, WakeGives, WakeDoes};
 ghost use Rattle.iol_port.specs.Replies.{ticket_reply, outcome_reply, nothing_reply, event_reply, reply_of};
 
 use crate::PortFault;
@@ -36,6 +36,7 @@ use iol_event::Event;
 use iol_image::Image;
 use iol_isdu::{Cause, Request};
 use iol_link::{Rate, Wire};
+use iol_mode::Devices;
 use iol_mseq::Message;
 use iol_page::{CycleTime, Identity, Page};
 use iol_steps::{Mode, Said};
@@ -95,17 +96,27 @@ impl<A: Allocator + Copy> Model for PortCore<A> {
 }
 
 impl<A: Allocator + Copy> PortCore<A> {
-    /// A port whose link is down, and whose first ticket is `given` + 1. Refused by 24 where
-    /// there is no memory for its book.
+    /// A port for devices of our own kind, whose link is down, and whose first ticket is
+    /// `given` + 1. Refused by 24 where there is no memory for its book.
     pub fn open(alloc: A, limits: &Limits) -> Result<PortCore<A>, PortFault>
         requires limits { AreLimits limits.now }
         ensures parts { IfOk result (λ p. IsNew limits.now p) }
         ensures opens { IfOk result (λ p. CoreOpens limits.now p) }
         ensures refused { IfErr result (λ e. e ≡ fault.Book OutOfMemory) }
     {
+        PortCore::open_for(alloc, limits, Devices::Own)
+    }
+
+    /// The same, for these devices, of which its start-ups know from then on.
+    pub fn open_for(alloc: A, limits: &Limits, devices: Devices) -> Result<PortCore<A>, PortFault>
+        requires limits { AreLimits limits.now }
+        ensures parts { IfOk result (λ p. IsNewFor devices limits.now p) }
+        ensures opens { IfOk result (λ p. CoreOpensFor devices limits.now p) }
+        ensures refused { IfErr result (λ e. e ≡ fault.Book OutOfMemory) }
+    {
         match Book::open(alloc, limits) {
             Ok(book) => Ok(PortCore {
-                core: Core::new(limits.busy),
+                core: Core::new(limits.busy, devices),
                 book,
                 kept: ArrayVec::new(),
                 sent: false,
@@ -269,8 +280,9 @@ impl<A: Allocator + Copy> PortCore<A> {
     /// Expects this device from the next page on that a start-up reads whole.
     ///
     /// Where that page is another device's, the link goes down in the very turn, with
-    /// `Why::WrongDevice` and the identity that was found, and nothing was written to the device.
-    /// Requests wait on. A page that was checked already is not checked again.
+    /// `Why::WrongDevice` and the identity that was found, and nothing but DeviceStartup (LINK-13)
+    /// was written to the device. Requests wait on. A page that was checked already is not checked
+    /// again.
     ///
     /// Rules PORT-10, LINK-11.
     pub fn expect(&mut self, identity: Identity) -> Counting
@@ -441,10 +453,10 @@ impl<A: Allocator + Copy> PortCore<A> {
     /// nothing did. Of a reply of more than 66 octets give the first 66: it is of a wrong length
     /// as it is.
     ///
-    /// Without a good reply the message stays out, and the next `send` gives it again; the third
-    /// time in a row has lost the link.
+    /// Without a good reply the message stays out, and the next `send` gives it again, or at a port
+    /// for any device a question in its place; the third time in a row has lost the link.
     ///
-    /// Rules PD-7, PORT-1, PORT-4, PORT-9, PORT-12.
+    /// Rules PD-7, PORT-1, PORT-4, PORT-9, PORT-12, REQ-14.
     pub fn receive(&mut self, came: &Option<Message>)
         requires { awaited self.old ≡ Awaited.Reply }
         ensures gives { ReceiveGives self.old (octets_in came.now) self.new }

@@ -33,6 +33,8 @@ mod limits;
 #[cfg(test)]
 mod links;
 #[cfg(test)]
+mod missed_pulse;
+#[cfg(test)]
 mod ports;
 #[cfg(test)]
 mod sim;

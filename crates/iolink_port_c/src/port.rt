@@ -1,13 +1,14 @@
 //! Opening and closing.
-ghost use Rattle.std.specs.Prelude.{◌≡◌, true, false, IsTrue, IsFalse};
-ghost use Rattle.iol_port.specs.CorePort.{IsNew, CoreOpens};
+ghost use Rattle.std.specs.Prelude.{◌≡◌, None, true, false, IsTrue, IsFalse, IfSome, IsSome};
+ghost use Rattle.iol_port.specs.CorePort.{IsNew, IsNewFor, CoreOpens, CoreOpensFor};
 ghost use Rattle.iolink_port_c.specs.Calls.{parts_of, IsRefused};
-ghost use Rattle.iolink_port_c.specs.Opening.{AreInRange, limits_of};
+ghost use Rattle.iolink_port_c.specs.Opening.{AreInRange, devices_of, limits_of};
 ghost use Rattle.iolink_port_c.specs.JournalCalls.{KeepsNone};
 
 use crate::held::{IolPort, Master};
 use core::mem::replace_with;
 use iol_book::{Limits, QueueLimit};
+use iol_mode::Devices;
 use iol_port::PortCore;
 use iolink_handle::{CLOSED, IS_OPEN, OUT_OF_MEMORY, OUT_OF_RANGE};
 use std::alloc::Global;
@@ -18,7 +19,13 @@ const MOST_JOURNAL: u32 = 1000000;
 
 const LEAST_BUSY: u16 = 2;
 
-/// Opens a port, whose link is down. The first ticket is `given` + 1.
+/// For devices of our own kind.
+const OWN: u8 = 0;
+
+/// For any device by the standard.
+const ANY: u8 = 1;
+
+/// Opens a port for devices of our own kind, whose link is down. The first ticket is `given` + 1.
 ///
 /// 0, or the first of 253 where the handle is open already, 254 where the journal
 /// isn't 4 to 1,000,000 entries, the busy limit isn't 2 to 65,535 or the limit of
@@ -48,6 +55,73 @@ pub extern "C" fn iol_port_open(
         CoreOpens (limits_of journal busy queue given) (parts_of handle.new) }
     ensures journal { result ≡ 0 → KeepsNone handle.new }
 {
+    open_for(alloc, handle, Devices::Own, journal, busy, queue, given)
+}
+
+/// The same, for these devices: 0 for those of our own kind, 1 for any by the standard. 254 also
+/// where it is another number.
+#[unsafe(no_mangle)]
+pub extern "C" fn iol_port_open_for(
+    alloc: Global,
+    handle: &mut IolPort,
+    devices: u8,
+    journal: u32,
+    busy: u16,
+    queue: u8,
+    given: u64,
+) -> u8
+    ensures once { IsTrue handle.old.is_open → (result ≡ 253) × (handle.new ≡ handle.old) }
+    ensures devices { IsFalse handle.old.is_open → devices_of devices ≡ None →
+        (result ≡ 254) × (handle.new ≡ handle.old) }
+    ensures range { IsFalse handle.old.is_open →
+        ¬ AreInRange (limits_of journal busy queue given) →
+        (result ≡ 254) × (handle.new ≡ handle.old) }
+    ensures lacks { IsFalse handle.old.is_open → IsSome (devices_of devices) →
+        AreInRange (limits_of journal busy queue given) →
+        ¬ (result ≡ 0) → result ≡ 24 }
+    ensures refused { ¬ (result ≡ 0) → handle.new ≡ handle.old }
+    ensures opened { result ≡ 0 → handle.new.is_open ≡ true }
+    ensures parts { result ≡ 0 → IfSome (devices_of devices) (λ those.
+        IsNewFor those (limits_of journal busy queue given) (parts_of handle.new)) }
+    ensures opens { result ≡ 0 →
+        IfSome (devices_of devices) (λ those.
+        CoreOpensFor those (limits_of journal busy queue given) (parts_of handle.new)) }
+    ensures journal { result ≡ 0 → KeepsNone handle.new }
+{
+    if handle.is_open {
+        return IS_OPEN;
+    }
+    let Some(devices) = devices_of(devices) else {
+        return OUT_OF_RANGE;
+    };
+    open_for(alloc, handle, devices, journal, busy, queue, given)
+}
+
+/// A port for these devices, with the refusals of an opening.
+fn open_for(
+    alloc: Global,
+    handle: &mut IolPort,
+    devices: Devices,
+    journal: u32,
+    busy: u16,
+    queue: u8,
+    given: u64,
+) -> u8
+    ensures once { IsTrue handle.old.is_open → (result ≡ 253) × (handle.new ≡ handle.old) }
+    ensures range { IsFalse handle.old.is_open →
+        ¬ AreInRange (limits_of journal busy queue given) →
+        (result ≡ 254) × (handle.new ≡ handle.old) }
+    ensures lacks { IsFalse handle.old.is_open →
+        AreInRange (limits_of journal busy queue given) →
+        ¬ (result ≡ 0) → result ≡ 24 }
+    ensures refused { ¬ (result ≡ 0) → handle.new ≡ handle.old }
+    ensures opened { result ≡ 0 → handle.new.is_open ≡ true }
+    ensures parts { result ≡ 0 →
+        IsNewFor devices (limits_of journal busy queue given) (parts_of handle.new) }
+    ensures opens { result ≡ 0 →
+        CoreOpensFor devices (limits_of journal busy queue given) (parts_of handle.new) }
+    ensures journal { result ≡ 0 → KeepsNone handle.new }
+{
     if handle.is_open {
         return IS_OPEN;
     }
@@ -63,7 +137,7 @@ pub extern "C" fn iol_port_open(
         queue,
         given,
     };
-    let port = match PortCore::open(alloc, &limits) {
+    let port = match PortCore::open_for(alloc, &limits, devices) {
         Ok(port) => port,
         Err(fault) => return fault.code(),
     };
@@ -78,6 +152,17 @@ pub extern "C" fn iol_port_open(
             0
         }
         Err(_) => OUT_OF_MEMORY,
+    }
+}
+
+/// For which devices, by its number.
+fn devices_of(number: u8) -> Option<Devices>
+    ensures { result ≡ devices_of number }
+{
+    match number {
+        OWN => Some(Devices::Own),
+        ANY => Some(Devices::Any),
+        _ => None,
     }
 }
 

@@ -1,4 +1,4 @@
 use Rattle.iol_line.proofs.honest_port.HonestPort.open.Given as goal
 
-abbrev pub ghost-of : goal.ghost-of
-ghost-of g a = g.at
+abbrev pub ghost-open_for : goal.ghost-open_for
+ghost-open_for g a = g.at

@@ -9,6 +9,7 @@ invariant_of-self g c =
     let p : HonestPort = record {
       parts = c.self.inside.core;
       at = c.self.inside.at.at;
+      devices = c.self.inside.devices.value;
       limits = c.self.inside.limits.value;
       from = c.self.inside.from.at;
     } in

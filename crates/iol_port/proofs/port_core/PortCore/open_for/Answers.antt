@@ -4,12 +4,12 @@ use Rattle.iol_app.specs.StationState.{mode_in, why_in}
 use Rattle.iol_app.specs.Core.{Core, IsAttempted}
 use Rattle.iol_port.specs.CorePort.{at_end, bare}
 use Rattle.iol_port.proofs.RunLemmas.{opened_stands}
-use Rattle.iol_port.proofs.port_core.PortCore.open.Goals as goal
+use Rattle.iol_port.proofs.port_core.PortCore.open_for.Goals as goal
 
 pub returns-in-Ok-clause-opens : goal.returns-in-Ok-clause-opens
 returns-in-Ok-clause-opens g c far n well =
     let core = c.new.ensures.core in
-    opened_stands (at_end far n) c.args.limits.now tt
+    opened_stands (at_end far n) c.args.devices c.args.limits.now tt
     (record {
       station = bare c.new.result;
       book = c.in-Ok.book;
