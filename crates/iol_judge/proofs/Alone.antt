@@ -2,6 +2,7 @@
 use Rattle.std.proofs.Common.{◌≡◌, ℕ, Bool, true, false, List, [], ◌∷◌, refl, sym, ◌∙◌, subst, ◌⊎◌, inl, inr}
 use Rattle.std.specs.Prelude.{Option, Some, None, IfSome, if◌then◌else◌, ◌&&◌}
 use Rattle.iol_isdu.specs.declared.values.Answer.{Answer}
+use Rattle.iol_far.specs.declared.kind.Kind.{Kind}
 use Rattle.iol_far.specs.Isdu.{IsduState, Empty, Receiving, Whole, Handed, Answered, fits}
 use Rattle.iol_far.specs.Far.{Far, layout_of}
 use Rattle.iol_far.specs.Level.{link_of, grown_by}
@@ -10,7 +11,8 @@ use Rattle.iol_judge.specs.declared.events.Shown.{Shown}
 use Rattle.iol_judge.specs.declared.events.Shown.TheVariants.{Fresh}
 use Rattle.iol_judge.specs.declared.transfer.Transfer.{Transfer}
 use Rattle.iol_judge.specs.declared.transfer.Transfer.TheVariants.{Quiet}
-use Rattle.iol_judge.specs.UnderWay.{IsUnderWay}
+use Rattle.iol_judge.specs.Family.{has_kind}
+use Rattle.iol_judge.specs.UnderWay.{HasUnderWay, IsUnderWay}
 use Rattle.iol_judge.specs.State.{State, woken_state, powered_state}
 use Rattle.iol_judge.specs.Admitted.{Admits, AdmitsOne, Agrees, AreShown}
 use Rattle.iol_judge.proofs.Shown.{raised_shown, released_shown, none_shown}
@@ -25,9 +27,8 @@ pub record Alike (far new : Far) : Type 0 where
   pub page : new.page ≡ far.page
   pub events : (known : Shown) → AreShown (if far.awake then known else Fresh) far.events
       → AreShown (if new.awake then known else Fresh) new.events
-  pub isdu : (known : Transfer)
-      → IsUnderWay (layout_of far).od (if far.awake then known else Quiet) far.isdu
-      → IsUnderWay (layout_of new).od (if new.awake then known else Quiet) new.isdu
+  pub isdu : (known : Transfer) → HasUnderWay far (if far.awake then known else Quiet)
+      → HasUnderWay new (if new.awake then known else Quiet)
 
 itself : (far : Far) → Alike far far
 itself far =
@@ -60,8 +61,9 @@ carried_alike (Handed request) far answer is =
       cycle = refl;
       page = refl;
       events = λ known s. s;
-      isdu = λ known h. handed_answers (layout_of far).od (if far.awake then known else Quiet)
-          request answer e (subst (λ (s : IsduState). IsUnderWay (layout_of far).od
+      isdu = λ known h. handed_answers far.kind.hands_over far.counted (layout_of far).od
+          (if far.awake then known else Quiet) request answer e
+          (subst (λ (s : IsduState). IsUnderWay far.kind.hands_over far.counted (layout_of far).od
           (if far.awake then known else Quiet) s) is h);
     }
     split true false e = itself far
@@ -135,7 +137,7 @@ cycle_kept (Some octet) a b e h = e ∙ h
 pub admits_alike : (state : State) (far new : Far) → Alike far new → Admits state far
     → Admits state new
 admits_alike state far new same h = record {
-  own = same.kind ∙ h.own;
+  kind = subst (λ (k : Kind). has_kind state.kinds k ≡ true) (sym same.kind) h.kind;
   link = same.link ∙ h.link;
   cycle = cycle_kept state.cycle far.cycle_time new.cycle_time same.cycle h.cycle;
   events = same.events state.events h.events;
@@ -165,7 +167,7 @@ woken_admits state far h = split far.awake refl
         let s : AreShown state.events far.events =
         subst (λ (b : Bool). AreShown (if b then state.events else Fresh) far.events) e h.events in
         inl (record {
-          own = h.own;
+          kind = h.kind;
           link = refl;
           cycle = h.cycle;
           events = released_shown state.events far.events s;
@@ -175,7 +177,7 @@ woken_admits state far h = split far.awake refl
         let s : AreShown Fresh far.events =
         subst (λ (b : Bool). AreShown (if b then state.events else Fresh) far.events) e h.events in
         inr (inl (record {
-          own = h.own;
+          kind = h.kind;
           link = refl;
           cycle = h.cycle;
           events = released_shown Fresh far.events s;

@@ -2,12 +2,10 @@
 use Rattle.std.proofs.Common.{◌≡◌, ℕ, ◌-◌, ◌≤◌, length, Bool, true, false, List, [], refl, sym, ◌∙◌, ap, subst, replicate, eqb-true}
 use Rattle.std.specs.Prelude.{Option, Some, None, IfSome, is_some, unwrap_or, not, ◌&&◌, ◌==◌, nat_le, slice_index, slice_index_or, slice_set, if◌then◌else◌}
 use Rattle.std.specs.Option.{option_or}
-use Rattle.iol_octets.specs.Control.{control_of}
 use Rattle.iol_octets.specs.declared.control.Mc.{Mc}
 use Rattle.iol_octets.specs.declared.control.Channel.{Channel}
 use Rattle.iol_octets.specs.declared.control.Channel.TheVariants.{Process, Page, Diagnosis, Isdu}
 use Rattle.iol_mseq.specs.Shape.{Shape}
-use Rattle.iol_mseq.specs.Master.{master_fault, message_of}
 use Rattle.iol_mseq.specs.Replies.{reply_in}
 use Rattle.iol_mseq.specs.declared.master.MasterMsg.{MasterMsg}
 use Rattle.iol_mseq.specs.declared.reply.Reply.{Reply}
@@ -28,14 +26,15 @@ use Rattle.iol_judge.specs.declared.transfer.Transfer.{Transfer}
 use Rattle.iol_judge.specs.declared.transfer.Transfer.TheVariants.{Quiet}
 use Rattle.iol_judge.specs.Octets.{are_zeros, is_other}
 use Rattle.iol_judge.specs.Transfers.{transfer_told}
-use Rattle.iol_judge.specs.UnderWay.{IsUnderWay}
+use Rattle.iol_judge.specs.UnderWay.{HasUnderWay, IsUnderWay}
 use Rattle.iol_judge.specs.Events.{flag_fault, flag_told}
 use Rattle.iol_judge.specs.Seen.{page_noted}
 use Rattle.iol_judge.specs.State.{State}
 use Rattle.iol_judge.specs.Replies.{cycle_told, data_fault, data_oddity, explained, explained_by, explained_if, held_against, is_of_page, learned, no_zeros, other_than, page_fault, page_oddity, reply_fault, reply_oddity, shown_told}
 use Rattle.iol_judge.specs.Judged.{noted, noted_at}
 use Rattle.iol_judge.specs.Admitted.{Admits, Agrees, AreShown}
-use Rattle.iol_judge.proofs.Transferring.{AreTexts}
+use Rattle.iol_judge.proofs.Sending.{AreTexts}
+use Rattle.iol_judge.proofs.Hearing.{control_is}
 use Rattle.iol_judge.proofs.Telling.{IsSentBy, isdu_fits, told_under_way, worked_sent, zeros_are}
 use Rattle.iol_judge.proofs.Shown.{events_fit, flag_fits, flagged_shown, same_known, set_agrees, told_shown}
 
@@ -120,7 +119,8 @@ page_even cycle far address at = split (address == 1) (is_of_page address)
 data_fits : (seen : List (Option ℕ)) (state : State) (far : Far) (size : ℕ) (read : Bool)
     (channel : Channel) (address : ℕ) → AreTexts size → Agrees seen far.page
     → length far.events.frozen ≤ 6
-    → AreShown state.events far.events → IsUnderWay size state.transfer far.isdu
+    → AreShown state.events far.events
+    → IsUnderWay far.kind.hands_over far.counted size state.transfer far.isdu
     → IsSentBy read channel far.isdu
     → (if read
     then data_fault seen state (not (is_empty far.events.frozen)) channel address
@@ -133,7 +133,7 @@ data_fits seen state far size true Page address law agrees six shown under_way s
 data_fits seen state far size true Diagnosis address law agrees six shown under_way sent =
     events_fit state.events far.events six shown address
 data_fits seen state far size true Isdu address law agrees six shown under_way sent =
-    isdu_fits size law state.transfer far.isdu under_way sent
+    isdu_fits far.kind.hands_over far.counted size law state.transfer far.isdu under_way sent
 
 data_even : (cycle : Option ℕ) (far : Far) (size : ℕ) (read : Bool) (channel : Channel)
     (address : ℕ) → IfSome cycle (λ o. far.cycle_time ≡ o)
@@ -161,10 +161,9 @@ shown_awake state far awake admits =
 
 -- and its transfer
 under_way_awake : (state : State) (far : Far) → far.awake ≡ true → Admits state far
-    → IsUnderWay (layout_of far).od state.transfer far.isdu
+    → HasUnderWay far state.transfer
 under_way_awake state far awake admits =
-    subst (λ (b : Bool). IsUnderWay (layout_of far).od (if b then state.transfer else Quiet)
-    far.isdu) awake admits.isdu
+    subst (λ (b : Bool). HasUnderWay far (if b then state.transfer else Quiet)) awake admits.isdu
 
 -- of the device that worked the message
 no_fault : (seen : List (Option ℕ)) (state : State) (there : Far) (octets : List ℕ)
@@ -288,16 +287,17 @@ events_said events far size true Diagnosis address six s =
     told_shown events far.events six s address
 
 isdu_said : (size : ℕ) → AreTexts size → (transfer : Transfer) (far : Far) (read : Bool)
-    (channel : Channel) (address : ℕ) → IsUnderWay size transfer far.isdu
+    (channel : Channel) (address : ℕ)
+    → IsUnderWay far.kind.hands_over far.counted size transfer far.isdu
     → IsSentBy read channel far.isdu
-    → IsUnderWay size (transfer_told transfer read channel
+    → IsUnderWay far.kind.hands_over far.counted size (transfer_told transfer read channel
     (if read then data_of far size channel address else [])) far.isdu
 isdu_said size law transfer far false channel address h sent = h
 isdu_said size law transfer far true Process address h sent = h
 isdu_said size law transfer far true Page address h sent = h
 isdu_said size law transfer far true Diagnosis address h sent = h
 isdu_said size law transfer far true Isdu address h sent =
-    told_under_way size law transfer far.isdu h sent
+    told_under_way far.kind.hands_over far.counted size law transfer far.isdu h sent
 
 pub learned_admits : (state : State) (far : Far) (message : MasterMsg)
     → AreTexts (layout_of far).od → far.awake ≡ true → IsEventMemory far.events
@@ -313,7 +313,7 @@ learned_admits state far message law awake memory sent h =
     let isdu = isdu_said (layout_of far).od law state.transfer far message.mc.read
     message.mc.channel message.mc.address (under_way_awake state far awake h) sent in
     record {
-      own = h.own;
+      kind = h.kind;
       link = h.link;
       cycle = cycle_said state.cycle far (layout_of far).od message.mc.read message.mc.channel
           message.mc.address h.cycle;
@@ -323,11 +323,11 @@ learned_admits state far message law awake memory sent h =
           message.mc.read message.mc.channel message.mc.address
           (slice_index (reply_to far (layout_of far) message).od.items 0)
           else Fresh) far.events) (sym awake) said;
-      isdu = subst (λ (b : Bool). IsUnderWay (layout_of far).od
+      isdu = subst (λ (b : Bool). HasUnderWay far
           (if b
           then transfer_told state.transfer message.mc.read message.mc.channel
           (reply_to far (layout_of far) message).od.items
-          else Quiet) far.isdu) (sym awake) isdu;
+          else Quiet)) (sym awake) isdu;
     }
 
 page_told : (seen : List (Option ℕ)) (far : Far) (address : ℕ) → Agrees seen far.page
@@ -364,18 +364,6 @@ noted_told seen far reply size true Page address e agrees =
     in
     subst (λ (octet : ℕ). Agrees (page_noted seen address octet) far.page) (sym first)
     (page_told seen far address agrees)
-
--- the control octet of a message
-control_is : (layout : Shape) (octets : List ℕ) (message : MasterMsg)
-    → message_in layout octets ≡ Some message → message.mc ≡ control_of (slice_index octets 0)
-unfolding message_in
-control_is layout octets message h = split (is_some (master_fault layout octets)) h
-  where
-    split : (b : Bool) → (if b then None else Some (message_of layout octets)) ≡ Some message
-        → message.mc ≡ control_of (slice_index octets 0)
-    split true h = absurd (cc)
-    split false h = let e : message_of layout octets
-        ≡ message = cc in ap (λ (m : MasterMsg). m.mc) (sym e)
 
 pub noted_agrees : (seen : List (Option ℕ)) (far : Far) (sent : List ℕ) (layout : Shape)
     (message : MasterMsg) → message_in layout sent ≡ Some message → (size : Shape)

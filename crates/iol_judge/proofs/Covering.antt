@@ -1,18 +1,20 @@
 -- What a transfer covers holds of it, and what a device does by itself, or a message in another
 -- layout, keeps what is known of it.
-use Rattle.std.proofs.Common.{◌≡◌, ◌⊎◌, inl, inr, ℕ, Bool, true, false, List, refl, sym, ◌∙◌, ap, subst, arith, eqb-true}
+use Rattle.std.proofs.Common.{◌≡◌, ◌⊎◌, inl, inr, ℕ, zero, suc, ◌*◌, ◌≤◌, Bool, true, false, List, refl, sym, ◌∙◌, ap, subst, arith, eqb-true}
 use Rattle.std.proofs.lemmas.Grind.{common_steps}
 use Rattle.std.specs.Prelude.{Option, Some, None, ◌&&◌, ◌==◌, nat_eq, bytes_eq}
 use Rattle.std.specs.Option.{option_eq}
 use Rattle.std.proofs.lemmas.Slice.Eq.{bytes_eq-Decides}
 use Rattle.iol_isdu.specs.declared.values.Request.{Request}
 use Rattle.iol_isdu.specs.declared.values.Answer.{Answer}
+use Rattle.iol_far.specs.declared.kind.HandsOver.{HandsOver}
+use Rattle.iol_far.specs.declared.kind.HandsOver.TheVariants.{FirstRead, LastSegment}
 use Rattle.iol_far.specs.Isdu.{IsduState, Empty, Receiving, Whole, Handed, Answered, fits}
 use Rattle.iol_judge.specs.declared.had.Ahead.{Ahead}
 use Rattle.iol_judge.specs.declared.had.Had.{Had}
 use Rattle.iol_judge.specs.declared.transfer.Transfer.{Transfer}
 use Rattle.iol_judge.specs.declared.transfer.Transfer.TheVariants as known
-use Rattle.iol_judge.specs.Answers.{same_ahead, same_had, same_read}
+use Rattle.iol_judge.specs.Answers.{none_had, same_ahead, same_had, same_read}
 use Rattle.iol_judge.specs.Transfers.{covers_transfer}
 use Rattle.iol_judge.specs.UnderWay.{IsUnderWay, IsWhole, IsHanded, IsAsked, IsAnswered}
 use Rattle.iol_judge.proofs.Shown.{both}
@@ -79,56 +81,101 @@ had_same a b e =
     (bytes_same a.text.items b.text.items outer.1) (eqb-true a.at b.at all.1)
     (eqb-true a.count b.count whole.1) (ahead_same a.ahead b.ahead most.1)
 
-asked_covers : (read : Bool) (state : IsduState) → IsHanded read state → IsAsked read state
-asked_covers read (Handed request) h = h
-asked_covers read (Answered request answer None) h = h
-asked_covers read (Answered request answer (Some sent)) h = absurd h
-asked_covers read Empty h = absurd h
-asked_covers read (Receiving text last) h = absurd h
-asked_covers read (Whole request last) h = absurd h
+asked_covers : (hands_over : HandsOver) (counted : Option ℕ) (read : Bool) (last : Option ℕ)
+    (state : IsduState) → IsHanded hands_over counted read last state
+    → IsAsked hands_over counted read last state
+asked_covers hands_over counted read last (Handed request) h = h
+asked_covers hands_over counted read last (Answered request answer None) h = h
+asked_covers hands_over counted read last (Answered request answer (Some sent)) h = absurd h
+asked_covers hands_over counted read last Empty h = absurd h
+asked_covers hands_over counted read last (Receiving text other) h = absurd h
+asked_covers hands_over counted read last (Whole request other) h = absurd h
 
-pub covers_under_way : (size : ℕ) (a b : Transfer) (state : IsduState)
-    → covers_transfer a b ≡ true → IsUnderWay size b state → IsUnderWay size a state
-covers_under_way size known.Free b state e h = tt
-covers_under_way size known.Quiet known.Quiet state e h = h
-covers_under_way size (known.Receiving text last) (known.Receiving others other) state e h =
-    let parts = both (bytes_eq text.items others.items) (option_eq nat_eq last other) e in
-    let items : text.items ≡ others.items = bytes_same text.items others.items parts.0 in
-    let count : last ≡ other = count_same last other parts.1 in
-    h ∙ ap (λ (l : List ℕ). Receiving l other) (sym items)
-    ∙ ap (λ (c : Option ℕ). Receiving text.items c) (sym count)
-covers_under_way size (known.Whole read last) (known.Whole reads other) state e h =
-    let parts = both (same_read read reads) (option_eq nat_eq last other) e in
-    subst (λ (c : Option ℕ). IsWhole read c state) (sym (count_same last other parts.1))
-    (subst (λ (r : Bool). IsWhole r other state) (sym (read_same read reads parts.0)) h)
-covers_under_way size (known.Handed read) (known.Handed reads) state e h =
-    subst (λ (r : Bool). IsHanded r state) (sym (read_same read reads e)) h
-covers_under_way size (known.Asked read) (known.Handed reads) state e h =
-    asked_covers read state
-    (subst (λ (r : Bool). IsHanded r state) (sym (read_same read reads e)) h)
-covers_under_way size (known.Asked read) (known.Asked reads) state e h =
-    subst (λ (r : Bool). IsAsked r state) (sym (read_same read reads e)) h
-covers_under_way size (known.Answered had) (known.Answered other) state e h =
-    subst (λ (a : Had). IsAnswered size a state) (sym (had_same had other e)) h
-covers_under_way size (known.Perhaps had) (known.Answered other) state e h =
-    inl (subst (λ (a : Had). IsAnswered size a state) (sym (had_same had other e)) h)
-covers_under_way size (known.Perhaps had) (known.Perhaps other) state e h =
-    subst (λ (a : Had). IsAnswered size a state ⊎ (state ≡ Empty)) (sym (had_same had other e)) h
-covers_under_way size (known.Perhaps had) known.Quiet state e h = inr h
-covers_under_way size a b state e h = absurd (cc)
+-- a segment was sent, and none was had: it is the first
+none_first : (size sent : ℕ) → 1 ≤ size → 0 ≡ sent * size → sent ≡ 0
+none_first size zero some at = refl
+none_first size (suc sent) some at = absurd (omega (arith, some, at))
+
+none_covers : (hands_over : HandsOver) (counted : Option ℕ) (size : ℕ) → 1 ≤ size
+    → (read : Bool) (last : Option ℕ) (state : IsduState) → IsAnswered size (none_had read) state
+    → IsAsked hands_over counted read last state
+none_covers hands_over counted size some read last (Answered request answer (Some zero)) h =
+    (h.0, h.1)
+none_covers hands_over counted size some read last (Answered request answer (Some (suc sent))) h =
+    let at : 0 ≡ suc sent * size = h.2.at in
+    let none : suc sent ≡ 0 = none_first size (suc sent) some at in
+    absurd (cc)
+none_covers hands_over counted size some read last (Answered request answer None) h = absurd h
+none_covers hands_over counted size some read last Empty h = absurd h
+none_covers hands_over counted size some read last (Receiving text other) h = absurd h
+none_covers hands_over counted size some read last (Whole request other) h = absurd h
+none_covers hands_over counted size some read last (Handed request) h = absurd h
+
+module _ (hands_over : HandsOver) (counted : Option ℕ) (size : ℕ) (some : 1 ≤ size) where
+  pub covers_under_way : (a b : Transfer) (state : IsduState)
+      → covers_transfer a b ≡ true → IsUnderWay hands_over counted size b state
+      → IsUnderWay hands_over counted size a state
+  covers_under_way known.Free b state e h = tt
+  covers_under_way known.Quiet known.Quiet state e h = h
+  covers_under_way (known.Receiving text last) (known.Receiving others other) state e h =
+      let parts = both (bytes_eq text.items others.items) (option_eq nat_eq last other) e in
+      let items : text.items ≡ others.items = bytes_same text.items others.items parts.0 in
+      let count : last ≡ other = count_same last other parts.1 in
+      h ∙ ap (λ (l : List ℕ). Receiving l other) (sym items)
+      ∙ ap (λ (c : Option ℕ). Receiving text.items c) (sym count)
+  covers_under_way (known.Whole read last) (known.Whole reads other) state e h =
+      let parts = both (same_read read reads) (option_eq nat_eq last other) e in
+      subst (λ (c : Option ℕ). IsWhole hands_over counted read c state)
+      (sym (count_same last other parts.1))
+      (subst (λ (r : Bool). IsWhole hands_over counted r other state)
+      (sym (read_same read reads parts.0)) h)
+  covers_under_way (known.Handed read last) (known.Handed reads other) state e h =
+      let parts = both (same_read read reads) (option_eq nat_eq last other) e in
+      subst (λ (c : Option ℕ). IsHanded hands_over counted read c state)
+      (sym (count_same last other parts.1))
+      (subst (λ (r : Bool). IsHanded hands_over counted r other state)
+      (sym (read_same read reads parts.0)) h)
+  covers_under_way (known.Asked read last) (known.Handed reads other) state e h =
+      let parts = both (same_read read reads) (option_eq nat_eq last other) e in
+      subst (λ (c : Option ℕ). IsAsked hands_over counted read c state)
+      (sym (count_same last other parts.1))
+      (subst (λ (r : Bool). IsAsked hands_over counted r other state)
+      (sym (read_same read reads parts.0)) (asked_covers hands_over counted reads other state h))
+  covers_under_way (known.Asked read last) (known.Asked reads other) state e h =
+      let parts = both (same_read read reads) (option_eq nat_eq last other) e in
+      subst (λ (c : Option ℕ). IsAsked hands_over counted read c state)
+      (sym (count_same last other parts.1))
+      (subst (λ (r : Bool). IsAsked hands_over counted r other state)
+      (sym (read_same read reads parts.0)) h)
+  covers_under_way (known.Asked read last) (known.Answered other) state e h =
+      none_covers hands_over counted size some read last state
+      (subst (λ (a : Had). IsAnswered size a state) (sym (had_same (none_had read) other e)) h)
+  covers_under_way (known.Answered had) (known.Answered other) state e h =
+      subst (λ (a : Had). IsAnswered size a state) (sym (had_same had other e)) h
+  covers_under_way (known.Perhaps had) (known.Answered other) state e h =
+      inl (subst (λ (a : Had). IsAnswered size a state) (sym (had_same had other e)) h)
+  covers_under_way (known.Perhaps had) (known.Perhaps other) state e h =
+      subst (λ (a : Had). IsAnswered size a state ⊎ (state ≡ Empty)) (sym (had_same had other e)) h
+  covers_under_way (known.Perhaps had) known.Quiet state e h = inr h
+  covers_under_way a b state e h = absurd (cc)
 
 -- once the application answered
-pub handed_answers : (size : ℕ) (transfer : Transfer) (request : Request) (answer : Answer)
-    → fits request answer ≡ true → IsUnderWay size transfer (Handed request)
-    → IsUnderWay size transfer (Answered request answer None)
-handed_answers size known.Free request answer e h = tt
-handed_answers size known.Quiet request answer e h = absurd (cc)
-handed_answers size (known.Receiving text last) request answer e h = absurd (cc)
-handed_answers size (known.Whole read last) request answer e h = absurd h
-handed_answers size (known.Handed read) request answer e h = (h, e)
-handed_answers size (known.Asked read) request answer e h = (h, e)
-handed_answers size (known.Answered had) request answer e h = absurd h
-handed_answers size (known.Perhaps had) request answer e h = elim h [
+pub handed_answers : (hands_over : HandsOver) (counted : Option ℕ) (size : ℕ)
+    (transfer : Transfer) (request : Request) (answer : Answer)
+    → fits request answer ≡ true → IsUnderWay hands_over counted size transfer (Handed request)
+    → IsUnderWay hands_over counted size transfer (Answered request answer None)
+handed_answers hands_over counted size known.Free request answer e h = tt
+handed_answers hands_over counted size known.Quiet request answer e h = absurd (cc)
+handed_answers hands_over counted size (known.Receiving text last) request answer e h = absurd (cc)
+handed_answers FirstRead counted size (known.Whole read last) request answer e h = absurd h
+handed_answers LastSegment counted size (known.Whole read last) request answer e h =
+    (h.0, e, h.1)
+handed_answers hands_over counted size (known.Handed read last) request answer e h =
+    (h.0, e, h.1)
+handed_answers hands_over counted size (known.Asked read last) request answer e h =
+    (h.0, e, h.1)
+handed_answers hands_over counted size (known.Answered had) request answer e h = absurd h
+handed_answers hands_over counted size (known.Perhaps had) request answer e h = elim h [
   | inl never ↦ absurd never
   | inr never ↦ absurd (cc)
 ]

@@ -10,7 +10,7 @@ use Rattle.iol_far.specs.Far.{Far, Heard, layout_of, accepted, accepted_by, hear
 use Rattle.iol_far.specs.Local.{LocalStep, local, locals, woken}
 use Rattle.iol_far.specs.Laws.{IsRegular, IsSized, MuchStays, RepliesAreRead}
 use Rattle.iol_far.specs.Regular.{RegularStays}
-use Rattle.iol_link.specs.Honest.{HonestExchange, HonestWake, Passage, OutLost, BackLost, Clean, IsUnread, IsAnswer, far_after}
+use Rattle.iol_link.specs.Honest.{HonestExchange, Passage, OutLost, BackLost, Clean, IsUnread, IsAnswer, far_after}
 use Rattle.iol_judge.specs.declared.open.Open.{Open}
 use Rattle.iol_judge.specs.declared.reason.Reason.{Reason}
 use Rattle.iol_judge.specs.declared.taken.Explained.{Explained}
@@ -21,22 +21,26 @@ use Rattle.iol_judge.specs.declared.verdict.Verdict.{Verdict}
 use Rattle.iol_judge.specs.declared.verdict.Verdict.TheVariants.{Unjudged, Honest, NotHonest, CantSay}
 use Rattle.iol_judge.specs.declared.verdict.Wake.{Wake}
 use Rattle.iol_judge.specs.declared.verdict.Wake.TheVariants.{Answered, Unanswered}
+use Rattle.iol_far.specs.declared.kind.Kind.{Kind}
+use Rattle.iol_judge.specs.declared.kinds.Kinds.{Kinds}
+use Rattle.iol_judge.specs.Family.{both_kinds, has_kind, no_kinds}
 use Rattle.iol_judge.specs.Numbers.{later}
 use Rattle.iol_judge.specs.Seen.{nothing_seen, whole_page, layouts_seen}
-use Rattle.iol_judge.specs.State.{State, first_state}
+use Rattle.iol_judge.specs.State.{State, first_state, parts}
 use Rattle.iol_judge.specs.Taking.{taken_by}
 use Rattle.iol_judge.specs.Replies.{is_readable, explained, learned}
-use Rattle.iol_judge.specs.Judged.{Judged, added, added_taken, lost_with, lost_into, all_lost, next_states, explained_into, replied_taken, replied_into, all_replied, concluded_lost, concluded_with, concluded_replied, no_next, odd_for_all, unanswered, answered, counted, judged_by, exchanged, woken_states, woken_into, all_woken, woke_by, woke}
+use Rattle.iol_judge.specs.Judged.{Judged, added, added_taken, lost_with, lost_into, lost_part, all_lost, all_lost_parts, next_states, explained_into, replied_taken, replied_part, replied_into, all_replied, concluded_lost, concluded_with, concluded_replied, no_next, odd_for_all, unanswered, answered, counted, judged_by, exchanged, woken_states, woken_into, all_woken, woke_by, woke, kinds_by, kinds_left, kinds_with}
 use Rattle.iol_judge.specs.Judged as judging
-use Rattle.iol_judge.specs.Admitted.{Agrees, Admits, AdmitsOne, IsPossible, IsFair, Passing, Wakes, Passes, told, told_all, is_answered, IsHonest, IsHonestRun, NeverBlamed}
-use Rattle.iol_judge.proofs.Turns.{each_admits, each_keeps}
+use Rattle.iol_judge.specs.Admitted.{Agrees, Admits, AdmitsOne, IsPossible, IsFair, Passing, Wakes, Passes, told, told_all, is_answered, IsHonest, IsHonestRun, IsWake, NeverBlamed}
+use Rattle.iol_judge.proofs.Turns.{each_admits, each_gains, each_keeps}
 use Rattle.iol_judge.proofs.Shown.{nothing_known, released_free}
 use Rattle.iol_judge.proofs.Alone.{Alike, locals_alike, one_alike, agrees_alike, woken_admits}
-use Rattle.iol_judge.proofs.Sets.{added_keeps, added_admits}
+use Rattle.iol_judge.proofs.Sets.{added_keeps, added_admits, both_has, other_has}
+use Rattle.iol_judge.proofs.Apart.{IsPart, all_have, parts_admit}
 use Rattle.iol_judge.proofs.Layouts.{Knows, knows}
 use Rattle.iol_judge.proofs.Hearing.{Accepting, accepting, Fits, state_fits}
 use Rattle.iol_judge.proofs.Answering.{explains, learned_admits, noted_agrees}
-use Rattle.iol_judge.proofs.Transferring.{AllTexts}
+use Rattle.iol_judge.proofs.Sending.{AllTexts}
 use Rattle.iol_judge.proofs.Telling.{IsSentBy, worked_sent}
 use Rattle.iol_judge.proofs.Reading.{readable_is_unaltered}
 
@@ -112,33 +116,44 @@ follows_heard far sent = elim (hears far sent) [
 module _ (known : Result Layouts Open) (sent : List ℕ) (far new : Far)
     (texts : AllTexts) (knows : Knows known far.page)
     (follows : Follows far sent new) where
+  part_keeps : (mid : List State) (part : State) (more : List State)
+      → lost_part known sent mid part ≡ Ok more → AdmitsOne mid new → AdmitsOne more new
+  part_keeps mid part more h a = inner (taken_by known part sent) h
+    where
+      inner : (taken : Result (Option Taken) Open)
+          → added_taken taken mid ≡ Ok more → AdmitsOne more new
+      inner (Ok None) h = let e : mid ≡ more = cc in subst
+          (λ (s : List State). AdmitsOne s new) e a
+      inner (Ok (Some found)) h = added_keeps mid found.kept more new (texts new).some h a
+      inner (Err why) h = absurd (cc)
+
+  parts_keep : (items mid more : List State)
+      → all_lost_parts known sent mid items ≡ Ok more → AdmitsOne mid new → AdmitsOne more new
+  parts_keep items mid more h a =
+      each_keeps (lost_part known sent) (λ (s : List State). AdmitsOne s new) part_keeps items mid
+      more h a
+
   lost_keeps : (next : List State) (state : State) (more : List State)
       → lost_into known sent next state ≡ Ok more → AdmitsOne next new → AdmitsOne more new
   lost_keeps next state more h admits = outer (added next state) refl h
     where
-      inner : (taken : Result (Option Taken) Open) (mid : List State) → AdmitsOne mid new
-          → added_taken taken mid ≡ Ok more → AdmitsOne more new
-      inner (Ok None) mid a h = let e : mid ≡ more = cc in subst
-          (λ (s : List State). AdmitsOne s new) e a
-      inner (Ok (Some found)) mid a h = added_keeps mid found.kept more new h a
-      inner (Err why) mid a h = absurd (cc)
-
       outer : (r : Result (List State) Open) → added next state ≡ r
-          → lost_with (taken_by known state sent) r ≡ Ok more → AdmitsOne more new
-      outer (Ok mid) e h = inner (taken_by known state sent) mid
-          (added_keeps next state mid new e admits) h
+          → lost_with known sent (parts state sent) r ≡ Ok more → AdmitsOne more new
+      outer (Ok mid) e h = parts_keep (parts state sent) mid more h
+          (added_keeps next state mid new (texts new).some e admits)
       outer (Err why) e h = absurd (cc)
 
   -- as the state makes of the message what the device does
-  worked_in : (state : State) → Admits state far → (work : Works far sent)
+  worked_in : (part : State) → IsPart far sent part → (work : Works far sent)
       → new ≡ worked work.there sent work.message → (found : Option Taken)
-      → taken_by known state sent ≡ Ok found → (mid more : List State)
+      → taken_by known part sent ≡ Ok found → (mid more : List State)
       → added_taken (Ok found) mid ≡ Ok more → AdmitsOne more new
   unfolding Fits
-  worked_in state admits work is found e mid more h =
+  worked_in part is_part work is found e mid more h =
       let fits : Fits work.there sent (Some work.message) found =
       subst (λ (m : Option MasterMsg). Fits work.there sent m found) work.spells
-      (state_fits known far work.there sent state found texts knows work.accepting admits e) in
+      (state_fits known far work.there sent part found texts knows work.accepting is_part.0
+      is_part.1 e) in
       subst (λ (g : Far). AdmitsOne more g) (sym is) (split found fits h)
     where
       split : (found : Option Taken) → Fits work.there sent (Some work.message) found
@@ -146,37 +161,34 @@ module _ (known : Result Layouts Open) (sent : List ℕ) (far new : Far)
           → AdmitsOne more (worked work.there sent work.message)
       split None fits h = absurd fits
       split (Some taken) fits h = added_admits mid taken.kept more
-          (worked work.there sent work.message) h fits.2
+          (worked work.there sent work.message)
+          (texts (worked work.there sent work.message)).some h fits.2
+
+  part_gains : (work : Works far sent) → new ≡ worked work.there sent work.message
+      → (mid : List State) (part : State) (more : List State)
+      → lost_part known sent mid part ≡ Ok more → IsPart far sent part → AdmitsOne more new
+  part_gains work is mid part more h is_part = inner (taken_by known part sent) refl h
+    where
+      inner : (taken : Result (Option Taken) Open) → taken_by known part sent ≡ taken
+          → added_taken taken mid ≡ Ok more → AdmitsOne more new
+      inner (Ok found) e h = worked_in part is_part work is found e mid more h
+      inner (Err why) e h = absurd (cc)
 
   lost_gains : (next : List State) (state : State) (more : List State)
       → lost_into known sent next state ≡ Ok more → Admits state far → AdmitsOne more new
   unfolding Follows
   lost_gains next state more h admits = outer (added next state) refl h
     where
-      stays : (mid : List State) → AdmitsOne mid far → new ≡ far
-          → (taken : Result (Option Taken) Open)
-          → added_taken taken mid ≡ Ok more → AdmitsOne more new
-      stays mid a is (Ok None) h =
-          let e : mid ≡ more = cc in
-          subst (λ (s : List State). AdmitsOne s new) e
-          (subst (λ (g : Far). AdmitsOne mid g) (sym is) a)
-      stays mid a is (Ok (Some found)) h =
-          added_keeps mid found.kept more new h (subst (λ (g : Far). AdmitsOne mid g) (sym is) a)
-      stays mid a is (Err why) h = absurd (cc)
-
-      works : (mid : List State) → (work : Works far sent) → new
-          ≡ worked work.there sent work.message
-          → (taken : Result (Option Taken) Open) → taken_by known state sent ≡ taken
-          → added_taken taken mid ≡ Ok more → AdmitsOne more new
-      works mid work is (Ok found) e h = worked_in state admits work is found e mid more h
-      works mid work is (Err why) e h = absurd (cc)
-
       outer : (r : Result (List State) Open) → added next state ≡ r
-          → lost_with (taken_by known state sent) r ≡ Ok more → AdmitsOne more new
+          → lost_with known sent (parts state sent) r ≡ Ok more → AdmitsOne more new
       outer (Ok mid) e h = elim follows [
-        | inl is ↦ stays mid (added_admits next state mid far e admits) is
-            (taken_by known state sent) h
-        | inr work ↦ works mid work.0 work.1 (taken_by known state sent) refl h
+        | inl is ↦ parts_keep (parts state sent) mid more h
+            (subst (λ (g : Far). AdmitsOne mid g) (sym is)
+            (added_admits next state mid far (texts far).some e admits))
+        | inr work ↦ each_gains (lost_part known sent) (IsPart far sent)
+            (λ (s : List State). AdmitsOne s new) part_keeps (part_gains work.0 work.1)
+            (parts state sent) mid more h
+            (parts_admit far sent texts work.0.accepting.hears state admits)
       ]
       outer (Err why) e h = absurd (cc)
 
@@ -264,12 +276,12 @@ module _ (law : Laws) (reads : RepliesAreRead) (judged : Judged)
       × (n.oddity ≡ None)) e (admits out refl, even)
   next_admits next (Err why) more even admits h = absurd (cc)
 
-  replied_keeps : (next : Next) (state : State) (more : Next)
-      → replied_into (layouts_seen judged.seen) judged.odd judged.seen sent its_reply next state
+  part_kept : (next : Next) (state : State) (more : Next)
+      → replied_part (layouts_seen judged.seen) judged.odd judged.seen sent its_reply next state
       ≡ Ok more
       → AdmitsNext next → AdmitsNext more
   unfolding AdmitsNext worked_far
-  replied_keeps next state more h a = outer (taken_by (layouts_seen judged.seen) state sent) h
+  part_kept next state more h a = outer (taken_by (layouts_seen judged.seen) state sent) h
     where
       inner : (by : Explained) → explained_into next by ≡ Ok more
           → AdmitsOne more.states.items (worked work.there sent work.message)
@@ -279,8 +291,8 @@ module _ (law : Laws) (reads : RepliesAreRead) (judged : Judged)
           (added next.states.items found) more
           (old_even next.states.items next.oddity oddity (worked work.there sent work.message)
           a.0 a.1)
-          (λ out e. added_keeps next.states.items found out (worked work.there sent work.message) e
-          a.0) h
+          (λ out e. added_keeps next.states.items found out (worked work.there sent work.message)
+          (law.texts (worked work.there sent work.message)).some e a.0) h
       inner (Not reason) h =
           let e : ◌≡◌ {A = Next} (record next { reason = later next.reason reason }) more = cc in
           subst (λ (n : Next). AdmitsOne n.states.items (worked work.there sent work.message)
@@ -296,12 +308,12 @@ module _ (law : Laws) (reads : RepliesAreRead) (judged : Judged)
   there_agrees : Agrees judged.seen work.there.page
   there_agrees = subst (λ (p : List ℕ). Agrees judged.seen p) (sym work.accepting.page) agrees
 
-  replied_gains : (next : Next) (state : State) (more : Next)
-      → replied_into (layouts_seen judged.seen) judged.odd judged.seen sent its_reply next state
+  part_gained : (next : Next) (state : State) (more : Next)
+      → replied_part (layouts_seen judged.seen) judged.odd judged.seen sent its_reply next state
       ≡ Ok more
-      → Admits state far → AdmitsNext more
+      → IsPart far sent state → AdmitsNext more
   unfolding AdmitsNext worked_far its_reply Fits
-  replied_gains next state more h a = outer (taken_by (layouts_seen judged.seen) state sent) refl h
+  part_gained next state more h a = outer (taken_by (layouts_seen judged.seen) state sent) refl h
     where
       inner : (found : Option Taken) → Fits work.there sent (Some work.message) found
           → explained_into next (explained judged.odd judged.seen found its_reply) ≡ Ok more
@@ -325,7 +337,8 @@ module _ (law : Laws) (reads : RepliesAreRead) (judged : Judged)
           next_admits even (added next.states.items (learned found.kept work.message.mc answer))
           more (now_even next.states.items next.oddity)
           (λ out e. added_admits next.states.items (learned found.kept work.message.mc answer) out
-          (worked work.there sent work.message) e
+          (worked work.there sent work.message)
+          (law.texts (worked work.there sent work.message)).some e
           (learned_admits found.kept (worked work.there sent work.message) work.message
           (law.texts work.there) work.accepting.awake memory its_sent fits.2)) ok
 
@@ -337,8 +350,25 @@ module _ (law : Laws) (reads : RepliesAreRead) (judged : Judged)
       outer (Ok found) e h = inner found
           (subst (λ (m : Option MasterMsg). Fits work.there sent m found) work.spells
           (state_fits (layouts_seen judged.seen) far work.there sent state found law.texts
-          (knows law.pages judged.seen far.page agrees) work.accepting a e)) h
+          (knows law.pages judged.seen far.page agrees) work.accepting a.0 a.1 e)) h
       outer (Err why) e h = absurd (cc)
+
+  replied_keeps : (next : Next) (state : State) (more : Next)
+      → replied_into (layouts_seen judged.seen) judged.odd judged.seen sent its_reply next state
+      ≡ Ok more
+      → AdmitsNext next → AdmitsNext more
+  replied_keeps next state more h a =
+      each_keeps (replied_part (layouts_seen judged.seen) judged.odd judged.seen sent its_reply)
+      AdmitsNext part_kept (parts state sent) next more h a
+
+  replied_gains : (next : Next) (state : State) (more : Next)
+      → replied_into (layouts_seen judged.seen) judged.odd judged.seen sent its_reply next state
+      ≡ Ok more
+      → Admits state far → AdmitsNext more
+  replied_gains next state more h a =
+      each_gains (replied_part (layouts_seen judged.seen) judged.odd judged.seen sent its_reply)
+      (IsPart far sent) AdmitsNext part_kept part_gained (parts state sent) next more h
+      (parts_admit far sent law.texts work.accepting.hears state a)
 
   concluded_next : (found : Result Next Open) → ((out : Next) → found ≡ Ok out → AdmitsNext out)
       → IsFair (concluded_replied judged sent its_reply found) worked_far
@@ -517,13 +547,14 @@ module _ (law : Laws) (stays : RegularStays) (much : MuchStays)
 
 -- A wake-up request
 
-module _ (wake : Wake) (far new : Far)
+module _ (texts : AllTexts) (wake : Wake) (far new : Far)
     (follows : (new ≡ woken far) ⊎ ((wake ≡ Unanswered) × (new ≡ far))) where
   woken_keeps : (next : List State) (state : State) (more : List State)
       → woken_into wake next state ≡ Ok more → AdmitsOne next new → AdmitsOne more new
   woken_keeps next state more h admits =
       each_keeps added (λ (s : List State). AdmitsOne s new)
-      (λ n item m e a. added_keeps n item m new e a) (woken_states wake state) next more h admits
+      (λ n item m e a. added_keeps n item m new (texts new).some e a) (woken_states wake state)
+      next more h admits
 
   -- the device after the wake-up request is one of those that are added
   woken_one : (state : State) → Admits state far → AdmitsOne (woken_states wake state) new
@@ -541,8 +572,9 @@ module _ (wake : Wake) (far new : Far)
       → woken_into wake next state ≡ Ok more → Admits state far → AdmitsOne more new
   woken_gains next state more h admits =
       each_admits added new (λ (s : List State). AdmitsOne s new)
-      (λ n item m e a. added_keeps n item m new e a)
-      (λ n item m e a. added_admits n item m new e a) (woken_states wake state) next more h
+      (λ n item m e a. added_keeps n item m new (texts new).some e a)
+      (λ n item m e a. added_admits n item m new (texts new).some e a) (woken_states wake state)
+      next more h
       (woken_one state admits)
 
   all_woken_admits : (states out : List State) → all_woken wake [] states ≡ Ok out
@@ -565,9 +597,9 @@ wake_page : (far new : Far) (wakes : Bool) → new ≡ (if wakes then woken far 
 wake_page far new true is = ap (λ (g : Far). g.page) is
 wake_page far new false is = ap (λ (g : Far). g.page) is
 
-wake_fair : (judged : Judged) (far : Far) (wake : Wake) (new : Far)
-    → HonestWake far (is_answered wake) new → IsFair judged far → IsFair (woke judged wake) new
-wake_fair judged far wake new h fair = split judged.verdict refl
+wake_fair : AllTexts → (judged : Judged) (far : Far) (wake : Wake) (new : Far)
+    → IsWake far (is_answered wake) new → IsFair judged far → IsFair (woke judged wake) new
+wake_fair texts judged far wake new h fair = split judged.verdict refl
   where
     same : Alike far (locals far h.steps)
     same = locals_alike far h.steps
@@ -588,7 +620,8 @@ wake_fair judged far wake new h fair = split judged.verdict refl
       state = elim follows [
         | inl is ↦ inl (subst (λ (g : Far). Admits first_state g) (sym is)
             (record {
-              own = same.kind ∙ h.own;
+              kind = all_have (locals far h.steps).kind.hands_over
+                  (locals far h.steps).kind.recalls;
               link = refl;
               cycle = tt;
               events = released_free (locals far h.steps).events.frozen
@@ -609,7 +642,7 @@ wake_fair judged far wake new h fair = split judged.verdict refl
         → IsFair (woke_by verdict judged wake) new
     split Unjudged e = first wake follows e
     split Honest e = concluded_fair judged new (all_woken wake [] judged.states) e fair.odd agrees
-        (λ out f. all_woken_admits wake (locals far h.steps) new follows judged.states out f
+        (λ out f. all_woken_admits texts wake (locals far h.steps) new follows judged.states out f
         (one_alike judged.states far (locals far h.steps) same
         (subst (λ (v : Verdict). IsPossible v judged.states far) e fair.state)))
     split (NotHonest exchange reason) e =
@@ -638,6 +671,35 @@ whole_agrees page (suc (suc (suc (suc (suc (suc (suc (suc zero)))))))) = refl
 whole_agrees page (suc (suc (suc (suc (suc (suc (suc (suc (suc zero))))))))) = refl
 whole_agrees page (suc (suc (suc (suc (suc (suc (suc (suc (suc (suc k)))))))))) = tt
 
+-- Kinds
+
+with_keeps : (states : List State) (kinds : Kinds) (kind : Kind) → has_kind kinds kind ≡ true
+    → has_kind (kinds_with kinds states) kind ≡ true
+with_keeps [] kinds kind h = h
+with_keeps (state ∷ states) kinds kind h = with_keeps states (both_kinds kinds state.kinds) kind
+    (both_has kinds state.kinds kind.hands_over kind.recalls h)
+
+with_gains : (states : List State) (kinds : Kinds) (far : Far) → AdmitsOne states far
+    → has_kind (kinds_with kinds states) far.kind ≡ true
+with_gains [] kinds far h = absurd h
+with_gains (state ∷ states) kinds far (inl here) =
+    with_keeps states (both_kinds kinds state.kinds) far.kind
+    (other_has kinds state.kinds far.kind.hands_over far.kind.recalls here.kind)
+with_gains (state ∷ states) kinds far (inr there) =
+    with_gains states (both_kinds kinds state.kinds) far there
+
+-- a device's kind is among those that are left
+fair_kinds : (judged : Judged) (far : Far) → IsFair judged far
+    → has_kind (kinds_left judged) far.kind ≡ true
+fair_kinds judged far fair = split judged.verdict fair.state
+  where
+    split : (verdict : Verdict) → IsPossible verdict judged.states far
+        → has_kind (kinds_by verdict judged.states) far.kind ≡ true
+    split Unjudged h = all_have far.kind.hands_over far.kind.recalls
+    split Honest h = with_gains judged.states no_kinds far h
+    split (NotHonest exchange reason) h = absurd h
+    split (CantSay exchange why) h = all_have far.kind.hands_over far.kind.recalls
+
 -- A capture
 
 module _ (law : Laws) (stays : RegularStays) (much : MuchStays)
@@ -646,8 +708,8 @@ module _ (law : Laws) (stays : RegularStays) (much : MuchStays)
       (silence_new : ℕ)
       → IsHonest far silence passing new silence_new → IsFair judged far
       → IsFair (told judged passing) new
-  told_fair judged far silence (Wakes wake) new silence_new h fair = wake_fair judged far wake new
-      h.0 fair
+  told_fair judged far silence (Wakes wake) new silence_new h fair =
+      wake_fair law.texts judged far wake new h.0 fair
   told_fair judged far silence (Passes sent answer) new silence_new h fair =
       exchange_fair law stays much reads judged far silence sent answer new silence_new h fair
 
@@ -667,14 +729,51 @@ module _ (law : Laws) (stays : RegularStays) (much : MuchStays)
       let last = run_all judged far fair silence capture h in
       subst (λ (v : Verdict). IsPossible v (told_all judged capture).states last.0) e last.1.state
 
+  -- nothing changes the kind
+  passed_kind : (passage : Passage) (far : Far) (sent : List ℕ)
+      → (far_after passage far sent).kind ≡ far.kind
+  passed_kind OutLost far sent = refl
+  passed_kind BackLost far sent = much.kind_heard far sent
+  passed_kind Clean far sent = much.kind_heard far sent
+
+  woken_kind : (far new : Far) (wakes : Bool) → new ≡ (if wakes then woken far else far)
+      → new.kind ≡ far.kind
+  woken_kind far new true is = ap (λ (g : Far). g.kind) is
+  woken_kind far new false is = ap (λ (g : Far). g.kind) is
+
+  told_kind : (far : Far) (silence : ℕ) (passing : Passing) (new : Far) (silence_new : ℕ)
+      → IsHonest far silence passing new silence_new → new.kind ≡ far.kind
+  told_kind far silence (Wakes wake) new silence_new h =
+      woken_kind (locals far h.0.steps) new h.0.wakes h.0.far_is ∙ much.kind_kept far h.0.steps
+  told_kind far silence (Passes sent answer) new silence_new h =
+      ap (λ (g : Far). g.kind) h.far_is ∙ passed_kind h.passage (locals far h.steps) sent
+      ∙ much.kind_kept far h.steps
+
+  run_kinds : (judged : Judged) (far : Far) → IsFair judged far
+      → (silence : ℕ) (capture : List Passing) → IsHonestRun far silence capture
+      → has_kind (kinds_left (told_all judged capture)) far.kind ≡ true
+  run_kinds judged far fair silence [] h = fair_kinds judged far fair
+  run_kinds judged far fair silence (passing ∷ capture) h =
+      subst (λ (k : Kind). has_kind (kinds_left (told_all (told judged passing) capture)) k ≡ true)
+      (told_kind far silence passing h.0 h.1 h.2)
+      (run_kinds (told judged passing) h.0 (told_fair judged far silence passing h.0 h.1 h.2 fair)
+      h.1 capture h.3)
+
   pub never_blamed : NeverBlamed
   never_blamed = record {
     begins = λ odd far. record { page = none_seen far; state = tt; odd = refl };
     pages = λ judged far fair.
         record { page = whole_agrees far.page; state = fair.state; odd = fair.odd };
-    wakes = wake_fair;
+    wakes_any = wake_fair law.texts;
+    wakes = λ judged far wake new h. wake_fair law.texts judged far wake new (record {
+      steps = h.steps;
+      wakes = h.wakes;
+      far_is = h.far_is;
+      answered_is = h.answered_is;
+    });
     exchanges = exchange_fair law stays much reads;
     runs = run_fair;
     none_odd = λ judged far fair silence capture h.
         (run_all judged far fair silence capture h).1.odd;
+    kinds = run_kinds;
   }

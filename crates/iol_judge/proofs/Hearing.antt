@@ -1,16 +1,20 @@
 -- What a state makes of octets is what the device makes of them that it stands for.
-use Rattle.std.proofs.Common.{◌≡◌, ℕ, Bool, true, false, List, refl, sym, ◌∙◌, ap, subst}
-use Rattle.std.specs.Prelude.{Option, Some, None, IfSome, Result, Ok, Err, slice_index, if◌then◌else◌, ◌==◌, bytes_eq}
+use Rattle.std.proofs.Common.{◌≡◌, ◌⊎◌, inl, inr, ℕ, Bool, true, false, List, refl, sym, ◌∙◌, ap, subst}
+use Rattle.std.specs.Prelude.{Option, Some, None, IfSome, is_some, Result, Ok, Err, slice_index, if◌then◌else◌, ◌==◌, bytes_eq}
+use Rattle.iol_octets.specs.Control.{control_of}
+use Rattle.iol_octets.specs.declared.control.Mc.{Mc}
+use Rattle.iol_octets.specs.declared.flow_control.Flow.{Flow}
 use Rattle.iol_octets.specs.declared.control.Channel.{Channel}
 use Rattle.iol_octets.specs.declared.control.Channel.TheVariants.{Process, Page, Diagnosis, Isdu}
 use Rattle.iol_mseq.specs.Shape.{Shape}
+use Rattle.iol_mseq.specs.Master.{master_fault, message_of}
 use Rattle.iol_mseq.specs.declared.master.MasterMsg.{MasterMsg}
 use Rattle.iol_page.specs.Page.{knows_isdu}
 use Rattle.iol_page.specs.declared.page.Layouts.{Layouts}
 use Rattle.iol_event.specs.Memory.{Events}
 use Rattle.iol_far.specs.declared.mode.Mode.{Mode}
 use Rattle.iol_far.specs.Codec.{flow_of, layout_in, message_in}
-use Rattle.iol_far.specs.Isdu.{Empty, own}
+use Rattle.iol_far.specs.declared.kind.Kind.{Kind}
 use Rattle.iol_far.specs.Far.{Far, WaitingCommand, layout_of, accepted, accepted_by, accepted_now, moved, worked, command_in, mode_asked, known_mode, waits_after, cycle_time_after, events_after, is_confirm}
 use Rattle.iol_far.specs.Level.{Link, link_of, taken, taken_by}
 use Rattle.iol_judge.specs.declared.open.Open.{Open}
@@ -19,15 +23,18 @@ use Rattle.iol_judge.specs.declared.events.Shown.TheVariants.{Fresh}
 use Rattle.iol_judge.specs.Events.{shown_after}
 use Rattle.iol_judge.specs.declared.transfer.Transfer.{Transfer}
 use Rattle.iol_judge.specs.declared.transfer.Transfer.TheVariants.{Quiet}
-use Rattle.iol_judge.specs.Transfers.{isdu_known, transfer_in}
-use Rattle.iol_judge.specs.State.{State}
+use Rattle.iol_judge.specs.Transfers.{is_apart, isdu_known, transfer_after, transfer_in}
+use Rattle.iol_judge.specs.Family.{has_kind, kind_in}
+use Rattle.iol_judge.specs.State.{State, tells_apart}
 use Rattle.iol_judge.specs.Taking as take
 use Rattle.iol_judge.specs.Taking.{mode_layout, mode_known, cycle_after, state_after, taken_in, taken_message, taken_asked}
 use Rattle.iol_judge.specs.Admitted.{Admits, AreShown}
-use Rattle.iol_judge.specs.UnderWay.{IsUnderWay}
+use Rattle.iol_judge.specs.UnderWay.{HasUnderWay}
 use Rattle.iol_judge.proofs.Layouts.{Knows}
 use Rattle.iol_judge.proofs.Shown.{worked_shown}
-use Rattle.iol_judge.proofs.Transferring.{AllTexts, AreTexts, transfer_worked}
+use Rattle.iol_judge.proofs.Sending.{AllTexts, AreTexts}
+use Rattle.iol_judge.proofs.Transferring.{transfer_worked}
+use Rattle.iol_judge.proofs.Alike.{alike_after}
 
 -- the device as it accepts the octets, if it does
 pub record Accepting (far there : Far) (octets : List ℕ) : Type 0 where
@@ -36,8 +43,8 @@ pub record Accepting (far there : Far) (octets : List ℕ) : Type 0 where
   pub kind : there.kind ≡ far.kind
   pub cycle : there.cycle_time ≡ far.cycle_time
   pub events : there.events ≡ far.events
-  pub isdu : (transfer : Transfer) → IsUnderWay (layout_of far).od transfer far.isdu
-      → IsUnderWay (layout_of there).od (transfer_in far.waits octets transfer) there.isdu
+  pub isdu : (transfer : Transfer) → HasUnderWay far transfer
+      → HasUnderWay there (transfer_in far.waits octets transfer)
   pub hears : far.awake ≡ true
   pub awake : there.awake ≡ true
   pub accepts : accepted far octets ≡ accepted_now there octets
@@ -49,8 +56,8 @@ record AcceptingBy (waits : Option WaitingCommand) (far there : Far) (octets : L
     pub kind : there.kind ≡ far.kind
     pub cycle : there.cycle_time ≡ far.cycle_time
     pub events : there.events ≡ far.events
-    pub isdu : (transfer : Transfer) → IsUnderWay (layout_of far).od transfer far.isdu
-        → IsUnderWay (layout_of there).od (transfer_in waits octets transfer) there.isdu
+    pub isdu : (transfer : Transfer) → HasUnderWay far transfer
+        → HasUnderWay there (transfer_in waits octets transfer)
     pub awake : there.awake ≡ far.awake
     pub accepts : accepted_by waits far octets ≡ accepted_now there octets
 
@@ -82,8 +89,8 @@ accepting_by (Some command) far octets = split (bytes_eq octets command.octets) 
         kind = refl;
         cycle = refl;
         events = refl;
-        isdu = λ transfer h. subst (λ (b : Bool). IsUnderWay (layout_of far).od
-            (if b then transfer else Quiet) far.isdu) (sym e) h;
+        isdu = λ transfer h. subst (λ (b : Bool). HasUnderWay far
+            (if b then transfer else Quiet)) (sym e) h;
         awake = refl;
         accepts = ap (λ (b : Bool). if b then accepted_now far octets else accepted_now
             (moved far command.into) octets) e;
@@ -98,8 +105,8 @@ accepting_by (Some command) far octets = split (bytes_eq octets command.octets) 
         kind = refl;
         cycle = refl;
         events = refl;
-        isdu = λ transfer h. subst (λ (b : Bool). IsUnderWay (layout_in far.page command.into).od
-            (if b then transfer else Quiet) Empty) (sym e) refl;
+        isdu = λ transfer h. subst (λ (b : Bool). HasUnderWay (moved far command.into)
+            (if b then transfer else Quiet)) (sym e) refl;
         awake = refl;
         accepts = ap (λ (b : Bool). if b then accepted_now far octets else accepted_now
             (moved far command.into) octets) e;
@@ -161,13 +168,49 @@ worked_link there link octets asked message at finds =
     ∙ ap (λ (l : Link). record { mode = l.mode; waits = waits_after l.mode l.waits octets asked })
     at
 
+-- all devices of the state do the same on these octets, or the state is of one kind
+abbrev pub Moves : State → Kind → List ℕ → Type 0
+Moves state kind octets = (kind_in state.kinds ≡ kind)
+    ⊎ (tells_apart state (control_of (slice_index octets 0)) ≡ false)
+
+-- the control octet of a message
+pub control_is : (layout : Shape) (octets : List ℕ) (message : MasterMsg)
+    → message_in layout octets ≡ Some message → message.mc ≡ control_of (slice_index octets 0)
+unfolding message_in
+control_is layout octets message h = split (is_some (master_fault layout octets)) h
+  where
+    split : (b : Bool) → (if b then None else Some (message_of layout octets)) ≡ Some message
+        → message.mc ≡ control_of (slice_index octets 0)
+    split true h = absurd (cc)
+    split false h = let e : message_of layout octets
+        ≡ message = cc in ap (λ (m : MasterMsg). m.mc) (sym e)
+
+-- a transfer that is dropped tells no kinds apart
+quiet_alike : (channel : Channel) (read : Bool) (flow : Flow)
+    → is_apart Quiet channel read flow ≡ false
+quiet_alike Process read flow = refl
+quiet_alike Page read flow = refl
+quiet_alike Diagnosis read flow = refl
+quiet_alike Isdu read flow = refl
+
+in_alike : (waits : Option WaitingCommand) (octets : List ℕ) (transfer : Transfer)
+    (channel : Channel) (read : Bool) (flow : Flow) → is_apart transfer channel read flow ≡ false
+    → is_apart (transfer_in waits octets transfer) channel read flow ≡ false
+in_alike None octets transfer channel read flow e = e
+in_alike (Some command) octets transfer channel read flow e =
+    split (bytes_eq octets command.octets)
+  where
+    split : (b : Bool) → is_apart (if b then transfer else Quiet) channel read flow ≡ false
+    split true = e
+    split false = quiet_alike channel read flow
+
 module _ (known : Result Layouts Open) (page : List ℕ) (knows : Knows known page) (there : Far)
     (link : Link) (state : State) (octets : List ℕ) (there_page : there.page ≡ page)
     (at : link_of there ≡ link) (admits : IfSome state.cycle (λ o. there.cycle_time ≡ o))
     (awake : there.awake ≡ true) (shown : AreShown state.events there.events)
-    (under_way : IsUnderWay (layout_of there).od
-    (transfer_in state.link.waits octets state.transfer) there.isdu)
-    (texts : AreTexts (layout_of there).od) (mine : there.kind ≡ own) where
+    (under_way : HasUnderWay there (transfer_in state.link.waits octets state.transfer))
+    (texts : AreTexts (layout_of there).od) (kind : has_kind state.kinds there.kind ≡ true)
+    (moves : Moves state there.kind octets) where
   shown_worked : (confirm : Bool)
       → AreShown (if there.awake then shown_after state.events confirm else Fresh)
       (events_after there.events confirm)
@@ -176,18 +219,40 @@ module _ (known : Result Layouts Open) (page : List ℕ) (knows : Knows known pa
       (events_after there.events confirm)) (sym awake)
       (worked_shown state.events there.events confirm shown)
 
-  transfer_after_it : (layout : Shape) (message : MasterMsg) → layout ≡ layout_of there
-      → IsUnderWay (layout_of there).od (if there.awake
+  -- its transfer moves as that of a device of this kind does
+  moves_alike : (size : ℕ) (message : MasterMsg) → message.mc ≡ control_of (slice_index octets 0)
+      → transfer_after there.kind (isdu_known known) size
+      (transfer_in state.link.waits octets state.transfer) message.mc.channel message.mc.read
+      (flow_of message.mc.address) message.od.items
+      ≡ transfer_after (kind_in state.kinds) (isdu_known known) size
+      (transfer_in state.link.waits octets state.transfer) message.mc.channel message.mc.read
+      (flow_of message.mc.address) message.od.items
+  moves_alike size message mc = elim moves [
+    | inl is ↦ ap (λ (k : Kind). transfer_after k (isdu_known known) size
+        (transfer_in state.link.waits octets state.transfer) message.mc.channel message.mc.read
+        (flow_of message.mc.address) message.od.items) (sym is)
+    | inr same ↦ alike_after there.kind (kind_in state.kinds) (isdu_known known) size
+        (transfer_in state.link.waits octets state.transfer) message.mc.channel message.mc.read
+        (flow_of message.mc.address) message.od.items
+        (in_alike state.link.waits octets state.transfer message.mc.channel message.mc.read
+        (flow_of message.mc.address)
+        (subst (λ (m : Mc). is_apart state.transfer m.channel m.read (flow_of m.address) ≡ false)
+        (sym mc) same))
+  ]
+
+  transfer_after_it : (layout : Shape) (message : MasterMsg)
+      → message.mc ≡ control_of (slice_index octets 0) → layout ≡ layout_of there
+      → HasUnderWay (worked there octets message) (if there.awake
       then (state_after known link state octets layout message None).transfer else Quiet)
-      (worked there octets message).isdu
-  transfer_after_it layout message l =
-      subst (λ (b : Bool). IsUnderWay (layout_of there).od (if b
-      then (state_after known link state octets layout message None).transfer else Quiet)
-      (worked there octets message).isdu) (sym awake)
-      (subst (λ (s : Shape). IsUnderWay (layout_of there).od
-      (state_after known link state octets s message None).transfer
-      (worked there octets message).isdu) (sym l)
-      (rw mine (transfer_worked there.counted (isdu_known known) (knows_isdu there.page)
+  transfer_after_it layout message mc l =
+      subst (λ (b : Bool). HasUnderWay (worked there octets message) (if b
+      then (state_after known link state octets layout message None).transfer else Quiet))
+      (sym awake)
+      (subst (λ (s : Shape). HasUnderWay (worked there octets message)
+      (state_after known link state octets s message None).transfer) (sym l)
+      (subst (λ (t : Transfer). HasUnderWay (worked there octets message) t)
+      (moves_alike (layout_of there).od message mc)
+      (transfer_worked there.kind there.counted (isdu_known known) (knows_isdu there.page)
       (layout_of there).od texts
       (subst (λ (p : List ℕ). IfSome (isdu_known known) (λ b. knows_isdu p ≡ b)) (sym there_page)
       knows.isdu)
@@ -195,13 +260,14 @@ module _ (known : Result Layouts Open) (page : List ℕ) (knows : Knows known pa
       message.mc.read (flow_of message.mc.address) message.od.items under_way)))
 
   fits_asked : (layout : Shape) (message : MasterMsg) (asked : Result (Option Mode) Open)
+      → message.mc ≡ control_of (slice_index octets 0)
       → mode_known known (mode_asked (command_in message)) ≡ asked → layout ≡ layout_of there
       → (found : Option Taken) → taken_asked known link state octets layout message asked ≡ Ok found
       → Fits there octets (Some message) found
   unfolding Fits
-  fits_asked layout message (Err why) e l found h = absurd (cc)
-  fits_asked layout message (Ok asked) e l None h = absurd (cc)
-  fits_asked layout message (Ok asked) e l (Some found) h =
+  fits_asked layout message (Err why) mc e l found h = absurd (cc)
+  fits_asked layout message (Ok asked) mc e l None h = absurd (cc)
+  fits_asked layout message (Ok asked) mc e l (Some found) h =
       let is : ◌≡◌ {A = Taken} (record {
         kept = state_after known link state octets layout message asked;
         layout
@@ -218,26 +284,28 @@ module _ (known : Result Layouts Open) (page : List ℕ) (knows : Knows known pa
         refl,
         l,
         record {
-          own = mine;
+          kind = kind;
           link = worked_link there link octets asked message at finds;
           cycle = cycle_admits there.cycle_time state.cycle message.mc.channel message.mc.read
               message.mc.address
               (slice_index message.od.items 0) admits;
           events = shown_worked
               (is_confirm message.mc.channel message.mc.read message.mc.address);
-          isdu = transfer_after_it layout message l;
+          isdu = transfer_after_it layout message mc l;
         },
       ) in
       subst (λ (t : Taken). (t.message ≡ message) × (t.layout ≡ layout_of there) × Admits t.kept
       (worked there octets message)) is all
 
-  fits_message : (layout : Shape) (message : Option MasterMsg) → layout ≡ layout_of there
+  fits_message : (layout : Shape) (message : Option MasterMsg)
+      → message_in layout octets ≡ message → layout ≡ layout_of there
       → (found : Option Taken) → taken_message known link state octets layout message ≡ Ok found
       → Fits there octets message found
   unfolding Fits
-  fits_message layout None l found h = cc
-  fits_message layout (Some message) l found h =
-      fits_asked layout message (mode_known known (mode_asked (command_in message))) refl l found h
+  fits_message layout None e l found h = cc
+  fits_message layout (Some message) e l found h =
+      fits_asked layout message (mode_known known (mode_asked (command_in message)))
+      (control_is layout octets message e) refl l found h
 
   fits_layout : (layout : Result Shape Open) → mode_layout known link.mode ≡ layout
       → (found : Option Taken) → taken_in known link state octets layout ≡ Ok found
@@ -250,22 +318,21 @@ module _ (known : Result Layouts Open) (page : List ℕ) (knows : Knows known pa
       sym in_page ∙ ap (λ (m : Mode). layout_in page m) mode
       ∙ ap (λ (p : List ℕ). layout_in p there.mode) (sym there_page) in
       subst (λ (s : Shape). Fits there octets (message_in s octets) found) l
-      (fits_message layout (message_in layout octets) l found h)
+      (fits_message layout (message_in layout octets) refl l found h)
 
 -- a state that stands for the device makes of the octets what it makes of them
 pub state_fits : (known : Result Layouts Open) (far there : Far) (octets : List ℕ) (state : State)
     (found : Option Taken) → AllTexts → Knows known far.page → Accepting far there octets
-    → Admits state far
+    → Admits state far → Moves state far.kind octets
     → take.taken_by known state octets ≡ Ok found
     → Fits there octets (message_in (layout_of there) octets) found
-state_fits known far there octets state found texts knows accepting admits h =
+state_fits known far there octets state found texts knows accepting admits moves h =
     let shown : AreShown state.events far.events =
     subst (λ (b : Bool). AreShown (if b then state.events else Fresh) far.events) accepting.hears
     admits.events in
-    let before : IsUnderWay (layout_of far).od state.transfer far.isdu =
-    subst (λ (b : Bool). IsUnderWay (layout_of far).od (if b then state.transfer else Quiet)
-    far.isdu)
-    accepting.hears admits.isdu in
+    let before : HasUnderWay far state.transfer =
+    subst (λ (b : Bool). HasUnderWay far (if b then state.transfer else Quiet)) accepting.hears
+    admits.isdu in
     let at : link_of there ≡ taken state.link octets =
     accepting.link ∙ ap (λ (l : Link). taken l octets) admits.link in
     fits_layout known far.page knows there (taken state.link octets) state octets
@@ -273,8 +340,10 @@ state_fits known far there octets state found texts knows accepting admits h =
     at (let P : ℕ → Type 0 = λ c. IfSome state.cycle (λ o. c ≡ o) in subst P (sym accepting.cycle)
     admits.cycle)
     accepting.awake (subst (λ (m : Events). AreShown state.events m) (sym accepting.events) shown)
-    (subst (λ (l : Link). IsUnderWay (layout_of there).od
-    (transfer_in l.waits octets state.transfer) there.isdu) admits.link
+    (subst (λ (l : Link). HasUnderWay there
+    (transfer_in l.waits octets state.transfer)) admits.link
     (accepting.isdu state.transfer before))
-    (texts there) (accepting.kind ∙ admits.own)
+    (texts there) (subst (λ (k : Kind). has_kind state.kinds k ≡ true) (sym accepting.kind)
+    admits.kind)
+    (subst (λ (k : Kind). Moves state k octets) (sym accepting.kind) moves)
     (mode_layout known (taken state.link octets).mode) refl found h

@@ -4,12 +4,16 @@ mod Segments
 mod Totals
 mod Begun
 mod Covering
+mod Writing
+mod Sending
 mod Transferring
+mod Alike
 mod Telling
 mod Alone
 mod Sets
 mod Layouts
 mod Hearing
+mod Apart
 mod Answering
 mod Reading
 pub mod Fairness

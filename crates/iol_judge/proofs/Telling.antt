@@ -15,6 +15,7 @@ use Rattle.iol_isdu.specs.Frame.{total_at}
 use Rattle.iol_segment.specs.Cut.{segment}
 use Rattle.iol_segment.specs.TextLaws.{joined, HoldsLength}
 use Rattle.iol_far.specs.declared.kind.Kind.{Kind}
+use Rattle.iol_far.specs.declared.kind.HandsOver.{HandsOver}
 use Rattle.iol_far.specs.Isdu.{IsduState, Empty, Receiving, Whole, Handed, Answered, answer_text, fits, has_segment, isdu_read, isdu_data, recalled}
 use Rattle.iol_far.specs.Far.{isdu_after}
 use Rattle.std.specs.Option.{option_or}
@@ -35,7 +36,7 @@ use Rattle.iol_segment.proofs.TextLaws.{joined-front}
 use Rattle.iol_judge.proofs.Begun.{begun_fits}
 use Rattle.iol_judge.proofs.Segments.{first_grow, length_first, part_of_first, pointwise_self, zeros_behind, zeros_within, length_later, part_of_later}
 use Rattle.iol_judge.proofs.Totals.{total_of_first}
-use Rattle.iol_judge.proofs.Transferring.{AreTexts, below_by, same_by}
+use Rattle.iol_judge.proofs.Sending.{AreTexts, below_by, same_by}
 
 -- Behind a read of the ISDU channel an answer was sent, if there is one
 
@@ -501,76 +502,77 @@ none_either : (b : Bool) (fault : Option Reason) → fault ≡ None
 none_either true fault e = refl
 none_either false fault e = e
 
-pub isdu_fits : (size : ℕ) → AreTexts size → (transfer : Transfer) (state : IsduState)
-    → IsUnderWay size transfer state → IsSent state
-    → isdu_fault transfer (isdu_data size state) ≡ None
-unfolding first_holds
-isdu_fits size law known.Quiet state h s =
-    ap (λ (s : IsduState). isdu_fault known.Quiet (isdu_data size s)) h ∙ no_answer size
-isdu_fits size law (known.Receiving text last) state h s =
-    ap (λ (s : IsduState). isdu_fault (known.Receiving text last) (isdu_data size s)) h
-    ∙ no_answer size
-isdu_fits size law (known.Whole read last) (Whole request a) h s = no_answer size
-isdu_fits size law (known.Whole read last) Empty h s = absurd h
-isdu_fits size law (known.Whole read last) (Receiving text a) h s = absurd h
-isdu_fits size law (known.Whole read last) (Handed request) h s = absurd h
-isdu_fits size law (known.Whole read last) (Answered request answer a) h s = absurd h
-isdu_fits size law (known.Handed read) (Handed request) h s =
-    ap (λ (b : Bool). if b then None else Some NotBusy) (busy_is size)
-isdu_fits size law (known.Handed read) (Answered request answer None) h s = absurd s
-isdu_fits size law (known.Handed read) (Answered request answer (Some i)) h s = absurd h
-isdu_fits size law (known.Handed read) Empty h s = absurd h
-isdu_fits size law (known.Handed read) (Receiving text a) h s = absurd h
-isdu_fits size law (known.Handed read) (Whole request a) h s = absurd h
-isdu_fits size law (known.Asked read) (Handed request) h s =
-    ap (λ (b : Bool). if b then None else text_fault read (1 ∷ replicate (size - 1) 0))
-    (busy_is size)
-isdu_fits size law (known.Asked read) (Answered request answer (Some zero)) h s =
-    ap (λ (b : Bool). if b then None else
-    text_fault read (segment size (answer_text request answer) 0))
-    (not_busy size law request answer h.1)
-    ∙ ap (λ (r : Bool). text_fault r (segment size (answer_text request answer) 0)) (sym h.0)
-    ∙ text_fits size law request answer h.1 0
-    (first_holds size law request answer h.1).within
-isdu_fits size law (known.Asked read) (Answered request answer None) h s = absurd s
-isdu_fits size law (known.Asked read) (Answered request answer (Some (suc i))) h s = absurd h
-isdu_fits size law (known.Asked read) Empty h s = absurd h
-isdu_fits size law (known.Asked read) (Receiving text a) h s = absurd h
-isdu_fits size law (known.Asked read) (Whole request a) h s = absurd h
-isdu_fits size law (known.Answered had) state h s = answered_fits size law had state h
-isdu_fits size law (known.Perhaps had) state h s = elim h [
-  | inl is ↦ none_either (are_zeros (isdu_data size state))
-      (segment_fault had (isdu_data size state)) (answered_fits size law had state is)
-  | inr none ↦ ap (λ (s : IsduState). isdu_fault (known.Perhaps had) (isdu_data size s)) none
-      ∙ ap (λ (b : Bool). if b then None else segment_fault had (replicate size 0))
-      (zeros_are size)
-]
-isdu_fits size law known.Free state h s = refl
+module _ (hands_over : HandsOver) (counted : Option ℕ) (size : ℕ) (law : AreTexts size) where
+  pub isdu_fits : (transfer : Transfer) (state : IsduState)
+      → IsUnderWay hands_over counted size transfer state → IsSent state
+      → isdu_fault transfer (isdu_data size state) ≡ None
+  unfolding first_holds
+  isdu_fits known.Quiet state h s =
+      ap (λ (s : IsduState). isdu_fault known.Quiet (isdu_data size s)) h ∙ no_answer size
+  isdu_fits (known.Receiving text last) state h s =
+      ap (λ (s : IsduState). isdu_fault (known.Receiving text last) (isdu_data size s)) h
+      ∙ no_answer size
+  isdu_fits (known.Whole read last) state h s = refl
+  isdu_fits (known.Handed read last) (Handed request) h s =
+      ap (λ (b : Bool). if b then None else Some NotBusy) (busy_is size)
+  isdu_fits (known.Handed read last) (Answered request answer None) h s = absurd s
+  isdu_fits (known.Handed read last) (Answered request answer (Some i)) h s = absurd h
+  isdu_fits (known.Handed read last) Empty h s = absurd h
+  isdu_fits (known.Handed read last) (Receiving text a) h s = absurd h
+  isdu_fits (known.Handed read last) (Whole request a) h s = absurd h
+  isdu_fits (known.Asked read last) (Handed request) h s =
+      ap (λ (b : Bool). if b then None else text_fault read (1 ∷ replicate (size - 1) 0))
+      (busy_is size)
+  isdu_fits (known.Asked read last) (Answered request answer (Some zero)) h s =
+      ap (λ (b : Bool). if b then None else
+      text_fault read (segment size (answer_text request answer) 0))
+      (not_busy size law request answer h.1)
+      ∙ ap (λ (r : Bool). text_fault r (segment size (answer_text request answer) 0)) (sym h.0)
+      ∙ text_fits size law request answer h.1 0
+      (first_holds size law request answer h.1).within
+  isdu_fits (known.Asked read last) (Answered request answer None) h s = absurd s
+  isdu_fits (known.Asked read last) (Answered request answer (Some (suc i))) h s = absurd h
+  isdu_fits (known.Asked read last) Empty h s = absurd h
+  isdu_fits (known.Asked read last) (Receiving text a) h s = absurd h
+  isdu_fits (known.Asked read last) (Whole request a) h s = absurd h
+  isdu_fits (known.Answered had) state h s = answered_fits size law had state h
+  isdu_fits (known.Perhaps had) state h s = elim h [
+    | inl is ↦ none_either (are_zeros (isdu_data size state))
+        (segment_fault had (isdu_data size state)) (answered_fits size law had state is)
+    | inr none ↦ ap (λ (s : IsduState). isdu_fault (known.Perhaps had) (isdu_data size s)) none
+        ∙ ap (λ (b : Bool). if b then None else segment_fault had (replicate size 0))
+        (zeros_are size)
+  ]
+  isdu_fits known.Free state h s = refl
 
-told_asked : (size : ℕ) → AreTexts size → (read : Bool) (state : IsduState) → IsAsked read state
-    → IsSent state → IsUnderWay size (asked_told read (isdu_data size state)) state
-told_asked size law read (Handed request) h s =
-    subst (λ (b : Bool). IsUnderWay size (if b then known.Handed read else
-    known.Answered (first_had read (1 ∷ replicate (size - 1) 0))) (Handed request))
-    (sym (busy_is size)) h
-told_asked size law read (Answered request answer (Some zero)) h s =
-    let first : IsUnderWay size
-    (known.Answered (first_had (is_read request) (segment size (answer_text request answer) 0)))
-    (Answered request answer (Some 0)) = (refl, h.1, first_holds size law request answer h.1) in
-    let named : IsUnderWay size
-    (known.Answered (first_had read (segment size (answer_text request answer) 0)))
-    (Answered request answer (Some 0)) =
-    subst (λ (r : Bool). IsUnderWay size
-    (known.Answered (first_had r (segment size (answer_text request answer) 0)))
-    (Answered request answer (Some 0))) h.0 first in
-    subst (λ (b : Bool). IsUnderWay size (if b then known.Handed read else
-    known.Answered (first_had read (segment size (answer_text request answer) 0)))
-    (Answered request answer (Some 0))) (sym (not_busy size law request answer h.1)) named
-told_asked size law read (Answered request answer None) h s = absurd s
-told_asked size law read (Answered request answer (Some (suc i))) h s = absurd h
-told_asked size law read Empty h s = absurd h
-told_asked size law read (Receiving text a) h s = absurd h
-told_asked size law read (Whole request a) h s = absurd h
+  told_asked : (read : Bool) (last : Option ℕ) (state : IsduState)
+      → IsAsked hands_over counted read last state
+      → IsSent state
+      → IsUnderWay hands_over counted size (asked_told read last (isdu_data size state)) state
+  told_asked read last (Handed request) h s =
+      subst (λ (b : Bool). IsUnderWay hands_over counted size
+      (if b then known.Handed read last else
+      known.Answered (first_had read (1 ∷ replicate (size - 1) 0))) (Handed request))
+      (sym (busy_is size)) h
+  told_asked read last (Answered request answer (Some zero)) h s =
+      let first : IsUnderWay hands_over counted size
+      (known.Answered (first_had (is_read request) (segment size (answer_text request answer) 0)))
+      (Answered request answer (Some 0)) = (refl, h.1, first_holds size law request answer h.1) in
+      let named : IsUnderWay hands_over counted size
+      (known.Answered (first_had read (segment size (answer_text request answer) 0)))
+      (Answered request answer (Some 0)) =
+      subst (λ (r : Bool). IsUnderWay hands_over counted size
+      (known.Answered (first_had r (segment size (answer_text request answer) 0)))
+      (Answered request answer (Some 0))) h.0 first in
+      subst (λ (b : Bool). IsUnderWay hands_over counted size
+      (if b then known.Handed read last else
+      known.Answered (first_had read (segment size (answer_text request answer) 0)))
+      (Answered request answer (Some 0))) (sym (not_busy size law request answer h.1)) named
+  told_asked read last (Answered request answer None) h s = absurd s
+  told_asked read last (Answered request answer (Some (suc i))) h s = absurd h
+  told_asked read last Empty h s = absurd h
+  told_asked read last (Receiving text a) h s = absurd h
+  told_asked read last (Whole request a) h s = absurd h
 
 had_read : (had : Had) (od : List ℕ) → (had_with had od).read ≡ had.read
 had_read had od = split (nat_lt (length had.text.items) had.at)
@@ -598,38 +600,47 @@ told_answered size law had (Whole request a) h = absurd h
 told_answered size law had (Handed request) h = absurd h
 
 -- where it was sent, or the answer had ended before
-perhaps_answered : (size : ℕ) (had : Had) (state : IsduState) (zeros : Bool)
+perhaps_answered : (hands_over : HandsOver) (counted : Option ℕ) (size : ℕ)
+    (had : Had) (state : IsduState) (zeros : Bool)
     (fault : Option Reason) → fault ≡ None
     → IsAnswered size (had_with had (isdu_data size state)) state
-    → IsUnderWay size (if not zeros then known.Answered (had_with had (isdu_data size state)) else
+    → IsUnderWay hands_over counted size
+    (if not zeros then known.Answered (had_with had (isdu_data size state)) else
     if is_some fault then known.Quiet else known.Perhaps (had_with had (isdu_data size state)))
     state
-perhaps_answered size had state false fault e h = h
-perhaps_answered size had state true None e h = inl h
-perhaps_answered size had state true (Some reason) e h = absurd (cc)
+perhaps_answered hands_over counted size had state false fault e h = h
+perhaps_answered hands_over counted size had state true None e h = inl h
+perhaps_answered hands_over counted size had state true (Some reason) e h = absurd (cc)
 
-perhaps_ended : (size : ℕ) (had : Had) (zeros : Bool) (fault : Option Reason) → zeros ≡ true
-    → IsUnderWay size (if not zeros then known.Answered (had_with had (replicate size 0)) else
+perhaps_ended : (hands_over : HandsOver) (counted : Option ℕ) (size : ℕ)
+    (had : Had) (zeros : Bool) (fault : Option Reason) → zeros ≡ true
+    → IsUnderWay hands_over counted size
+    (if not zeros then known.Answered (had_with had (replicate size 0)) else
     if is_some fault then known.Quiet else known.Perhaps (had_with had (replicate size 0))) Empty
-perhaps_ended size had false fault e = absurd (cc)
-perhaps_ended size had true None e = inr refl
-perhaps_ended size had true (Some reason) e = refl
+perhaps_ended hands_over counted size had false fault e = absurd (cc)
+perhaps_ended hands_over counted size had true None e = inr refl
+perhaps_ended hands_over counted size had true (Some reason) e = refl
 
-pub told_under_way : (size : ℕ) → AreTexts size → (transfer : Transfer) (state : IsduState)
-    → IsUnderWay size transfer state → IsSent state
-    → IsUnderWay size (told_by transfer (isdu_data size state)) state
-told_under_way size law known.Quiet state h s = h
-told_under_way size law (known.Receiving text last) state h s = h
-told_under_way size law (known.Whole read last) state h s = h
-told_under_way size law (known.Handed read) state h s = h
-told_under_way size law (known.Asked read) state h s = told_asked size law read state h s
-told_under_way size law (known.Answered had) state h s = told_answered size law had state h
-told_under_way size law (known.Perhaps had) state h s = elim h [
-  | inl is ↦ perhaps_answered size had state (are_zeros (isdu_data size state))
+pub told_under_way : (hands_over : HandsOver) (counted : Option ℕ) (size : ℕ) → AreTexts size
+    → (transfer : Transfer) (state : IsduState)
+    → IsUnderWay hands_over counted size transfer state → IsSent state
+    → IsUnderWay hands_over counted size (told_by transfer (isdu_data size state)) state
+told_under_way hands_over counted size law known.Quiet state h s = h
+told_under_way hands_over counted size law (known.Receiving text last) state h s = h
+told_under_way hands_over counted size law (known.Whole read last) state h s = h
+told_under_way hands_over counted size law (known.Handed read last) state h s = h
+told_under_way hands_over counted size law (known.Asked read last) state h s =
+    told_asked hands_over counted size law read last state h s
+told_under_way hands_over counted size law (known.Answered had) state h s =
+    told_answered size law had state h
+told_under_way hands_over counted size law (known.Perhaps had) state h s = elim h [
+  | inl is ↦ perhaps_answered hands_over counted size had state
+      (are_zeros (isdu_data size state))
       (segment_fault had (isdu_data size state)) (answered_fits size law had state is)
       (told_answered size law had state is)
-  | inr none ↦ subst (λ (s : IsduState). IsUnderWay size (perhaps_told had (isdu_data size s)) s)
-      (sym none) (perhaps_ended size had (are_zeros (replicate size 0))
+  | inr none ↦ subst (λ (s : IsduState). IsUnderWay hands_over counted size
+      (perhaps_told had (isdu_data size s)) s)
+      (sym none) (perhaps_ended hands_over counted size had (are_zeros (replicate size 0))
       (segment_fault had (replicate size 0)) (zeros_are size))
 ]
-told_under_way size law known.Free state h s = tt
+told_under_way hands_over counted size law known.Free state h s = tt

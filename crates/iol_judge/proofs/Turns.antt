@@ -1,5 +1,5 @@
 -- A step for each item in turn, until one fails.
-use Rattle.std.proofs.Common.{◌≡◌, List, [], ◌∷◌, refl, subst, inl, inr}
+use Rattle.std.proofs.Common.{◌≡◌, ◌⊎◌, List, [], ◌∷◌, refl, subst, inl, inr}
 use Rattle.std.specs.Prelude.{Result, Ok, Err}
 use Rattle.iol_far.specs.Far.{Far}
 use Rattle.iol_judge.specs.declared.open.Open.{Open}
@@ -25,27 +25,47 @@ each_keeps {S = S} {A = A} step P keeps (item ∷ items) next out h p =
     split (Ok more) e h go = go more (keeps next item more e p) h
     split (Err why) e h go = absurd (cc)
 
+-- what the step of one of the items gains, is so in the end
+abbrev pub One : {S : Type 0} → (S → Type 0) → List S → Type 0
+One Q [] = ⊥
+One Q (item ∷ items) = Q item ⊎ One Q items
+
+pub each_gains : {S A : Type 0} (step : A → S → Result A Open) (Q : S → Type 0) (P : A → Type 0)
+    → ((n : A) (item : S) (m : A) → step n item ≡ Ok m → P n → P m)
+    → ((n : A) (item : S) (m : A) → step n item ≡ Ok m → Q item → P m)
+    → (items : List S) (next out : A) → each_in_turn step next items ≡ Ok out
+    → One Q items → P out
+each_gains {S = S} {A = A} step Q P keeps gains [] next out h has = absurd has
+each_gains {S = S} {A = A} step Q P keeps gains (item ∷ items) next out h has =
+    split (step next item) refl h
+    (λ more rest there. each_gains step Q P keeps gains items more out rest there)
+  where
+    split : (r : Result A Open) → step next item ≡ r
+        → ◌≡◌ {A = Result A Open} (elim r [
+          | Ok more ↦ each_in_turn step more items
+          | Err why ↦ Err
+              why
+        ]) (Ok out)
+        → ((more : A) → each_in_turn step more items ≡ Ok out → One Q items → P out)
+        → P out
+    split (Ok more) e h go = elim has [
+      | inl here ↦ each_keeps step P keeps items more out h (gains next item more e here)
+      | inr there ↦ go more h there
+    ]
+    split (Err why) e h go = absurd (cc)
+
+one_admits : (states : List State) (far : Far) → AdmitsOne states far
+    → One (λ (s : State). Admits s far) states
+one_admits [] far h = h
+one_admits (state ∷ states) far (inl h) = inl h
+one_admits (state ∷ states) far (inr h) = inr (one_admits states far h)
+
 -- a device that a state stands for is admitted in the end, where the step of that state admits it
 pub each_admits : {A : Type 0} (step : A → State → Result A Open) (far : Far) (P : A → Type 0)
     → ((n : A) (item : State) (m : A) → step n item ≡ Ok m → P n → P m)
     → ((n : A) (item : State) (m : A) → step n item ≡ Ok m → Admits item far → P m)
     → (states : List State) (next out : A) → each_in_turn step next states ≡ Ok out
     → AdmitsOne states far → P out
-each_admits {A = A} step far P keeps gains [] next out h admits = absurd admits
-each_admits {A = A} step far P keeps gains (item ∷ states) next out h admits =
-    split (step next item) refl h (λ more rest there. each_admits step far P keeps gains states more
-    out rest there)
-  where
-    split : (r : Result A Open) → step next item ≡ r
-        → ◌≡◌ {A = Result A Open} (elim r [
-          | Ok more ↦ each_in_turn step more states
-          | Err why ↦ Err
-              why
-        ]) (Ok out)
-        → ((more : A) → each_in_turn step more states ≡ Ok out → AdmitsOne states far → P out)
-        → P out
-    split (Ok more) e h go = elim admits [
-      | inl here ↦ each_keeps step P keeps states more out h (gains next item more e here)
-      | inr there ↦ go more h there
-    ]
-    split (Err why) e h go = absurd (cc)
+each_admits {A = A} step far P keeps gains states next out h admits =
+    each_gains step (λ (s : State). Admits s far) P keeps gains states next out h
+    (one_admits states far admits)

@@ -2,9 +2,9 @@
 use Rattle.std.specs.Prelude.{◌≡◌, ◌≢◌, ◌⊎◌, ◌≤◌, ℕ, suc, Bool, true, false, if◌then◌else◌, List, [], ◌∷◌, length, slice_index, slice_index_or, Option, None, IfSome}
 use Rattle.iol_event.specs.declared.event.Event.{Event}
 use Rattle.iol_event.specs.Memory.{Events, event_octet}
-use Rattle.iol_far.specs.Far.{Far, layout_of}
-use Rattle.iol_far.specs.Isdu.{own}
+use Rattle.iol_far.specs.Far.{Far}
 use Rattle.iol_far.specs.Level.{link_of}
+use Rattle.iol_far.specs.Local.{LocalStep, locals, woken}
 use Rattle.iol_link.specs.Honest.{HonestExchange, HonestWake}
 use Rattle.iol_judge.specs.declared.events.Places.{Places}
 use Rattle.iol_judge.specs.declared.events.Shown.{Shown}
@@ -18,8 +18,9 @@ use Rattle.iol_judge.specs.declared.verdict.Wake.{Wake}
 use Rattle.iol_judge.specs.declared.verdict.Wake.TheVariants.{Answered, Unanswered}
 use Rattle.iol_judge.specs.Seen.{whole_page}
 use Rattle.iol_judge.specs.State.{State}
-use Rattle.iol_judge.specs.UnderWay.{IsUnderWay}
-use Rattle.iol_judge.specs.Judged.{Judged, new_judge, exchanged, woke}
+use Rattle.iol_judge.specs.Family.{has_kind}
+use Rattle.iol_judge.specs.UnderWay.{HasUnderWay}
+use Rattle.iol_judge.specs.Judged.{Judged, new_judge, exchanged, kinds_left, woke}
 
 -- each octet that is known is the page's
 -- PAGE-1
@@ -49,17 +50,15 @@ AreShown Fresh memory = IsReleased memory × (length memory.frozen ≤ 1)
 AreShown (Filled places) memory =
     IsReleased memory × (1 ≤ length memory.frozen) × AreIn places memory.frozen
 
--- A state stands for each device of our own kind in its mode, with its mode command waiting, its
--- octet
+-- A state stands for each device of its kinds in its mode, with its mode command waiting, its octet
 -- at page address 0x01, its events and its ISDU transfer. One that sleeps had a power cycle, and
--- has at
--- most one event, and no transfer. All else is free: whether it sleeps, process data, record
+-- has at most one event, and no transfer. All else is free: whether it sleeps, process data, record
 pub record Admits (state : State) (far : Far) : Type 0 where
-  pub own : far.kind ≡ own
+  pub kind : has_kind state.kinds far.kind ≡ true
   pub link : link_of far ≡ state.link
   pub cycle : IfSome state.cycle (λ octet. far.cycle_time ≡ octet)
   pub events : AreShown (if far.awake then state.events else Fresh) far.events
-  pub isdu : IsUnderWay (layout_of far).od (if far.awake then state.transfer else Quiet) far.isdu
+  pub isdu : HasUnderWay far (if far.awake then state.transfer else Quiet)
 
 -- one of the states stands for it
 abbrev pub AdmitsOne : List State → Far → Type 0
@@ -99,11 +98,20 @@ abbrev pub told_all : Judged → List Passing → Judged
 told_all judged [] = judged
 told_all judged (passing ∷ capture) = told_all (told judged passing) capture
 
+-- one wake of a device of any kind: some steps by itself, then the wake's effect or nothing; it is
+-- answered only where it took effect
+-- WIRE-3
+pub record IsWake (far : Far) (answered : Bool) (far_new : Far) : Type 0 where
+  pub steps : List LocalStep
+  pub wakes : Bool
+  pub far_is : far_new ≡ (if wakes then woken (locals far steps) else locals far steps)
+  pub answered_is : answered ≡ true → wakes ≡ true
+
 -- a device brings this over a lossy line
 -- WIRE-1, WIRE-3
 abbrev pub IsHonest : Far → ℕ → Passing → Far → ℕ → Type 0
 IsHonest far silence (Wakes wake) far_new silence_new =
-    HonestWake far (is_answered wake) far_new × (silence_new ≡ silence)
+    IsWake far (is_answered wake) far_new × (silence_new ≡ silence)
 IsHonest far silence (Passes sent answer) far_new silence_new =
     HonestExchange far silence sent answer far_new silence_new
 
@@ -113,13 +121,18 @@ IsHonestRun far silence [] = Unit {0}
 IsHonestRun far silence (passing ∷ capture) = (far_new : Far) × (silence_new : ℕ)
     × IsHonest far silence passing far_new silence_new × IsHonestRun far_new silence_new capture
 
--- the law: whatever device brings a capture over a lossy line, it is never called not honest, and
--- nothing in it is called odd, whatever is done with odd replies
+-- the law: whatever device, of whatever kind, brings a capture over a lossy line, it is never
+-- called not honest, and nothing in it is called odd, whatever is done with odd replies; and its
+-- kind is among those that are left
 pub record NeverBlamed : Type 0 where
   pub begins : (odd : Odd) (far : Far) → IsFair (new_judge odd) far
   -- its page, where it is told
   pub pages : (judged : Judged) (far : Far) → IsFair judged far
       → IsFair (record judged { seen = whole_page far.page }) far
+  pub wakes_any : (judged : Judged) (far : Far) (wake : Wake) (far_new : Far)
+      → IsWake far (is_answered wake) far_new → IsFair judged far
+      → IsFair (woke judged wake) far_new
+  -- one of our own kind
   pub wakes : (judged : Judged) (far : Far) (wake : Wake) (far_new : Far)
       → HonestWake far (is_answered wake) far_new → IsFair judged far
       → IsFair (woke judged wake) far_new
@@ -134,3 +147,6 @@ pub record NeverBlamed : Type 0 where
   pub none_odd : (judged : Judged) (far : Far) → IsFair judged far
       → (silence : ℕ) (capture : List Passing) → IsHonestRun far silence capture
       → (told_all judged capture).oddities ≡ 0
+  pub kinds : (judged : Judged) (far : Far) → IsFair judged far
+      → (silence : ℕ) (capture : List Passing) → IsHonestRun far silence capture
+      → has_kind (kinds_left (told_all judged capture)) far.kind ≡ true

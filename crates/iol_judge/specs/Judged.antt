@@ -20,9 +20,11 @@ use Rattle.iol_judge.specs.declared.verdict.Verdict.TheVariants.{Unjudged, Hones
 use Rattle.iol_judge.specs.declared.verdict.Odd.{Odd}
 use Rattle.iol_judge.specs.declared.verdict.Wake.{Wake}
 use Rattle.iol_judge.specs.declared.verdict.Wake.TheVariants.{Answered, Unanswered}
+use Rattle.iol_judge.specs.declared.kinds.Kinds.{Kinds}
+use Rattle.iol_judge.specs.Family.{all_kinds, both_kinds, no_kinds}
 use Rattle.iol_judge.specs.Numbers.{later}
 use Rattle.iol_judge.specs.Seen.{nothing_seen, layouts_seen, page_noted}
-use Rattle.iol_judge.specs.State.{State, first_state, woken_state, powered_state, covers}
+use Rattle.iol_judge.specs.State.{State, are_alike, first_state, parts, woken_state, powered_state, covers}
 use Rattle.iol_judge.specs.Taking.{taken_by}
 use Rattle.iol_judge.specs.Replies.{is_readable, explained}
 
@@ -65,12 +67,22 @@ has_state states state = list_any (λ other. covers other state) states
 abbrev pub uncovered : List State → State → List State
 uncovered states state = filter (λ other. not (covers state other)) states
 
--- a new state takes the place of those that it covers
-abbrev pub added : List State → State → Result (List State) Open
-added states state =
-    if has_state states state then Ok states else
+-- with the kinds of those that are alike
+abbrev pub united : List State → State → State
+united [] state = state
+united (other ∷ states) state = united states
+    (if are_alike other state
+    then record state { kinds = both_kinds state.kinds other.kinds } else state)
+
+abbrev pub added_whole : List State → State → Result (List State) Open
+added_whole states state =
     if length (uncovered states state) == MAX_STATES then Err TooManyStates else
     Ok (uncovered states state ++ state ∷ [])
+
+-- a new state takes the place of those that it covers, and of those that are alike
+abbrev pub added : List State → State → Result (List State) Open
+added states state =
+    if has_state states state then Ok states else added_whole states (united states state)
 
 -- a step for each item in turn, until one fails
 abbrev pub each_in_turn : {S A : Type 0} → (A → S → Result A Open) → A → List S → Result A Open
@@ -90,16 +102,25 @@ added_taken (Ok None) next = Ok next
 added_taken (Ok (Some taken)) next = added next taken.kept
 added_taken (Err why) next = Err why
 
-abbrev pub lost_with : Result (Option Taken) Open → Result (List State) Open
+-- with the message worked, for the reply may be lost
+abbrev pub lost_part : Result Layouts Open → List ℕ → List State → State
     → Result (List State) Open
-lost_with taken (Ok next) = added_taken taken next
-lost_with taken (Err why) = Err why
+lost_part known sent next part = added_taken (taken_by known part sent) next
 
--- a state as it was, for the message may be lost, and with the message worked, for the reply may be
+abbrev pub all_lost_parts : Result Layouts Open → List ℕ → List State → List State
+    → Result (List State) Open
+all_lost_parts known sent next parts = each_in_turn (lost_part known sent) next parts
+
+abbrev pub lost_with : Result Layouts Open → List ℕ → List State → Result (List State) Open
+    → Result (List State) Open
+lost_with known sent parts (Ok next) = all_lost_parts known sent next parts
+lost_with known sent parts (Err why) = Err why
+
+-- a state as it was, for the message may be lost, and with the message worked
 -- WIRE-1
 abbrev pub lost_into : Result Layouts Open → List ℕ → List State → State
     → Result (List State) Open
-lost_into known sent next state = lost_with (taken_by known state sent) (added next state)
+lost_into known sent next state = lost_with known sent (parts state sent) (added next state)
 
 abbrev pub all_lost : Result Layouts Open → List ℕ → List State → List State
     → Result (List State) Open
@@ -129,10 +150,20 @@ replied_taken odd seen reply next (Ok taken) =
     explained_into next (explained odd seen taken reply)
 replied_taken odd seen reply next (Err why) = Err why
 
+abbrev pub replied_part : Result Layouts Open → Odd → List (Option ℕ) → List ℕ → List ℕ → Next
+    → State → Result Next Open
+replied_part known odd seen sent reply next part =
+    replied_taken odd seen reply next (taken_by known part sent)
+
+abbrev pub all_replied_parts : Result Layouts Open → Odd → List (Option ℕ) → List ℕ → List ℕ
+    → Next → List State → Result Next Open
+all_replied_parts known odd seen sent reply next parts =
+    each_in_turn (replied_part known odd seen sent reply) next parts
+
 abbrev pub replied_into : Result Layouts Open → Odd → List (Option ℕ) → List ℕ → List ℕ → Next
     → State → Result Next Open
 replied_into known odd seen sent reply next state =
-    replied_taken odd seen reply next (taken_by known state sent)
+    all_replied_parts known odd seen sent reply next (parts state sent)
 
 -- each state that explains the reply
 -- WIRE-2
@@ -231,3 +262,22 @@ woke_by verdict judged wake = judged
 -- DEV-1, WIRE-3
 abbrev pub woke : Judged → Wake → Judged
 woke judged wake = woke_by judged.verdict judged wake
+
+-- Kinds
+
+-- these, and those of states
+abbrev pub kinds_with : Kinds → List State → Kinds
+kinds_with kinds [] = kinds
+kinds_with kinds (state ∷ states) = kinds_with (both_kinds kinds state.kinds) states
+
+-- those that a verdict leaves possible
+-- DEV-20
+abbrev pub kinds_by : Verdict → List State → Kinds
+kinds_by Honest states = kinds_with no_kinds states
+kinds_by (NotHonest exchange reason) states = no_kinds
+kinds_by verdict states = all_kinds
+
+-- those that the exchanges so far admit
+-- DEV-20
+abbrev pub kinds_left : Judged → Kinds
+kinds_left judged = kinds_by judged.verdict judged.states

@@ -1,6 +1,7 @@
 pub mod Numbers
 pub mod Octets
 pub mod Events
+pub mod Family
 pub mod Answers
 pub mod Transfers
 pub mod State

@@ -13,6 +13,7 @@ use Rattle.iol_far.specs.Level.{Link, taken}
 use Rattle.iol_judge.specs.declared.open.Open.{Open}
 use Rattle.iol_judge.specs.declared.taken.Taken.{Taken}
 use Rattle.iol_judge.specs.Events.{shown_after}
+use Rattle.iol_judge.specs.Family.{kind_in}
 use Rattle.iol_judge.specs.Transfers.{isdu_known, transfer_after, transfer_in}
 use Rattle.iol_judge.specs.State.{State}
 
@@ -45,12 +46,13 @@ cycle_after old channel read address octet = old
 abbrev pub state_after : Result Layouts Open → Link → State → List ℕ → Shape → MasterMsg
     → Option Mode → State
 state_after known link state octets layout message asked = record {
+  kinds = state.kinds;
   link = record { mode = link.mode; waits = waits_after link.mode link.waits octets asked };
   cycle = cycle_after state.cycle message.mc.channel message.mc.read message.mc.address
       (slice_index message.od.items 0);
   events = shown_after state.events
       (is_confirm message.mc.channel message.mc.read message.mc.address);
-  transfer = transfer_after (isdu_known known) layout.od
+  transfer = transfer_after (kind_in state.kinds) (isdu_known known) layout.od
       (transfer_in state.link.waits octets state.transfer) message.mc.channel message.mc.read
       (flow_of message.mc.address) message.od.items;
 }

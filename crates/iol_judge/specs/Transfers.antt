@@ -1,5 +1,5 @@
 -- What is known of an ISDU transfer.
-use Rattle.std.specs.Prelude.{ℕ, ◌+◌, Bool, true, false, not, ◌&&◌, ◌==◌, nat_eq, nat_lt, nat_le, bytes_eq, if◌then◌else◌, List, [], ◌++◌, length, Option, Some, None, is_some, Result, Ok, Err}
+use Rattle.std.specs.Prelude.{ℕ, ◌+◌, Bool, true, false, not, ◌&&◌, ◌==◌, nat_eq, nat_lt, nat_le, bytes_eq, if◌then◌else◌, List, [], ◌∷◌, ◌++◌, length, Option, Some, None, is_some, Result, Ok, Err}
 use Rattle.std.specs.Option.{option_eq}
 use Rattle.iol_octets.specs.declared.control.Channel.{Channel}
 use Rattle.iol_octets.specs.declared.control.Channel.TheVariants.{Isdu}
@@ -12,14 +12,21 @@ use Rattle.iol_isdu.specs.Answers.{is_read}
 use Rattle.iol_isdu.specs.Frame.{total_at}
 use Rattle.iol_isdu.specs.Parse.{request_of}
 use Rattle.iol_segment.specs.Join.{Stage, Open, Complete, Wrong, stage, next_count, is_last}
+use Rattle.iol_far.specs.declared.kind.Kind.{Kind}
+use Rattle.iol_far.specs.declared.kind.HandsOver.{HandsOver}
+use Rattle.iol_far.specs.declared.kind.HandsOver.TheVariants.{FirstRead, LastSegment}
+use Rattle.iol_far.specs.declared.kind.Recalls.{Recalls}
+use Rattle.iol_far.specs.declared.kind.Recalls.TheVariants.{UntilLeft, UntilSent}
 use Rattle.iol_far.specs.Far.{WaitingCommand}
+use Rattle.iol_judge.specs.declared.had.Further.{Further}
+use Rattle.iol_judge.specs.declared.had.Further.TheVariants.{GoesOn, MayEnd, Ends}
 use Rattle.iol_judge.specs.declared.had.Had.{Had}
 use Rattle.iol_judge.specs.declared.open.Open.{Open as Unsaid}
 use Rattle.iol_judge.specs.declared.reason.Reason.{Reason}
 use Rattle.iol_judge.specs.declared.reason.Reason.TheVariants.{NoAnswerDue, NotBusy}
 use Rattle.iol_judge.specs.declared.transfer.Transfer.{Transfer}
 use Rattle.iol_judge.specs.declared.transfer.Transfer.TheVariants.{Quiet, Receiving, Whole, Handed, Asked, Answered, Perhaps, Free}
-use Rattle.iol_judge.specs.declared.transfer.TheConstants.{LONGEST, LONGEST_TO_READ, LONGEST_TO_WRITE}
+use Rattle.iol_judge.specs.declared.transfer.TheConstants.{LONGEST, LONGEST_TO_READ, LONGEST_TO_WRITE, SHORTEST}
 use Rattle.iol_judge.specs.Octets.{are_zeros}
 use Rattle.iol_judge.specs.Answers.{first_had, had_with, is_busy, is_next, is_open, none_had, same_had, same_read, segment_fault, text_fault, was_sent}
 
@@ -31,9 +38,13 @@ covers_transfer (Receiving text last) (Receiving others other) =
     bytes_eq text.items others.items && option_eq nat_eq last other
 covers_transfer (Whole read last) (Whole reads other) =
     same_read read reads && option_eq nat_eq last other
-covers_transfer (Handed read) (Handed reads) = same_read read reads
-covers_transfer (Asked read) (Handed reads) = same_read read reads
-covers_transfer (Asked read) (Asked reads) = same_read read reads
+covers_transfer (Handed read last) (Handed reads other) =
+    same_read read reads && option_eq nat_eq last other
+covers_transfer (Asked read last) (Handed reads other) =
+    same_read read reads && option_eq nat_eq last other
+covers_transfer (Asked read last) (Asked reads other) =
+    same_read read reads && option_eq nat_eq last other
+covers_transfer (Asked read last) (Answered had) = same_had (none_had read) had
 covers_transfer (Answered had) (Answered other) = same_had had other
 covers_transfer (Perhaps had) (Answered other) = same_had had other
 covers_transfer (Perhaps had) (Perhaps other) = same_had had other
@@ -61,28 +72,29 @@ received_at Wrong octets last = Quiet
 abbrev pub received : List ℕ → Option ℕ → Transfer
 received octets last = received_at (stage octets) octets last
 
--- DEV-11, DEV-14
-abbrev pub count_written : Transfer → ℕ → List ℕ → Transfer
-count_written (Receiving text last) count octets =
+-- DEV-11, DEV-14, DEV-20
+abbrev pub count_written : HandsOver → Transfer → ℕ → List ℕ → Transfer
+count_written hands_over (Receiving text last) count octets =
     if is_last last count then Receiving text last else
     if count == next_count last then received (text.items ++ octets) (Some count) else
     Quiet
-count_written (Whole read last) count octets =
+count_written hands_over (Whole read last) count octets =
     if is_last last count then Whole read last else Quiet
-count_written Free count octets = Free
-count_written old count octets = Quiet
+count_written LastSegment (Handed read last) count octets =
+    if is_last last count then Handed read last else Quiet
+-- which is told apart before (`apart`)
+count_written LastSegment (Asked read last) count octets =
+    if is_last last count then Free else Quiet
+count_written hands_over Free count octets = Free
+count_written hands_over old count octets = Quiet
 
 -- A read on the ISDU channel
 
--- DEV-12, DEV-13
-abbrev pub start_read : Transfer → Transfer
-start_read (Whole read last) = Handed read
-start_read (Handed read) = Asked read
-start_read (Asked read) = Asked read
-start_read (Answered had) = Answered (record had { at = 0; count = 0 })
-start_read (Perhaps had) = Perhaps (record had { at = 0; count = 0 })
-start_read Free = Free
-start_read old = Quiet
+-- a whole text: its device may have answered where it has handed the request over before
+-- DEV-12, DEV-20
+abbrev pub whole_read : HandsOver → Bool → Option ℕ → Transfer
+whole_read FirstRead read last = Handed read last
+whole_read LastSegment read last = Asked read last
 
 -- how many octets the longest answer has, to a read or to a write
 -- ISDU-4
@@ -90,30 +102,46 @@ abbrev pub longest_answer : Bool → ℕ
 longest_answer true = LONGEST_TO_READ
 longest_answer false = LONGEST_TO_WRITE
 
--- a segment of an answer of this total length, behind one that wasn't had. Where the length isn't
--- known the answer may have ended
+-- whether there is a segment at a place, of an answer of this total length, behind one that wasn't
+-- had. Where the length isn't known it has those of the shortest, and may have ended behind them
 -- DEV-13
-abbrev pub behind_missed : Had → Result ℕ IsduFault → Transfer
-behind_missed had (Ok total) = if nat_lt had.at total then Answered had else Quiet
-behind_missed had (Err fault) =
-    if nat_lt had.at (longest_answer had.read) then Perhaps had else Quiet
+abbrev pub missed_further : Bool → Result ℕ IsduFault → ℕ → Further
+missed_further read (Ok total) next = if nat_lt next total then GoesOn else Ends
+missed_further read (Err fault) next =
+    if nat_lt next SHORTEST then GoesOn else
+    if nat_lt next (longest_answer read) then MayEnd else Ends
 
--- the next segment of an answer: one that was had, or one that the octets had say there is
+-- whether an answer has a segment at a place behind one that was sent: one that was had, or one
+-- that the octets had say there is
 -- DEV-13
-abbrev pub next_read : Had → ℕ → ℕ → Transfer
-next_read had count next =
+abbrev pub further : Had → ℕ → Further
+further had next =
     if nat_lt (length had.text.items) next
-    then behind_missed (record had { at = next; count = count }) (total_at had.text.items) else
-    if nat_lt next (length had.text.items) then Answered (record had { at = next; count = count })
-    else if is_open (stage had.text.items) then Answered (record had { at = next; count = count })
-    else Quiet
+    then missed_further had.read (total_at had.text.items) next else
+    if nat_lt next (length had.text.items) then GoesOn else
+    if is_open (stage had.text.items) then GoesOn else Ends
+
+-- this is known where the answer goes on, and nothing is under way where it ends
+abbrev pub while_further : Further → Had → Transfer
+while_further GoesOn had = Answered had
+while_further MayEnd had = Perhaps had
+while_further Ends had = Quiet
+
+-- A segment that was sent is sent again, so that this is known: a device that recalls its answer
+-- until it was sent has it only while there is a segment behind the one sent last
+-- DEV-20
+abbrev pub sent_again : Recalls → ℕ → Had → Had → Transfer
+sent_again UntilLeft size had again = Answered again
+sent_again UntilSent size had again = while_further (further had (had.at + size)) again
 
 -- of an answer of which a segment was sent
 -- DEV-13, DEV-14
-abbrev pub answered_read : ℕ → Had → ℕ → Transfer
-answered_read size had count =
-    if was_sent had count then Answered had else
-    if is_next had count then next_read had count (had.at + size) else
+abbrev pub answered_read : Recalls → ℕ → Had → ℕ → Transfer
+answered_read recalls size had count =
+    if was_sent had count then sent_again recalls size had had else
+    if is_next had count
+    then while_further (further had (had.at + size))
+    (record had { at = had.at + size; count = count }) else
     Quiet
 
 -- or the answer had ended before
@@ -122,26 +150,47 @@ or_ended (Answered had) = Perhaps had
 or_ended other = other
 
 -- DEV-13, DEV-14
-abbrev pub count_read : ℕ → Transfer → ℕ → Transfer
-count_read size (Answered had) count = answered_read size had count
-count_read size (Perhaps had) count = or_ended (answered_read size had count)
--- where the answer's first segment was sent, and not had, there may be a second
-count_read size (Asked read) count =
-    if count == 1
-    then behind_missed (record (none_had read) { at = size; count = 1 }) (total_at []) else Quiet
-count_read size Free count = Free
-count_read size old count = Quiet
+abbrev pub count_read : Recalls → ℕ → Transfer → ℕ → Transfer
+count_read recalls size (Answered had) count = answered_read recalls size had count
+count_read recalls size (Perhaps had) count = or_ended (answered_read recalls size had count)
+-- the answer's first segment may be sent, and not had
+count_read recalls size (Asked read last) count =
+    or_ended (answered_read recalls size (none_had read) count)
+count_read recalls size Free count = Free
+count_read recalls size old count = Quiet
+
+-- an answer of which a segment was sent, from the first on
+-- DEV-13
+abbrev pub first_again : Recalls → ℕ → Had → Transfer
+first_again recalls size had = sent_again recalls size had (record had { at = 0; count = 0 })
+
+-- DEV-20
+abbrev pub asked_again : Recalls → Bool → Option ℕ → Transfer
+asked_again UntilLeft read last = Asked read last
+-- which is told apart before (`apart`)
+asked_again UntilSent read last = Free
+
+-- DEV-12, DEV-13
+abbrev pub start_read : Kind → ℕ → Transfer → Transfer
+start_read kind size (Whole read last) = whole_read kind.hands_over read last
+start_read kind size (Handed read last) = Asked read last
+start_read kind size (Asked read last) = asked_again kind.recalls read last
+start_read kind size (Answered had) = first_again kind.recalls size had
+start_read kind size (Perhaps had) = or_ended (first_again kind.recalls size had)
+start_read kind size Free = Free
+start_read kind size old = Quiet
 
 -- A message
 
--- of a device with ISDU, by the size of a segment
--- DEV-11, DEV-12, DEV-13, DEV-14
-abbrev pub transfer_on : ℕ → Transfer → Bool → Flow → List ℕ → Transfer
-transfer_on size old false Start octets = received octets None
-transfer_on size old false (Count count) octets = count_written old count octets
-transfer_on size old true Start octets = start_read old
-transfer_on size old true (Count count) octets = count_read size old count
-transfer_on size old read flow octets = Quiet
+-- of a device of this kind, with ISDU, by the size of a segment
+-- DEV-11, DEV-12, DEV-13, DEV-14, DEV-20
+abbrev pub transfer_on : Kind → ℕ → Transfer → Bool → Flow → List ℕ → Transfer
+transfer_on kind size old false Start octets = received octets None
+transfer_on kind size old false (Count count) octets =
+    count_written kind.hands_over old count octets
+transfer_on kind size old true Start octets = start_read kind size old
+transfer_on kind size old true (Count count) octets = count_read kind.recalls size old count
+transfer_on kind size old read flow octets = Quiet
 
 abbrev pub is_quiet : Transfer → Bool
 is_quiet Quiet = true
@@ -154,16 +203,45 @@ transfer_unknown old true Start = if is_quiet old then Quiet else Free
 transfer_unknown old read (Count count) = if is_quiet old then Quiet else Free
 transfer_unknown old read flow = Quiet
 
-abbrev pub transfer_by : Option Bool → ℕ → Transfer → Bool → Flow → List ℕ → Transfer
-transfer_by (Some true) size old read flow octets = transfer_on size old read flow octets
-transfer_by (Some false) size old read flow octets = Quiet
-transfer_by None size old read flow octets = transfer_unknown old read flow
+abbrev pub transfer_by : Kind → Option Bool → ℕ → Transfer → Bool → Flow → List ℕ → Transfer
+transfer_by kind (Some true) size old read flow octets =
+    transfer_on kind size old read flow octets
+transfer_by kind (Some false) size old read flow octets = Quiet
+transfer_by kind None size old read flow octets = transfer_unknown old read flow
 
 -- once a message was worked
 -- DEV-10
-abbrev pub transfer_after : Option Bool → ℕ → Transfer → Channel → Bool → Flow → List ℕ → Transfer
-transfer_after isdu size old Isdu read flow octets = transfer_by isdu size old read flow octets
-transfer_after isdu size old channel read flow octets = old
+abbrev pub transfer_after : Kind → Option Bool → ℕ → Transfer → Channel → Bool → Flow → List ℕ
+    → Transfer
+transfer_after kind isdu size old Isdu read flow octets =
+    transfer_by kind isdu size old read flow octets
+transfer_after kind isdu size old channel read flow octets = old
+
+-- Kinds that a message tells apart
+
+-- DEV-20
+abbrev pub is_apart_at : Transfer → Bool → Flow → Bool
+is_apart_at (Whole read last) true Start = true
+is_apart_at (Handed read last) false (Count count) = is_last last count
+is_apart_at (Asked read last) true Start = true
+is_apart_at (Asked read last) false (Count count) = is_last last count
+is_apart_at (Answered had) true Start = true
+is_apart_at (Answered had) true (Count count) = was_sent had count
+is_apart_at (Perhaps had) true Start = true
+is_apart_at (Perhaps had) true (Count count) = was_sent had count
+is_apart_at old read flow = false
+
+-- devices with this transfer may do different things, by their kind
+-- DEV-20
+abbrev pub is_apart : Transfer → Channel → Bool → Flow → Bool
+is_apart old Isdu read flow = is_apart_at old read flow
+is_apart old channel read flow = false
+
+-- the transfers that it is one of: the application has the request, or an answer was sent
+-- DEV-20
+abbrev pub apart : Transfer → List Transfer
+apart (Asked read last) = Handed read last ∷ Answered (none_had read) ∷ []
+apart old = old ∷ []
 
 -- whether the device has ISDU, where that is known
 abbrev pub isdu_known : Result Layouts Unsaid → Option Bool
@@ -181,16 +259,18 @@ transfer_in (Some command) octets old = if bytes_eq octets command.octets then o
 -- where no transfer is under way there is no answer, and a whole request is answered by busy first
 -- DEV-12, DEV-14, ISDU-11
 abbrev pub isdu_fault : Transfer → List ℕ → Option Reason
-isdu_fault (Handed read) od = if is_busy od then None else Some NotBusy
-isdu_fault (Asked read) od = if is_busy od then None else text_fault read od
+isdu_fault (Handed read last) od = if is_busy od then None else Some NotBusy
+isdu_fault (Asked read last) od = if is_busy od then None else text_fault read od
 isdu_fault (Answered had) od = segment_fault had od
 isdu_fault (Perhaps had) od = if are_zeros od then None else segment_fault had od
 isdu_fault Free od = None
+-- a read leaves no text whole
+isdu_fault (Whole read last) od = None
 isdu_fault transfer od = if are_zeros od then None else Some NoAnswerDue
 
 -- busy, or the answer's first segment
-abbrev pub asked_told : Bool → List ℕ → Transfer
-asked_told read od = if is_busy od then Handed read else Answered (first_had read od)
+abbrev pub asked_told : Bool → Option ℕ → List ℕ → Transfer
+asked_told read last od = if is_busy od then Handed read last else Answered (first_had read od)
 
 -- no answer any more, or a segment; zeros may be either
 abbrev pub perhaps_told : Had → List ℕ → Transfer
@@ -199,7 +279,7 @@ perhaps_told had od =
     if is_some (segment_fault had od) then Quiet else Perhaps (had_with had od)
 
 abbrev pub told_by : Transfer → List ℕ → Transfer
-told_by (Asked read) od = asked_told read od
+told_by (Asked read last) od = asked_told read last od
 told_by (Answered had) od = Answered (had_with had od)
 told_by (Perhaps had) od = perhaps_told had od
 told_by old od = old

@@ -3,6 +3,9 @@ use Rattle.std.specs.Prelude.{◌≡◌, ◌⊎◌, ◌<◌, ℕ, zero, suc, ◌
 use Rattle.iol_isdu.specs.Answers.{is_read}
 use Rattle.iol_segment.specs.Cut.{segment}
 use Rattle.iol_segment.specs.TextLaws.{joined}
+use Rattle.iol_far.specs.declared.kind.HandsOver.{HandsOver}
+use Rattle.iol_far.specs.declared.kind.HandsOver.TheVariants.{FirstRead, LastSegment}
+use Rattle.iol_far.specs.Far.{Far, layout_of}
 use Rattle.iol_far.specs.Isdu.{IsduState, Empty, Receiving, Whole, Handed, Answered, answer_text, fits}
 use Rattle.iol_judge.specs.declared.had.Ahead.{Ahead}
 use Rattle.iol_judge.specs.declared.had.Had.{Had}
@@ -40,26 +43,37 @@ pub record AreHad (size : ℕ) (had : Had) (text : List ℕ) (sent : ℕ) : Type
   pub at : had.at ≡ sent * size
   pub count : had.count ≡ sent % 16
 
--- such a request is whole
-abbrev pub IsWhole : Bool → Option ℕ → IsduState → Type 0
-IsWhole read last (Whole request count) = (is_read request ≡ read) × (count ≡ last)
-IsWhole read last state = ⊥
+-- a device that hands over at the last segment keeps the COUNT of that
+-- DEV-20
+abbrev pub IsCounted : HandsOver → Option ℕ → Option ℕ → Type 0
+IsCounted FirstRead counted last = Unit {0}
+IsCounted LastSegment counted last = counted ≡ last
 
 -- the application has such a request, or has answered it
-abbrev pub IsHanded : Bool → IsduState → Type 0
-IsHanded read (Handed request) = is_read request ≡ read
-IsHanded read (Answered request answer None) =
-    (is_read request ≡ read) × IsTrue (fits request answer)
-IsHanded read state = ⊥
+abbrev pub IsHanded : HandsOver → Option ℕ → Bool → Option ℕ → IsduState → Type 0
+IsHanded hands_over counted read last (Handed request) =
+    (is_read request ≡ read) × IsCounted hands_over counted last
+IsHanded hands_over counted read last (Answered request answer None) =
+    (is_read request ≡ read) × IsTrue (fits request answer) × IsCounted hands_over counted last
+IsHanded hands_over counted read last state = ⊥
 
--- so it has, or the answer's first segment was sent
-abbrev pub IsAsked : Bool → IsduState → Type 0
-IsAsked read (Handed request) = is_read request ≡ read
-IsAsked read (Answered request answer None) =
+-- such a request is whole; handed over by now, where that is done with its last segment
+-- DEV-11, DEV-20
+abbrev pub IsWhole : HandsOver → Option ℕ → Bool → Option ℕ → IsduState → Type 0
+IsWhole LastSegment counted read last state = IsHanded LastSegment counted read last state
+IsWhole FirstRead counted read last (Whole request count) =
+    (is_read request ≡ read) × (count ≡ last)
+IsWhole FirstRead counted read last state = ⊥
+
+-- the application has it, or has answered it, or the answer's first segment was sent
+abbrev pub IsAsked : HandsOver → Option ℕ → Bool → Option ℕ → IsduState → Type 0
+IsAsked hands_over counted read last (Handed request) =
+    (is_read request ≡ read) × IsCounted hands_over counted last
+IsAsked hands_over counted read last (Answered request answer None) =
+    (is_read request ≡ read) × IsTrue (fits request answer) × IsCounted hands_over counted last
+IsAsked hands_over counted read last (Answered request answer (Some zero)) =
     (is_read request ≡ read) × IsTrue (fits request answer)
-IsAsked read (Answered request answer (Some zero)) =
-    (is_read request ≡ read) × IsTrue (fits request answer)
-IsAsked read state = ⊥
+IsAsked hands_over counted read last state = ⊥
 
 -- segments of an answer were sent
 abbrev pub IsAnswered : ℕ → Had → IsduState → Type 0
@@ -67,14 +81,25 @@ IsAnswered size had (Answered request answer (Some sent)) = (is_read request ≡
     × IsTrue (fits request answer) × AreHad size had (answer_text request answer) sent
 IsAnswered size had state = ⊥
 
--- the ISDU state is as known, with segments of this size
--- DEV-11, DEV-12, DEV-13, DEV-14
-abbrev pub IsUnderWay : ℕ → Transfer → IsduState → Type 0
-IsUnderWay size known.Quiet state = state ≡ Empty
-IsUnderWay size (known.Receiving text last) state = state ≡ Receiving text.items last
-IsUnderWay size (known.Whole read last) state = IsWhole read last state
-IsUnderWay size (known.Handed read) state = IsHanded read state
-IsUnderWay size (known.Asked read) state = IsAsked read state
-IsUnderWay size (known.Answered had) state = IsAnswered size had state
-IsUnderWay size (known.Perhaps had) state = IsAnswered size had state ⊎ (state ≡ Empty)
-IsUnderWay size known.Free state = Unit {0}
+-- the ISDU state, with the COUNT of the last write, is as known, by when the device hands over, and
+-- with segments of this size
+-- DEV-11, DEV-12, DEV-13, DEV-14, DEV-20
+abbrev pub IsUnderWay : HandsOver → Option ℕ → ℕ → Transfer → IsduState → Type 0
+IsUnderWay hands_over counted size known.Quiet state = state ≡ Empty
+IsUnderWay hands_over counted size (known.Receiving text last) state =
+    state ≡ Receiving text.items last
+IsUnderWay hands_over counted size (known.Whole read last) state =
+    IsWhole hands_over counted read last state
+IsUnderWay hands_over counted size (known.Handed read last) state =
+    IsHanded hands_over counted read last state
+IsUnderWay hands_over counted size (known.Asked read last) state =
+    IsAsked hands_over counted read last state
+IsUnderWay hands_over counted size (known.Answered had) state = IsAnswered size had state
+IsUnderWay hands_over counted size (known.Perhaps had) state =
+    IsAnswered size had state ⊎ (state ≡ Empty)
+IsUnderWay hands_over counted size known.Free state = Unit {0}
+
+-- so is that of a device
+abbrev pub HasUnderWay : Far → Transfer → Type 0
+HasUnderWay far transfer =
+    IsUnderWay far.kind.hands_over far.counted (layout_of far).od transfer far.isdu

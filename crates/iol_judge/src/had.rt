@@ -1,11 +1,16 @@
 //! What is known of an answer, once a segment was sent.
-ghost use Rattle.std.specs.Prelude.{◌≡◌, ◌<◌, ◌≤◌, ◌++◌, length, true, ◌&&◌, ◌==◌, nat_lt};
+ghost use Rattle.std.specs.Prelude.{◌≡◌, ◌⊎◌, ◌<◌, ◌≤◌, ◌++◌, length, true, ◌&&◌, ◌==◌, nat_lt};
+ghost use Rattle.iol_isdu.specs.Frame.{total_at};
 ghost use Rattle.iol_segment.specs.Join.{stage};
 ghost use Rattle.iol_judge.specs.Answers.{ahead_fault, ahead_told, ahead_with, first_had, had_with, is_ahead, is_busy, is_next, is_open, next_fault, none_had, one_ahead, padding_fault, place_in, same_ahead, same_fault, same_had, segment_fault, was_sent};
+ghost use Rattle.iol_judge.specs.declared.had.Further.TheVariants.{Ends};
+ghost use Rattle.iol_judge.specs.declared.had.TheConstants.{MOST_HAD};
+ghost use Rattle.iol_judge.specs.Transfers.{further, missed_further};
 
 use crate::answer::text_fault;
 use crate::octets::{are_zeros, first_octet, rest_of};
 use crate::reason::Reason;
+use crate::transfer::{LONGEST_TO_READ, LONGEST_TO_WRITE, SHORTEST};
 use arrayvec::ArrayVec;
 use iol_isdu::{IsduFault, total_of};
 
@@ -80,6 +85,15 @@ impl Ahead {
     {
         self.at == other.at && self.octets.as_slice() == other.octets.as_slice()
     }
+}
+
+/// Whether an answer has a segment behind one that was sent.
+#[derive(Clone, Copy, Debug, PartialEq, Eq)]
+pub(crate) enum Further {
+    GoesOn,
+    /// Its length isn't known.
+    MayEnd,
+    Ends,
 }
 
 /// What is known of an answer that is sent: the segments from the first on, up to one that wasn't
@@ -214,6 +228,44 @@ impl Had {
         match total_of(&self.text) {
             Ok(total) => total > self.text.len(),
             Err(fault) => matches!(fault, IsduFault::Truncated),
+        }
+    }
+
+    /// Whether it has a segment at a place behind one that was sent.
+    ///
+    /// Rule DEV-13.
+    pub fn further(&self, next: usize) -> Further
+        ensures value { result ≡ further self.now next }
+        ensures near { (result ≡ Ends) ⊎ (next ≤ MOST_HAD) }
+    {
+        let length = self.text.len();
+        if next > length {
+            self.missed_further(next)
+        } else if next < length || self.is_open() {
+            Further::GoesOn
+        } else {
+            Further::Ends
+        }
+    }
+
+    /// Whether it has, behind one that wasn't had. Where the answer's length isn't known it may
+    /// have ended, unless the shortest hasn't.
+    ///
+    /// Rule DEV-13.
+    fn missed_further(&self, next: usize) -> Further
+        ensures value { result ≡ missed_further self.now.read (total_at self.now.text.items) next }
+        ensures near { (result ≡ Ends) ⊎ (next ≤ MOST_HAD) }
+    {
+        let longest = if self.read {
+            LONGEST_TO_READ
+        } else {
+            LONGEST_TO_WRITE
+        };
+        match total_of(&self.text) {
+            Ok(total) if next < total => Further::GoesOn,
+            Err(_) if next < SHORTEST => Further::GoesOn,
+            Err(_) if next < longest => Further::MayEnd,
+            _ => Further::Ends,
         }
     }
 

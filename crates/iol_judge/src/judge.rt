@@ -1,9 +1,11 @@
 //! The judge.
 ghost use Rattle.std.specs.Prelude.{◌≡◌, option_copied, if◌then◌else◌, [], Ok, Err};
 ghost use Rattle.iol_judge.specs.Seen.{whole_page};
-ghost use Rattle.iol_judge.specs.Judged.{concluded_lost, exchanged, new_judge, noted, woke};
+ghost use Rattle.iol_judge.specs.Family.{no_kinds};
+ghost use Rattle.iol_judge.specs.Judged.{concluded_lost, exchanged, kinds_left, kinds_with, new_judge, noted, woke};
 
 use crate::kept::Kept;
+use crate::kinds::Kinds;
 use crate::next::{lose, move_states, reply, wake};
 use crate::octets::first_octet;
 use crate::open::Open;
@@ -12,7 +14,7 @@ use crate::reason::Reason;
 use crate::seen::Seen;
 use crate::taken::{Next, States};
 use crate::verdict::{Odd, Verdict, Wake};
-use iol_octets::{Channel, Mc};
+use iol_octets::Mc;
 use std::marker::Model;
 
 /// A judge of one capture. It is told what went over the line, in its order, and has a verdict at
@@ -111,6 +113,20 @@ impl Judge {
         ensures { result ≡ self.now.verdict }
     {
         self.verdict
+    }
+
+    /// Which kinds of device the exchanges so far admit: none where the verdict is `NotHonest`, and
+    /// all where nothing is said.
+    ///
+    /// Rule DEV-20.
+    pub fn kinds(&self) -> Kinds
+        ensures { result ≡ kinds_left self.now }
+    {
+        match self.verdict {
+            Verdict::Honest => kinds_of(&self.states),
+            Verdict::NotHonest(..) => Kinds::none(),
+            Verdict::Unjudged | Verdict::CantSay(..) => Kinds::all(),
+        }
     }
 
     /// What was odd in the last exchange, and passed over.
@@ -213,8 +229,17 @@ impl Judge {
         ensures { self.new ≡ record self.old { seen = noted self.old.seen sent.now octets.now } }
     {
         let mc = Mc::from_octet(first_octet(sent));
-        if mc.read && mc.channel == Channel::Page {
-            self.seen.note(mc.address, first_octet(octets));
-        }
+        self.seen.note_reply(mc, octets);
     }
+}
+
+/// The kinds that states stand for.
+fn kinds_of(states: &[Kept]) -> Kinds
+    ensures { result ≡ kinds_with no_kinds states.now }
+{
+    let mut kinds = Kinds::none();
+    for kept in states {
+        kinds = kinds.with(&kept.kinds);
+    }
+    kinds
 }

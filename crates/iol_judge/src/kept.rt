@@ -1,11 +1,18 @@
 //! What is kept of a device.
-ghost use Rattle.std.specs.Prelude.{◌≡◌, None, Some, Option};
-ghost use Rattle.iol_judge.specs.State.{first_state, startup_state};
+ghost use Rattle.std.specs.Prelude.{◌≡◌, ◌≤◌, ◌+◌, ◌++◌, None, Some, Option, slice_index};
+ghost use Rattle.arrayvec.specs.ArrayVec.{array_vec_len};
+ghost use Rattle.iol_octets.specs.Control.{control_of};
+ghost use Rattle.iol_judge.specs.State.{all_parts, first_state, parts_of, startup_state, state_of, tells_apart};
 
 use crate::events::{Shown, is_known_in};
+use crate::had::Had;
+use crate::kinds::Kinds;
+use crate::octets::first_octet;
 use crate::transfer::Transfer;
-use iol_far::Mode;
+use arrayvec::ArrayVec;
+use iol_far::{HandsOver, Kind, Mode, Recalls};
 use iol_mseq::Message;
+use iol_octets::{Channel, Mc};
 use std::marker::Model;
 
 /// A command into another mode, with its octets, until a message comes in that mode's layout.
@@ -46,9 +53,14 @@ impl Waiting {
     }
 }
 
+/// What one state stands for, told apart by kinds: of each kind two at most.
+pub(crate) type Parts = ArrayVec<Kept, 8>;
+
 /// A state of a device that the exchanges so far admit.
 #[derive(Debug, Drop)]
 pub(crate) struct Kept {
+    /// Which kinds of device it stands for.
+    pub kinds: Kinds,
     pub mode: Mode,
     pub waits: Option<Waiting>,
     /// The octet of page address 0x01, where it is known.
@@ -63,6 +75,7 @@ impl Model for Kept {
     ghost Value = { State };
 
     ghost view = { λ k. record {
+      kinds = k.kinds;
       link = record { mode = k.mode; waits = k.waits };
       cycle = k.cycle;
       events = k.events;
@@ -70,6 +83,7 @@ impl Model for Kept {
     } };
 
     ghost inverse = { λ s. record {
+      kinds = s.kinds;
       mode = s.link.mode;
       waits = s.link.waits;
       cycle = s.cycle;
@@ -85,21 +99,22 @@ impl Default for Kept {
 }
 
 impl Kept {
-    ghost use Rattle.iol_judge.specs.State.{powered_state, woken_state, covers, same_waiting};
+    ghost use Rattle.iol_judge.specs.State.{are_alike, covers, covers_alike, powered_state, same_waiting, woken_state};
 
-    /// A device right after the first answered wake-up request.
+    /// A device of any kind right after the first answered wake-up request.
     ///
-    /// Rule DEV-1.
+    /// Rules DEV-1, DEV-20.
     pub fn first() -> Kept
         ensures { result ≡ first_state }
     {
-        Kept::started(None, Shown::Any)
+        Kept::started(Kinds::all(), None, Shown::Any)
     }
 
-    fn started(cycle: Option<u8>, events: Shown) -> Kept
-        ensures { result ≡ startup_state cycle events }
+    fn started(kinds: Kinds, cycle: Option<u8>, events: Shown) -> Kept
+        ensures { result ≡ startup_state kinds cycle events }
     {
         Kept {
+            kinds,
             mode: Mode::Startup,
             waits: None,
             cycle,
@@ -114,7 +129,7 @@ impl Kept {
     pub fn woken(&self) -> Kept
         ensures { result ≡ woken_state self.now }
     {
-        Kept::started(self.cycle, self.events.after(false))
+        Kept::started(self.kinds, self.cycle, self.events.after(false))
     }
 
     /// The state after a wake-up request, of a device that had a power cycle.
@@ -123,18 +138,80 @@ impl Kept {
     pub fn powered(&self) -> Kept
         ensures { result ≡ powered_state self.now }
     {
-        Kept::started(self.cycle, Shown::Fresh)
+        Kept::started(self.kinds, self.cycle, Shown::Fresh)
     }
 
     pub fn copy(&self) -> Kept
         ensures { result ≡ self.now }
     {
         Kept {
+            kinds: self.kinds,
             mode: self.mode,
             waits: self.waits_copy(),
             cycle: self.cycle,
             events: self.events,
             transfer: self.transfer.copy(),
+        }
+    }
+
+    /// The same of one kind, with this transfer.
+    fn of(&self, kind: Kind, transfer: Transfer) -> Kept
+        ensures { result ≡ state_of self.now kind transfer }
+    {
+        Kept {
+            kinds: Kinds::only(kind),
+            mode: self.mode,
+            waits: self.waits_copy(),
+            cycle: self.cycle,
+            events: self.events,
+            transfer,
+        }
+    }
+
+    /// Whether devices that it stands for may do different things on these octets, by their kind.
+    ///
+    /// Rule DEV-20.
+    pub fn tells_apart(&self, sent: &[u8]) -> bool
+        ensures { result ≡ tells_apart self.now (control_of (slice_index sent.now 0)) }
+    {
+        let mc = Mc::from_octet(first_octet(sent));
+        mc.channel == Channel::Isdu && self.transfer.is_apart(mc)
+    }
+
+    /// States that stand for what it does, each for one kind and one of the transfers.
+    ///
+    /// Rule DEV-20.
+    pub fn parts(&self) -> Parts
+        ensures { result.items ≡ all_parts self.now }
+    {
+        let mut parts = Parts::new();
+        self.add_parts(HandsOver::FirstRead, Recalls::UntilLeft, &mut parts);
+        self.add_parts(HandsOver::FirstRead, Recalls::UntilSent, &mut parts);
+        self.add_parts(HandsOver::LastSegment, Recalls::UntilLeft, &mut parts);
+        self.add_parts(HandsOver::LastSegment, Recalls::UntilSent, &mut parts);
+        parts
+    }
+
+    /// Those of one kind, where it is one of its kinds.
+    fn add_parts(&self, hands_over: HandsOver, recalls: Recalls, parts: &mut Parts)
+        requires { array_vec_len parts.old ≤ 6 }
+        ensures parts { parts.new.items ≡ parts.old.items
+            ++ parts_of self.now (record { hands_over = hands_over; recalls = recalls }) }
+        ensures room { array_vec_len parts.new ≤ array_vec_len parts.old + 2 }
+    {
+        let kind = Kind {
+            hands_over,
+            recalls,
+        };
+        if !self.kinds.has(kind) {
+            return;
+        }
+        match &self.transfer {
+            Transfer::Asked(read, last) => {
+                parts.push(self.of(kind, Transfer::Handed(*read, *last)));
+                parts.push(self.of(kind, Transfer::Answered(Had::none(*read))));
+            }
+            transfer => parts.push(self.of(kind, transfer.copy())),
         }
     }
 
@@ -150,6 +227,20 @@ impl Kept {
     /// Whether it stands for each device that the other does.
     pub fn covers(&self, other: &Kept) -> bool
         ensures { result ≡ covers self.now other.now }
+    {
+        other.kinds.are_within(&self.kinds) && self.covers_alike(other)
+    }
+
+    /// Whether both stand for the same devices, but for their kinds.
+    pub fn is_alike(&self, other: &Kept) -> bool
+        ensures { result ≡ are_alike self.now other.now }
+    {
+        self.covers_alike(other) && other.covers_alike(self)
+    }
+
+    /// Whether it does, of devices of the same kind.
+    fn covers_alike(&self, other: &Kept) -> bool
+        ensures { result ≡ covers_alike self.now other.now }
     {
         self.mode == other.mode
             && is_known_in(&self.cycle, &other.cycle)

@@ -2,7 +2,8 @@
 ghost use Rattle.std.specs.Prelude.{◌≡◌, [], Ok, Err, ◌≤◌, ◌++◌, ◌∷◌, length, drop};
 ghost use Rattle.std.specs.Result.{result_err};
 ghost use Rattle.arrayvec.specs.ArrayVec.{array_vec_len};
-ghost use Rattle.iol_judge.specs.Judged.{added, has_state, uncovered, all_lost, all_replied, lost_into, all_woken, replied_into, result_with, woken_into};
+ghost use Rattle.iol_judge.specs.State.{all_parts};
+ghost use Rattle.iol_judge.specs.Judged.{added, added_whole, all_lost, all_lost_parts, all_replied, all_replied_parts, all_woken, has_state, lost_into, lost_part, replied_into, replied_part, result_with, uncovered, united, woken_into};
 
 use crate::kept::Kept;
 use crate::open::Open;
@@ -12,13 +13,34 @@ use crate::seen::{Known, Seen};
 use crate::taken::{Explained, MAX_STATES, Next, States};
 use crate::verdict::{Odd, Wake};
 
-/// Puts a state to the others, in the place of those that it covers, where none of them covers it.
+/// Puts a state to the others, where none of them covers it: in the place of those that it covers,
+/// and, for their kinds too, of those that are alike.
 pub(crate) fn add(states: &mut States, kept: Kept) -> Result<(), Open>
     ensures { result_with result states.new.items ≡ added states.old.items kept }
 {
     if has_state(states, &kept) {
         return Ok(());
     }
+    let mut kept = kept;
+    unite(states, &mut kept);
+    add_whole(states, kept)
+}
+
+/// Gives a state the kinds of those that are alike.
+fn unite(states: &[Kept], kept: &mut Kept)
+    ensures { kept.new ≡ united states.now kept.old }
+{
+    for other in states {
+        if other.is_alike(kept) {
+            kept.kinds = kept.kinds.with(&other.kinds);
+        }
+    }
+}
+
+/// Puts a state to the others, in the place of those that it covers.
+fn add_whole(states: &mut States, kept: Kept) -> Result<(), Open>
+    ensures { result_with result states.new.items ≡ added_whole states.old.items kept }
+{
     remove_covered(states, &kept);
     if states.len() == MAX_STATES {
         return Err(Open::TooManyStates);
@@ -79,7 +101,42 @@ fn lose_one(kept: &Kept, layouts: &Known, sent: &[u8], next: &mut States) -> Res
 {
     let unheard = kept.copy();
     add(next, unheard)?;
-    match kept.take(layouts, sent)? {
+    if kept.tells_apart(sent) {
+        lose_apart(kept, layouts, sent, next)
+    } else {
+        lose_part(kept, layouts, sent, next)
+    }
+}
+
+/// The states after the message was worked by what one state stands for, told apart by kinds.
+///
+/// Rule DEV-20.
+// Its locals are large, and seldom needed.
+#[inline(never)]
+fn lose_apart(kept: &Kept, layouts: &Known, sent: &[u8], next: &mut States) -> Result<(), Open>
+    ensures { result_with result next.new.items
+        ≡ all_lost_parts layouts.now sent.now next.old.items (all_parts kept.now) }
+{
+    lose_parts(&kept.parts(), layouts, sent, next)
+}
+
+/// By each of the parts.
+fn lose_parts(parts: &[Kept], layouts: &Known, sent: &[u8], next: &mut States) -> Result<(), Open>
+    ensures { result_with result next.new.items
+        ≡ all_lost_parts layouts.now sent.now next.old.items parts.now }
+{
+    for part in parts {
+        lose_part(part, layouts, sent, next)?;
+    }
+    Ok(())
+}
+
+/// One of them.
+fn lose_part(part: &Kept, layouts: &Known, sent: &[u8], next: &mut States) -> Result<(), Open>
+    ensures { result_with result next.new.items
+        ≡ lost_part layouts.now sent.now next.old.items part.now }
+{
+    match part.take(layouts, sent)? {
         Some(taken) => add(next, taken.kept),
         None => Ok(()),
     }
@@ -154,7 +211,67 @@ fn reply_one(
     ensures { result_with result next.new
         ≡ replied_into layouts.now odd seen.now sent.now octets.now next.old kept.now }
 {
-    let taken = kept.take(layouts, sent)?;
+    if kept.tells_apart(sent) {
+        reply_apart(kept, layouts, odd, seen, sent, octets, next)
+    } else {
+        reply_part(kept, layouts, odd, seen, sent, octets, next)
+    }
+}
+
+/// The states after a reply of what one state stands for, told apart by kinds.
+///
+/// Rule DEV-20.
+// Its locals are large, and seldom needed.
+#[inline(never)]
+fn reply_apart(
+    kept: &Kept,
+    layouts: &Known,
+    odd: Odd,
+    seen: &Seen,
+    sent: &[u8],
+    octets: &[u8],
+    next: &mut Next,
+) -> Result<(), Open>
+    ensures { result_with result next.new
+        ≡ all_replied_parts layouts.now odd seen.now sent.now octets.now next.old
+        (all_parts kept.now) }
+{
+    reply_parts(&kept.parts(), layouts, odd, seen, sent, octets, next)
+}
+
+/// Of each of the parts.
+fn reply_parts(
+    parts: &[Kept],
+    layouts: &Known,
+    odd: Odd,
+    seen: &Seen,
+    sent: &[u8],
+    octets: &[u8],
+    next: &mut Next,
+) -> Result<(), Open>
+    ensures { result_with result next.new
+        ≡ all_replied_parts layouts.now odd seen.now sent.now octets.now next.old parts.now }
+{
+    for part in parts {
+        reply_part(part, layouts, odd, seen, sent, octets, next)?;
+    }
+    Ok(())
+}
+
+/// One of them.
+fn reply_part(
+    part: &Kept,
+    layouts: &Known,
+    odd: Odd,
+    seen: &Seen,
+    sent: &[u8],
+    octets: &[u8],
+    next: &mut Next,
+) -> Result<(), Open>
+    ensures { result_with result next.new
+        ≡ replied_part layouts.now odd seen.now sent.now octets.now next.old part.now }
+{
+    let taken = part.take(layouts, sent)?;
     match explain(odd, seen, taken, octets) {
         Explained::By(after, oddity) => next.add(after, oddity),
         Explained::Not(reason) => {

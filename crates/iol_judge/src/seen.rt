@@ -2,7 +2,9 @@
 ghost use Rattle.std.specs.Prelude.{◌≡◌};
 ghost use Rattle.iol_judge.specs.Seen.{layouts_by};
 
+use crate::octets::first_octet;
 use crate::open::Open;
+use iol_octets::{Channel, Mc};
 use iol_page::{Layouts, Page};
 use std::marker::Model;
 
@@ -14,12 +16,12 @@ const PROCESS_DATA_IN: u8 = 0x05;
 
 const PROCESS_DATA_OUT: u8 = 0x06;
 
-/// The layouts that a page asks for, where it is known.
-pub(crate) type Known = Result<Layouts, Open>;
+/// The layouts that a page asks for, where they are known.
+pub type Known = Result<Layouts, Open>;
 
 /// The octets of direct parameter page 1, 0x02 to 0x0B, as far as they are known.
 #[derive(Clone, Copy, Debug, PartialEq, Eq)]
-pub(crate) struct Seen {
+pub struct Seen {
     octets: [Option<u8>; 10],
 }
 
@@ -34,6 +36,7 @@ impl Model for Seen {
 }
 
 impl Seen {
+    ghost use Rattle.iol_judge.specs.Judged.{noted_by};
     ghost use Rattle.iol_judge.specs.Seen.{nothing_seen, whole_page, octet_seen, page_noted, layouts_seen};
 
     /// None of them.
@@ -81,6 +84,17 @@ impl Seen {
     {
         if let 0x02..=0x0B = address {
             self.octets[address as usize - 2] = Some(octet);
+        }
+    }
+
+    /// A good reply to a message with this control octet came.
+    ///
+    /// Rule PAGE-1.
+    pub fn note_reply(&mut self, mc: Mc, reply: &[u8])
+        ensures { self.new ≡ noted_by self.old mc reply.now }
+    {
+        if mc.read && mc.channel == Channel::Page {
+            self.note(mc.address, first_octet(reply));
         }
     }
 

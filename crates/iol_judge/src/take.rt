@@ -48,7 +48,7 @@ impl Kept {
     /// What it makes of octets, none where it doesn't take them; open where the page's layouts
     /// would have to be known.
     ///
-    /// Rules DEV-2 to DEV-5, DEV-9 to DEV-14, EVT-2.
+    /// Rules DEV-2 to DEV-5, DEV-9 to DEV-14, DEV-20, EVT-2.
     pub fn take<'a>(&self, layouts: &Known, octets: &'a [u8]) -> Result<Option<Taken<'a>>, Open>
         ensures { result ≡ taken_by layouts.now self.now octets.now }
     {
@@ -59,13 +59,14 @@ impl Kept {
         };
         let asked = known_mode(layouts, mode_asked(command_in(&message)))?;
         let kept = Kept {
+            kinds: self.kinds,
             mode,
             waits: waits_after(mode, waits, octets, asked),
             cycle: cycle_after(self.cycle, &message),
             events: self.events.after(is_confirm(&message)),
             transfer: self
                 .transfer_in(octets)
-                .after(isdu_of(layouts), layout.od(), &message),
+                .after(self.kinds.one(), isdu_of(layouts), layout.od(), &message),
         };
         Ok(Some(Taken {
             kept,
@@ -88,7 +89,7 @@ fn isdu_of(layouts: &Known) -> Option<bool>
 /// The layout of a mode, where it is known.
 ///
 /// Rule DEV-2.
-fn layout_in(layouts: &Known, mode: Mode) -> Result<Layout, Open>
+pub fn layout_in(layouts: &Known, mode: Mode) -> Result<Layout, Open>
     ensures { result ≡ mode_layout layouts.now mode }
 {
     match (mode, layouts) {
@@ -114,7 +115,7 @@ fn message_in<'a>(layout: &Layout, octets: &'a [u8]) -> Option<MasterView<'a>>
 /// The master command that a message is.
 ///
 /// Rule DEV-5.
-fn command_in(message: &MasterView<'_>) -> Option<MasterCommand>
+pub fn command_in(message: &MasterView<'_>) -> Option<MasterCommand>
     ensures { result ≡ command_in message.now }
 {
     let mc = message.mc();
@@ -128,7 +129,7 @@ fn command_in(message: &MasterView<'_>) -> Option<MasterCommand>
 /// The mode that a command asks for.
 ///
 /// Rule DEV-5.
-fn mode_asked(command: Option<MasterCommand>) -> Option<Mode>
+pub fn mode_asked(command: Option<MasterCommand>) -> Option<Mode>
     ensures { result ≡ mode_asked command }
 {
     match command {

@@ -6,7 +6,7 @@ use arrayvec::ArrayVec;
 use iol_mseq::{Layout, MasterView};
 
 /// The most states that are kept.
-pub(crate) const MAX_STATES: usize = 64;
+pub(crate) const MAX_STATES: usize = 128;
 
 /// The states of a device that the exchanges so far admit.
 pub(crate) type States = ArrayVec<Kept, MAX_STATES>;

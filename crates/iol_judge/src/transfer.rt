@@ -1,15 +1,15 @@
 //! What is known of an ISDU transfer.
-ghost use Rattle.std.specs.Prelude.{◌≡◌, ◌≤◌, ◌+◌, ◌++◌, None, Some, length};
-ghost use Rattle.iol_isdu.specs.Frame.{total_at};
+ghost use Rattle.std.specs.Prelude.{◌≡◌, ◌≤◌, ◌++◌, None, Some, length};
 ghost use Rattle.iol_isdu.specs.Parse.{request_of};
 ghost use Rattle.iol_segment.specs.Join.{next_count};
 ghost use Rattle.iol_far.specs.Codec.{flow_of};
-ghost use Rattle.iol_judge.specs.Transfers.{answered_read, behind_missed, completed, count_read, count_written, covers_transfer, is_quiet, isdu_fault, next_read, or_ended, perhaps_told, received, receiving, start_read, told_by, transfer_after, transfer_on, transfer_unknown};
+ghost use Rattle.iol_judge.specs.Transfers.{answered_read, asked_again, completed, count_read, count_written, covers_transfer, first_again, is_apart_at, is_quiet, isdu_fault, or_ended, perhaps_told, received, receiving, sent_again, start_read, told_by, transfer_after, transfer_on, transfer_unknown, while_further, whole_read};
 
 use crate::answer::text_fault;
-use crate::had::{Had, Octets, is_busy};
+use crate::had::{Further, Had, Octets, is_busy};
 use crate::octets::are_zeros;
 use crate::reason::Reason;
+use iol_far::{HandsOver, Kind, Recalls};
 use iol_isdu::{IsduFault, Request, Text, read_request, total_of};
 use iol_mseq::MasterView;
 use iol_octets::{Channel, Mc};
@@ -19,6 +19,9 @@ const START: u8 = 0x10;
 
 /// How many octets the longest text has.
 pub(crate) const LONGEST: usize = 238;
+
+/// How many octets the shortest answer has.
+pub(crate) const SHORTEST: usize = 2;
 
 /// How many octets the longest answer to a read has.
 pub(crate) const LONGEST_TO_READ: usize = 235;
@@ -33,12 +36,13 @@ pub(crate) enum Transfer {
     Quiet,
     /// The text of a request comes: its octets so far, and the last COUNT.
     Receiving(Text, Option<u8>),
-    /// The text is whole: whether it is a read, and the last COUNT.
+    /// The text is whole: whether it is a read, and the last COUNT. Where a device hands it over
+    /// at the last segment the application has it, and may have answered.
     Whole(bool, Option<u8>),
-    /// The application has the request, and may have answered.
-    Handed(bool),
+    /// The application has the request, and may have answered; with the last COUNT.
+    Handed(bool, Option<u8>),
     /// So it is, or the answer's first segment was sent.
-    Asked(bool),
+    Asked(bool, Option<u8>),
     /// A segment of the answer was sent.
     Answered(Had),
     /// So it was, or the answer had no more segments, and none is under way.
@@ -57,13 +61,13 @@ impl Transfer {
             (Transfer::Receiving(text, last), Transfer::Receiving(others, other)) => {
                 text.as_slice() == others.as_slice() && last == other
             }
-            (Transfer::Whole(read, last), Transfer::Whole(reads, other)) => {
-                read == reads && last == other
-            }
-            (Transfer::Handed(read), Transfer::Handed(reads))
-            | (Transfer::Asked(read), Transfer::Handed(reads) | Transfer::Asked(reads)) => {
-                read == reads
-            }
+            (Transfer::Whole(read, last), Transfer::Whole(reads, other))
+            | (Transfer::Handed(read, last), Transfer::Handed(reads, other))
+            | (
+                Transfer::Asked(read, last),
+                Transfer::Handed(reads, other) | Transfer::Asked(reads, other),
+            ) => { read == reads && last == other }
+            (Transfer::Asked(read, _), Transfer::Answered(had)) => Had::none(*read).is(had),
             (Transfer::Answered(had), Transfer::Answered(other))
             | (Transfer::Perhaps(had), Transfer::Answered(other) | Transfer::Perhaps(other)) => {
                 had.is(other)
@@ -80,27 +84,57 @@ impl Transfer {
             Transfer::Quiet => Transfer::Quiet,
             Transfer::Receiving(text, last) => { Transfer::Receiving(text.clone().unwrap(), *last) }
             Transfer::Whole(read, last) => Transfer::Whole(*read, *last),
-            Transfer::Handed(read) => Transfer::Handed(*read),
-            Transfer::Asked(read) => Transfer::Asked(*read),
+            Transfer::Handed(read, last) => Transfer::Handed(*read, *last),
+            Transfer::Asked(read, last) => Transfer::Asked(*read, *last),
             Transfer::Answered(had) => Transfer::Answered(had.copy()),
             Transfer::Perhaps(had) => Transfer::Perhaps(had.copy()),
             Transfer::Free => Transfer::Free,
         }
     }
 
-    /// Once a message was worked, by whether the device has ISDU, where that is known, and the
-    /// size of a segment.
+    /// Whether devices with this transfer may do different things on a read or a write of the ISDU
+    /// channel, by their kind.
     ///
-    /// Rules DEV-10 to DEV-14.
-    pub fn after(self, isdu: Option<bool>, size: u8, message: &MasterView<'_>) -> Transfer
-        ensures { result ≡ transfer_after isdu size self message.now.mc.channel
+    /// Rule DEV-20.
+    #[tactic(auto, unfolding(iol_far::specs::Codec::flow_of))]
+    pub fn is_apart(&self, mc: Mc) -> bool
+        ensures { result ≡ is_apart_at self.now mc.read (flow_of mc.address) }
+    {
+        match self {
+            Transfer::Whole(..) => mc.read && mc.address == START,
+            Transfer::Handed(_, last) => !mc.read
+                && *last == Some(mc.address)
+                && mc.address < START,
+            Transfer::Asked(_, last) if !mc.read => {
+                *last == Some(mc.address) && mc.address < START
+            }
+            Transfer::Asked(..) => mc.address == START,
+            Transfer::Answered(had) | Transfer::Perhaps(had) if mc.read => {
+                mc.address == START || (mc.address < START && had.was_sent(mc.address))
+            }
+            _ => false,
+        }
+    }
+
+    /// Once a message was worked by a device of this kind, by whether it has ISDU, where that is
+    /// known, and the size of a segment.
+    ///
+    /// Rules DEV-10 to DEV-14, DEV-20.
+    pub fn after(
+        self,
+        kind: Kind,
+        isdu: Option<bool>,
+        size: u8,
+        message: &MasterView<'_>,
+    ) -> Transfer
+        ensures { result ≡ transfer_after kind isdu size self message.now.mc.channel
             message.now.mc.read (flow_of message.now.mc.address) message.now.od.items }
     {
         if message.mc().channel != Channel::Isdu {
             return self;
         }
         match isdu {
-            Some(true) => self.moved(size, message.mc(), message.od()),
+            Some(true) => self.moved(kind, size, message.mc(), message.od()),
             Some(false) => Transfer::Quiet,
             None => self.perhaps(message.mc()),
         }
@@ -120,32 +154,33 @@ impl Transfer {
 
     /// Once a device with ISDU worked a message on the ISDU channel.
     ///
-    /// Rules DEV-11 to DEV-14.
+    /// Rules DEV-11 to DEV-14, DEV-20.
     #[tactic(auto, unfolding(iol_far::specs::Codec::flow_of))]
-    fn moved(self, size: u8, mc: Mc, octets: &[u8]) -> Transfer
+    fn moved(self, kind: Kind, size: u8, mc: Mc, octets: &[u8]) -> Transfer
         requires { length octets.now ≤ 32 }
-        ensures { result ≡ transfer_on size self mc.read (flow_of mc.address) octets.now }
+        ensures { result ≡ transfer_on kind size self mc.read (flow_of mc.address) octets.now }
     {
         if mc.address > START {
             Transfer::Quiet
         } else if mc.address == START {
             if mc.read {
-                self.start_read()
+                self.start_read(kind, size)
             } else {
                 received(octets, None)
             }
         } else if mc.read {
-            self.count_read(size, mc.address)
+            self.count_read(kind.recalls, size, mc.address)
         } else {
-            self.count_written(mc.address, octets)
+            self.count_written(kind.hands_over, mc.address, octets)
         }
     }
 
-    /// Rules DEV-11, DEV-14.
-    fn count_written(self, count: u8, octets: &[u8]) -> Transfer
+    /// Rules DEV-11, DEV-14, DEV-20.
+    fn count_written(self, hands_over: HandsOver, count: u8, octets: &[u8]) -> Transfer
         requires { length octets.now ≤ 32 }
-        ensures { result ≡ count_written self count octets.now }
+        ensures { result ≡ count_written hands_over self count octets.now }
     {
+        let by_segment = hands_over == HandsOver::LastSegment;
         match self {
             Transfer::Receiving(text, last) => {
                 if last == Some(count) {
@@ -157,34 +192,39 @@ impl Transfer {
                 }
             }
             Transfer::Whole(read, last) if last == Some(count) => Transfer::Whole(read, last),
+            Transfer::Handed(read, last) if by_segment && last == Some(count) => {
+                Transfer::Handed(read, last)
+            }
+            Transfer::Asked(_, last) if by_segment && last == Some(count) => Transfer::Free,
             Transfer::Free => Transfer::Free,
             _ => Transfer::Quiet,
         }
     }
 
-    /// Rules DEV-12, DEV-13.
-    fn start_read(self) -> Transfer
-        ensures { result ≡ start_read self }
+    /// Rules DEV-12, DEV-13, DEV-20.
+    fn start_read(self, kind: Kind, size: u8) -> Transfer
+        ensures { result ≡ start_read kind size self }
     {
         match self {
-            Transfer::Whole(read, _) => Transfer::Handed(read),
-            Transfer::Handed(read) | Transfer::Asked(read) => Transfer::Asked(read),
-            Transfer::Answered(had) => Transfer::Answered(had.from_the_first()),
-            Transfer::Perhaps(had) => Transfer::Perhaps(had.from_the_first()),
+            Transfer::Whole(read, last) => whole_read(kind.hands_over, read, last),
+            Transfer::Handed(read, last) => Transfer::Asked(read, last),
+            Transfer::Asked(read, last) => asked_again(kind.recalls, read, last),
+            Transfer::Answered(had) => first_again(kind.recalls, size, had),
+            Transfer::Perhaps(had) => first_again(kind.recalls, size, had).or_ended(),
             Transfer::Free => Transfer::Free,
             _ => Transfer::Quiet,
         }
     }
 
     /// Rules DEV-13, DEV-14.
-    fn count_read(self, size: u8, count: u8) -> Transfer
-        ensures { result ≡ count_read size self count }
+    fn count_read(self, recalls: Recalls, size: u8, count: u8) -> Transfer
+        ensures { result ≡ count_read recalls size self count }
     {
         match self {
-            Transfer::Answered(had) => answered_read(had, count, size),
-            Transfer::Perhaps(had) => answered_read(had, count, size).or_ended(),
-            Transfer::Asked(read) if count == 1 => {
-                behind_missed(Had::none(read), size as usize, count)
+            Transfer::Answered(had) => answered_read(recalls, size, had, count),
+            Transfer::Perhaps(had) => answered_read(recalls, size, had, count).or_ended(),
+            Transfer::Asked(read, _) => {
+                answered_read(recalls, size, Had::none(read), count).or_ended()
             }
             Transfer::Free => Transfer::Free,
             _ => Transfer::Quiet,
@@ -215,11 +255,12 @@ impl Transfer {
         ensures { result ≡ isdu_fault self.now od.now }
     {
         match self {
-            Transfer::Handed(_) if is_busy(od) => None,
-            Transfer::Handed(_) => Some(Reason::NotBusy),
-            Transfer::Asked(_) if is_busy(od) => None,
-            Transfer::Asked(read) => text_fault(*read, od),
-            Transfer::Free => None,
+            Transfer::Handed(..) if is_busy(od) => None,
+            Transfer::Handed(..) => Some(Reason::NotBusy),
+            Transfer::Asked(..) if is_busy(od) => None,
+            Transfer::Asked(read, _) => text_fault(*read, od),
+            // A read leaves no text whole.
+            Transfer::Free | Transfer::Whole(..) => None,
             Transfer::Answered(had) => had.fault(od),
             Transfer::Perhaps(_) if are_zeros(od) => None,
             Transfer::Perhaps(had) => had.fault(od),
@@ -236,8 +277,8 @@ impl Transfer {
         ensures { result ≡ told_by self od.now }
     {
         match self {
-            Transfer::Asked(read) if is_busy(od) => Transfer::Handed(read),
-            Transfer::Asked(read) => Transfer::Answered(Had::first(read, od)),
+            Transfer::Asked(read, last) if is_busy(od) => Transfer::Handed(read, last),
+            Transfer::Asked(read, _) => Transfer::Answered(Had::first(read, od)),
             Transfer::Answered(had) => Transfer::Answered(had.with(od)),
             Transfer::Perhaps(had) => perhaps_told(had, od),
             other => other,
@@ -245,58 +286,85 @@ impl Transfer {
     }
 }
 
+/// A START read behind a whole text: a device that handed the request over before may have
+/// answered.
+///
+/// Rules DEV-12, DEV-20.
+fn whole_read(hands_over: HandsOver, read: bool, last: Option<u8>) -> Transfer
+    ensures { result ≡ whole_read hands_over read last }
+{
+    match hands_over {
+        HandsOver::FirstRead => Transfer::Handed(read, last),
+        HandsOver::LastSegment => Transfer::Asked(read, last),
+    }
+}
+
+/// A START read behind another, where the answer's first segment may have been sent.
+///
+/// Rule DEV-20.
+fn asked_again(recalls: Recalls, read: bool, last: Option<u8>) -> Transfer
+    ensures { result ≡ asked_again recalls read last }
+{
+    match recalls {
+        Recalls::UntilLeft => Transfer::Asked(read, last),
+        Recalls::UntilSent => Transfer::Free,
+    }
+}
+
 /// A read under COUNT, of an answer of which a segment was sent.
 ///
 /// Rules DEV-13, DEV-14.
-fn answered_read(had: Had, count: u8, size: u8) -> Transfer
-    ensures { result ≡ answered_read size had count }
+fn answered_read(recalls: Recalls, size: u8, had: Had, count: u8) -> Transfer
+    ensures { result ≡ answered_read recalls size had count }
 {
-    if had.was_sent(count) {
-        Transfer::Answered(had)
-    } else if had.is_next(count) {
-        next_read(had, count, size)
-    } else {
-        Transfer::Quiet
-    }
-}
-
-/// The next segment of an answer, where the octets that were had say that there is one.
-///
-/// Rule DEV-13.
-fn next_read(had: Had, count: u8, size: u8) -> Transfer
-    ensures { result ≡ next_read had count (had.at + size) }
-{
-    let length = had.text.len();
     let next = had.at as usize + size as usize;
-    if next > length {
-        return behind_missed(had, next, count);
-    }
-    let next_had = next < length || had.is_open();
-    if next_had {
-        Transfer::Answered(had.going_on(next as u16, count))
+    if had.was_sent(count) {
+        let (at, count) = (had.at, had.count);
+        sent_again(recalls, size, had, at, count)
+    } else if had.is_next(count) {
+        match had.further(next) {
+            Further::Ends => Transfer::Quiet,
+            further => while_further(further, had, next as u16, count),
+        }
     } else {
         Transfer::Quiet
     }
 }
 
-/// A segment of an answer, behind one that wasn't had. Where the answer's length isn't known it may
-/// have ended.
+/// This segment of an answer is sent again. A device that recalls its answer until it was sent has
+/// it only while there is a segment behind the one sent last.
+///
+/// Rule DEV-20.
+fn sent_again(recalls: Recalls, size: u8, had: Had, at: u16, count: u8) -> Transfer
+    ensures { result ≡ sent_again recalls size had (record had { at = at; count = count }) }
+{
+    match recalls {
+        Recalls::UntilLeft => Transfer::Answered(had.going_on(at, count)),
+        Recalls::UntilSent => {
+            let next = had.at as usize + size as usize;
+            while_further(had.further(next), had, at, count)
+        }
+    }
+}
+
+/// This segment of an answer was sent, where it goes on; else none is under way.
+fn while_further(further: Further, had: Had, at: u16, count: u8) -> Transfer
+    ensures { result ≡ while_further further (record had { at = at; count = count }) }
+{
+    match further {
+        Further::GoesOn => Transfer::Answered(had.going_on(at, count)),
+        Further::MayEnd => Transfer::Perhaps(had.going_on(at, count)),
+        Further::Ends => Transfer::Quiet,
+    }
+}
+
+/// A read under START, of an answer of which a segment was sent.
 ///
 /// Rule DEV-13.
-fn behind_missed(had: Had, at: usize, count: u8) -> Transfer
-    ensures { result ≡ behind_missed (record had { at = at; count = count })
-        (total_at had.text.items) }
+fn first_again(recalls: Recalls, size: u8, had: Had) -> Transfer
+    ensures { result ≡ first_again recalls size had }
 {
-    let longest = if had.read {
-        LONGEST_TO_READ
-    } else {
-        LONGEST_TO_WRITE
-    };
-    match total_of(&had.text) {
-        Ok(total) if at < total => Transfer::Answered(had.going_on(at as u16, count)),
-        Err(_) if at < longest => Transfer::Perhaps(had.going_on(at as u16, count)),
-        _ => Transfer::Quiet,
-    }
+    sent_again(recalls, size, had, 0, 0)
 }
 
 /// Octets of an answer's segment were had, or zeros, since there are no more.

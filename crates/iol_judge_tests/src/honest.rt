@@ -1,29 +1,18 @@
 //! Random captures that a device by the rules brings over a lossy line: none is called not honest.
-ghost use Rattle.std.specs.Prelude.{◌≡◌, ◌<◌, IsOk};
-ghost use Rattle.iol_page.specs.Page.{layouts_of};
+ghost use Rattle.std.specs.Prelude.{◌<◌};
 
-use iol_device::{App, Device, Unkept};
+use crate::kinds::{KINDS, ROOM, Refuses};
+use iol_device::{Device, Record};
 use iol_event::Event;
+use iol_far::Kind;
 use iol_image::Image;
-use iol_isdu::{Answer, Request};
 use iol_judge::{Judge, Odd, Verdict, Wake, honest_lines_are_never_blamed};
 use iol_mseq::Message;
 use iol_octets::checksum6;
 use iol_page::Page;
 use iol_peers::{ONE_OCTET, PLAIN, PROCESS_DATA};
+use std::alloc::{AllocError, Allocator};
 use std::test::Fail;
-
-/// Refuses each request: index not available.
-#[derive(Clone, Copy)]
-struct Refuses;
-
-impl App for Refuses {
-    ghost carry_out_gives = { λ app request answer next. next ≡ app };
-
-    fn carry_out(&mut self, _request: &Request) -> Answer {
-        Answer::Refused(0x80, 0x11)
-    }
-}
 
 /// Numbers that look random, the same in each run.
 #[derive(Clone, Copy)]
@@ -49,8 +38,8 @@ impl Random {
 
 /// A device, the judge of its line, and chance.
 #[derive(Drop)]
-struct Line {
-    device: Device<Refuses, Unkept>,
+struct Line<R: Record> {
+    device: Device<Refuses, R>,
     judge: Judge,
     random: Random,
     /// The M-sequence type of the last message that was answered.
@@ -72,7 +61,7 @@ const REQUEST: [u8; 8] = [0x93, 0x10, 0x83, 0, 0, 0, 0, 0];
 /// The commands that ask for a mode.
 const COMMANDS: [u8; 3] = [0x97, 0x99, 0x9A];
 
-impl Line {
+impl<R: Record> Line<R> {
     /// Octets that are a message in some layout, and often in the device's, with their M-sequence
     /// type.
     fn message(&mut self) -> (Message, u8) {
@@ -172,8 +161,8 @@ impl Line {
         }
     }
 
-    /// What the judge says of so many exchanges, with a wake-up request now and then.
-    fn run(&mut self, exchanges: u32) -> Verdict {
+    /// So many exchanges, with a wake-up request now and then.
+    fn run(&mut self, exchanges: u32) {
         for _ in 0..exchanges {
             self.step();
             if self.random.below(8) == 0 {
@@ -181,16 +170,17 @@ impl Line {
             }
             self.exchange();
         }
-        self.judge.verdict()
+    }
+
+    /// Whether the judge says nothing against the device, and leaves its kind.
+    fn is_fair(&self, kind: Kind) -> bool {
+        self.judge.verdict() == Verdict::Honest && self.judge.kinds().has(kind)
     }
 }
 
 /// The line of a device of this page, which is told to the judge, right behind an answered
 /// wake-up request.
-fn line_of(page: &[u8; 10], seed: u64) -> Line
-    requires { IsOk (layouts_of page.now) }
-{
-    let mut device = Device::new(Refuses, Page::from_octets(page));
+fn line_of<R: Record>(mut device: Device<Refuses, R>, page: &[u8; 10], seed: u64) -> Line<R> {
     let mut judge = Judge::new(Odd::Blamed);
     judge.page(page);
     device.wake();
@@ -203,24 +193,39 @@ fn line_of(page: &[u8; 10], seed: u64) -> Line
     }
 }
 
-/// What a judge says of a random capture, as long as that, of a device of each page.
-fn verdicts_of(seed: u64, exchanges: u32) -> [Verdict; 3] {
-    [
-        line_of(&PLAIN, seed).run(exchanges),
-        line_of(&PROCESS_DATA, seed).run(exchanges),
-        line_of(&ONE_OCTET, seed).run(exchanges),
-    ]
+/// Whether a judge is fair to devices of this kind, on random captures as long as that.
+fn is_fair_to<A: Allocator + Copy>(
+    alloc: A,
+    kind: Kind,
+    exchanges: u32,
+) -> Result<bool, AllocError> {
+    let pages = [PLAIN, PROCESS_DATA, ONE_OCTET];
+    for page in &pages {
+        for seed in 0..5 {
+            let device = Device::open_as(
+                alloc,
+                kind,
+                Refuses,
+                Page::from_octets(page),
+                ROOM,
+            ).map_err(|_| AllocError)?;
+            let mut line = line_of(device, page, seed);
+            line.run(exchanges);
+            if !line.is_fair(kind) {
+                return Ok(false);
+            }
+        }
+    }
+    Ok(true)
 }
 
-/// Many random captures of devices by the rules are all honest, though many messages aren't
-/// answered.
+/// Many random captures of devices by the rules, of each kind, are all honest, though many messages
+/// aren't answered.
 #[test]
 fn devices_by_the_rules_are_honest(rt: HostRuntime) -> Result<(), Fail> {
     honest_lines_are_never_blamed();
-    for seed in 0..20 {
-        for verdict in &verdicts_of(seed, 500) {
-            assert!(rt; *verdict == Verdict::Honest);
-        }
+    for kind in &KINDS {
+        assert!(rt; is_fair_to(rt.alloc(), *kind, 500)?);
     }
     Ok(())
 }

@@ -1,5 +1,6 @@
 //! Lies about ISDU transfers: each exchange before it is one that a device by the rules brings.
 
+use crate::kinds::left;
 use crate::lies::verdict_of;
 use iol_judge::{Judge, Odd, Reason, Verdict, Wake};
 use iol_peers::{Exchange, PLAIN};
@@ -70,25 +71,84 @@ const SUM: [u8; 9] = [0xD3, 0x41, 0x93, 0, 0, 0, 0, 0, 0x3C];
 
 const PADDING: [u8; 9] = [0xD3, 0x41, 0x92, 0, 0, 0, 0, 7, 0x0F];
 
-/// What a judge says of these replies to START reads and COUNTs behind a whole request.
-fn verdict_behind(replies: &[Exchange]) -> Verdict {
+/// A judge of these replies in PREOPERATE.
+fn judge_of(replies: &[Exchange]) -> Judge {
     let mut judge = Judge::new(Odd::Blamed);
     judge.page(&PLAIN);
     judge.wake(Wake::Answered);
     judge.exchange(MOVE.0, Some(MOVE.1));
-    judge.exchange(REQUEST.0, Some(REQUEST.1));
     for (sent, reply) in replies {
         judge.exchange(sent, Some(*reply));
     }
-    judge.verdict()
+    judge
+}
+
+/// One of these replies to START reads and COUNTs behind a whole request.
+fn judge_behind(replies: &[Exchange]) -> Judge {
+    let mut judge = judge_of(&[REQUEST]);
+    for (sent, reply) in replies {
+        judge.exchange(sent, Some(*reply));
+    }
+    judge
+}
+
+/// What it says of them.
+fn verdict_behind(replies: &[Exchange]) -> Verdict {
+    judge_behind(replies).verdict()
+}
+
+/// A write of two segments, of which the last comes again behind a START read: the device drops it,
+/// so that it hands over at the first read. Then a whole request.
+const AT_FIRST_READ: [Exchange; 6] = [
+    (&[0x70, 0x7C, 0x1A, 0x10, 1, 2, 3, 4, 5, 6], &[0x2D]),
+    (&[0x61, 0x79, 7, 0x0A, 0, 0, 0, 0, 0, 0], &[0x2D]),
+    (&START, &BUSY),
+    (&[0x61, 0x79, 7, 0x0A, 0, 0, 0, 0, 0, 0], &[0x2D]),
+    (&START, &ZEROS),
+    REQUEST,
+];
+
+/// Only a device that hands over at the last segment may answer at once.
+#[test]
+fn an_answer_at_once_tells_kinds_apart(rt: HostRuntime) -> Result<(), Fail> {
+    let judge = judge_behind(&[(&START, &ANSWER)]);
+    assert!(rt; judge.verdict() == Verdict::Honest);
+    assert!(rt; left(&judge) == [false, false, true, true]);
+    let mut other = judge_of(&AT_FIRST_READ);
+    assert!(rt; left(&other) == [true, true, false, false]);
+    other.exchange(&START, Some(&ANSWER));
+    assert!(rt; other.verdict() == Verdict::NotHonest(8, Reason::NotBusy));
+    Ok(())
+}
+
+/// An answer of one segment is read again: a device has it still, or has forgotten it.
+#[test]
+fn an_answer_again_tells_kinds_apart(rt: HostRuntime) -> Result<(), Fail> {
+    let again = judge_behind(&[(&START, &BUSY), (&START, &ANSWER), (&START, &ANSWER)]);
+    assert!(rt; left(&again) == [true, false, true, false]);
+    let gone = judge_behind(&[(&START, &BUSY), (&START, &ANSWER), (&START, &ZEROS)]);
+    assert!(rt; left(&gone) == [false, true, false, true]);
+    let mut lost = judge_behind(&[(&START, &BUSY)]);
+    lost.exchange(&START, None);
+    lost.exchange(&START, Some(&ZEROS));
+    assert!(rt; lost.verdict() == Verdict::Honest);
+    assert!(rt; left(&lost) == [false, true, false, true]);
+    // The first of two segments is known as long as the second wasn't sent.
+    let first = judge_behind(&[(&START, &BUSY), (&START, &FIRST), (&START, &FIRST)]);
+    assert!(rt; left(&first) == [true, true, true, true]);
+    let second = judge_behind(&[
+        (&START, &BUSY),
+        (&START, &FIRST),
+        (&COUNT, &SECOND),
+        (&COUNT, &ZEROS),
+    ]);
+    assert!(rt; left(&second) == [false, true, false, true]);
+    Ok(())
 }
 
 /// Each lie is found at its exchange, for its reason.
 #[test]
 fn lies_about_transfers_are_found(rt: HostRuntime) -> Result<(), Fail> {
-    // The first reply behind the request isn't busy.
-    let early = [(START.as_slice(), ANSWER.as_slice())];
-    assert!(rt; verdict_behind(&early) == Verdict::NotHonest(3, Reason::NotBusy));
     // Busy behind the answer.
     let again: [Exchange; 3] = [(&START, &BUSY), (&START, &ANSWER), (&START, &BUSY)];
     assert!(rt; verdict_behind(&again) == Verdict::NotHonest(5, Reason::BusyAgain));

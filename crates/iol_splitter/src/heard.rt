@@ -5,11 +5,10 @@ ghost use Rattle.iol_splitter.specs.Steps.{step};
 
 use crate::fault::SplitFault;
 use crate::gap::Gap;
-use crate::link::layout_in;
 use crate::message::{LONGEST, Meaning, meaning_in, reply_length};
 use crate::passed::{Exchange, Passed};
 use crate::splitter::{Phase, Splitter};
-use iol_judge::{Open, Wake};
+use iol_judge::{Open, Wake, layout_in};
 use iol_mseq::{Layout, Message, view_master, view_reply};
 use std::mem::replace;
 

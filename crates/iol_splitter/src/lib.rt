@@ -20,7 +20,6 @@ mod link;
 mod message;
 mod octet_line;
 mod passed;
-mod seen;
 mod splitter;
 mod test_read;
 

@@ -1,15 +1,10 @@
 //! The mode whose layout a line speaks.
 ghost use Rattle.std.specs.Prelude.{◌≡◌, ◌≤◌, length};
-ghost use Rattle.iol_far.specs.Far.{command_in, mode_asked};
-ghost use Rattle.iol_judge.specs.Taking.{mode_layout};
 ghost use Rattle.iol_splitter.specs.Linking.{mode_into};
 
-use crate::seen::Known;
 use iol_far::Mode;
-use iol_judge::Open;
-use iol_mseq::{Layout, MasterView, Message, first};
-use iol_octets::Channel;
-use iol_page::MasterCommand;
+use iol_judge::{Known, command_in, mode_asked};
+use iol_mseq::{MasterView, Message};
 use std::marker::Model;
 
 /// A command into another mode that had a good reply, with its octets.
@@ -109,48 +104,6 @@ impl Spoken {
     }
 
     ghost use Rattle.iol_far.specs.Level.{taken};
-}
-
-/// The layout of a mode, where it is known.
-///
-/// Rule DEV-2.
-pub(crate) fn layout_in(layouts: &Known, mode: Mode) -> Result<Layout, Open>
-    ensures { result ≡ mode_layout layouts.now mode }
-{
-    match (mode, layouts) {
-        (Mode::Startup, _) => Ok(Layout::startup()),
-        (Mode::Preoperate, Ok(layouts)) => Ok(layouts.pre.unwrap_or(Layout::startup())),
-        (Mode::Operate, Ok(layouts)) => Ok(layouts.run),
-        (_, Err(why)) => Err(*why),
-    }
-}
-
-/// The master command that a message is.
-///
-/// Rule DEV-5.
-fn command_in(message: &MasterView<'_>) -> Option<MasterCommand>
-    ensures { result ≡ command_in message.now }
-{
-    let mc = message.mc();
-    if !mc.read && mc.channel == Channel::Page && mc.address == 0 {
-        MasterCommand::from_octet(first(message.od()))
-    } else {
-        None
-    }
-}
-
-/// The mode that a command asks for.
-///
-/// Rule DEV-5.
-fn mode_asked(command: Option<MasterCommand>) -> Option<Mode>
-    ensures { result ≡ mode_asked command }
-{
-    match command {
-        Some(MasterCommand::DeviceStartup) => Some(Mode::Startup),
-        Some(MasterCommand::DevicePreoperate) => Some(Mode::Preoperate),
-        Some(MasterCommand::DeviceOperate) => Some(Mode::Operate),
-        _ => None,
-    }
 }
 
 /// The mode asked for, unless the device is known not to have it.

@@ -16,7 +16,7 @@ use Rattle.iol_far.specs.Codec.{flow_of}
 use Rattle.iol_judge.specs.Seen.{layouts_seen, octet_seen}
 use Rattle.iol_watch.specs.declared.fault.MasterFault.TheVariants.{NotRepeated}
 use Rattle.iol_watch.specs.Readings.{is_due}
-use Rattle.iol_watch.specs.Transfers.{moved}
+use Rattle.iol_watch.specs.Transfers.{asks_instead, moved}
 use Rattle.iol_watch.specs.declared.fault.MasterFault.{MasterFault}
 use Rattle.iol_watch.specs.declared.phase.Phase.{Phase}
 use Rattle.iol_watch.specs.declared.phase.Phase.TheVariants.{Down, Startup, Preoperate, Operate}
@@ -28,7 +28,7 @@ use Rattle.iol_watch.specs.declared.verdict.Verdict.{Verdict}
 use Rattle.iol_watch.specs.declared.verdict.Verdict.TheVariants.{Unjudged, ByTheRules, NotByTheRules}
 use Rattle.iol_watch.specs.Phases.{allows, allows_cycle, phase_layout}
 use Rattle.iol_watch.specs.Outputs.{carried}
-use Rattle.iol_watch.specs.Watched.{Watched, sent, sent_in, sent_again, sent_new, sent_as, sent_at, sent_carrying, sent_by, startup_on, sent_to_page, command_sent, cycle_sent, with_transfer, heard, heard_as, heard_reply, left_out, lost, missed_as, replied, answered, flagged, read_from, written_to, exchanged, judged_by, judged_as, woke_with, counted}
+use Rattle.iol_watch.specs.Watched.{Watched, asked_instead, repeated, sent, sent_in, sent_again, sent_new, sent_as, sent_at, sent_carrying, sent_by, startup_on, sent_to_page, command_sent, cycle_sent, with_transfer, heard, heard_as, heard_reply, left_out, lost, missed_as, replied, answered, flagged, read_from, written_to, exchanged, judged_by, judged_as, woke_with, counted}
 use Rattle.iol_watch.specs.Laws.{RepeatsAreFair, WakesAreFair, FaultsStay, is_out, is_fair}
 
 bytes_themselves : (a : List ℕ) → bytes_eq a a ≡ true
@@ -136,6 +136,12 @@ new_ready (Ok new) old octets up none keeps = record {
 }
 new_ready (Err fault) old octets up none keeps = tt
 
+instead_ready : (twice : Bool) (r : Result Master MasterFault) (old : Master) (octets : List ℕ)
+    → is_down old.phase ≡ false → Keeps old r → IsReady octets (asked_instead twice octets r)
+instead_ready twice (Ok new) old octets up keeps =
+    record { up = ap is_down keeps.phase ∙ up; same = bytes_themselves octets }
+instead_ready twice (Err fault) old octets up keeps = tt
+
 again_ready : (o : Option Missed) (m : Master) (octets : List ℕ) → m.out ≡ o
     → is_down m.phase ≡ false → IsReady octets (sent_again o m octets)
 again_ready None m octets e up =
@@ -143,10 +149,18 @@ again_ready None m octets e up =
     (new_keeps (master_in (phase_layout m.phase) octets) m)
 again_ready (Some out) m octets e up = split (bytes_eq out.octets.items octets) refl
   where
+    asked : (b : Bool) → IsReady octets
+        (if b then asked_instead out.twice octets (sent_new m octets) else Err NotRepeated)
+    asked true = instead_ready out.twice (sent_new m octets) m octets up
+        (new_keeps (master_in (phase_layout m.phase) octets) m)
+    asked false = tt
+
     split : (b : Bool) → bytes_eq out.octets.items octets ≡ b
-        → IsReady octets (if b then Ok m else Err NotRepeated)
+        → IsReady octets (if b then Ok (repeated m) else
+        if asks_instead m.transfer out.octets.items octets
+        then asked_instead out.twice octets (sent_new m octets) else Err NotRepeated)
     split true h = record { up = up; same = ap (λ o. is_same o octets) e ∙ h }
-    split false h = tt
+    split false h = asked (asks_instead m.transfer out.octets.items octets)
 
 sent_ready : (p : Phase) (m : Master) (octets : List ℕ) → m.phase ≡ p
     → IsReady octets (sent_in p m octets)
@@ -157,31 +171,32 @@ sent_ready (Operate layouts) m octets e = again_ready m.out m octets refl (ap is
 
 -- So these may be sent again
 
-abbrev fair_if : Master → Bool → Result Master MasterFault
-fair_if m b = if b then Ok m else Err NotRepeated
+abbrev fair_if : Master → Result Master MasterFault → Bool → Result Master MasterFault
+fair_if m other b = if b then Ok (repeated m) else other
 
 again_fair : (o : Option Missed) (m : Master) (octets : List ℕ) → is_same o octets ≡ true
-    → is_some o ≡ true → sent_again o m octets ≡ Ok m
+    → is_some o ≡ true → sent_again o m octets ≡ Ok (repeated m)
 again_fair None m octets same some = absurd (cc)
 again_fair (Some out) m octets same some =
-    ap (fair_if m) same
+    ap (fair_if m (if asks_instead m.transfer out.octets.items octets
+    then asked_instead out.twice octets (sent_new m octets) else Err NotRepeated)) same
 
 in_fair : (p : Phase) (m : Master) (octets : List ℕ) → is_down p ≡ false
-    → sent_again m.out m octets ≡ Ok m → sent_in p m octets ≡ Ok m
+    → sent_again m.out m octets ≡ Ok (repeated m) → sent_in p m octets ≡ Ok (repeated m)
 in_fair Down m octets up e = absurd (cc)
 in_fair Startup m octets up e = e
 in_fair (Preoperate layouts) m octets up e = e
 in_fair (Operate layouts) m octets up e = e
 
 ready_fair : (m : Master) (octets : List ℕ) → Ready m octets → is_some m.out ≡ true
-    → sent m octets ≡ Ok m
+    → sent m octets ≡ Ok (repeated m)
 ready_fair m octets ready some =
     in_fair m.phase m octets ready.up (again_fair m.out m octets ready.same some)
 
 -- And so it is once something came back, or nothing did
 
 abbrev IsFair : Master → List ℕ → Type 0
-IsFair m octets = is_some m.out ≡ true → sent m octets ≡ Ok m
+IsFair m octets = is_some m.out ≡ true → sent m octets ≡ Ok (repeated m)
 
 twice_fair : (twice : Bool) (m : Master) (octets : List ℕ) → is_down m.phase ≡ false
     → IsFair (if twice then lost m else left_out m octets true) octets
@@ -256,7 +271,7 @@ and_right false b h = absurd (cc)
 
 -- sent by the rules, told again
 exchanged_fair : (w : Watched) (octets : List ℕ) (again : Option (List ℕ))
-    → w.verdict ≡ ByTheRules → sent w.master octets ≡ Ok w.master
+    → w.verdict ≡ ByTheRules → sent w.master octets ≡ Ok (repeated w.master)
     → (exchanged w octets again).verdict ≡ ByTheRules
 exchanged_fair w octets again e s =
     ap (λ v. (judged_by v (counted w) octets again).verdict) e

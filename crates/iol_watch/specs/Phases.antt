@@ -3,7 +3,7 @@ use Rattle.std.specs.Prelude.{ℕ, Bool, true, false, ◌&&◌, ◌||◌, ◌==�
 use Rattle.iol_mseq.specs.Shape.{Shape, startup_shape}
 use Rattle.iol_page.specs.declared.page.Layouts.{Layouts}
 use Rattle.iol_page.specs.declared.master_command.MasterCommand.{MasterCommand}
-use Rattle.iol_page.specs.declared.master_command.MasterCommand.TheVariants.{MasterIdent, DeviceIdent, ProcessDataOutputOperate, DeviceOperate, DevicePreoperate}
+use Rattle.iol_page.specs.declared.master_command.MasterCommand.TheVariants.{MasterIdent, DeviceIdent, DeviceStartup, ProcessDataOutputOperate, DeviceOperate, DevicePreoperate}
 use Rattle.iol_judge.specs.declared.open.Open.{Open}
 use Rattle.iol_watch.specs.declared.phase.Phase.{Phase}
 use Rattle.iol_watch.specs.declared.phase.Phase.TheVariants.{Down, Startup, Preoperate, Operate}
@@ -43,10 +43,11 @@ abbrev pub asks_old : Result Layouts Open → Bool
 asks_old (Ok layouts) = is_none layouts.pre
 asks_old (Err why) = false
 
--- LINK-6, LINK-8
+-- LINK-6, LINK-8, LINK-13
 abbrev pub startup_allows : Result Layouts Open → StartUp → MasterCommand → Bool
 startup_allows asked done MasterIdent = true
 startup_allows asked done DeviceIdent = true
+startup_allows asked done DeviceStartup = true
 startup_allows asked done DevicePreoperate = done.ident && asks_new asked
 startup_allows asked done DeviceOperate = done.cycle && asks_old asked
 startup_allows asked done command = false

@@ -1,5 +1,5 @@
 -- The ISDU transfer of a master: which message is due there, and what its reply tells.
-use Rattle.std.specs.Prelude.{ℕ, Bool, true, false, ◌==◌, nat_le, if◌then◌else◌, List, ◌++◌, length, drop, slice_index, Option, Some, None, Result, Ok, Err}
+use Rattle.std.specs.Prelude.{ℕ, Bool, true, false, ◌&&◌, ◌==◌, nat_le, if◌then◌else◌, List, ◌++◌, length, drop, slice_index, Option, Some, None, Result, Ok, Err}
 use Rattle.iol_octets.specs.declared.flow_control.Flow.{Flow}
 use Rattle.iol_octets.specs.declared.flow_control.Flow.TheVariants.{Start, Count, Idle1, Idle2, Abort, Reserved}
 use Rattle.iol_isdu.specs.declared.fault.IsduFault.{IsduFault}
@@ -11,8 +11,8 @@ use Rattle.iol_judge.specs.Octets.{are_zeros}
 use Rattle.iol_watch.specs.declared.fault.MasterFault.{MasterFault}
 use Rattle.iol_watch.specs.declared.fault.MasterFault.TheVariants.{NotDue, RequestText, NotInLine}
 use Rattle.iol_watch.specs.declared.transfer.Transfer.{Transfer}
-use Rattle.iol_watch.specs.declared.transfer.Transfer.TheVariants.{Quiet, Written, Asked, Answered, Refused}
-use Rattle.iol_watch.specs.declared.transfer.TheConstants.{LONGEST, NO_SERVICE, BUSY}
+use Rattle.iol_watch.specs.declared.transfer.Transfer.TheVariants.{Quiet, Written, Asked, Doubted, Answered, Refused}
+use Rattle.iol_watch.specs.declared.transfer.TheConstants.{LONGEST, NO_SERVICE, BUSY, START_WRITE, START_READ}
 
 -- The request's segments
 
@@ -94,12 +94,38 @@ asked_told read octets =
     if slice_index octets 0 == NO_SERVICE then Refused else
     answered read octets None
 
+-- the same of a START read in place of a START write: of which the device has heard nothing
+-- REQ-14
+abbrev pub doubted_told : Bool → List ℕ → Transfer
+doubted_told read octets =
+    if slice_index octets 0 == NO_SERVICE then Quiet else asked_told read octets
+
 -- once the good reply to a read on the ISDU channel brought these octets
--- REQ-5
+-- REQ-5, REQ-14
 abbrev pub told : Transfer → List ℕ → Transfer
 told (Asked read) octets = asked_told read octets
+told (Doubted read) octets = doubted_told read octets
 told (Answered read text last) octets = answered read (text.items ++ octets) last
 told transfer octets = transfer
+
+-- A message in place of a repeat
+
+-- a START read, in place of a START write that holds a whole request
+-- REQ-14
+abbrev pub asks_instead : Transfer → List ℕ → List ℕ → Bool
+asks_instead (Asked read) out octets =
+    (slice_index out 0 == START_WRITE) && (slice_index octets 0 == START_READ)
+asks_instead transfer out octets = false
+
+-- once that goes out, and once it goes out again
+-- REQ-14
+abbrev pub doubted : Transfer → Transfer
+doubted (Asked read) = Doubted read
+doubted transfer = transfer
+
+abbrev pub asked_again : Transfer → Transfer
+asked_again (Doubted read) = Asked read
+asked_again transfer = transfer
 
 -- A message
 

@@ -28,7 +28,7 @@ use Rattle.iol_watch.specs.declared.verdict.Verdict.TheVariants.{Unjudged, ByThe
 use Rattle.iol_watch.specs.Phases.{allows, allows_cycle, entered, in_operate, phase_layout}
 use Rattle.iol_watch.specs.Outputs.{no_output, woken_output, carried}
 use Rattle.iol_watch.specs.Readings.{no_events, is_due, read_on}
-use Rattle.iol_watch.specs.Transfers.{moved, told}
+use Rattle.iol_watch.specs.Transfers.{asked_again, asks_instead, doubted, moved, told}
 
 -- of a capture that just began
 abbrev pub new_master : Master
@@ -142,11 +142,27 @@ sent_as master (Some message) = sent_at master.phase master message
 abbrev pub sent_new : Master → List ℕ → Result Master MasterFault
 sent_new master octets = sent_as master (master_in (phase_layout master.phase) octets)
 
--- LINK-2
+-- the message that is out, again
+abbrev pub repeated : Master → Master
+repeated master = record master { transfer = asked_again master.transfer }
+
+-- A START read in its place: it is out from now on, and the attempts are counted on
+-- REQ-14
+abbrev pub asked_instead : Bool → List ℕ → Result Master MasterFault → Result Master MasterFault
+asked_instead twice octets (Ok master) = Ok (record master {
+  out = Some (record { octets = record { items = octets }; twice = twice });
+  transfer = doubted master.transfer;
+})
+asked_instead twice octets (Err fault) = Err fault
+
+-- LINK-2, REQ-14
 abbrev pub sent_again : Option Missed → Master → List ℕ → Result Master MasterFault
 sent_again None master octets = sent_new master octets
 sent_again (Some out) master octets =
-    if bytes_eq out.octets.items octets then Ok master else Err NotRepeated
+    if bytes_eq out.octets.items octets then Ok (repeated master) else
+    if asks_instead master.transfer out.octets.items octets
+    then asked_instead out.twice octets (sent_new master octets) else
+    Err NotRepeated
 
 -- LINK-1, LINK-3
 abbrev pub sent_in : Phase → Master → List ℕ → Result Master MasterFault

@@ -13,17 +13,18 @@ pub enum MasterFault {
     /// no good reply since (LINK-1, LINK-3).
     #[error("WakeDue")]
     WakeDue,
-    /// 2: the message before had no good reply, and these aren't its octets (LINK-2).
+    /// 2: the message before had no good reply, and these aren't its octets (LINK-2). A START read
+    /// may go out in place of a START write that holds a whole request (REQ-14).
     #[error("NotRepeated")]
     NotRepeated,
     /// 3: in STARTUP a message of another channel than the page's; a master command that isn't
     /// allowed in the mode; or a MasterCycleTime that MinCycleTime doesn't allow, or before that
-    /// was read (LINK-6 to LINK-8, LINK-10, LINK-12).
+    /// was read (LINK-6 to LINK-8, LINK-10, LINK-12, LINK-13).
     ///
-    /// Allowed are, in STARTUP, MasterIdent and DeviceIdent; DevicePreoperate behind MasterIdent
-    /// to a device of V1.1, and DeviceOperate behind MasterCycleTime to one of V1.0, both only
-    /// where the page's octets 0x03 to 0x06 are known and ask for layouts (LINK-5); in PREOPERATE
-    /// DeviceOperate behind MasterCycleTime; in OPERATE ProcessDataOutputOperate and
+    /// Allowed are, in STARTUP, MasterIdent, DeviceIdent and DeviceStartup; DevicePreoperate
+    /// behind MasterIdent to a device of V1.1, and DeviceOperate behind MasterCycleTime to one of
+    /// V1.0, both only where the page's octets 0x03 to 0x06 are known and ask for layouts (LINK-5);
+    /// in PREOPERATE DeviceOperate behind MasterCycleTime; in OPERATE ProcessDataOutputOperate and
     /// DeviceOperate.
     #[error("NotStartUp")]
     NotStartUp,

@@ -20,7 +20,6 @@ mod message;
 mod output;
 mod phase;
 mod reading;
-mod seen;
 mod transfer;
 mod verdict;
 mod watch;

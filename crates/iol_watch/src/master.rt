@@ -1,18 +1,17 @@
 //! How far a master has come, by what it sent and by the good replies that came.
-ghost use Rattle.std.specs.Prelude.{◌≡◌, ◌≤◌, length, option_copied};
+ghost use Rattle.std.specs.Prelude.{◌≡◌, ◌≤◌, length, OnOk, option_copied};
 ghost use Rattle.iol_judge.specs.Seen.{layouts_seen};
 ghost use Rattle.iol_watch.specs.Phases.{allows, allows_cycle};
 ghost use Rattle.iol_watch.specs.Results.{result_with};
-ghost use Rattle.iol_watch.specs.Watched.{command_sent, cycle_sent, heard, missed, mode_entered, new_master, replied, sent, sent_in_startup, sent_new, sent_on, sent_to_page, woken};
+ghost use Rattle.iol_watch.specs.Watched.{asked_instead, command_sent, cycle_sent, heard, missed, mode_entered, new_master, replied, sent, sent_in_startup, sent_new, sent_on, sent_to_page, woken};
 
 use crate::fault::MasterFault;
 use crate::message::{command_in, message_in, reply_in};
 use crate::output::Output;
 use crate::phase::Phase;
 use crate::reading::Events;
-use crate::seen::Seen;
 use crate::transfer::Transfer;
-use iol_judge::Wake;
+use iol_judge::{Seen, Wake};
 use iol_mseq::{MasterView, Message, ReplyView, first};
 use iol_octets::Channel;
 use iol_page::{Layouts, MasterCommand};
@@ -100,15 +99,40 @@ impl Master {
     {
         match (&self.phase, &self.out) {
             (Phase::Down, _) => Err(MasterFault::WakeDue),
-            (_, Some(out)) if out.octets.as_slice() == octets => Ok(()),
+            (_, Some(out)) if out.octets.as_slice() == octets => {
+                self.transfer.repeat();
+                Ok(())
+            }
+            (_, Some(out)) if self.transfer.asks_instead(out.octets.as_slice(), octets) => {
+                let twice = out.twice;
+                self.ask_instead(octets, twice)
+            }
             (_, Some(_)) => Err(MasterFault::NotRepeated),
             (_, None) => self.send_new(octets),
         }
     }
 
+    /// A START read in place of the message that is to be sent again: from now on it is that. The
+    /// attempts are counted on.
+    ///
+    /// Rule REQ-14.
+    fn ask_instead(&mut self, octets: &[u8], twice: bool) -> Result<(), MasterFault>
+        ensures { result_with result self.new
+            ≡ asked_instead twice octets.now (sent_new self.old octets.now) }
+    {
+        self.send_new(octets)?;
+        self.transfer.doubt();
+        self.out = Some(Missed {
+            octets: Message::try_from(octets).unwrap(),
+            twice,
+        });
+        Ok(())
+    }
+
     /// A new message. Refusals: 3 NotStartUp to 8 NotInLine.
     fn send_new(&mut self, octets: &[u8]) -> Result<(), MasterFault>
-        ensures { result_with result self.new ≡ sent_new self.old octets.now }
+        ensures value { result_with result self.new ≡ sent_new self.old octets.now }
+        ensures length { OnOk result (length octets.now ≤ 66) }
     {
         let Some(message) = message_in(&self.phase.layout(), octets) else {
             return Err(MasterFault::NotWellFormed);
@@ -194,7 +218,7 @@ impl Master {
 
     /// Whether a new master command is allowed.
     ///
-    /// Rules LINK-5 to LINK-8, LINK-10.
+    /// Rules LINK-5 to LINK-8, LINK-10, LINK-13.
     fn allows(&self, command: Option<MasterCommand>) -> bool
         ensures { result ≡ allows self.now.phase (layouts_seen self.now.seen) self.now.done
             command }
@@ -202,6 +226,7 @@ impl Master {
         let asked = self.seen.layouts();
         match (&self.phase, command) {
             (Phase::Startup, Some(MasterCommand::MasterIdent | MasterCommand::DeviceIdent)) => true,
+            (Phase::Startup, Some(MasterCommand::DeviceStartup)) => true,
             (Phase::Startup, Some(MasterCommand::DevicePreoperate)) => {
                 self.done.ident && matches!(asked, Ok(layouts) if layouts.pre.is_some())
             }

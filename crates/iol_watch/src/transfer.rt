@@ -5,11 +5,12 @@ ghost use Rattle.iol_isdu.specs.Parse.{request_of};
 ghost use Rattle.iol_segment.specs.Join.{next_count};
 ghost use Rattle.iol_far.specs.Codec.{flow_of};
 ghost use Rattle.iol_judge.specs.Octets.{are_zeros};
-ghost use Rattle.iol_watch.specs.Transfers.{abort_sent, answer_begun, answer_joined, answered, asked_told, begun, count_asked, count_sent, idle_sent, moved, start_asked, start_sent, told, whole, written};
+ghost use Rattle.iol_watch.specs.Transfers.{abort_sent, answer_begun, answer_joined, answered, asked_again, asked_told, asks_instead, begun, count_asked, count_sent, doubted, doubted_told, idle_sent, moved, start_asked, start_sent, told, whole, written};
 
 use crate::fault::MasterFault;
 use arrayvec::ArrayVec;
 use iol_isdu::{IsduFault, Octets, Place, Request, Text, read_answer, read_request, total_of};
+use iol_mseq::first;
 use iol_octets::{Flow, Mc};
 
 /// How many octets the longest text has.
@@ -20,6 +21,11 @@ const NO_SERVICE: u8 = 0;
 
 /// That of "busy".
 const BUSY: u8 = 1;
+
+/// The control octet of a START write, and of a START read.
+const START_WRITE: u8 = 0x70;
+
+const START_READ: u8 = 0xF0;
 
 /// With one segment more.
 const MOST_JOINED: usize = 270;
@@ -36,6 +42,9 @@ pub(crate) enum Transfer {
     Written(Text, Option<u8>),
     /// The request is whole: whether it is a read. Its answer is asked for.
     Asked(bool),
+    /// The same, while nobody knows whether the device has the request: a START read went out once,
+    /// in place of the START write that holds it.
+    Doubted(bool),
     /// Segments of the answer came, or the next one is asked for: whether it answers a read, their
     /// octets, and the last COUNT that was asked for.
     Answered(bool, Text, Option<u8>),
@@ -133,15 +142,51 @@ impl Transfer {
         }
     }
 
+    /// Whether these octets may be a START read in place of the message that is out: a START write
+    /// that holds a whole request.
+    ///
+    /// Rule REQ-14.
+    pub fn asks_instead(&self, out: &[u8], octets: &[u8]) -> bool
+        ensures { result ≡ asks_instead self.now out.now octets.now }
+    {
+        matches!(self, Transfer::Asked(_))
+            && first(out) == START_WRITE
+            && first(octets) == START_READ
+    }
+
+    /// Once that START read goes out.
+    ///
+    /// Rule REQ-14.
+    pub fn doubt(&mut self)
+        ensures { self.new ≡ doubted self.old }
+    {
+        if let Transfer::Asked(read) = *self {
+            *self = Transfer::Doubted(read);
+        }
+    }
+
+    /// Once the message that is out goes out again: what the device has isn't in doubt any more,
+    /// since a reply that got lost may have been the answer.
+    ///
+    /// Rule REQ-14.
+    pub fn repeat(&mut self)
+        ensures { self.new ≡ asked_again self.old }
+    {
+        if let Transfer::Doubted(read) = *self {
+            *self = Transfer::Asked(read);
+        }
+    }
+
     /// Once the good reply to a read on the ISDU channel brought these octets.
     ///
-    /// Rules REQ-5, REQ-7, ISDU-11.
+    /// Rules REQ-5, REQ-7, REQ-14, ISDU-11.
     pub fn told(self, octets: &[u8]) -> Transfer
         requires { length octets.now ≤ 32 }
         ensures { result ≡ told self octets.now }
     {
         match self {
             Transfer::Asked(read) => asked_told(read, octets),
+            Transfer::Doubted(read) => doubted_told(read, octets),
             Transfer::Answered(read, text, last) => answered(read, &joined(&text, octets), last),
             other => other,
         }
@@ -243,6 +288,19 @@ fn asked_told(read: bool, octets: &[u8]) -> Transfer
         Some(&NO_SERVICE) | None => Transfer::Refused,
         Some(_) => answered(read, octets, None),
     }
+}
+
+/// The reply to a START read that went out in place of a START write: where the device has heard
+/// nothing of that, no request is under way.
+///
+/// Rule REQ-14.
+fn doubted_told(read: bool, octets: &[u8]) -> Transfer
+    ensures { result ≡ doubted_told read octets.now }
+{
+    if first(octets) == NO_SERVICE {
+        return Transfer::Quiet;
+    }
+    asked_told(read, octets)
 }
 
 /// Of an answer these octets came, the last of them under this COUNT.

@@ -4,9 +4,8 @@ ghost use Rattle.iol_judge.specs.Seen.{whole_page};
 ghost use Rattle.iol_watch.specs.Watched.{exchanged, new_watch, paged, woke};
 
 use crate::master::Master;
-use crate::seen::Seen;
 use crate::verdict::Verdict;
-use iol_judge::Wake;
+use iol_judge::{Seen, Wake};
 use std::marker::Model;
 use std::mem::replace;
 

@@ -1,5 +1,5 @@
 use Rattle.iol_judge.proofs.Fairness.{never_blamed}
-use Rattle.iol_judge.proofs.Transferring.{texts_of}
+use Rattle.iol_judge.proofs.Sending.{texts_of}
 use Rattle.iol_judge.proofs.laws.honest_lines_are_never_blamed.Goals as goal
 
 pub returns : goal.returns

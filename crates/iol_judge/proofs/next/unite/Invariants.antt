@@ -1,0 +1,7 @@
+use Rattle.std.proofs.Common.{◌≡◌, drop}
+use Rattle.iol_judge.specs.Judged.{united}
+use Rattle.iol_judge.proofs.next.unite.Given as goal
+
+abbrev pub invariant-loop-other : goal.invariant-loop-other
+invariant-loop-other l = united l.states l.fn.kept
+    ≡ united (drop l.other-index l.states) l.kept
