@@ -1,4 +1,5 @@
 """A plain device, by the rules DEV and EVT of docs/protocol.md."""
+from dataclasses import dataclass
 from typing import NamedTuple, Optional
 
 from rules import (
@@ -12,9 +13,11 @@ from rules import (
     STARTUP,
     Answer,
     Channel,
+    HandsOver,
     Kind,
     Layouts,
     Mode,
+    Recalls,
     Reply,
     Stage,
     joined,
@@ -61,19 +64,27 @@ class Receiving(NamedTuple):
     count: Optional[int]
 
 
-class Whole(NamedTuple):
+# Of two equal named tuples the classes may differ.
+
+
+@dataclass(frozen=True)
+class Whole:
     kind: Kind
     count: Optional[int]
 
 
-class Handed(NamedTuple):
+@dataclass(frozen=True)
+class Handed:
     kind: Kind
+    # the last COUNT of its text
+    count: Optional[int]
 
 
 class Answered(NamedTuple):
     answer: Answer
     # the number of the segment sent last, None before the first
     sent: Optional[int]
+    count: Optional[int]
 
 
 def received(octets, count):
@@ -85,8 +96,19 @@ def received(octets, count):
     return kind and Whole(kind, count)
 
 
-def isdu_written(held, flow, octets):
-    """What is held behind a write on the ISDU channel (DEV-11, DEV-14)."""
+def isdu_written(hands_over, held, flow, octets):
+    """What a device holds behind a write on the ISDU channel (DEV-11, DEV-14, DEV-20)."""
+    if hands_over is HandsOver.FIRST_READ:
+        return text_written(held, flow, octets)
+    is_unsent = isinstance(held, Handed) or isinstance(held, Answered) and held.sent is None
+    if is_unsent and flow < COUNTS:
+        return held if flow == held.count else None
+    made = text_written(held, flow, octets)
+    return Handed(made.kind, made.count) if isinstance(made, Whole) else made
+
+
+def text_written(held, flow, octets):
+    """What is held of a text (DEV-11, DEV-14)."""
     if flow == START:
         return received(octets, None)
     if flow >= COUNTS or not isinstance(held, (Receiving, Whole)):
@@ -110,8 +132,8 @@ def layouts_by(page):
 class Device:
     """A device with room for every answer that it gives, awake or asleep."""
 
-    def __init__(self, page, cycle, shown):
-        self.page, self.cycle = page, cycle
+    def __init__(self, kind, page, cycle, shown):
+        self.kind, self.page, self.cycle = kind, page, cycle
         self.layouts = layouts_by(page)
         self.awake, self.link = False, WOKEN
         self.isdu, self.input = None, None
@@ -139,7 +161,7 @@ class Device:
     def answer(self, answer):
         """DEV-15."""
         if isinstance(self.isdu, Handed) and answer.fits(self.isdu.kind):
-            self.isdu = Answered(answer, None)
+            self.isdu = Answered(answer, None, self.isdu.count)
 
     # By the line
 
@@ -186,16 +208,27 @@ class Device:
         """DEV-10."""
         if not self.layouts.has_isdu:
             self.isdu = None
-        elif message.is_read:
+            return
+        self.recall(layout.od)
+        if message.is_read:
             self.isdu = self.isdu_read(message.address, layout.od)
         else:
-            self.isdu = isdu_written(self.isdu, message.address, message.od)
+            hands_over = self.kind.hands_over
+            self.isdu = isdu_written(hands_over, self.isdu, message.address, message.od)
+
+    def recall(self, size):
+        """DEV-20: an answer whose last segment was sent is known no more."""
+        held = self.isdu
+        if self.kind.recalls is Recalls.UNTIL_LEFT or not isinstance(held, Answered):
+            return
+        if held.sent is not None and (held.sent + 1) * size >= len(held.answer.text()):
+            self.isdu = None
 
     def isdu_read(self, flow, size):
         """DEV-12 to DEV-14."""
         held = self.isdu
         if flow == START and isinstance(held, (Whole, Handed)):
-            return Handed(held.kind)
+            return Handed(held.kind, held.count)
         if not isinstance(held, Answered):
             return None
         if flow == START:

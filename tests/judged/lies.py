@@ -158,6 +158,24 @@ def busy_left_out(chance, trace):
     return {place: trace.came(behind)}
 
 
+def is_lost(call, sent):
+    return isinstance(call, Exchange) and call.sent == sent and not is_readable(sent, call.came)
+
+
+def answer_forgotten(chance, trace):
+    """No answer is left where a read is repeated, since its reply was lost."""
+    places = [
+        place
+        for place in trace.answers()
+        if is_lost(trace.calls[place - 1], trace.calls[place].sent)
+    ]
+    if not places:
+        return {}
+    place = chance.choice(places)
+    size = trace.segment_size()
+    return {place: with_checksum(bytes(size) + trace.came(place)[size:], -1)}
+
+
 def bits_flipped(chance, trace):
     """As many bits as the checksum doesn't show."""
     for _ in range(TRIES):
@@ -180,6 +198,7 @@ KINDS = {
     "a page octet changed": page_octet_changed,
     "a reply late": reply_late,
     "busy left out": busy_left_out,
+    "an answer forgotten": answer_forgotten,
     "bits flipped": bits_flipped,
 }
 

@@ -1,6 +1,7 @@
 """Messages, replies, pages and ISDUs as octets, by the rules OCT to SEG of docs/protocol.md."""
 from enum import Enum, auto
 from functools import lru_cache, reduce
+from itertools import product
 from operator import xor
 from typing import NamedTuple, Optional
 
@@ -214,6 +215,31 @@ def is_readable(sent, came):
             return True
     return False
 
+
+# Kinds of device
+
+
+class HandsOver(Enum):
+    """DEV-20: when a device hands a request to its application."""
+
+    FIRST_READ = auto()
+    LAST_SEGMENT = auto()
+
+
+class Recalls(Enum):
+    """DEV-20: how long a device knows an answer."""
+
+    UNTIL_LEFT = auto()
+    UNTIL_SENT = auto()
+
+
+class DeviceKind(NamedTuple):
+    hands_over: HandsOver
+    recalls: Recalls
+
+
+OWN_KIND = DeviceKind(HandsOver.FIRST_READ, Recalls.UNTIL_LEFT)
+DEVICE_KINDS = [DeviceKind(*parts) for parts in product(HandsOver, Recalls)]
 
 # ISDUs
 

@@ -16,6 +16,7 @@ from rules import (
     BUSY,
     COUNTS,
     CYCLE_TIME,
+    DEVICE_KINDS,
     EVENT_SIZE,
     LAYOUT_OCTETS,
     MODE_COMMANDS,
@@ -24,10 +25,12 @@ from rules import (
     STARTUP,
     Answer,
     Channel,
+    DeviceKind,
     Kind,
     Layout,
     Message,
     Mode,
+    Recalls,
     Reply,
     control_of,
     is_readable,
@@ -174,6 +177,7 @@ def body_with(head, total, octets):
 
 
 class State(NamedTuple):
+    kind: DeviceKind
     link: Link
     cycle: Optional[int]
     shown: Optional[Shown]
@@ -182,11 +186,11 @@ class State(NamedTuple):
 
     def woken(self):
         """DEV-1."""
-        return State(WOKEN, self.cycle, released(self.shown), None)
+        return State(self.kind, WOKEN, self.cycle, released(self.shown), None)
 
     def powered(self):
         """DEV-16."""
-        return State(WOKEN, self.cycle, FRESH, None)
+        return State(self.kind, WOKEN, self.cycle, FRESH, None)
 
 
 def released(shown):
@@ -243,7 +247,7 @@ class Search:
         if not self.begun:
             if call.is_answered:
                 self.begun = True
-                self.nodes = [Node(State(WOKEN, None, ANY, None))]
+                self.nodes = [Node(State(kind, WOKEN, None, ANY, None)) for kind in DEVICE_KINDS]
             return
         woken = [Node(it.state.woken(), it, call, Fate.WOKEN) for it in self.nodes]
         powered = [Node(it.state.powered(), it, call, Fate.POWERED) for it in self.nodes]
@@ -304,12 +308,13 @@ def hearings(layouts, node, sent):
         return
     isdu = state.isdu if link.mode is state.link.mode else None
     after = State(
+        state.kind,
         link.after(mode_asked(layouts, message.command()), sent),
         message.od[0] if message.writes(Channel.PAGE, CYCLE_TIME) else state.cycle,
         None if message.is_confirm() else released(state.shown),
         None,
     )
-    for held, ended in isdus_behind(layouts, isdu, message, layout.od):
+    for held, ended in isdus_behind(layouts, state.kind, isdu, message, layout.od):
         yield Heard(after._replace(isdu=held), node, layout, message, ended)
 
 
@@ -320,7 +325,7 @@ def mode_asked(layouts, command):
     return layouts.asked(command) if layouts else MODE_COMMANDS.get(command)
 
 
-def isdus_behind(layouts, held, message, size):
+def isdus_behind(layouts, kind, held, message, size):
     """What may be held behind a message, each with an answer that had no more segments (DEV-10)."""
     if message.channel is not Channel.ISDU:
         return [(held, None)]
@@ -329,31 +334,43 @@ def isdus_behind(layouts, held, message, size):
     if not layouts.has_isdu:
         return [(None, None)]
     if not message.is_read:
-        return [(isdu_written(held, message.address, message.od), None)]
+        return [(isdu_written(kind.hands_over, held, message.address, message.od), None)]
     if message.address == START:
-        return [(it, None) for it in behind_start(held, size)]
+        return behind_start(kind.recalls, held, size)
     if message.address < COUNTS and isinstance(held, Had):
-        return behind_count(held, message.address)
+        return behind_count(kind.recalls, held, message.address)
     return [(None, None)]
 
 
-def behind_start(held, size):
+def behind_start(recalls, held, size):
     """DEV-12, DEV-13."""
     if isinstance(held, Whole):
-        return [Handed(held.kind)]
+        return [(Handed(held.kind, held.count), None)]
     if isinstance(held, Handed):
-        return [held, Had(held.kind, size, (None,) * size, 0)]
-    return [held._replace(sent=0)] if isinstance(held, Had) else [None]
+        return [(held, None), (Had(held.kind, size, (None,) * size, 0), None)]
+    return sent_again(recalls, held, 0) if isinstance(held, Had) else [(None, None)]
 
 
-def behind_count(had, count):
+def behind_count(recalls, had, count):
     """DEV-13, DEV-14."""
     if had.sent > 0 and count == had.sent % COUNTS:
-        return [(had, None)]
+        return sent_again(recalls, had, had.sent)
     if count != (had.sent + 1) % COUNTS:
         return [(None, None)]
+    return where_further(had, had.sent + 1)
+
+
+def sent_again(recalls, had, number):
+    """DEV-20."""
+    if recalls is Recalls.UNTIL_LEFT:
+        return [(had._replace(sent=number), None)]
+    return where_further(had, number)
+
+
+def where_further(had, number):
+    """The segment of this number is sent where there is one behind that sent last."""
     further, ended = had.with_next(), had.answer_ended()
-    behind = [(further, None)] if further.answer() else []
+    behind = [(further._replace(sent=number), None)] if further.answer() else []
     return behind + ([(None, ended)] if ended else [])
 
 

@@ -2,7 +2,7 @@
 from typing import NamedTuple
 
 from device import Device, Handed
-from rules import EVENT_SIZE, PAGE, is_readable
+from rules import EVENT_SIZE, PAGE, DeviceKind, is_readable
 from search import Fate, Had, Wake
 
 
@@ -17,6 +17,7 @@ class Turn(NamedTuple):
 class Witness(NamedTuple):
     """A device before the first answered wake-up request, and the calls behind that."""
 
+    kind: DeviceKind
     page: bytes
     cycle: int
     shown: list
@@ -24,7 +25,7 @@ class Witness(NamedTuple):
 
     def brings(self):
         """Whether the device, played, brings just what came."""
-        device = Device(self.page, self.cycle, self.shown)
+        device = Device(self.kind, self.page, self.cycle, self.shown)
         device.wake()
         return all(is_brought(device, turn) for turn in self.turns)
 
@@ -54,7 +55,8 @@ def witness(page, node):
     shown = last_shown(path)
     front = events_of(shown[0])
     octets = bytes(page.get(address, 0) for address in PAGE)
-    return Witness(octets, next(cycles, 0), front, turns(path, shown, len(front)))
+    kind = node.state.kind
+    return Witness(kind, octets, next(cycles, 0), front, turns(path, shown, len(front)))
 
 
 def events_of(shown):

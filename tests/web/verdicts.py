@@ -7,7 +7,7 @@ import os
 import re
 import subprocess
 
-from counting import findings
+from counting import VERDICT, findings
 from large import repeated
 from trace_page import ROOT, missing, read, unlike
 
@@ -29,6 +29,10 @@ GUILTY = "not honest at 3: 9 PageChanged: an octet of the page that was another 
 OPEN = "can't say from 4 on: 3 TooManyStates: too many states of a device are possible"
 UNHEARD = "can't say: no wake-up request was answered"
 HONEST = "honest 4 exchanges, 2 lost"
+FAIR = "master by the rules"
+KIND = "kind first keeps or last keeps"
+FAULT = "master not by the rules at 4: 2 NotRepeated: another message than the one that had no good reply (LINK-2)"
+ODD = "3 odd: 10 PageZero: a page address outside 01 to 0B that isn't 0 (PAGE-1)"
 BAD_FORMS = [
     "honest", "honest 4 exchanges", "honest four exchanges, 0 lost", f"{HONEST} ", f"{HONEST}.",
     "not", "not honest", "not honest: nothing", GUILTY.replace("not honest", "not quite"), GUILTY.replace(" at 3", ""),
@@ -37,6 +41,9 @@ BAD_FORMS = [
     "not honest at 3: 9 PageChanged: (PAGE-1)", f"{GUILTY} (PAGE-1)", f" {GUILTY}", f"{GUILTY} ",
     "can't", "can't say", "can't say: nothing", "can't say from 4 on", OPEN.replace(" on:", ":"),
     OPEN.replace("from 4", "from here"), OPEN.replace("3 ", ""), f"{UNHEARD}.", f"{OPEN} ()",
+    "master", "master is fair", f"{FAIR}.", FAULT.replace(" at 4", ""), FAULT.replace(" (LINK-2)", ""),
+    "master can't be judged", "odd 0", "odd many", ODD.replace(" (PAGE-1)", ""), ODD.replace("odd:", "odd"),
+    "kind", "kind first", "kind keeps first", f"{KIND} or", f"{KIND} and last forgets", f"{KIND}.",
     "unjudged", "unjudged 0", "unjudged many", "unjudged 1 exchanges", "guilty", "Honest 4 exchanges, 2 lost",
 ]
 IN_WORDS = [
@@ -44,6 +51,10 @@ IN_WORDS = [
     (GUILTY, "says not honest at 3: an octet of the page that was another before (9 PageChanged, PAGE-1)."),
     (OPEN, "iolink judge says can’t say from 4 on: too many states of a device are possible (3 TooManyStates)."),
     (UNHEARD, "iolink judge says can’t say: no wake-up request was answered"),
+    (f"{FAIR}\n{HONEST}", "the master sent nothing that one by the rules could not have sent."),
+    (f"{FAULT}\n{HONEST}", "the master is not by the rules at 4: another message than the one that had no good reply"),
+    (f"{KIND}\n{HONEST}", "a device by the rules hands a request over at the first read, and knows the answer until it"),
+    (f"{ODD}\n{HONEST}\nodd 1", "replies that are odd, but harmless: 1. The first is 3: a page address outside"),
     (f"unjudged 2\n{OPEN}", "Exchanges before the first answered wake-up, not judged: 2."),
 ]
 
@@ -110,7 +121,7 @@ def judged_rows(room):
     """The traces of the rows of `judge`, by name, each with what `judge` prints."""
     for row in sorted(glob.glob(f"{ROOT}/tests/rows/judge/*")):
         has = set(os.listdir(row))
-        if not {"stdin", "stdout"} <= has or has & {"each", "memory"}:
+        if not {"stdin", "stdout"} <= has or has & {"each", "memory"} or "--octets" in read(f"{row}/args"):
             continue
         text = read(f"{row}/stdin")
         yield os.path.basename(row), text if is_whole(text) else with_texts(room, text), read(f"{row}/stdout")
@@ -138,7 +149,8 @@ def check_judged_rows(room):
     room.open_page()
     kinds = set()
     for name, trace, verdict in judged_rows(room):
-        kinds.add(re.sub(r"\d+", "N", verdict.splitlines()[-1]).split(":")[0])
+        said = next(it for it in verdict.splitlines() if re.fullmatch(VERDICT, it))
+        kinds.add(re.sub(r"\d+", "N", said).split(":")[0])
         ended = trace if trace.endswith("\n") or not trace else f"{trace}\n"
         for where, text in (("behind", ended + verdict), ("before", verdict + ended)):
             room.open_text(text)
@@ -165,6 +177,14 @@ def broken_verdicts():
     yield "unjudged behind the verdict", [*PLAIN, HONEST, "unjudged 1"], end + 2
     yield "unjudged twice", [*PLAIN, "unjudged 1", "unjudged 1", HONEST], end + 2
     yield "unjudged before, the verdict behind", ["unjudged 1", *PLAIN, HONEST], end + 2
+    yield "master behind the verdict", [*PLAIN, HONEST, FAIR], end + 2
+    yield "master twice", [*PLAIN, FAIR, FAULT, HONEST], end + 2
+    yield "kind behind the verdict", [*PLAIN, HONEST, KIND], end + 2
+    yield "kind twice", [*PLAIN, KIND, KIND, HONEST], end + 2
+    yield "odd behind the verdict", [*PLAIN, HONEST, ODD], end + 2
+    yield "how many are odd before the verdict", [*PLAIN, "odd 1", HONEST], end + 1
+    yield "a master's call is not there", [*PLAIN, FAULT.replace("at 4", "at 6")], end + 1
+    yield "an odd call is not there", [*PLAIN, ODD.replace("3 odd", "7 odd")], end + 1
     yield "in the middle", [*PLAIN[:5], GUILTY, *PLAIN[5:]], 7
     yield "before the reply", [*PLAIN[:-1], GUILTY], end
     yield "no verdict of nothing", [GUILTY], 1
@@ -176,9 +196,10 @@ def check_broken_verdicts(room):
     for name, lines, number in broken_verdicts():
         room.open_text(text_of(*lines))
         yield f"verdict, {name}", missing(f"Line {number} can’t be read", room.fault())
-        is_read = any(it.split(" ")[0] in ("honest", "not", "can't") for it in lines[: number - 1])
+        before = {it.split(" ")[0] for it in lines[: number - 1]}
+        are_read = bool(before & {"honest", "not", "can't"}) + ("master" in before) + ("kind" in before)
         shown = room.window.run("document.querySelectorAll('#story .verdict').length")
-        yield f"verdict, {name}: not shown", unlike(shown, int(is_read))
+        yield f"verdict, {name}: not shown", unlike(shown, are_read)
     # A line of the trace that can't be read, and a verdict in front that names an exchange behind it.
     room.open_text(text_of("unjudged 4", OPEN, *PLAIN[:3], "what is this", *PLAIN[3:]))
     yield "verdict on what isn't read: fault", missing("Line 6 can’t be read", room.fault())
@@ -199,29 +220,30 @@ def check_words(room):
 
 
 def reasons():
-    """The reasons that `judge` knows, in its source: the text, and the rule or ''."""
+    """The reasons that `judge` knows, in its source, those of the master too: the text, and the rules."""
     found = re.findall(r'"(\w+: [^"]+)"', read(f"{ROOT}/crates/iol_capture/src/printing.rt"))
-    return [(it, (re.findall(r"\(([A-Z]+-\d+)\)$", it) or [""])[0]) for it in found if it[0].isupper()]
+    return [(it, re.findall(r"[A-Z]+-\d+(?=[^()]*\)$)", it)) for it in found if it[0].isupper()]
 
 
 def check_reasons(room):
-    """Each reason of `judge` is read, and its rule leads to the rule's heading where the octets are shown."""
+    """Each reason of `judge` is read, and its rules lead to their headings where the octets are shown."""
     protocol = read(f"{ROOT}/docs/protocol.md")
     room.open_page()
     known = reasons()
     yield "reasons", "" if len(known) >= 17 else f"only {len(known)} are found"
-    for at, (text, rule) in enumerate(known, 1):
+    for at, (text, rules) in enumerate(known, 1):
         name = text.split(":")[0]
-        verdict = f"not honest at 3: {at} {text}" if rule else f"can't say from 3 on: {at} {text}"
+        verdict = f"not honest at 3: {at} {text}" if rules else f"can't say from 3 on: {at} {text}"
         room.open_text(text_of(*PLAIN, verdict))
         yield f"{name}: fault", room.fault()
         shown = room.window.run("document.querySelector('#detail .verdict')?.innerText ?? ''")
-        yield f"{name}: at the octets", missing(f"({at} {name}{f', {rule}' if rule else ''})", shown)
+        yield f"{name}: at the octets", missing(f"({', '.join([f'{at} {name}', *rules])})", shown)
         links = room.window.run(
             "[...document.querySelectorAll('#detail .verdict a')].map((it) => [it.innerText, it.getAttribute('href')])"
         )
-        wanted = f"| {rule} |" in protocol and room.window.run(f"page.ruleLink('{rule}')")
-        yield f"{name}: link", unlike(dict(links).get(rule), wanted if rule else None)
+        for rule in rules:
+            wanted = f"| {rule} |" in protocol and room.window.run(f"page.ruleLink('{rule}')")
+            yield f"{name}: link {rule}", unlike(dict(links).get(rule), wanted)
 
 
 def check_mark(room):

@@ -19,7 +19,7 @@ use Rattle.iol_capture.specs.declared.telling.Telling.TheVariants as telling
 use Rattle.iol_capture.specs.declared.trace_line.TraceLine.{TraceLine}
 use Rattle.iol_capture.specs.declared.trace_line.TraceLine.TheVariants.{Other, Page, Wake, Sent, Came}
 use Rattle.iol_capture.specs.TraceLines.{trace_form}
-use Rattle.iol_capture.specs.Judging.{Judging, answered, begun, came_to, is_next, is_open, new_judging, one_more, paged, sending, told, woken}
+use Rattle.iol_capture.specs.Judging.{Judging, answered, begun, came_to, is_next, is_open, new_judging, one_more, page_told, paged, sending, told, wake_told, woken}
 use Rattle.iol_capture.specs.Telling.{as_trace, told_as}
 use Rattle.iol_capture.specs.Capture.{Reading, ended, ended_as, line_read, read_as}
 use Rattle.iol_capture.specs.HonestCapture.{CapturesNeverBlamed, IsFromHonest, IsHonestReply, IsHonestTrace, said_before, said_in}
@@ -91,8 +91,8 @@ module _ (law : NeverBlamed) where
       let far_new = h.honest.0 in
       let fair : IsFair (woke mid.judged reply) far_new =
       subst (λ (j : Judged). IsFair (woke j reply) far_new) (sym new.judged)
-      (law.wakes old.judged h.far reply far_new h.honest.1 h.fair) in
-      let made : Judging = record mid { judged = woke mid.judged reply } in
+      (law.wakes_any old.judged h.far reply far_new h.honest.1 h.fair) in
+      let made : Judging = wake_told mid reply in
       let call : IsHonestTrace far_new h.silence mid.call old.sent lines =
       subst (λ (n : ℕ). IsHonestTrace far_new h.silence n old.sent lines) (sym new.call)
       h.honest.2 in
@@ -135,13 +135,10 @@ module _ (law : NeverBlamed) where
       let told_page : IsFair (record old.judged { seen = whole_page octets }) far =
       subst (λ (o : List ℕ). IsFair (record old.judged { seen = whole_page o }) far)
       (sym (is at)) (law.pages old.judged far fair) in
-      subst (λ (t : Bool). IsFair (cond t (record old {
-        judged = record old.judged { seen = whole_page octets };
-      }) old).judged far) (sym zero) told_page
+      subst (λ (t : Bool). IsFair (cond t (page_told old octets) old).judged far) (sym zero)
+      told_page
   pages false old octets far zero is fair =
-      subst (λ (t : Bool). IsFair (cond t (record old {
-        judged = record old.judged { seen = whole_page octets };
-      }) old).judged far) (sym zero) fair
+      subst (λ (t : Bool). IsFair (cond t (page_told old octets) old).judged far) (sym zero) fair
 
   paged-call : (b : Bool) (old made : Judging) → made.call ≡ old.call → made.sent ≡ old.sent
       → ((cond b made old).call ≡ old.call) × ((cond b made old).sent ≡ old.sent)
@@ -153,9 +150,7 @@ module _ (law : NeverBlamed) where
   line-goes Other old next lines h e =
       same old next lines e (goes h.far h.silence old lines h.fair h.honest)
   line-goes (Page octets) old next lines h e =
-      let other : Judging = record old {
-        judged = record old.judged { seen = whole_page octets };
-      } in
+      let other : Judging = page_told old octets in
       let stays = paged-call (old.call == 0) old other refl refl in
       let made : Judging = paged old octets in
       let fair : IsFair made.judged h.far =

@@ -1,5 +1,5 @@
 -- A capture that is read in pieces.
-use Rattle.std.proofs.Common.{◌≡◌, ℕ, ◌<◌, false, ◌==◌, Option, None, Result, Ok, Err, OnOk, IfErr, List, [], ◌∷◌, ◌++◌, length, fold, refl, sym, ap, ◌∙◌, append-nil, append_assoc, length-append, arith}
+use Rattle.std.proofs.Common.{◌≡◌, ℕ, ◌<◌, Bool, false, ◌==◌, Option, None, Result, Ok, Err, OnOk, IfErr, List, [], ◌∷◌, ◌++◌, length, fold, refl, sym, ap, ◌∙◌, append-nil, append_assoc, length-append, arith}
 use Rattle.std.proofs.lemmas.Bool.Decides.{nat_tests}
 use Rattle.std.specs.Io.KnownBytes.{Consumes}
 use Rattle.std.proofs.KnownBytes.{Consumes-trans}
@@ -113,6 +113,11 @@ overfull-at old c number h other full is rest =
     ∙ ap (λ (n : ℕ). Err (Line n BadForm)) (sym is)
 
 -- The end
+
+-- a line that isn't empty
+pub some-bytes : (line : List ℕ) (empty : Bool) → empty ≡ (length line == 0) → empty ≡ false
+    → 0 < length line
+some-bytes line empty is some = grind (arith, nat_tests)
 
 pub end-line : (opened : Opened) → IsOpenLine opened.line → 0 < length opened.line
     → judged_with opened [] ≡ ended (line_read (Ok opened.reading) opened.line)

@@ -1,5 +1,5 @@
 -- What is printed of a judged capture.
-use Rattle.std.specs.Prelude.{ℕ, ◌==◌, List, [], ◌∷◌, ◌++◌, if◌then◌else◌, codes}
+use Rattle.std.specs.Prelude.{ℕ, Bool, true, false, not, ◌&&◌, ◌||◌, ◌==◌, Option, Some, None, List, [], ◌∷◌, ◌++◌, if◌then◌else◌, codes}
 use Rattle.std.specs.Fmt.{decimal}
 use Rattle.iol_judge.specs.declared.open.Open.{Open}
 use Rattle.iol_judge.specs.declared.open.Open.TheVariants as «open»
@@ -7,12 +7,20 @@ use Rattle.iol_judge.specs.declared.reason.Reason.{Reason}
 use Rattle.iol_judge.specs.declared.reason.Reason.TheVariants as reason
 use Rattle.iol_judge.specs.declared.verdict.Verdict.{Verdict}
 use Rattle.iol_judge.specs.declared.verdict.Verdict.TheVariants.{Unjudged, Honest, NotHonest, CantSay}
+use Rattle.iol_judge.specs.declared.kinds.Kinds.{Kinds}
+use Rattle.iol_judge.specs.Judged.{kinds_left}
 use Rattle.iol_judge.specs.Numbers.{open_number, reason_number}
 use Rattle.iol_capture.specs.declared.judgement.Counts.{Counts}
 use Rattle.iol_capture.specs.declared.judgement.OddExchange.{OddExchange}
 use Rattle.iol_capture.specs.declared.printing.Finding.{Finding}
 use Rattle.iol_capture.specs.declared.printing.Finding.TheVariants as found
+use Rattle.iol_watch.specs.declared.fault.MasterFault.{MasterFault}
+use Rattle.iol_watch.specs.declared.fault.MasterFault.TheVariants as fault
+use Rattle.iol_watch.specs.declared.verdict.Verdict.{Verdict as MasterVerdict}
+use Rattle.iol_watch.specs.declared.verdict.Verdict.TheVariants as master
+use Rattle.iol_watch.specs.Numbers.{fault_number}
 use Rattle.iol_capture.specs.Judging.{Judging}
+use Rattle.iol_capture.specs.Watching.{Watching}
 
 -- the name of a reason, what a device by the rules doesn't send, and the rule
 abbrev pub reason_text : Reason → List ℕ
@@ -91,6 +99,80 @@ verdict_text (NotHonest exchange reason) call counts = codes "not honest at "
 verdict_text (CantSay exchange why) call counts = codes "can't say from "
     ++ because_text call (codes " on: ") (open_number why) (open_text why)
 
+-- the name of a fault of the master, what none by the rules sends, and the rules
+abbrev pub fault_text : MasterFault → List ℕ
+fault_text fault.WakeDue = codes
+    "WakeDue: a message where a wake-up request was due (LINK-1, LINK-3)"
+fault_text fault.NotRepeated = codes
+    "NotRepeated: another message than the one that had no good reply (LINK-2)"
+fault_text fault.NotStartUp = codes
+    "NotStartUp: a channel, command or cycle time that the mode doesn't allow there (LINK-6, LINK-7, LINK-8, LINK-10, LINK-12)"
+fault_text fault.NotWellFormed = codes
+    "NotWellFormed: octets that are no message in the layout of the mode (MSG-3, LINK-9)"
+fault_text fault.OutputOctets = codes
+    "OutputOctets: other process data out, though the device's output isn't valid (PD-4, PD-5, PD-6)"
+fault_text fault.NotDue = codes
+    "NotDue: an ISDU or event message that nothing asks for (REQ-3, REQ-4, REQ-5, REQ-7, EVT-5, EVT-6, EVT-8)"
+fault_text fault.RequestText = codes
+    "RequestText: segments that are the beginning of no request, or go on behind one (ISDU-1, ISDU-2, ISDU-3, SEG-1)"
+fault_text fault.NotInLine = codes
+    "NotInLine: a COUNT that isn't the one behind the last (SEG-2)"
+
+-- a call, and why nothing is said from it on
+abbrev pub from_text : ℕ → List ℕ → List ℕ
+from_text from why = decimal from ++ codes " on: " ++ why ++ codes "\n"
+
+-- the same of the master
+abbrev pub unsure_text : ℕ → List ℕ → List ℕ
+unsure_text from why = codes "master can't be judged from " ++ from_text from why
+
+-- the master's first fault, in this call, where its mode is known
+abbrev pub blamed_text : MasterFault → ℕ → Option ℕ → List ℕ
+blamed_text fault call None = codes "master not by the rules at "
+    ++ because_text call (codes ": ") (fault_number fault) (fault_text fault)
+blamed_text fault call (Some from) =
+    unsure_text from (codes "the read there may be behind a wake-up request that isn't shown")
+
+-- what is said of the master
+abbrev pub master_verdict_text : MasterVerdict → ℕ → Option ℕ → List ℕ
+master_verdict_text master.Unjudged call unsure =
+    codes "master can't be judged: no wake-up request was made\n"
+master_verdict_text master.ByTheRules call unsure = codes "master by the rules\n"
+master_verdict_text (master.NotByTheRules exchange fault) call unsure =
+    blamed_text fault call unsure
+
+abbrev pub master_text : Watching → List ℕ
+master_text watching =
+    master_verdict_text watching.watched.verdict watching.call watching.unsure
+
+-- The kinds that a device may be of, where it may be of some, and not of all four
+-- DEV-20
+abbrev pub are_told : Kinds → Bool
+are_told kinds =
+    (kinds.first_left || kinds.first_sent || kinds.last_left || kinds.last_sent)
+    && not (kinds.first_left && kinds.first_sent && kinds.last_left && kinds.last_sent)
+
+-- what stands before the name of a kind, where one is named before it or not
+abbrev pub joint_text : Bool → List ℕ
+joint_text true = codes " or "
+joint_text false = codes "kind "
+
+-- its name in a script, where it is one of them
+abbrev pub kind_text : Bool → Bool → List ℕ → List ℕ
+kind_text true named name = joint_text named ++ name
+kind_text false named name = []
+
+abbrev pub kinds_line : Kinds → List ℕ
+kinds_line kinds = kind_text kinds.first_left false (codes "first keeps")
+    ++ kind_text kinds.first_sent kinds.first_left (codes "first forgets")
+    ++ kind_text kinds.last_left (kinds.first_left || kinds.first_sent) (codes "last keeps")
+    ++ kind_text kinds.last_sent (kinds.first_left || kinds.first_sent || kinds.last_left)
+    (codes "last forgets")
+    ++ codes "\n"
+
+abbrev pub kinds_text : Kinds → List ℕ
+kinds_text kinds = if are_told kinds then kinds_line kinds else []
+
 -- the exchanges before the first answered wake-up request, where there are any
 abbrev pub unjudged_text : ℕ → List ℕ
 unjudged_text count =
@@ -111,6 +193,8 @@ odd_count_text count = if count == 0 then [] else codes "odd " ++ decimal count 
 -- what is printed
 abbrev pub finding_text : Judging → List ℕ
 finding_text judging = odd_texts judging.odd ++ unjudged_text judging.counts.unjudged
+    ++ master_text judging.watching
+    ++ kinds_text (kinds_left judging.judged)
     ++ verdict_text judging.judged.verdict judging.decided judging.counts
     ++ odd_count_text judging.judged.oddities
 

@@ -2,8 +2,8 @@
 use Rattle.std.specs.Prelude.{◌≡◌, ◌≢◌, ℕ, Option, Some, None, Ok, List, [], ◌∷◌}
 use Rattle.iol_far.specs.Far.{Far}
 use Rattle.iol_far.specs.Octets.{octets_in}
-use Rattle.iol_link.specs.Honest.{HonestExchange, HonestWake}
-use Rattle.iol_judge.specs.Admitted.{is_answered}
+use Rattle.iol_link.specs.Honest.{HonestExchange}
+use Rattle.iol_judge.specs.Admitted.{IsWake, is_answered}
 use Rattle.iol_judge.specs.declared.reason.Reason.{Reason}
 use Rattle.iol_judge.specs.declared.verdict.Odd.{Odd}
 use Rattle.iol_judge.specs.declared.verdict.Verdict.TheVariants.{NotHonest}
@@ -31,8 +31,8 @@ IsHonestReply None far silence came far_new silence_new = Unit {0}
 IsHonestReply (Some sent) far silence came far_new silence_new =
     HonestExchange far silence sent came far_new silence_new
 
--- A device brings what lines say over a lossy line, behind this call and the message that waits.
--- A page that stands before the first call is its own.
+-- A device of any kind brings what lines say over a lossy line, behind this call and the message
+-- that waits. A page that stands before the first call is its own.
 -- WIRE-1, WIRE-3
 abbrev pub IsHonestTrace : Far → ℕ → ℕ → Option (List ℕ) → List TraceLine → Type 0
 IsHonestTrace far silence call waits [] = Unit {0}
@@ -40,7 +40,7 @@ IsHonestTrace far silence call waits (Other ∷ lines) = IsHonestTrace far silen
 IsHonestTrace far silence call waits (Page octets ∷ lines) =
     (call ≡ 0 → octets ≡ far.page) × IsHonestTrace far silence call waits lines
 IsHonestTrace far silence call waits (Wake number answer ∷ lines) = (far_new : Far)
-    × HonestWake far (is_answered answer) far_new
+    × IsWake far (is_answered answer) far_new
     × IsHonestTrace far_new silence number waits lines
 IsHonestTrace far silence call waits (Sent number octets ∷ lines) =
     IsHonestTrace far silence number (Some octets.items) lines

@@ -6,6 +6,7 @@ use Rattle.iol_judge.specs.declared.verdict.Odd.{Odd}
 use Rattle.iol_judge.specs.declared.verdict.Verdict.{Verdict}
 use Rattle.iol_judge.specs.declared.verdict.Verdict.TheVariants.{Unjudged, Honest, NotHonest, CantSay}
 use Rattle.iol_judge.specs.declared.verdict.Wake.{Wake as WakeAnswer}
+use Rattle.iol_judge.specs.declared.verdict.Wake.TheVariants.{Unanswered}
 use Rattle.iol_judge.specs.Seen.{whole_page}
 use Rattle.iol_judge.specs.Judged.{Judged, new_judge, exchanged, woke}
 use Rattle.iol_splitter.specs.declared.passed.Passed.{Passed}
@@ -17,10 +18,13 @@ use Rattle.iol_capture.specs.declared.judgement.OddExchange.{OddExchange}
 use Rattle.iol_capture.specs.declared.judgement.TheConstants.{ODD_SHOWN}
 use Rattle.iol_capture.specs.declared.trace_line.TraceLine.{TraceLine}
 use Rattle.iol_capture.specs.declared.trace_line.TraceLine.TheVariants.{Other, Page, Wake, Sent, Came}
+use Rattle.iol_capture.specs.Watching.{Watching, exchange_watched, new_watching, page_watched, wake_watched}
 
 pub record Judging : Type 0 where
   -- what the judge was told
   pub judged : Judged
+  -- what the watch of the master was told of the same calls
+  pub watching : Watching
   -- the number of the last call of the wire, 0 before the first
   pub call : ℕ
   -- what was sent in it, until it's told what came back
@@ -37,6 +41,7 @@ no_counts = record { unjudged = 0; judged = 0; lost = 0 }
 abbrev pub new_judging : Odd → Judging
 new_judging odd = record {
   judged = new_judge odd;
+  watching = new_watching;
   call = 0;
   sent = None;
   decided = 0;
@@ -83,8 +88,15 @@ begun judging number =
     if is_some judging.sent then Err ReplyMissing else
     if is_next judging.call number then Ok (called judging number) else Err WrongNumber
 
+-- a wake-up request was made
+abbrev pub wake_told : Judging → WakeAnswer → Judging
+wake_told judging wake = record judging {
+  judged = woke judging.judged wake;
+  watching = wake_watched judging.watching wake;
+}
+
 abbrev pub woken : WakeAnswer → Result Judging LineFault → Result Judging LineFault
-woken wake (Ok judging) = Ok (record judging { judged = woke judging.judged wake })
+woken wake (Ok judging) = Ok (wake_told judging wake)
 woken wake (Err fault) = Err fault
 
 abbrev pub sending : List ℕ → Result Judging LineFault → Result Judging LineFault
@@ -102,6 +114,7 @@ with_odd odd call (Some reason) =
 abbrev pub answered : Judging → List ℕ → Option (List ℕ) → Judging
 answered judging sent came = record judging {
   judged = exchanged judging.judged sent came;
+  watching = exchange_watched judging.watching judging.call sent came;
   sent = None;
   counts = counted_by judging.judged.verdict judging.counts came;
   odd = with_odd judging.odd judging.call (exchanged judging.judged sent came).oddity;
@@ -112,12 +125,15 @@ came_to None judging number came = Err MessageMissing
 came_to (Some sent) judging number came =
     if number == judging.call then Ok (answered judging sent came) else Err WrongNumber
 
+abbrev pub page_told : Judging → List ℕ → Judging
+page_told judging octets = record judging {
+  judged = record judging.judged { seen = whole_page octets };
+  watching = page_watched judging.watching octets;
+}
+
 -- the page counts before the first call alone: later it is what a port read
 abbrev pub paged : Judging → List ℕ → Judging
-paged judging octets =
-    if judging.call == 0
-    then record judging { judged = record judging.judged { seen = whole_page octets } }
-    else judging
+paged judging octets = if judging.call == 0 then page_told judging octets else judging
 
 -- the judge, told what a line says
 abbrev pub told : Judging → TraceLine → Result Judging LineFault
@@ -132,9 +148,16 @@ told judging (Came number came) = came_to judging.sent judging number (octets_in
 -- it went over the line in the call that began last
 abbrev pub passed_on : Judging → Passed → Judging
 passed_on judging (passed.Exchange exchange) = answered judging exchange.sent exchange.answer
-passed_on judging (passed.Wake answer) =
-    record judging { judged = woke judging.judged answer }
+passed_on judging (passed.Wake answer) = wake_told judging answer
 
 -- in the next call
 abbrev pub passed_next : Judging → Passed → Judging
 passed_next judging what = passed_on (called judging (one_more judging.call)) what
+
+-- A wake-up request that isn't shown may have been made, and not answered. The judge is told one,
+-- the watch looks at the read that may be its test read.
+abbrev pub maybe_woken : Judging → Judging
+maybe_woken judging = record judging {
+  judged = woke judging.judged Unanswered;
+  watching = record judging.watching { tests = true };
+}

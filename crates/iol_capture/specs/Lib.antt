@@ -1,4 +1,5 @@
 pub mod TraceLines
+pub mod Watching
 pub mod Judging
 pub mod Octets
 pub mod Telling
@@ -7,3 +8,4 @@ pub mod Capture
 pub mod Findings
 pub mod HonestCapture
 pub mod HonestOctets
+pub mod FairWatching

@@ -14,7 +14,7 @@ use Rattle.iol_splitter.specs.Splitting.{ended, octet_split, wake_split}
 use Rattle.iol_splitter.specs.Steps.{Step}
 use Rattle.iol_capture.specs.declared.fault.LineFault.{LineFault}
 use Rattle.iol_capture.specs.declared.fault.LineFault.TheVariants.{BadForm, Split}
-use Rattle.iol_capture.specs.Judging.{Judging, new_judging, passed_next, passed_on}
+use Rattle.iol_capture.specs.Judging.{Judging, maybe_woken, new_judging, passed_next}
 
 -- the octets that are split, and what the judge makes of what they are split into
 pub record Hearing : Type 0 where
@@ -32,7 +32,7 @@ octet_form line = if nat_le (length line) 1024 then line_form line else None
 -- none: the read that may be its test read is the next call, and it has no number of its own
 abbrev pub passed_by_octet : Judging → Option Passed → Judging
 passed_by_octet judging None = judging
-passed_by_octet judging (Some (Wake Unanswered)) = passed_on judging (Wake Unanswered)
+passed_by_octet judging (Some (Wake Unanswered)) = maybe_woken judging
 passed_by_octet judging (Some passed) = passed_next judging passed
 
 abbrev pub passed_by_request : Judging → Option Passed → Judging

@@ -98,7 +98,7 @@ fn pass_octet(judgement: &mut Judgement, passed: &Option<Passed>)
 {
     match passed {
         None => {}
-        Some(Passed::Wake(Wake::Unanswered)) => judgement.pass(&Passed::Wake(Wake::Unanswered)),
+        Some(Passed::Wake(Wake::Unanswered)) => judgement.maybe_wake(),
         Some(passed) => judgement.pass_next(passed),
     }
 }

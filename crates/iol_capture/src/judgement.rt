@@ -1,12 +1,13 @@
 //! A judge, told the lines of a trace.
 ghost use Rattle.std.specs.Prelude.{◌≡◌, ◌≤◌, ◌<◌, Ok, Err, IfErr, OnOk, is_some, option_copied};
 ghost use Rattle.iol_far.specs.Octets.{octets_in};
-ghost use Rattle.iol_capture.specs.Judging.{answered, begun, called, came_to, counted_by, is_next, is_open, new_judging, no_counts, one_more, paged, passed_next, passed_on, told, with_odd};
+ghost use Rattle.iol_capture.specs.Judging.{answered, begun, called, came_to, counted_by, is_next, is_open, maybe_woken, new_judging, no_counts, one_more, paged, passed_next, passed_on, told, wake_told, with_odd};
 
 use crate::fault::LineFault;
 use crate::trace_line::TraceLine;
+use crate::watching::Watching;
 use arrayvec::ArrayVec;
-use iol_judge::{Judge, Odd, Reason, Verdict};
+use iol_judge::{Judge, Odd, Reason, Verdict, Wake};
 use iol_script::LineOctets;
 use iol_splitter::Passed;
 use std::marker::Model;
@@ -82,10 +83,12 @@ impl Default for OddExchange {
 /// The first odd exchanges.
 pub(crate) type OddExchanges = ArrayVec<OddExchange, ODD_SHOWN>;
 
-/// What a judge makes of the lines of a trace.
+/// What a judge of the device, and a watch of the master, make of the lines of a trace.
 #[derive(Drop)]
 pub struct Judgement {
     pub(crate) judge: Judge,
+    /// The same of the master.
+    pub(crate) watching: Watching,
     /// The number of the last call of the wire, 0 before the first.
     call: u64,
     /// What was sent in it, until it's told what came back.
@@ -104,6 +107,7 @@ impl Model for Judgement {
 
     ghost view = { λ j. record {
       judged = j.judge;
+      watching = j.watching;
       call = j.call;
       sent = octets_in j.sent;
       decided = j.decided;
@@ -119,6 +123,7 @@ impl Judgement {
     {
         Judgement {
             judge: Judge::new(odd),
+            watching: Watching::new(),
             call: 0,
             sent: None,
             decided: 0,
@@ -147,7 +152,7 @@ impl Judgement {
             }
             TraceLine::Wake(number, answer) => {
                 self.begin(number)?;
-                self.judge.wake(answer);
+                self.wake(answer);
                 Ok(())
             }
             TraceLine::Sent(number, octets) => {
@@ -165,7 +170,24 @@ impl Judgement {
     {
         if self.call == 0 {
             self.judge.page(octets);
+            self.watching.page(octets);
         }
+    }
+
+    /// A wake-up request was made.
+    fn wake(&mut self, answer: Wake)
+        ensures { self.new ≡ wake_told self.old answer }
+    {
+        self.judge.wake(answer);
+        self.watching.wake(answer);
+    }
+
+    /// A wake-up request may have been made that isn't shown, and wasn't answered.
+    pub(crate) fn maybe_wake(&mut self)
+        ensures { self.new ≡ maybe_woken self.old }
+    {
+        self.judge.wake(Wake::Unanswered);
+        self.watching.expect_test_read();
     }
 
     /// A call of the wire begins.
@@ -220,6 +242,7 @@ impl Judgement {
         self.sent = None;
         self.counts = self.counts.with(self.judge.verdict(), came);
         self.judge.exchange(sent, came);
+        self.watching.exchange(self.call, sent, came);
         note_odd(&mut self.odd, self.call, self.judge.oddity());
     }
 
@@ -232,11 +255,11 @@ impl Judgement {
     }
 
     /// What went over the line, in the call that began last.
-    pub(crate) fn pass(&mut self, passed: &Passed)
+    fn pass(&mut self, passed: &Passed)
         ensures { self.new ≡ passed_on self.old passed.now }
     {
         match passed {
-            Passed::Wake(answer) => self.judge.wake(*answer),
+            Passed::Wake(answer) => self.wake(*answer),
             Passed::Exchange(exchange) => self.exchange(
                 exchange.sent.as_slice(),
                 exchange.answer.as_ref().map(|octets| octets.as_slice()),

@@ -1,4 +1,5 @@
 //! The laws of captures, each carried by a function that does nothing when it runs.
+ghost use Rattle.iol_capture.specs.FairWatching.{UnseenWakesAreFair};
 ghost use Rattle.iol_capture.specs.HonestCapture.{CapturesNeverBlamed};
 ghost use Rattle.iol_capture.specs.HonestOctets.{OctetTextsNeverBlamed};
 
@@ -26,3 +27,12 @@ pub fn honest_octets_are_never_blamed()
 {
     octets_are_never_blamed();
 }
+
+/// Where a decoder shows no wake-up requests, no master is blamed for a read that may be the test
+/// read of one.
+///
+/// Rule LINK-1.
+#[tactic(auto, using(crate::proofs::WatchLemmas::unseen_wakes))]
+pub fn unseen_wakes_are_fair()
+    ensures { UnseenWakesAreFair }
+{}

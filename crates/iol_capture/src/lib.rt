@@ -2,15 +2,15 @@
 //! exports them, told to a judge line by line.
 //!
 //! A [`TraceLine`] is what one line of a trace says. Octets are split by a
-//! [`Splitter`](iol_splitter::Splitter). A [`Judgement`] is what a judge makes of the lines, and
-//! [`judge_capture`] reads them in either [`Form`], of a text of any length: it keeps one line at a
-//! time.
+//! [`Splitter`](iol_splitter::Splitter). A [`Judgement`] is what a judge of the device makes of the
+//! lines, and a watch of the master. [`judge_capture`] reads them in either [`Form`], of a text of
+//! any length: it keeps one line at a time.
 //!
-//! Definitions begin in `specs/TraceLines`; then `Judging`, a line of a trace told to the judge,
-//! `Octets`, a line of an export, `Capture`, a whole text, and `Findings`, what is printed. A
-//! capture is judged exactly where each line is good in its place; else its first bad line is
-//! named. `HonestCapture` and `HonestOctets` have the laws: a capture that a device by the rules
-//! brings over a lossy line is never called not honest.
+//! Definitions begin in `specs/TraceLines`; then `Watching`, what the watch is told, `Judging`, a
+//! line of a trace, `Octets`, a line of an export, `Capture`, a whole text, and `Findings`, what is
+//! printed. A capture is judged exactly where each line is good in its place; else its first bad
+//! line is named. `HonestCapture` and `HonestOctets` have the laws: a capture that a device by the
+//! rules brings over a lossy line is never called not honest. `FairWatching` has the master's.
 #![tactic(auto)]
 
 mod capture;
@@ -22,11 +22,14 @@ mod opened;
 mod printing;
 mod telling;
 mod trace_line;
+mod watching;
 
 pub use capture::judge_capture;
 pub use fault::{CaptureFault, LineFault};
 pub use judgement::Judgement;
-pub use laws::{honest_captures_are_never_blamed, honest_octets_are_never_blamed};
+pub use laws::{
+    honest_captures_are_never_blamed, honest_octets_are_never_blamed, unseen_wakes_are_fair,
+};
 pub use printing::Finding;
 pub use telling::Form;
 pub use trace_line::TraceLine;

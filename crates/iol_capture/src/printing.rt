@@ -1,11 +1,16 @@
 //! What is printed of a judged capture.
 ghost use Rattle.std.specs.Prelude.{◌≡◌, ◌++◌, IfOk, OnOk};
 ghost use Rattle.std.specs.String.{string_bytes};
-ghost use Rattle.iol_capture.specs.Findings.{because_text, finding_of, finding_text, honest_text, odd_count_text, odd_texts, open_text, reason_text, unjudged_text, verdict_text};
+ghost use Rattle.iol_capture.specs.Findings.{are_told, because_text, blamed_text, fault_text, finding_of, finding_text, from_text, honest_text, kind_text, kinds_text, master_text, odd_count_text, odd_texts, open_text, reason_text, unjudged_text, unsure_text, verdict_text};
 
 use crate::judgement::{Counts, Judgement, OddExchange};
-use iol_judge::{Open, Reason, Verdict};
+use crate::watching::Watching;
+use iol_judge::{Kinds, Open, Reason, Verdict};
+use iol_watch::{MasterFault, Verdict as MasterVerdict};
 use std::alloc::{AllocError, Allocator};
+
+/// Why the master's mode isn't known.
+const UNSEEN_WAKE: &str = "the read there may be behind a wake-up request that isn't shown";
 
 /// What a judge found in a capture.
 #[derive(Clone, Copy, Debug, PartialEq, Eq)]
@@ -30,14 +35,18 @@ impl Judgement {
         }
     }
 
-    /// What was found, in a line of text; before it the first 100 odd exchanges, and how many
-    /// exchanges aren't judged, where some aren't; and behind it how many are odd, where some are.
+    /// What was found, in a line of text. Before it the first 100 odd exchanges; how many exchanges
+    /// aren't judged, where some aren't; of the master the first fault in the whole capture,
+    /// whatever was found of the device; and of which kinds the device may be, where it may be of
+    /// some, and not of all four. Behind it how many are odd, where some are.
     pub fn text<A: Allocator>(&self, alloc: A) -> Result<String<A>, AllocError>
         ensures { IfOk result (λ text. string_bytes text ≡ finding_text self.now) }
     {
         let mut output = String::new(alloc);
         print_odd(&mut output, &self.odd)?;
         print_unjudged(&mut output, self.counts.unjudged)?;
+        print_master(&mut output, &self.watching)?;
+        print_kinds(&mut output, &self.judge.kinds())?;
         print_verdict(
             &mut output,
             self.judge.verdict(),
@@ -89,6 +98,114 @@ fn print_unjudged<A: Allocator>(output: &mut String<A>, count: u64) -> Result<()
         return Ok(());
     }
     writeln!(output, "unjudged {count}")
+}
+
+/// What is said of the master.
+fn print_master<A: Allocator>(output: &mut String<A>, watching: &Watching) -> Result<(), AllocError>
+    ensures { OnOk result (string_bytes output.new
+        ≡ string_bytes output.old ++ master_text watching.now) }
+{
+    match watching.verdict() {
+        MasterVerdict::Unjudged => {
+            output.push_str("master can't be judged: no wake-up request was made\n")
+        }
+        MasterVerdict::ByTheRules => output.push_str("master by the rules\n"),
+        MasterVerdict::NotByTheRules(_, fault) => {
+            print_blamed(output, fault, watching.call, watching.unsure)
+        }
+    }
+}
+
+/// The master's first fault, in this call, where its mode is known.
+fn print_blamed<A: Allocator>(
+    output: &mut String<A>,
+    fault: MasterFault,
+    call: u64,
+    unsure: Option<u64>,
+) -> Result<(), AllocError>
+    ensures { OnOk result (string_bytes output.new
+        ≡ string_bytes output.old ++ blamed_text fault call unsure) }
+{
+    if let Some(from) = unsure {
+        return print_unsure(output, from, UNSEEN_WAKE);
+    }
+    output.push_str("master not by the rules at ")?;
+    print_because(output, call, ": ", fault.code(), fault_text(fault))
+}
+
+/// The call from which on nothing is said of the master, and why.
+fn print_unsure<A: Allocator>(
+    output: &mut String<A>,
+    from: u64,
+    why: &str,
+) -> Result<(), AllocError>
+    ensures { OnOk result (string_bytes output.new
+        ≡ string_bytes output.old ++ unsure_text from why.now) }
+{
+    output.push_str("master can't be judged from ")?;
+    print_from(output, from, why)
+}
+
+/// A call, and why nothing is said from it on.
+fn print_from<A: Allocator>(output: &mut String<A>, from: u64, why: &str) -> Result<(), AllocError>
+    ensures { OnOk result (string_bytes output.new
+        ≡ string_bytes output.old ++ from_text from why.now) }
+{
+    writeln!(output, "{from} on: {why}")
+}
+
+/// Of which kinds the device may be, where it may be of some, and not of all four.
+///
+/// Rule DEV-20.
+fn print_kinds<A: Allocator>(output: &mut String<A>, kinds: &Kinds) -> Result<(), AllocError>
+    ensures { OnOk result (string_bytes output.new
+        ≡ string_bytes output.old ++ kinds_text kinds.now) }
+{
+    if !are_told(kinds) {
+        return Ok(());
+    }
+    let Kinds {
+        first_left,
+        first_sent,
+        last_left,
+        last_sent,
+    } = *kinds;
+    print_kind(output, first_left, false, "first keeps")?;
+    print_kind(output, first_sent, first_left, "first forgets")?;
+    print_kind(output, last_left, first_left || first_sent, "last keeps")?;
+    print_kind(
+        output,
+        last_sent,
+        first_left || first_sent || last_left,
+        "last forgets",
+    )?;
+    output.push_str("\n")
+}
+
+/// Whether these are some kinds, and not all four.
+fn are_told(kinds: &Kinds) -> bool
+    ensures { result ≡ are_told kinds.now }
+{
+    let some = kinds.first_left || kinds.first_sent || kinds.last_left || kinds.last_sent;
+    let all = kinds.first_left && kinds.first_sent && kinds.last_left && kinds.last_sent;
+    some && !all
+}
+
+/// The name of a kind, if the device may be of it, behind that of another one or not.
+fn print_kind<A: Allocator>(
+    output: &mut String<A>,
+    may_be: bool,
+    named: bool,
+    name: &str,
+) -> Result<(), AllocError>
+    ensures { OnOk result (string_bytes output.new
+        ≡ string_bytes output.old ++ kind_text may_be named name.now) }
+{
+    if !may_be {
+        return Ok(());
+    }
+    let joint = if named { " or " } else { "kind " };
+    write!(output, "{joint}{name}")
 }
 
 /// The verdict, with the call on which it rests.
@@ -213,5 +330,37 @@ fn open_text(why: Open) -> &'static str
         }
         Open::PageRefused => "PageRefused: the page's octets 03 to 06 ask for no layouts (PAGE-5)",
         Open::TooManyStates => "TooManyStates: too many states of a device are possible",
+    }
+}
+
+/// The name of a fault of the master, what none by the rules sends, and the rules.
+fn fault_text(fault: MasterFault) -> &'static str
+    ensures { result.now ≡ fault_text fault }
+{
+    match fault {
+        MasterFault::WakeDue => {
+            "WakeDue: a message where a wake-up request was due (LINK-1, LINK-3)"
+        }
+        MasterFault::NotRepeated => {
+            "NotRepeated: another message than the one that had no good reply (LINK-2)"
+        }
+        MasterFault::NotStartUp => {
+            "NotStartUp: a channel, command or cycle time that the mode doesn't allow there (LINK-6, LINK-7, LINK-8, LINK-10, LINK-12)"
+        }
+        MasterFault::NotWellFormed => {
+            "NotWellFormed: octets that are no message in the layout of the mode (MSG-3, LINK-9)"
+        }
+        MasterFault::OutputOctets => {
+            "OutputOctets: other process data out, though the device's output isn't valid (PD-4, PD-5, PD-6)"
+        }
+        MasterFault::NotDue => {
+            "NotDue: an ISDU or event message that nothing asks for (REQ-3, REQ-4, REQ-5, REQ-7, EVT-5, EVT-6, EVT-8)"
+        }
+        MasterFault::RequestText => {
+            "RequestText: segments that are the beginning of no request, or go on behind one (ISDU-1, ISDU-2, ISDU-3, SEG-1)"
+        }
+        MasterFault::NotInLine => {
+            "NotInLine: a COUNT that isn't the one behind the last (SEG-2)"
+        }
     }
 }

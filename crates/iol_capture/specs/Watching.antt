@@ -1,0 +1,77 @@
+-- A watch of the master's side, told the calls that a judge is told.
+use Rattle.std.specs.Prelude.{ℕ, Bool, true, false, ◌&&◌, ◌||◌, ◌==◌, if◌then◌else◌, List, ◌∷◌, Option, Some, None, is_none}
+use Rattle.iol_judge.specs.declared.verdict.Wake.{Wake}
+use Rattle.iol_judge.specs.declared.verdict.Wake.TheVariants.{Answered}
+use Rattle.iol_judge.specs.Seen.{whole_page}
+use Rattle.iol_watch.specs.declared.verdict.Verdict.{Verdict}
+use Rattle.iol_watch.specs.declared.verdict.Verdict.TheVariants.{NotByTheRules}
+use Rattle.iol_watch.specs.Watched.{Watched, exchanged, new_watch, paged, woke}
+
+pub record Watching : Type 0 where
+  -- what the watch was told, up to the master's first fault
+  pub watched : Watched
+  -- the call of the exchange told last: that of the fault, where there is one
+  pub call : ℕ
+  -- a command into another mode was sent since the last wake-up request
+  pub asked : Bool
+  -- the next exchange may be the test read of a wake-up request that isn't shown
+  pub tests : Bool
+  -- The first call since then that may be one, though the device had left STARTUP: from here on
+  -- its mode isn't known
+  pub unsure : Option ℕ
+
+abbrev pub new_watching : Watching
+new_watching =
+    record { watched = new_watch; call = 0; asked = false; tests = false; unsure = None }
+
+abbrev pub is_blamed : Verdict → Bool
+is_blamed (NotByTheRules number fault) = true
+is_blamed verdict = false
+
+-- the device has this page
+abbrev pub page_watched : Watching → List ℕ → Watching
+page_watched watching octets =
+    record watching { watched = paged watching.watched (whole_page octets) }
+
+-- a wake-up request was made
+abbrev pub wake_watched : Watching → Wake → Watching
+wake_watched watching answer = if is_blamed watching.watched.verdict then watching else
+    record watching {
+      watched = woke watching.watched answer;
+      asked = false;
+      tests = false;
+      unsure = None;
+    }
+
+-- octets of a write of DeviceOperate or DevicePreoperate to page address 0x00 in STARTUP
+abbrev pub asks_mode : List ℕ → Bool
+asks_mode (control ∷ check ∷ command ∷ rest) =
+    (control == 0x20) && ((command == 0x99) || (command == 0x9A))
+asks_mode octets = false
+
+-- an exchange was made
+abbrev pub followed : Watching → ℕ → List ℕ → Option (List ℕ) → Watching
+followed watching call sent came = record watching {
+  watched = exchanged watching.watched sent came;
+  call = call;
+  asked = watching.asked || asks_mode sent;
+}
+
+-- An exchange was made that is a read, or the test read of a wake-up request. It is the latter
+-- where no master by the rules would read there. In STARTUP a master that reads may do all that one
+-- may which was woken; else it is noted that the mode isn't known.
+abbrev pub read_or_woken : Watching → ℕ → List ℕ → Option (List ℕ) → Watching
+read_or_woken watching call sent came =
+    let read = followed (record watching { tests = false }) call sent came in
+    if is_blamed read.watched.verdict
+    then followed (wake_watched new_watching Answered) call sent came
+    else record read {
+      unsure = if read.asked && is_none read.unsure then Some call else read.unsure;
+    }
+
+-- an exchange was made in this call; behind the first fault nothing is told
+abbrev pub exchange_watched : Watching → ℕ → List ℕ → Option (List ℕ) → Watching
+exchange_watched watching call sent came =
+    if is_blamed watching.watched.verdict then watching else
+    if watching.tests then read_or_woken watching call sent came
+    else followed watching call sent came
