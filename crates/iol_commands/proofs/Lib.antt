@@ -7,3 +7,4 @@ pub mod ManyLemmas
 pub mod PassingLemmas
 pub mod TraceLemmas
 pub mod CountersLemmas
+pub mod JudgeLemmas

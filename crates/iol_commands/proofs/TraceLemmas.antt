@@ -18,7 +18,7 @@ use Rattle.iol_port.specs.declared.call.Answered.{Answered}
 use Rattle.iol_port.specs.Asks.{IsWireCall}
 use Rattle.iol_port.specs.Promises.{RunsJoin}
 use Rattle.iol_port.specs.Run.{PortState, Run}
-use Rattle.iol_port.specs.View.{Parts, Opening, Follows, Runs, StandsFor, IsOpened, opening_of, status_of}
+use Rattle.iol_port.specs.View.{Parts, Opening, Follows, Runs, StandsFor, IsOpened, opening_for, status_of}
 use Rattle.iol_port.specs.EveryWire.{CallGives, page_shown}
 use Rattle.iol_sim.specs.Params.{Stores}
 use Rattle.iol_sim.specs.Sim.{Simulated, sim_facts}
@@ -289,7 +289,8 @@ pub traced_out : (script : ScriptValue) (p q : Parts (Tapped (Simulated (List En
     (last_wire : Simulated (List Entry))
     → n ≡ 1 → (HasOwnDevice script → StandsFor tapped p a)
     → (HasOwnDevice script → a ≡ first_port script.limits script.page)
-    → opening ≡ opening_of tapped script.limits tap → tap ≡ first_tap script → IsOpened opening p
+    → opening ≡ opening_for tapped script.devices script.limits tap → tap ≡ first_tap script
+    → IsOpened opening p
     → PortTraces (sim_facts Stores) n p calls m q text
     → last_wire ≡ (wire_of q.station.link).wire
     → TracesOut script calls (text ++ records_text last_wire)
@@ -297,7 +298,7 @@ unfolding Runs
 traced_out script p q a opening tap n m calls text last_wire from_one stands first over tap_is
     opens traced those =
     let is_opened : opening ≡ tapped_opening script =
-    over ∙ ap (opening_of tapped script.limits) tap_is in
+    over ∙ ap (opening_for tapped script.devices script.limits) tap_is in
     record {
       answers = traced.answers;
       first = p;

@@ -8,6 +8,7 @@ use Rattle.iol_far.specs.declared.kind.Kind.{Kind}
 use Rattle.iol_far.specs.Far as device
 use Rattle.iol_far.specs.Isdu.{own}
 use Rattle.iol_link.specs.WireFacts.{WireFacts}
+use Rattle.iol_mode.specs.declared.configuration.Devices.TheVariants.{Own}
 use Rattle.iol_sim.specs.Params.{Stores}
 use Rattle.iol_sim.specs.declared.params.Entry.{Entry}
 use Rattle.iol_sim.specs.Sim.{Simulated, sim_facts}
@@ -17,7 +18,7 @@ use Rattle.iol_port.specs.declared.call.Answered.{Answered}
 use Rattle.iol_port.specs.declared.call.Answered.TheVariants as answered
 use Rattle.iol_port.specs.declared.fault.PortFault.TheVariants as fault
 use Rattle.iol_port.specs.Run.{PortState, Run, opened}
-use Rattle.iol_port.specs.View.{Parts, Opening, Runs, IsOpened, opening_of}
+use Rattle.iol_port.specs.View.{Parts, Opening, Runs, IsOpened, opening_for}
 use Rattle.iol_port.specs.EveryWire.{RunGives}
 use Rattle.iol_script.specs.Script.{ScriptValue, script_in, calls_in}
 use Rattle.iol_commands.specs.RunPrinted.{answers_text, record_text, away_text}
@@ -60,10 +61,11 @@ abbrev pub records_text : Simulated (List Entry) → List ℕ
 records_text sim = record_text sim.device.far.carried
     ++ away_text (option_map (λ d. d.far.carried) sim.away)
 
--- a script of one device, which is of our own kind
+-- a script of one device, which is of our own kind, and of a port for such devices
 pub record HasOwnDevice (script : ScriptValue) : Type 0 where
   pub one : script.other ≡ None
   pub kind : script.kind ≡ own
+  pub port : script.devices ≡ Own
 
 -- Calls are made on a port, one after the other: none of the answers lacks memory,
 -- and the text is what they are.
@@ -87,7 +89,7 @@ MadeOverWire p calls answers next =
 -- with what the port of a script is opened
 abbrev pub first_opening : ScriptValue → Opening (Simulated (List Entry))
 first_opening script =
-    opening_of (sim_facts Stores) script.limits (first_wire script)
+    opening_for (sim_facts Stores) script.devices script.limits (first_wire script)
 
 -- the abstract port over the new device makes these calls with the same answers, and its
 -- device has the record of this wire's

@@ -17,7 +17,7 @@ use Rattle.iol_app.specs.StationState.{wire_of}
 use Rattle.iol_port.specs.declared.call.Call.{Call}
 use Rattle.iol_port.specs.declared.call.Call.TheVariants.{Turn}
 use Rattle.iol_port.specs.declared.call.Answered.{Answered}
-use Rattle.iol_port.specs.View.{Parts, Opening, Runs, IsOpened, opening_of, status_of}
+use Rattle.iol_port.specs.View.{Parts, Opening, Runs, IsOpened, opening_for, status_of}
 use Rattle.iol_port.specs.EveryWire.{CallGives, page_shown}
 use Rattle.iol_script.specs.Script.{ScriptValue, script_in, calls_in}
 use Rattle.iol_commands.specs.Passing.{PrintsPassed}
@@ -95,7 +95,7 @@ first_tap script = record { wire = first_wire script; last = None }
 -- with what the port of a script is opened, over that tap
 abbrev pub tapped_opening : ScriptValue → Opening (Tapped (Simulated (List Entry)))
 tapped_opening script =
-    opening_of (tap_facts (sim_facts Stores)) script.limits (first_tap script)
+    opening_for (tap_facts (sim_facts Stores)) script.devices script.limits (first_tap script)
 
 -- Calls are traced over the wire of a script.
 abbrev pub TracesOverWire : Stage (Simulated (List Entry)) → List Call → List Answered

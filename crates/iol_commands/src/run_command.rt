@@ -72,8 +72,9 @@ fn played<A: Handle>(alloc: A, input: &[u8]) -> Result<String<A>, ProgramFault>
 {
     let script = Script::read(alloc, input)?;
     let limits = script.limits;
+    let devices = script.devices;
     let wire = wire_of(alloc, script)?;
-    let Ok(mut port) = Port::open(alloc, wire, &limits) else {
+    let Ok(mut port) = Port::open_for(alloc, wire, &limits, devices) else {
         return Err(ProgramFault::OutOfMemory);
     };
     let mut output = String::new(alloc);
@@ -97,6 +98,7 @@ pub(crate) fn wire_of<A: Handle>(alloc: A, script: Script<A>) -> Result<Sim<Para
       other = script.other;
       kind = script.kind;
       params = script.params.items;
+      devices = script.devices;
       limits = script.limits;
       steps = script.steps.items;
     })) }
@@ -106,6 +108,7 @@ pub(crate) fn wire_of<A: Handle>(alloc: A, script: Script<A>) -> Result<Sim<Para
         other,
         kind,
         params,
+        devices: _,
         limits: _,
         steps,
     } = script;

@@ -75,6 +75,7 @@ fn traced<A: Handle, W: Write>(
           other = script.other;
           kind = script.kind;
           params = script.params.items;
+          devices = script.devices;
           limits = script.limits;
           steps = script.steps.items;
         })
@@ -82,8 +83,9 @@ fn traced<A: Handle, W: Write>(
     ensures faults { IfErr result (λ e. (e ≡ OutOfMemory) ⊎ (e ≡ WriteFailed)) }
 {
     let limits = script.limits;
+    let devices = script.devices;
     let wire = Tap::new(wire_of(alloc, script)?);
-    let Ok(mut port) = Port::open(alloc, wire, &limits) else {
+    let Ok(mut port) = Port::open_for(alloc, wire, &limits, devices) else {
         return Err(ProgramFault::OutOfMemory);
     };
     let mut tracer = Tracer::new(alloc);

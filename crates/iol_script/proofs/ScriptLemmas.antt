@@ -63,6 +63,9 @@ setting-calls draft next (setting.Other octets) e =
 setting-calls draft next (setting.Kind kind) e =
     let more : Draft = record draft { kind = Some kind } in
     ap (λ (d : Draft). d.calls) (given (is_none draft.kind) more next e)
+setting-calls draft next (setting.Devices devices) e =
+    let more : Draft = record draft { devices = Some devices } in
+    ap (λ (d : Draft). d.calls) (given (is_none draft.devices) more next e)
 setting-calls draft next (setting.Limits busy journal queue) e =
     let limits : Limits = record { journal = journal; busy = busy; queue = queue; given = 0 } in
     let more : Draft = record draft { limits = Some limits } in

@@ -6,6 +6,8 @@ use Rattle.iol_book.specs.declared.entries.Limits.{Limits}
 use Rattle.iol_far.specs.declared.kind.Kind.{Kind}
 use Rattle.iol_far.specs.Isdu.{own}
 use Rattle.iol_isdu.specs.declared.values.Place.{Place}
+use Rattle.iol_mode.specs.declared.configuration.Devices.{Devices}
+use Rattle.iol_mode.specs.declared.configuration.Devices.TheVariants.{Own}
 use Rattle.iol_sim.specs.Params.{number_of}
 use Rattle.iol_sim.specs.declared.params.Entry.{Entry}
 use Rattle.iol_sim.specs.declared.script.Step.{Step}
@@ -24,10 +26,12 @@ use Rattle.iol_script.specs.declared.run_line.RunLine.TheVariants as line
 
 -- a script, as far as its lines are read
 pub record Draft : Type 0 where
-  -- the page, that of a second device, the kind and the limits, where a line gave them
+  -- the page, that of a second device, the kind, for which devices the port is, and the limits,
+  -- where a line gave them
   pub page : Option (List ℕ)
   pub other : Option (List ℕ)
   pub kind : Option Kind
+  pub devices : Option Devices
   pub limits : Option Limits
   pub params : List Entry
   pub steps : List Step
@@ -42,6 +46,7 @@ empty_draft = record {
   page = None;
   other = None;
   kind = None;
+  devices = None;
   limits = None;
   params = [];
   steps = [];
@@ -68,7 +73,7 @@ line_calls (Turns n) = replicate n Turn
 abbrev pub takes_param : List Entry → Place → Bool
 takes_param params place = nat_lt (length params) 32 && is_none (number_of params place)
 
--- the draft after a setting: the pages, the kind and the limits are given at most once
+-- the draft after a setting: each but a parameter is given at most once
 abbrev pub with_setting : Draft → Setting → Option Draft
 with_setting draft (setting.Page octets) =
     if is_none draft.page then Some (record draft { page = Some octets }) else None
@@ -76,6 +81,8 @@ with_setting draft (setting.Other octets) =
     if is_none draft.other then Some (record draft { other = Some octets }) else None
 with_setting draft (setting.Kind kind) =
     if is_none draft.kind then Some (record draft { kind = Some kind }) else None
+with_setting draft (setting.Devices devices) =
+    if is_none draft.devices then Some (record draft { devices = Some devices }) else None
 with_setting draft (setting.Limits busy journal queue) =
     if is_none draft.limits
     then Some
@@ -130,7 +137,8 @@ pub record ScriptValue : Type 0 where
   pub other : Option (List ℕ)
   pub kind : Kind
   pub params : List Entry
-  -- what the port is opened with
+  -- for which devices, and with what limits, the port is opened
+  pub devices : Devices
   pub limits : Limits
   -- the steps of the wire
   pub steps : List Step
@@ -148,6 +156,7 @@ script_of draft = record {
   other = draft.other;
   kind = unwrap_or draft.kind own;
   params = draft.params;
+  devices = unwrap_or draft.devices Own;
   limits = unwrap_or draft.limits default_limits;
   steps = draft.steps;
 }

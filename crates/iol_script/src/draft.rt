@@ -6,7 +6,7 @@ ghost use Rattle.iol_book.specs.BookModel.{AreLimits};
 ghost use Rattle.iol_page.specs.Page.{layouts_of};
 ghost use Rattle.iol_script.specs.declared.fault.ScriptFault.TheVariants.{Line};
 ghost use Rattle.iol_script.specs.DraftLines.{after_call, after_page, after_setting, after_turns, after_wire, after_words, with_calls};
-ghost use Rattle.iol_script.specs.RunLines.{call_form, kind_form, limits_form, other_form, page_form, page_line, param_form, turns_form, wire_form};
+ghost use Rattle.iol_script.specs.RunLines.{call_form, devices_form, kind_form, limits_form, other_form, page_form, page_line, param_form, turns_form, wire_form};
 ghost use Rattle.iol_script.specs.Text.{words_left};
 ghost use Rattle.iol_sim.specs.Params.{number_of};
 
@@ -16,11 +16,12 @@ use crate::fault::ScriptFault;
 use crate::fields::{end_of, is};
 use crate::parts::Words;
 use crate::script::Script;
-use crate::setting::{kind_of, limits_of, page_of, param_of};
+use crate::setting::{devices_of, kind_of, limits_of, page_of, param_of};
 use crate::wire_line::{WireLine, parse_wire};
 use iol_book::{Limits, QueueLimit};
 use iol_far::Kind;
 use iol_isdu::Place;
+use iol_mode::Devices;
 use iol_page::Page;
 use iol_sim::{Entry, Fate, Step};
 use std::alloc::{AllocError, Allocator};
@@ -53,6 +54,7 @@ pub(crate) struct Draft<A: Allocator> {
     /// The page of a second device.
     other: Option<Page>,
     kind: Option<Kind>,
+    devices: Option<Devices>,
     limits: Option<Limits>,
     params: Vec<Entry, A>,
     steps: Vec<Step, A>,
@@ -87,6 +89,7 @@ impl<A: Allocator> Draft<A> {
             page: None,
             other: None,
             kind: None,
+            devices: None,
             limits: None,
             params: Vec::new(alloc),
             steps: Vec::new(alloc),
@@ -122,6 +125,8 @@ impl<A: Allocator> Draft<A> {
             self.take_other(words).ok_or(bad)
         } else if is(name, b"kind") {
             self.take_kind(words).ok_or(bad)
+        } else if is(name, b"devices") {
+            self.take_devices(words).ok_or(bad)
         } else if is(name, b"limits") {
             self.take_limits(words).ok_or(bad)
         } else if is(name, b"param") {
@@ -183,6 +188,19 @@ impl<A: Allocator> Draft<A> {
             return None;
         }
         self.kind = Some(kind);
+        Some(())
+    }
+
+    /// The words behind `devices`.
+    fn take_devices(&mut self, words: Words) -> Option<()>
+        ensures { option_map (λ _. self.new) result
+            ≡ after_setting self.old (devices_form (words_left words.entry)) }
+    {
+        let devices = devices_of(words)?;
+        if self.begun || self.devices.is_some() {
+            return None;
+        }
+        self.devices = Some(devices);
         Some(())
     }
 
@@ -301,6 +319,7 @@ impl<A: Allocator> Draft<A> {
               other = result.other;
               kind = result.kind;
               params = result.params.items;
+              devices = result.devices;
               limits = result.limits;
               steps =
                   result.steps.items;
@@ -318,6 +337,7 @@ impl<A: Allocator> Draft<A> {
             other: self.other,
             kind: self.kind.unwrap_or(Kind::own()),
             params: self.params,
+            devices: self.devices.unwrap_or(Devices::Own),
             limits: self.limits.unwrap_or(LIMITS),
             steps: self.steps,
         }

@@ -14,6 +14,7 @@ use crate::fault::ScriptFault;
 use crate::parts::Lines;
 use iol_book::Limits;
 use iol_far::Kind;
+use iol_mode::Devices;
 use iol_page::Page;
 use iol_sim::{Entry, Step};
 use std::alloc::{Allocator, Global};
@@ -32,7 +33,9 @@ pub struct Script<A: Allocator = Global> {
     pub kind: Kind,
     /// The parameters that each device has, at most 32, each at a place of its own.
     pub params: Vec<Entry, A>,
-    /// What the port is opened with.
+    /// For which devices the port is opened.
+    pub devices: Devices,
+    /// With what limits it is.
     pub limits: Limits,
     /// What happens on the wire.
     pub steps: Vec<Step, A>,
@@ -41,8 +44,8 @@ pub struct Script<A: Allocator = Global> {
 impl<A: Allocator + Copy> Script<A> {
     /// Reads the lines of a whole input, from first to last.
     ///
-    /// The settings stand before the first line of the wire and the first call, the
-    /// pages, the kind and the limits at most once. Devices are exchanged only where there
+    /// The settings stand before the first line of the wire and the first call, each but a
+    /// parameter at most once. Devices are exchanged only where there
     /// is a second one. There are at most 1,000,000 steps and
     /// 1,000,000 calls. Answered is the first fault that is met: the first bad
     /// line, or a growth that is refused. A bad line is found without memory.
@@ -55,6 +58,7 @@ impl<A: Allocator + Copy> Script<A> {
               other = s.other;
               kind = s.kind;
               params = s.params.items;
+              devices = s.devices;
               limits = s.limits;
               steps =
                   s.steps.items;

@@ -2,7 +2,7 @@
 ghost use Rattle.std.specs.Prelude.{◌≡◌, IfSome, IsOk, option_map};
 ghost use Rattle.iol_book.specs.BookModel.{AreLimits};
 ghost use Rattle.iol_page.specs.Page.{layouts_of};
-ghost use Rattle.iol_script.specs.RunLines.{access_of, hands_over_of, kind_form, limits_form, page_octets, param_form, queue_form, recalls_of};
+ghost use Rattle.iol_script.specs.RunLines.{access_of, devices_form, devices_named, hands_over_of, kind_form, limits_form, page_octets, param_form, queue_form, recalls_of};
 ghost use Rattle.iol_script.specs.declared.setting.Setting.{Setting};
 ghost use Rattle.iol_script.specs.Text.{words_left};
 
@@ -13,6 +13,7 @@ use arrayvec::ArrayVec;
 use iol_book::{Limits, QueueLimit};
 use iol_far::{HandsOver, Kind, Recalls};
 use iol_isdu::{Octets, Place};
+use iol_mode::Devices;
 use iol_page::Page;
 use iol_sim::Entry;
 
@@ -25,6 +26,8 @@ pub enum Setting {
     Other(Page),
     /// The kind of the device.
     Kind(Kind),
+    /// For which devices the port is opened.
+    Devices(Devices),
     /// What the port is opened with.
     Limits {
         /// How many busy replies a request may have before it is cut off: 2 to 65,535.
@@ -94,6 +97,28 @@ fn recalls_of(word: &[u8]) -> Option<Recalls>
         Some(Recalls::UntilLeft)
     } else if is(word, b"forgets") {
         Some(Recalls::UntilSent)
+    } else {
+        None
+    }
+}
+
+/// The word behind `devices`: for which the port is opened.
+pub(crate) fn devices_of(mut words: Words) -> Option<Devices>
+    ensures { option_map Setting.Devices result ≡ devices_form (words_left words.entry) }
+{
+    let devices = devices_named(words.next()?)?;
+    end_of(words)?;
+    Some(devices)
+}
+
+/// For those of our own kind, or for any.
+fn devices_named(word: &[u8]) -> Option<Devices>
+    ensures { result ≡ devices_named word.now }
+{
+    if is(word, b"own") {
+        Some(Devices::Own)
+    } else if is(word, b"any") {
+        Some(Devices::Any)
     } else {
         None
     }

@@ -36,6 +36,7 @@ Reads standard input to its end, a line at a time. First the device and the port
   page OCTET ..                           direct parameter page 1 of the device, 0x02 to 0x0B
   other OCTET ..                          that of a second device, not plugged in, with the same parameters
   kind first|last keeps|forgets           its kind: when it hands a request over, and how long it knows the answer
+  devices own|any                         for which devices the port is opened: our own, as it is, or any
   limits BUSY JOURNAL [QUEUE]             the busy replies that end a request, the entries of the journal, the tickets
   param INDEX SUB ro H                    a parameter that is read; rw: and written
 Then what happens on the wire, and the calls of the port, in any order:
@@ -135,12 +136,18 @@ Reads standard input to its end: the lines that 'iolink trace' prints.
   N < OCTET ..            what came back, or none
   page OCTET ..           before the first of these: direct parameter page 1 of the device, 0x02 to 0x0B
   ..                      a line that begins otherwise is passed over
-N is any number at first, and then the next. It prints one of these lines:
+N is any number at first, and then the next. It prints of the device one of these lines:
   honest COUNT exchanges, COUNT lost
   not honest at N: NUMBER NAME: TEXT (RULE)
   can't say from N on: NUMBER NAME: TEXT
   can't say: no wake-up request was answered
-and before it 'unjudged COUNT', if exchanges came before the first wake-up request that was answered.
+and before it of the master, by its first fault in the whole input, whatever is said of the device:
+  master by the rules
+  master not by the rules at N: NUMBER NAME: TEXT (RULES)
+  master can't be judged: no wake-up request was made
+and between them, where the device can't be of each kind, of which it may be:
+  kind first|last keeps|forgets or ..
+and before all 'unjudged COUNT', if exchanges came before the first wake-up request that was answered.
 
 With --odd replies are passed over that are odd, but harmless, as though their octets were right: PD status 1 with
 process data, another octet at page address 01 than was written, octets that aren't 0 where no data are. Printed are
@@ -153,16 +160,18 @@ With --octets standard input is what the UART decoder of a logic analyser export
   # ..                    a comment; an empty line is skipped too
 They are split by their times and by the layouts that the page gives: a pause is a missing reply, and where no wake-up
 requests are shown, their test reads tell them. N counts wake-up requests and exchanges, from 1. What can't be split
-ends it, as a bad line does.
+ends it, as a bad line does. In PREOPERATE and OPERATE such a read may be none; a fault of the master behind it is
+  master can't be judged from N on: TEXT
 
 Example:
   printf '1 wake COM2\\n2 > A2 00\\n2 < 17 1B\\n3 > A2 00\\n3 < 18 1B\\n' | iolink judge
 prints
+  master by the rules
   not honest at 3: 9 PageChanged: an octet of the page that was another before (PAGE-1)
 
 Limits: 1,024 bytes a line, 128 octets a message. The input may have any length.
 
-Exit status: 0, honest; 1, not honest, or it can't say; 2, the input is bad, and a line on standard error says why, or
-the words of the command line are wrong, or ask for this help.
+Exit status, whatever is printed of the master: 0, honest; 1, not honest, or it can't say; 2, the input is bad, and a
+line on standard error says why, or the words of the command line are wrong, or ask for this help.
 
 Every line, and what is printed for it: docs/guide.md.";

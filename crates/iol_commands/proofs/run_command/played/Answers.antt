@@ -19,15 +19,16 @@ returns-clause-printed g c =
       other = script.other;
       kind = script.kind;
       params = script.params.items;
+      devices = script.devices;
       limits = script.limits;
       steps = script.steps.items;
     } in
     let new = λ (has : HasOwnDevice value). c.in_ok-wire.ensures.far
     ∙ ap (λ k. device.opened_as k script.page (Some 1000)) has.kind in
     let stands = λ (has : HasOwnDevice value). c.in-Ok.ensures.stands
-    (opens_well c.in-Ok.port.opening script.limits wire wire.device.far wire.silence
-    (is_lossy wire) script.page opening
-    (has_lossy_line value wire c.in_ok-wire.ensures.whole has) (new has)) in
+    (opens_well c.in-Ok.port.opening script.devices script.limits wire wire.device.far
+    wire.silence (is_lossy wire) script.page opening
+    (has_lossy_line value wire c.in_ok-wire.ensures.whole has) (new has) has.port) in
     let more = c.in_ok-play_lines.ensures in
     script_printed c.in-Ok.port.parts c.play_lines.new.port.parts _ c.in-Ok.port.opening wire
     c.wire.result.now (numbered_lines c.args.input.now) _ more.0

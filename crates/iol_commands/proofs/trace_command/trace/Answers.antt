@@ -12,6 +12,7 @@ returns-clause-printed g c =
       other = script.other;
       kind = script.kind;
       params = script.params.items;
+      devices = script.devices;
       limits = script.limits;
       steps = script.steps.items;
     }) c.in_ok-input.ensures.all

@@ -21,6 +21,7 @@ returns-clause-printed g c =
       other = given.other;
       kind = given.kind;
       params = given.params.items;
+      devices = given.devices;
       limits = given.limits;
       steps = given.steps.items;
     } in
@@ -37,10 +38,10 @@ returns-clause-printed g c =
     ∙ ap (λ (s : Simulated (List Entry)). record { wire = s; last = None })
     c.in_ok-wire_of.ensures.whole in
     let stands = λ (has : HasOwnDevice script). c.in-Ok.ensures.stands
-    (opens_well port.opening given.limits tap tap.wire.device.far tap.wire.silence
-    (is_lossy tap.wire) given.page c.in-Ok.ensures.opening
+    (opens_well port.opening given.devices given.limits tap tap.wire.device.far
+    tap.wire.silence (is_lossy tap.wire) given.page c.in-Ok.ensures.opening
     (has_lossy_line script tap.wire (ap (λ (t : Tapped (Simulated (List Entry))). t.wire) first)
-    has) (new has)) in
+    has) (new has) has.port) in
     let wire_is = c.wire-2.ensures ∙ ap (λ (t : Tapped (Simulated (List Entry))). t.wire)
     c.wire.ensures in
     let followed = c.in_ok-follow.ensures.traced in
