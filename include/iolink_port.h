@@ -55,8 +55,9 @@ typedef struct { void *at; bool is_open; } iol_port;
  * 253 it is open already, 254 `journal`, `busy` or `queue` is out of its range, 24 no memory. */
 uint8_t iol_port_open(iol_port *port, uint32_t journal, uint16_t busy, uint8_t queue, uint64_t given);
 
-/* The same, for `devices`: IOL_DEVICES_OWN, or IOL_DEVICES_ANY by the standard: then a start-up writes DeviceStartup
- * before it reads the page. 254 also where it is neither. */
+/* The same, for `devices`: IOL_DEVICES_OWN, or IOL_DEVICES_ANY by the standard. For any a start-up writes DeviceStartup
+ * before it reads the page, and a START write of a whole request isn't repeated, but asked for. 254 also where it is
+ * neither. */
 #define IOL_DEVICES_OWN 0
 #define IOL_DEVICES_ANY 1
 uint8_t iol_port_open_for(iol_port *port, uint8_t devices, uint32_t journal, uint16_t busy, uint8_t queue, uint64_t given);

@@ -3,14 +3,22 @@ ghost use Rattle.std.specs.Prelude.{◌≡◌};
 
 use iol_page::{CycleTime, Identity};
 
-/// For which devices the promise is to hold that a request is carried out at most once.
+/// For which devices a port is: those at which it has a request carried out at most once.
+///
+/// Of `Own` that is proved, over a lossy line. Of `Any` it is tested; what each call does with such
+/// a port is proved over every line.
 #[derive(Clone, Copy, Debug, PartialEq, Eq)]
 pub enum Devices {
     /// Our own, which hand a request over at the first START read, on a line where a wake that is
-    /// answered has reset the device. A start-up begins with the page.
+    /// answered has reset the device. A start-up begins with the page, and a message that had no
+    /// good reply goes out again.
     Own,
     /// Any by the standard. One that answers a wake which didn't reset it still has its mode, and
-    /// a request with it: a start-up begins with DeviceStartup, so that it leaves both first.
+    /// a request with it: a start-up begins with DeviceStartup, so that it leaves both first. One
+    /// that hands a request over with its last segment would do it again at a repeat: a START write
+    /// of a whole request isn't repeated, but asked for.
+    ///
+    /// Rules LINK-13, REQ-14.
     Any,
 }
 
@@ -22,7 +30,7 @@ pub struct Configuration {
     /// The cycle time to be written to MasterCycleTime, where it is at least the device's
     /// MinCycleTime; else, and where none is given, MinCycleTime is written.
     pub cycle: Option<CycleTime>,
-    /// For which devices a start-up is.
+    /// For which devices the port is.
     pub devices: Devices,
 }
 

@@ -97,7 +97,12 @@ impl<W: Wire, A: Handle> Port<W, A> {
         Port::open_for(alloc, wire, limits, Devices::Own)
     }
 
-    /// The same, for these devices, of which its start-ups know from then on.
+    /// The same, for these devices.
+    ///
+    /// For any it has them leave their mode first, and asks before it repeats; over a lossy line
+    /// nothing more is promised then than over every line.
+    ///
+    /// Rules LINK-13, REQ-14.
     pub fn open_for(
         alloc: A,
         wire: W,

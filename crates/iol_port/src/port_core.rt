@@ -107,7 +107,12 @@ impl<A: Allocator + Copy> PortCore<A> {
         PortCore::open_for(alloc, limits, Devices::Own)
     }
 
-    /// The same, for these devices, of which its start-ups know from then on.
+    /// The same, for these devices.
+    ///
+    /// For any it has them leave their mode first, and asks before it repeats; over a lossy line
+    /// nothing more is promised then than over every line.
+    ///
+    /// Rules LINK-13, REQ-14.
     pub fn open_for(alloc: A, limits: &Limits, devices: Devices) -> Result<PortCore<A>, PortFault>
         requires limits { AreLimits limits.now }
         ensures parts { IfOk result (λ p. IsNewFor devices limits.now p) }
