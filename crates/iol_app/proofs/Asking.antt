@@ -1,6 +1,6 @@
 -- A request is begun, and an abort is let wait, in OPERATE.
 use Rattle.std.proofs.lemmas.Grind.{common_steps}
-use Rattle.std.proofs.Common.{arith, ◌≡◌, inl, ℕ, Bool, true, false, List, refl, sym, ap, ◌∙◌, subst}
+use Rattle.std.proofs.Common.{arith, ◌≡◌, inl, ℕ, suc, Bool, true, false, List, refl, sym, ap, ◌∙◌, subst}
 use Rattle.std.specs.Prelude.{Option, Some, None, IfSome, IsTrue, if◌then◌else◌}
 use Rattle.iol_mseq.specs.declared.master.MasterMsg.{MasterMsg}
 use Rattle.iol_page.specs.Page.{knows_isdu}
@@ -10,7 +10,10 @@ use Rattle.iol_isdu.specs.declared.values.Cause.{Cause}
 use Rattle.iol_segment.specs.Cut.{Cutting, pair}
 use Rattle.iol_far.specs.Isdu.{IsduState, handed}
 use Rattle.iol_far.specs.Far.{Far}
-use Rattle.iol_far.specs.Level.{Progress, Quiet, Link}
+use Rattle.iol_mseq.specs.Shape.{Shape}
+use Rattle.iol_mseq.specs.Texts.{master_text}
+use Rattle.iol_far.specs.declared.kind.Kind.{Kind}
+use Rattle.iol_far.specs.Level.{Progress, Move, Link, IsIdle, IsOutOnce, IsSent, IsBefore, IsLevel}
 use Rattle.iol_link.specs.Attempts.{Sending}
 use Rattle.iol_mode.specs.declared.states.Operate.{Operate}
 use Rattle.iol_mode.specs.Next.{message_out}
@@ -22,60 +25,151 @@ use Rattle.iol_steps.specs.Exchange.{MayAbort}
 use Rattle.iol_app.specs.declared.event_work.Reading as app
 use Rattle.iol_app.specs.declared.request.Current.{Current}
 use Rattle.iol_app.specs.declared.session.Exchange.{Exchange}
+use Rattle.iol_app.specs.declared.session.Exchange.TheVariants.{Request as NextMessage}
+use Rattle.iol_app.specs.Due.{may_follow}
+use Rattle.iol_mode.specs.declared.configuration.Devices.{Devices}
 use Rattle.iol_app.specs.Messages.{head_for, data_for}
-use Rattle.iol_app.specs.Requests.{text_of, sending, begun, aborted, waiting, Suits}
+use Rattle.iol_app.specs.Requests.{text_of, sending, begun, aborted, waiting, is_over, Suits}
 use Rattle.iol_app.specs.Moves.{progress_of, move_for}
 use Rattle.iol_app.specs.Ends.{BusyAt, AbortAt, OperateLink}
 use Rattle.iol_app.specs.State.{SessionState, IsOutBy, OutSuits, od_size}
-use Rattle.iol_app.specs.Core.{Ghost, Stands, BeginGives, OutBy, LevelOut, operate_core, begun_ghost, asking_ghost, session_in, reading_in}
+use Rattle.iol_app.specs.Core.{Ghost, Stands, BeginGives, Work, work_of, progress_in, vain_by, vain_in, AgainBy, OutBy, LevelOut, operate_core, begun_ghost, asking_ghost, session_in, reading_in}
 
-begun_busy : (cutter : Cutting Request) (b : Bool)
-    → BusyAt (sending (if b then Some (pair cutter.size (text_of cutter) cutter.given) else None)) 0
-begun_busy cutter b = grind (arith, common_steps)
+begun_busy : (devices : Devices) (cutter : Cutting Request) (b : Bool) → BusyAt devices
+    (sending (if b then Some (pair cutter.size (text_of cutter) cutter.given) else None)) 0
+begun_busy devices cutter b = grind (arith, common_steps)
 
-begun_progress : (size : ℕ) (request : Request) → progress_of (Some (begun size request)) ≡ Quiet
-begun_progress size request = grind (arith, common_steps)
+-- where one may follow, the progress stays as it is
+begun_progress : (devices : Devices) (clear : Bool) (size : ℕ) (request : Request)
+    → may_follow devices clear ≡ true → progress_of devices clear (Some (begun size request))
+    ≡ progress_of devices clear None
+begun_progress devices clear size request follows = grind (arith, common_steps)
 
-pub waiting_at : (limit busy : ℕ) (asked : Bool) (cause : Cause) (abort : Option Cause)
-    → AbortAt limit abort busy asked → MayAbort limit busy asked cause
-    → AbortAt limit (waiting abort cause) busy asked
-waiting_at limit busy asked cause abort h may = grind (arith, common_steps)
+resting_idle : (devices : Devices) (clear : Bool) → IsIdle (progress_of devices clear None)
+resting_idle devices clear = grind (arith, common_steps)
 
-pub marked_at : (limit busy : ℕ) (asked : Bool) (abort : Option Cause)
-    → AbortAt limit abort busy asked → AbortAt limit abort busy true
-marked_at limit busy asked abort h = grind (arith, common_steps)
+pub waiting_at : (devices : Devices) (limit busy : ℕ) (asked : Bool) (cause : Cause)
+    (abort : Option Cause) → AbortAt devices limit abort busy asked
+    → MayAbort devices limit busy asked cause
+    → AbortAt devices limit (waiting abort cause) busy asked
+waiting_at devices limit busy asked cause abort h may = grind (arith, common_steps)
+
+pub marked_at : (devices : Devices) (limit busy : ℕ) (asked : Bool) (abort : Option Cause)
+    → AbortAt devices limit abort busy asked → AbortAt devices limit abort busy true
+marked_at devices limit busy asked abort h = grind (arith, common_steps)
 
 -- what a message is for stays, where its request changes in nothing but that
-pub record SameFor (old new : Option Current) (e : Exchange) : Type 0 where
+pub record SameFor (devices : Devices) (old new : Option Current) (e : Exchange) : Type 0 where
   pub move : move_for e old ≡ move_for e new
   pub head : (r : app.Reading) → head_for e r old ≡ head_for e r new
   pub data_out : (size : ℕ) → data_for e size old ≡ data_for e size new
+  pub vain : (tries : ℕ) → vain_by devices e old tries ≡ vain_by devices e new tries
+  pub again : (tries : ℕ) → IfSome old (AgainBy devices e tries)
+      → IfSome new (AgainBy devices e tries)
+  pub goes_on : e ≡ NextMessage → IfSome old (λ c. is_over c.progress ≡ false)
+      → IfSome new (λ c. is_over c.progress ≡ false)
 
-begun_same : (e : Exchange) (current : Current) → Suits e None → SameFor None (Some current) e
-begun_same e current suits = grind (arith, common_steps)
+begun_same : (devices : Devices) (e : Exchange) (current : Current) → current.again ≡ false
+    → Suits e None → SameFor devices None (Some current) e
+begun_same devices e current once suits = grind (arith, common_steps)
 
-aborted_same : (cause : Cause) (current : Current) (e : Exchange)
-    → SameFor (Some current) (Some (aborted cause current)) e
-aborted_same cause current e = grind (arith, common_steps)
+aborted_same : (devices : Devices) (cause : Cause) (current : Current) (e : Exchange)
+    → SameFor devices (Some current) (Some (aborted cause current)) e
+aborted_same devices cause current e = record {
+  move = moved e;
+  head = λ r. headed e r;
+  data_out = λ size. sent e size;
+  vain = λ tries. vain devices e tries;
+  again = λ tries. again devices e tries;
+  goes_on = λ k h. h;
+}
+  where
+    moved : (x : Exchange)
+        → move_for x (Some current) ≡ move_for x (Some (aborted cause current))
+    moved x = grind (arith, common_steps)
+
+    headed : (x : Exchange) (r : app.Reading)
+        → head_for x r (Some current) ≡ head_for x r (Some (aborted cause current))
+    headed x r = grind (arith, common_steps)
+
+    sent : (x : Exchange) (size : ℕ)
+        → data_for x size (Some current) ≡ data_for x size (Some (aborted cause current))
+    sent x size = grind (arith, common_steps)
+
+    vain : (d : Devices) (x : Exchange) (tries : ℕ) → vain_by d x (Some current) tries
+        ≡ vain_by d x (Some (aborted cause current)) tries
+    vain d x tries = grind (arith, common_steps)
+
+    again : (d : Devices) (x : Exchange) (tries : ℕ) → AgainBy d x tries current
+        → AgainBy d x tries (aborted cause current)
+    again d x tries h = grind (arith, common_steps)
 
 -- so that the message out stays the session's, and both ends level
-module _ (old new : Option Current) (progress : progress_of old ≡ progress_of new) where
-  out_same : (layouts : Layouts) (out : Option Sending) (e : Option Exchange) (R : Reading)
-      (page : List ℕ) (link : Link) (sent : Option Image)
-      → ((x : Exchange) → e ≡ Some x → SameFor old new x)
-      → OutBy layouts out e old R page link sent → OutBy layouts out e new R page link sent
-  out_same layouts out e reading page link sent same h = grind (arith, common_steps)
+module _ (t : SessionState) (old new : Option Current)
+    (progress : progress_of t.configuration.devices t.clear old
+    ≡ progress_of t.configuration.devices t.clear new)
+    (noted : IfSome old (λ c. c.again ≡ false) → IfSome new (λ c. c.again ≡ false)) where
+  abbrev at : Option Exchange → Option Current → Work
+  at e current = work_of (record t { exchange = e; current = current })
 
-  joined_same : (t : SessionState) (e : Option Exchange) (m : Option MasterMsg)
-      → ((x : Exchange) → e ≡ Some x → SameFor old new x)
+  out_same : (layouts : Layouts) (out : Option Sending) (e : Option Exchange) (R : Reading)
+      (page : List ℕ) (kind : Kind) (link : Link) (sent : Option Image)
+      → ((x : Exchange) → e ≡ Some x → SameFor t.configuration.devices old new x)
+      → OutBy layouts out e (at e old) R page kind link sent
+      → OutBy layouts out e (at e new) R page kind link sent
+  out_same layouts None None R page kind link sent same h = noted h
+  out_same layouts None (Some x) R page kind link sent same h = absurd h
+  out_same layouts (Some out) None R page kind link sent same h = absurd h
+  out_same layouts (Some out) (Some x) R page kind link sent same h =
+      let is = same x refl in
+      let o : List ℕ = master_text layouts.run out.message in
+      record {
+        mode = h.mode;
+        goes = subst (λ (m : Move). IsSent page layouts.run.od link
+            (progress_in (at (Some x) new)) o out.message m) is.move
+            (subst (λ (p : Progress). IsSent page layouts.run.od link p o out.message
+            (move_for x old)) progress h.goes);
+        once = subst (λ (m : Move). IsOutOnce kind.hands_over layouts.run.od m
+            (suc (vain_by t.configuration.devices x new out.tries))) is.move
+            (subst (λ (k : ℕ). IsOutOnce kind.hands_over layouts.run.od (move_for x old)
+            (suc k)) (is.vain out.tries) h.once);
+        again = is.again out.tries h.again;
+        goes_on = λ k. is.goes_on k (h.goes_on k);
+        confirm = h.confirm;
+        reads = h.reads;
+        carries = h.carries;
+        tells = h.tells;
+      }
+
+  vain_same : (e : Option Exchange) (tries : ℕ)
+      → ((x : Exchange) → e ≡ Some x → SameFor t.configuration.devices old new x)
+      → vain_in (at e old) tries ≡ vain_in (at e new) tries
+  vain_same None tries same = refl
+  vain_same (Some x) tries same = (same x refl).vain tries
+
+  level_same : (g : Ghost) (run : Shape) (link : Link) (e : Option Exchange)
+      (out : Option Sending) (far : Far)
+      → ((x : Exchange) → e ≡ Some x → SameFor t.configuration.devices old new x)
+      → LevelOut g run link (at e old) out far → LevelOut g run link (at e new) out far
+  level_same g run link e None far same h =
+      subst (λ (p : Progress). IsBefore g.page g.kind run.od g.request.base link p far) progress h
+  level_same g run link e (Some out) far same h =
+      subst (λ (k : ℕ). IsLevel g.page g.kind run.od g.request.base link
+      (progress_in (at e new)) (master_text run out.message) k far)
+      (vain_same e out.tries same)
+      (subst (λ (p : Progress). IsLevel g.page g.kind run.od g.request.base link p
+      (master_text run out.message) (vain_in (at e old) out.tries) far) progress h)
+
+  joined_same : (e : Option Exchange) (m : Option MasterMsg)
+      → ((x : Exchange) → e ≡ Some x → SameFor t.configuration.devices old new x)
       → IsOutBy e (record t { current = old }) m → IsOutBy e (record t { current = new }) m
-  joined_same t None None same h = h
-  joined_same t (Some x) (Some m) same h =
+  joined_same None None same h = h
+  joined_same (Some x) (Some m) same h =
       record {
         head = h.head ∙ (same x refl).head t.events.reading;
         octets = h.octets ∙ (same x refl).data_out (od_size t.layout);
       }
-  joined_same t e m same h = absurd h
+  joined_same e m same h = absurd h
 
 -- Begun
 
@@ -86,45 +180,51 @@ opened state h r opens late = grind (arith, common_steps)
 pub begin_gives : (s : Operate) (t : SessionState) (g : Ghost) (far : Far) (n : ℕ)
     (request : Request)
     → Stands (operate_core s t None) g far n → OutSuits t.exchange None → t.isdu ≡ Some true
+    → may_follow t.configuration.devices t.clear ≡ true
     → BeginGives (operate_core s t None)
     (operate_core s t (Some (begun (od_size t.layout) request))) g far n request
-begin_gives s t g far n request h suits known =
+begin_gives s t g far n request h suits known follows =
+    let devices = t.configuration.devices in
     let next : Option Current = Some (begun (od_size t.layout) request) in
-    let quiet : progress_of next ≡ Quiet = begun_progress (od_size t.layout) request in
+    let stays : progress_of devices t.clear next ≡ progress_of devices t.clear None =
+    begun_progress devices t.clear (od_size t.layout) request follows in
     let has : IsTrue (knows_isdu g.page) =
     sym (subst (λ (o : Option Bool). IfSome o (λ k. k ≡ knows_isdu g.page)) known
     h.shown.isdu) in
     let opens = opened far.isdu g.request.hidden request h.request.opens h.request.late in
     let same : (x : Exchange) → t.exchange ≡ Some x
-    → SameFor None next x = λ x k. begun_same x (begun (od_size t.layout) request)
+    → SameFor devices None next x = λ x k. begun_same devices x
+    (begun (od_size t.layout) request) refl
     (subst (λ (e : Option Exchange). OutSuits e None) k suits) in
     record {
       stands = record {
-        devices = h.devices;
         page = h.page;
+        kind = h.kind;
+        for_it = h.for_it;
         fits = h.fits;
         link = h.link;
         joined = record {
           told = h.joined.told;
-          out_for = joined_same None next (sym quiet) t t.exchange (message_out s.out) same
-              h.joined.out_for;
+          out_for = joined_same t None next (sym stays) (λ k. refl) t.exchange
+              (message_out s.out) same h.joined.out_for;
         };
         calm = h.calm;
-        fresh = λ k. (quiet, opens.1);
+        fresh = λ k. (subst IsIdle (sym stays) (resting_idle devices t.clear), opens.1);
         sent = h.sent;
         request = record {
           late = refl;
           opens = opens.0;
           link = h.request.link;
-          linked = subst (λ (p : Progress). OperateLink s.layouts p h.request.link) (sym quiet)
+          linked = subst (λ (p : Progress). OperateLink s.layouts p h.request.link) (sym stays)
               h.request.linked;
-          level = subst (λ (p : Progress). LevelOut g.page s.layouts.run.od g.request.base
-              h.request.link p s.layouts.run s.out far) (sym quiet) h.request.level;
-          out = out_same None next (sym quiet) s.layouts s.out t.exchange
-              (reading_in t.events g.events) g.page h.request.link g.sent same h.request.out;
+          level = level_same t None next (sym stays) (λ k. refl) g s.layouts.run h.request.link
+              t.exchange s.out far same h.request.level;
+          out = out_same t None next (sym stays) (λ k. refl) s.layouts s.out t.exchange
+              (reading_in t.events g.events) g.page g.kind h.request.link g.sent same
+              h.request.out;
           answer = inl (refl, h.request.answer);
           busy = (
-            begun_busy (record { source = request; size = od_size t.layout; given = 0 })
+            begun_busy devices (record { source = request; size = od_size t.layout; given = 0 })
                 _,
             tt,
           );
@@ -163,42 +263,49 @@ denies s t g far n moment ticket h none page = (
 pub aborts_by : (cause : Cause) (asks : Bool) (s : Operate) (t : SessionState)
     (current : Current) (g : Ghost) (far : Far) (n : ℕ)
     → Stands (operate_core s t (Some current)) g far n
-    → AbortAt t.limit (waiting current.abort cause) g.request.busy asks
+    → AbortAt t.configuration.devices t.limit (waiting current.abort cause) g.request.busy asks
     → Stands (operate_core s t (Some (aborted cause current))) (asking_ghost asks g) far n
-aborts_by cause asks s t current g far n h may = record {
-  devices = h.devices;
-  page = h.page;
-  fits = h.fits;
-  link = h.link;
-  joined = record {
-    told = h.joined.told;
-    out_for = joined_same (Some current) (Some (aborted cause current)) refl t t.exchange
-        (message_out s.out) (λ x k. aborted_same cause current x) h.joined.out_for;
-  };
-  calm = h.calm;
-  fresh = h.fresh;
-  sent = h.sent;
-  request = record {
-    late = h.request.late;
-    opens = h.request.opens;
-    link = h.request.link;
-    linked = h.request.linked;
-    level = h.request.level;
-    out = out_same (Some current) (Some (aborted cause current)) refl s.layouts s.out t.exchange
-        (reading_in t.events g.events) g.page h.request.link g.sent
-        (λ x k. aborted_same cause current x) h.request.out;
-    answer = h.request.answer;
-    busy = (h.request.busy.0, may);
-    known = h.request.known;
-  };
-  events = h.events;
-  output = h.output;
-  shown = record {
-    image = h.shown.image;
-    wanted = h.shown.wanted;
-    lengths = h.shown.lengths;
-    isdu = h.shown.isdu;
-    present = h.shown.present;
-    no_form = h.shown.no_form;
-  };
-}
+aborts_by cause asks s t current g far n h may =
+    let devices = t.configuration.devices in
+    let same : (x : Exchange) → t.exchange ≡ Some x
+    → SameFor devices (Some current) (Some (aborted cause current)) x = λ x k.
+    aborted_same devices cause current x in
+    record {
+      page = h.page;
+      kind = h.kind;
+      for_it = h.for_it;
+      fits = h.fits;
+      link = h.link;
+      joined = record {
+        told = h.joined.told;
+        out_for = joined_same t (Some current) (Some (aborted cause current)) refl (λ k. k)
+            t.exchange (message_out s.out) same h.joined.out_for;
+      };
+      calm = h.calm;
+      fresh = h.fresh;
+      sent = h.sent;
+      request = record {
+        late = h.request.late;
+        opens = h.request.opens;
+        link = h.request.link;
+        linked = h.request.linked;
+        level = level_same t (Some current) (Some (aborted cause current)) refl (λ k. k) g
+            s.layouts.run h.request.link t.exchange s.out far same h.request.level;
+        out = out_same t (Some current) (Some (aborted cause current)) refl (λ k. k) s.layouts
+            s.out t.exchange (reading_in t.events g.events) g.page g.kind h.request.link g.sent
+            same h.request.out;
+        answer = h.request.answer;
+        busy = (h.request.busy.0, may);
+        known = h.request.known;
+      };
+      events = h.events;
+      output = h.output;
+      shown = record {
+        image = h.shown.image;
+        wanted = h.shown.wanted;
+        lengths = h.shown.lengths;
+        isdu = h.shown.isdu;
+        present = h.shown.present;
+        no_form = h.shown.no_form;
+      };
+    }

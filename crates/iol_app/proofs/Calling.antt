@@ -23,14 +23,15 @@ use Rattle.iol_steps.specs.Exchange.{hidden_lost}
 use Rattle.iol_app.proofs.KindsSession.{lost_opens}
 use Rattle.iol_app.specs.Requests.{request_in}
 use Rattle.iol_app.specs.State.{SessionState, wanting}
-use Rattle.iol_mode.specs.declared.configuration.Devices.TheVariants.{Own}
+use Rattle.iol_mode.specs.Kinds.{IsFor}
 use Rattle.iol_app.specs.StationState.{StateFits as Joined}
-use Rattle.iol_app.specs.Core.{Core, Ghost, Stands, RequestStands, session_in, opened_core, opened_ghost, wanting_core, restarted_core, restarted_ghost}
+use Rattle.iol_app.specs.Core.{Core, Ghost, Stands, RequestStands, work_of, session_in, opened_core, opened_ghost, wanting_core, restarted_core, restarted_ghost}
 
 pub opens : (devices : Devices) (limit : ℕ) (far : Far) (silence : ℕ) (told : Bool)
     (due : Event × List Event)
-    → devices ≡ Own → Stands (opened_core devices limit) (opened_ghost far told due) far silence
-opens devices limit far silence told due own = grind (arith, common_steps)
+    → IsFor devices far.kind
+    → Stands (opened_core devices limit) (opened_ghost far told due) far silence
+opens devices limit far silence told due for_it = grind (arith, common_steps)
 
 joined_want : (state : State) (t : SessionState) (image : Option (List ℕ)) → Joined state t
     → Joined state (wanting image t)
@@ -52,7 +53,7 @@ asks_else c g far silence k same h = grind (arith, common_steps, joined_asks)
 
 -- a restart, in every mode
 request_opens : (state : State) (t : SessionState) (g : Ghost) (far : Far) → Joined state t
-    → RequestStands state t.limit t.current t.exchange t.events g far
+    → RequestStands state (work_of t) t.events g far
     → IsOpen far.isdu (request_in t.current) g.request.hidden
 request_opens state t g far j h = grind (arith, common_steps)
 

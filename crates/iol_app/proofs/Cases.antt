@@ -1,22 +1,30 @@
 -- The good replies of OPERATE, kind by kind, by the code's own data.
 use Rattle.std.proofs.lemmas.Grind.{common_steps}
-use Rattle.std.proofs.Common.{◌≡◌, ⊎_elim, ℕ, ◌+◌, ◌*◌, ◌<◌, min, Bool, true, false, ◌==◌, List, [], ◌∷◌, length, refl, sym, ap, ◌∙◌, subst, arith, Option, Some, None}
-use Rattle.std.specs.Prelude.{IfSome, IsTrue, is_some, if◌then◌else◌, nat_lt, slice_index, MatchOption}
-use Rattle.std.proofs.lemmas.Bool.{cases_Bool}
+use Rattle.std.proofs.Common.{◌≡◌, inl, inr, ℕ, zero, suc, ◌+◌, ◌*◌, ◌%◌, ◌<◌, min, Bool, true, false, ◌==◌, not, ◌&&◌, List, [], ◌∷◌, ◌++◌, length, refl, sym, ap, ◌∙◌, subst, arith, Option, Some, None}
+use Rattle.std.specs.Prelude.{IfSome, IsTrue, is_some, if◌then◌else◌, nat_lt, slice_index, MatchOption, bytes_eq, replicate}
+use Rattle.std.proofs.lemmas.Bool.Decides.{nat_tests}
 use Rattle.arrayvec.specs.ArrayVec.{ArrayVec}
+use Rattle.iol_octets.specs.declared.control.Channel.{Channel}
 use Rattle.iol_octets.specs.declared.flow_control.Flow.{Flow}
+use Rattle.iol_octets.specs.declared.flow_control.Flow.TheVariants.{Count}
 use Rattle.iol_mseq.specs.Texts.{master_text}
 use Rattle.iol_isdu.specs.Answers.{is_read}
 use Rattle.iol_isdu.specs.declared.values.Request.{Request}
 use Rattle.iol_isdu.specs.declared.values.Answer.{Answer}
 use Rattle.iol_isdu.specs.declared.values.Cause.{Cause}
-use Rattle.iol_isdu.specs.declared.values.Cause.TheVariants.{BusyTooLong}
-use Rattle.iol_segment.specs.Cut.{Cutting, pair}
+use Rattle.iol_isdu.specs.declared.values.Cause.TheVariants.{BusyTooLong, Protocol}
+use Rattle.iol_segment.specs.Cut.{Cutting, pair, last_given}
+use Rattle.iol_segment.specs.Join.{Joining, Stage, Taken, stage, staged, taken as taken_by}
 use Rattle.iol_segment.specs.TextLaws.{joined as joined_octets}
 use Rattle.iol_far.specs.declared.carried.Carried.{Carried}
 use Rattle.iol_far.specs.Codec.{flow_of}
 use Rattle.iol_far.specs.Isdu.{answer_text, isdu_data}
-use Rattle.iol_far.specs.Level.{Progress, Quiet, Busy as IsBusy, Had as IsHad, Stands as FarStands, Move, Ask, Leave, Other, IsMove, after, IsBefore}
+use Rattle.iol_far.specs.declared.kind.Recalls.{Recalls}
+use Rattle.iol_far.specs.declared.kind.Recalls.TheVariants.{UntilSent}
+use Rattle.iol_far.specs.Level.{Progress, Clear, Busy as IsBusy, Had as IsHad, Unsure, Stands as FarStands, Move, Ask, Next, Leave, Other, IsMove, IsIdle, is_open, asked as level_asked, may_be_none, after, base_after, IsBefore}
+use Rattle.iol_mode.specs.declared.configuration.Devices.{Devices}
+use Rattle.iol_mode.specs.declared.configuration.Devices.TheVariants.{Own, Any}
+use Rattle.iol_mode.specs.Kinds.{trusted}
 use Rattle.iol_link.specs.Honest.{Clean}
 use Rattle.iol_mode.specs.Stands.{operate_link}
 use Rattle.iol_steps.specs.declared.said.Said.TheVariants.{Busy as SaidBusy, Answered, Cut as SaidCut, Reported}
@@ -36,32 +44,147 @@ use Rattle.iol_app.specs.declared.request.Progress.{Progress as Cursor}
 use Rattle.iol_app.specs.declared.request.Progress.TheVariants.{Sending as Cut, Doubting, Asking, Receiving, Refused}
 use Rattle.iol_app.specs.declared.session.Exchange.{Exchange}
 use Rattle.iol_app.specs.declared.session.Exchange.TheVariants.{Abort, ReadEvent, ConfirmEvents, Request as NextMessage, Idle}
-use Rattle.iol_app.specs.Requests.{text_of, sending, sent_on, one_more, waited, waiting, Outcome, GoesOn, HasText, asked, replied_at, going, current_after, IsOutcomeSaid, Suits, request_in}
-use Rattle.iol_app.specs.Moves.{move_for, before_last, progress_of, segment_move, move_at, next_segment, octets_had, IsReading, IsTakenUp, AnswersAreTakenUp}
+use Rattle.iol_app.specs.Requests.{text_of, sending, sent_on, sent_anew, one_more, waited, waiting, refused, are_zeros, forgotten_by, Outcome, GoesOn, HasText, asked, doubted, joined, received, replied, replied_at, going, current_after, IsOutcomeSaid, IsJoining, Suits, request_in}
+use Rattle.iol_app.specs.Moves.{move_for, before_last, progress_of, segment_move, move_at, next_segment, octets_had, IsReading, is_forgotten, IsTakenUp, AnswersAreTakenUp}
 use Rattle.iol_app.specs.Ends.{BusyAt, AbortAt}
 use Rattle.iol_app.specs.EventReading.{reader_of, list_read}
-use Rattle.iol_app.specs.State.{IsTaken, od_size}
-use Rattle.iol_app.proofs.Moving.{sent_follows, busy_follows, asked_after, unsent_quiet}
-use Rattle.iol_app.specs.Core.{reading_in, moment_of, seen_in, core_out}
-use Rattle.iol_app.proofs.Had.{Good, Replied, Reads, Comes, keeps, rests, took, goes_on, tied, before, text, od_is, told_now, there, told, h}
+use Rattle.iol_app.specs.State.{IsTaken, clear_after, od_size}
+use Rattle.iol_app.proofs.Moving.{sent_follows, busy_follows, asked_after, unsent_idle}
+use Rattle.iol_app.proofs.Joining.{taken_next}
+use Rattle.iol_app.proofs.Sessions.{text_some}
+use Rattle.iol_app.proofs.StartExchange.{resting_quiet}
+use Rattle.iol_app.specs.Core.{vain_by, AgainBy, reading_in, moment_of, seen_in, core_out}
+use Rattle.iol_app.proofs.Had.{Good, Replied, Reads, Comes, keeps, rests, took, goes_on, tied, before, settled, reached, text, od_is, told_now, there, told, h}
 use Rattle.iol_app.proofs.ReadingOn.{Took}
-use Rattle.iol_app.proofs.SmallFacts.{freed_quiet}
 
 -- a request's segment was written: busy replies are counted from here
-sent_busy : (cutter : Cutting Request) (b : Bool) (busy : ℕ) → busy ≡ 0
-    → BusyAt (sending (if b then Some (pair cutter.size (text_of cutter) cutter.given) else
+sent_busy : (devices : Devices) (cutter : Cutting Request) (b : Bool) (busy : ℕ) → busy ≡ 0
+    → BusyAt devices (sending (if b then Some (pair cutter.size (text_of cutter) cutter.given) else
     None)) busy
-sent_busy cutter b busy e = grind (arith, common_steps)
+sent_busy devices cutter b busy e = grind (arith, common_steps)
 
-first_quiet : (source : Request) (given : ℕ) → segment_move source given ≡ Leave
-    → before_last source given ≡ Quiet
-first_quiet source given e = grind (arith, common_steps)
+first_idle : (devices : Devices) (source : Request) (given : ℕ)
+    → segment_move source given ≡ Leave → IsIdle (before_last devices source given)
+first_idle devices source given e = grind (arith, common_steps)
 
-busy_waits : (limit busy : ℕ) (cancels : Bool) (abort : Option Cause) (counted : ℕ)
-    → counted ≡ min busy 65535 → AbortAt limit abort busy cancels
-    → AbortAt limit (if one_more counted == limit then waiting abort BusyTooLong else abort)
-    (busy + 1) cancels
-busy_waits limit busy cancels abort counted e k = grind (arith, common_steps)
+busy_waits : (devices : Devices) (limit busy : ℕ) (cancels : Bool) (abort : Option Cause)
+    (counted : ℕ) → counted ≡ min busy 65535 → AbortAt devices limit abort busy cancels
+    → AbortAt devices limit
+    (if one_more counted == limit then waiting abort BusyTooLong else abort) (busy + 1) cancels
+busy_waits devices limit busy cancels abort counted e k = grind (arith, common_steps)
+
+-- with none under way
+resting_idle : (devices : Devices) (clear : Bool) → IsIdle (progress_of devices clear None)
+resting_idle devices clear = grind (arith, common_steps)
+
+asks_none : (size : ℕ) (p : Progress) (channel : Channel) (read : Bool) (flow : Flow)
+    (sent : List ℕ) → IsIdle p → IsMove size Ask p channel read flow sent → ⊥
+asks_none size p channel read flow sent idle move = grind (arith, common_steps)
+
+-- At a port for any device
+
+-- only there something is in doubt, or no text of an answer
+any_doubts : (devices : Devices) (busy : ℕ) → BusyAt devices Doubting busy
+    → (devices ≡ Any) × (busy ≡ 0)
+any_doubts devices busy h = grind (arith, common_steps)
+
+any_again : (devices : Devices) → (devices ≡ Own → ⊥) → devices ≡ Any
+any_again devices other = grind (arith, common_steps)
+
+refused_waits : (devices : Devices) (limit busy : ℕ) (cancels : Bool) (abort : Option Cause)
+    → devices ≡ Any → AbortAt devices limit abort busy cancels
+    → BusyAt devices Refused busy × AbortAt devices limit (waiting abort Protocol) busy cancels
+refused_waits devices limit busy cancels abort any h = grind (arith, common_steps)
+
+-- the one segment goes out anew
+anew_busy : (devices : Devices) (cutter : Cutting Request) (busy : ℕ) → busy ≡ 0
+    → cutter.given ≡ 1
+    → BusyAt devices (sending (last_given cutter.size (text_of cutter) cutter.given)) busy
+anew_busy devices cutter busy e one = grind (arith, nat_tests, common_steps, text_some)
+
+anew_clear : (clear : Bool) (cutter : Cutting Request) (abort : Option Cause)
+    → cutter.given ≡ 1 → progress_of Any clear (Some (sent_anew cutter abort)) ≡ Clear
+anew_clear clear cutter abort one = grind (arith, nat_tests, common_steps, text_some)
+
+-- it was asked for so often in vain
+vain_again : (devices : Devices) (current : Current) (tries : ℕ) → devices ≡ Any
+    → AgainBy devices NextMessage tries current → current.again ≡ true
+    → (k : ℕ) × (vain_by devices NextMessage (Some current) tries ≡ suc k)
+vain_again Any current zero any low again =
+    absurd (omega (arith, low again))
+vain_again Any current (suc k) any low again = (k, rw again refl)
+vain_again Own current tries any low again = absurd (let z : Path Devices Own Any = any in cc)
+
+vain_once : (devices : Devices) (current : Current) (tries : ℕ) → devices ≡ Any
+    → current.again ≡ false → vain_by devices NextMessage (Some current) tries ≡ 0
+vain_once Any current tries any once = rw once refl
+vain_once Own current tries any once = absurd (let z : Path Devices Own Any = any in cc)
+
+and_both : (x y : Bool) → (x && y) ≡ true → (x ≡ true) × (y ≡ true)
+and_both x y e = grind (arith, common_steps)
+
+not_true : (x : Bool) → not x ≡ true → x ≡ false
+not_true x e = grind (arith, common_steps)
+
+-- zeros where a text would end
+zeros : (octets : List ℕ) → are_zeros octets ≡ bytes_eq octets (replicate (length octets) 0)
+zeros [] = refl
+zeros (octet ∷ octets) = ap (λ (b : Bool). (octet == 0) && b) (zeros octets)
+
+staged_forgotten : (count : Option ℕ) (octets od : List ℕ) (at : Stage) → forgotten_by
+    (staged false count octets at).took od ≡ true → (are_zeros od ≡ true) × (is_open at ≡ false)
+staged_forgotten count octets od at e = grind (arith, common_steps)
+
+-- such are none of an answer, or are as a device sends them that has forgotten it
+forgotten_none : (size had : ℕ) (joining : Joining) (od : List ℕ) (k : ℕ)
+    → IsJoining size had joining
+    → forgotten_by (taken_by joining (Count ((had + 1) % 16)) od).took od ≡ true
+    → may_be_none UntilSent (suc k) joining.text od ≡ true
+forgotten_none size had joining od k h e =
+    let staged_is = taken_next size had joining od h in
+    let found = staged_forgotten (Some (suc had % 16)) (joining.text ++ od) od
+    (stage (joining.text ++ od))
+    (ap (λ (x : Taken). forgotten_by x.took od) (sym staged_is) ∙ e) in
+    rw (← zeros od, found.0, found.1) refl
+
+staged_refused : (cutter : Cutting Request) (abort : Option Cause) (had : ℕ) (count : Option ℕ)
+    (octets od : List ℕ) (at : Stage) → are_zeros od ≡ true → is_open at ≡ false
+    → (if forgotten_by (staged false count octets at).took od then GoesOn (refused cutter abort)
+    else joined cutter abort had (staged false count octets at).took
+    (staged false count octets at).joining) ≡ GoesOn (refused cutter abort)
+staged_refused cutter abort had count octets od at none closed = grind (arith, common_steps)
+
+none_refused : (size had : ℕ) (cutter : Cutting Request) (abort : Option Cause)
+    (joining : Joining) (od : List ℕ) (k : ℕ) → IsJoining size had joining
+    → may_be_none UntilSent (suc k) joining.text od ≡ true
+    → received true cutter abort joining (had + 1) od ≡ GoesOn (refused cutter abort)
+none_refused size had cutter abort joining od k h e =
+    let both = and_both (bytes_eq od (replicate (length od) 0))
+    (not (is_open (stage (joining.text ++ od)))) e in
+    let closed : is_open (stage (joining.text ++ od)) ≡ false =
+    not_true (is_open (stage (joining.text ++ od))) both.1 in
+    rw (taken_next size had joining od h)
+    (staged_refused cutter abort (had + 1) (Some (suc had % 16)) (joining.text ++ od) od
+    (stage (joining.text ++ od)) (zeros od ∙ both.0) closed)
+
+trusts_any : (devices : Devices) (vain : ℕ) (text od : List ℕ)
+    → may_be_none (trusted devices) vain text od ≡ true
+    → (devices ≡ Any) × (k : ℕ) × (vain ≡ suc k)
+trusts_any Own vain text od e = absurd (let z : false ≡ true = e in cc)
+trusts_any Any zero text od e = absurd (let z : false ≡ true = e in cc)
+trusts_any Any (suc k) text od e = (refl, k, refl)
+
+not_zero : (octet : ℕ) → (octet == 1) ≡ true → (octet == 0) ≡ false
+not_zero octet e = grind (arith, nat_tests)
+
+not_both : (x y : Bool) → (x ≡ true → y ≡ true → ⊥) → (x && y) ≡ false
+not_both x y h = grind (arith, common_steps)
+
+-- of a request whose message isn't out nothing is noted
+other_once : (devices : Devices) (e : Exchange) (tries : ℕ) (current : Option Current)
+    → (e ≡ NextMessage → ⊥) → IfSome current (AgainBy devices e tries)
+    → IfSome current (λ c. c.again ≡ false)
+other_once devices e tries current other h = grind (arith, common_steps)
 
 module _ (names : TextNamesAnswer) (taken : AnswersAreTakenUp)
     (laws : Laws) (readers : ReaderLaws) (turn : Good) where
@@ -70,287 +193,496 @@ module _ (names : TextNamesAnswer) (taken : AnswersAreTakenUp)
   abbrev od : List ℕ
   od = r.od.items
 
+  abbrev devices : Devices
+  devices = t.configuration.devices
+
+  abbrev trust : Recalls
+  trust = trusted devices
+
   abbrev For : Exchange → Option Current → Type 0
   For e current = Replied laws readers turn e current
 
-  -- a request of which nothing is in doubt
-  abbrev cursor : Cutting Request → Cursor → Option Cause → Current
-  cursor cutter p abort =
-      record { cutter = cutter; progress = p; again = false; abort = abort }
+  abbrev cursor : Cutting Request → Cursor → Bool → Option Cause → Current
+  cursor cutter p again abort =
+      record { cutter = cutter; progress = p; again = again; abort = abort }
 
-  abbrev at : Cutting Request → Cursor → Option Cause → Option Current
-  at cutter p abort = Some (cursor cutter p abort)
+  abbrev at : Cutting Request → Cursor → Bool → Option Cause → Option Current
+  at cutter p again abort = Some (cursor cutter p again abort)
 
   abbrev Had_by : (e : Exchange) (current : Option Current) → For e current → Option Current
       → Type 0
   Had_by e current a next = Comes laws readers turn e current a next
 
+  -- what the reply to the request's message says of it
+  abbrev After : Current → Progress
+  After current = after trust (vain_by devices NextMessage (Some current) w.tries)
+      (progress_of devices t.clear (Some current)) (move_at current.cutter current.progress) od
+
   -- nothing is under way, and nothing comes
   idle : (a : For Idle None) → said ≡ quiet_said None → Had_by Idle None a None
   idle a says = goes_on laws readers turn Idle None a
-      (keeps laws readers turn Idle None a refl refl) None refl (λ k. refl) refl tt refl says
+      (keeps laws readers turn Idle None a refl refl) None refl
+      (λ k. resting_idle devices t.clear) (inr (refl, resting_idle devices true)) tt tt refl says
 
   idle_first : (current : Current) (a : For Idle (Some current)) → Suits Idle (Some current)
       → said ≡ SaidBusy → Had_by Idle (Some current) a (Some current)
   idle_first current a suits says =
-      let quiet : progress_of (Some current) ≡ Quiet = unsent_quiet (Some current) suits in
       goes_on laws readers turn Idle (Some current) a
       (keeps laws readers turn Idle (Some current) a refl refl) (Some current) refl
-      (λ k. quiet) (sym quiet) a.stands.request.busy refl says
+      (λ k. unsent_idle devices t.clear (Some current) suits)
+      (inr (refl, unsent_idle devices true (Some current) suits)) a.stands.request.busy
+      (other_once devices Idle w.tries (Some current)
+      (λ k. let z : Path Exchange Idle NextMessage = k in cc) a.stands.request.out.again) refl says
 
   -- a segment of the request
-  segment : (cutter : Cutting Request) (flow : Flow) (piece : ArrayVec ℕ) (abort : Option Cause)
-      (a : For NextMessage (at cutter (Cut flow piece) abort)) → said ≡ SaidBusy
-      → Had_by NextMessage (at cutter (Cut flow piece) abort) a (Some (sent_on cutter abort))
-  segment cutter flow piece abort a says =
-      let current = at cutter (Cut flow piece) abort in
-      goes_on laws readers turn NextMessage current a
-      (keeps laws readers turn NextMessage current a refl refl)
-      (Some (sent_on cutter abort)) refl (first_quiet cutter.source cutter.given)
-      (sym (sent_follows cutter abort flow piece od cutter.given refl a.valid.current.progress)) (
-        sent_busy cutter (nat_lt (cutter.given * cutter.size) (length (text_of cutter)))
+  segment : (cutter : Cutting Request) (flow : Flow) (piece : ArrayVec ℕ) (again : Bool)
+      (abort : Option Cause) (a : For NextMessage (at cutter (Cut flow piece) again abort))
+      → said ≡ SaidBusy → Had_by NextMessage (at cutter (Cut flow piece) again abort) a
+      (Some (sent_on cutter abort))
+  segment cutter flow piece again abort a says =
+      let current = cursor cutter (Cut flow piece) again abort in
+      goes_on laws readers turn NextMessage (Some current) a
+      (keeps laws readers turn NextMessage (Some current) a refl refl)
+      (Some (sent_on cutter abort)) refl (first_idle devices cutter.source cutter.given)
+      (inl (sym (sent_follows trust (vain_by devices NextMessage (Some current) w.tries) devices
+      false cutter abort flow piece od cutter.given refl a.valid.current.progress))) (
+        sent_busy devices cutter (nat_lt (cutter.given * cutter.size) (length (text_of cutter)))
             g.request.busy a.stands.request.busy.0,
         a.stands.request.busy.1,
-      ) refl says
+      ) refl refl says
+
+  -- what came is none of an answer, or can't be known to be one
+  refuses : (current : Current) (a : For NextMessage (Some current)) → devices ≡ Any
+      → (move_at current.cutter current.progress ≡ Leave → ⊥)
+      → After current ≡ Unsure current.cutter.source → said ≡ SaidBusy
+      → Had_by NextMessage (Some current) a (Some (refused current.cutter current.abort))
+  refuses current a any stays is says =
+      goes_on laws readers turn NextMessage (Some current) a
+      (keeps laws readers turn NextMessage (Some current) a refl refl)
+      (Some (refused current.cutter current.abort)) refl (λ k. absurd (stays k)) (inl is)
+      (refused_waits devices t.limit g.request.busy g.request.asked current.abort any
+      a.stands.request.busy.1) refl refl says
 
   -- a START read answered busy
-  busy : (cutter : Cutting Request) (counted : ℕ) (abort : Option Cause)
-      (a : For NextMessage (at cutter (Asking counted) abort)) → (slice_index od 0 == 1) ≡ true
-      → said ≡ SaidBusy
-      → Had_by NextMessage (at cutter (Asking counted) abort) a
-      (Some (waited cutter abort (one_more counted) t.limit))
-  busy cutter counted abort a is says =
-      let current = at cutter (Asking counted) abort in
-      let reads = keeps laws readers turn NextMessage current a refl refl in
+  busy : (current : Current) (a : For NextMessage (Some current)) (counted : ℕ)
+      → move_at current.cutter current.progress ≡ Ask → counted ≡ min g.request.busy 65535
+      → After current ≡ IsBusy current.cutter.source → (slice_index od 0 == 1) ≡ true
+      → said ≡ SaidBusy → Had_by NextMessage (Some current) a
+      (Some (waited current.cutter current.abort (one_more counted) t.limit))
+  busy current a counted asks count follows is says =
+      let source = current.cutter.source in
+      let progress = progress_of devices t.clear (Some current) in
+      let reads = keeps laws readers turn NextMessage (Some current) a refl refl in
       let base = g.request.base in
       let there' = there laws readers turn in
-      let h' = h laws readers turn NextMessage current a in
-      let count : counted ≡ min g.request.busy 65535 = a.stands.request.busy.0 in
-      let follows : after (progress_of current) Ask od ≡ IsBusy cutter.source =
-      asked_after cutter counted cutter.given od refl a.valid.current.progress ∙ rw is refl in
-      let level : IsBefore g.page layouts.run.od base operate_link (IsBusy cutter.source) there' =
-      subst (λ (p : Progress). IsBefore g.page layouts.run.od base operate_link p there')
-      follows (before laws readers turn NextMessage current a) in
-      let answer = (tied laws readers turn NextMessage current a).1 in
-      let sends : od ≡ isdu_data layouts.run.od there'.isdu =
-      od_is laws readers turn NextMessage current a
-      ∙ asks_data layouts.run.od (progress_of current) w.message.mc.channel w.message.mc.read
-      (flow_of w.message.mc.address) w.message.od.items w.message.mc.address there'
+      let h' = h laws readers turn NextMessage (Some current) a in
+      let move : IsMove layouts.run.od Ask progress w.message.mc.channel w.message.mc.read
+      (flow_of w.message.mc.address) w.message.od.items =
+      subst (λ (m : Move). IsMove layouts.run.od m progress w.message.mc.channel
+      w.message.mc.read (flow_of w.message.mc.address) w.message.od.items) asks
       a.stands.request.out.goes.move in
-      let none : h'.answer ≡ None = busy_unanswered base cutter.source h' there'.carried answer
-      (busy_base layouts.run.od base cutter.source there'.isdu there'.carried level.stands
+      let level : IsBefore g.page g.kind layouts.run.od base operate_link (IsBusy source) there' =
+      subst (λ (m : Move). IsBefore g.page g.kind layouts.run.od (base_after m base there'.carried)
+      operate_link (IsBusy source) there') asks
+      (subst (λ (p : Progress). IsBefore g.page g.kind layouts.run.od
+      (base_after (move_at current.cutter current.progress) base there'.carried) operate_link p
+      there') follows (before laws readers turn NextMessage (Some current) a)) in
+      let answer = (tied laws readers turn NextMessage (Some current) a).1 in
+      let sends : od ≡ isdu_data layouts.run.od there'.isdu =
+      od_is laws readers turn NextMessage (Some current) a
+      ∙ asks_data layouts.run.od progress w.message.mc.channel w.message.mc.read
+      (flow_of w.message.mc.address) w.message.od.items w.message.mc.address there' move in
+      let none : h'.answer ≡ None = busy_unanswered base source h' there'.carried answer
+      (busy_base g.kind.hands_over layouts.run.od base source there'.isdu there'.counted
+      there'.carried level.stands
       (subst (λ (d : List ℕ). (slice_index d 0 == 1) ≡ true) sends is)) in
       record {
         reads = reads;
         kind = WasBusy;
         busy = g.request.busy + 1;
         brings = record {
-          session = busy_session (moment_of (core_out layouts w t NextMessage current) g n
-              (Exchanged true)) (seen_in (core_out layouts w t NextMessage current) g) h'
-              there'.carried cutter.source refl none;
+          session = busy_session (moment_of (core_out layouts w t NextMessage (Some current)) g n
+              (Exchanged true)) (seen_in (core_out layouts w t NextMessage (Some current)) g) h'
+              there'.carried source refl none;
           frozen = ((tt, (tt, tt)), reads.same refl);
           images = ((tt, ((refl, refl), tt)), refl);
           book = rw says refl;
           reports = rw says refl;
-          apart = calm_exchange cutter.source far steps Clean
+          apart = calm_exchange source far steps Clean
               (master_text layouts.run w.message) g.request.hidden (Busy ∷ ShowImage ∷ []) none
               refl refl;
-          calm = λ k. absurd (subst (λ (p : Progress). IsMove layouts.run.od Ask p
-              w.message.mc.channel w.message.mc.read (flow_of w.message.mc.address)
-              w.message.od.items) (a.stands.fresh k).0 a.stands.request.out.goes.move);
+          calm = λ k. absurd (asks_none layouts.run.od progress w.message.mc.channel
+              w.message.mc.read (flow_of w.message.mc.address) w.message.od.items
+              (a.stands.fresh k).0 move);
           once = refl;
           base = base;
-          level = subst (λ (p : Progress). IsBefore g.page layouts.run.od base operate_link p
-              there') (sym (busy_follows cutter counted)) level;
+          level = subst (λ (p : Progress). IsBefore g.page g.kind layouts.run.od base operate_link
+              p there') (sym (busy_follows devices current.cutter counted)) level;
           answer = answer;
           busy_is = (
             omega (arith, count),
-            busy_waits t.limit g.request.busy g.request.asked
-                abort counted count a.stands.request.busy.1,
+            busy_waits devices t.limit g.request.busy g.request.asked
+                current.abort counted count a.stands.request.busy.1,
           );
+          sure = refl;
           known = λ k. k;
         };
       }
 
   -- a segment of the answer: the request goes on, or has its answer
-  answered : (cutter : Cutting Request) (p : Cursor) (abort : Option Cause)
-      (a : For NextMessage (at cutter p abort)) (i : ℕ) (octets : List ℕ) (x : Answer)
-      → ReadsAnswer (move_at cutter p)
-      → after (progress_of (at cutter p abort)) (move_at cutter p) od
-      ≡ IsHad cutter.source i octets
-      → IsAnswerOf layouts.run.od (IsHad cutter.source i octets) x → said ≡ Answered x
-      → Had_by NextMessage (at cutter p abort) a None
-  answered cutter p abort a i octets x asks had names_it says =
-      let current = at cutter p abort in
-      let reads = keeps laws readers turn NextMessage current a refl refl in
+  answered : (current : Current) (a : For NextMessage (Some current)) (i : ℕ) (octets : List ℕ)
+      (x : Answer) → ReadsAnswer (move_at current.cutter current.progress)
+      → After current ≡ IsHad current.cutter.source i octets
+      → IsAnswerOf layouts.run.od (IsHad current.cutter.source i octets) x → said ≡ Answered x
+      → Had_by NextMessage (Some current) a None
+  answered current a i octets x asks had names_it says =
+      let source = current.cutter.source in
+      let reads = keeps laws readers turn NextMessage (Some current) a refl refl in
       let there' = there laws readers turn in
-      let h' = h laws readers turn NextMessage current a in
-      let level = before laws readers turn NextMessage current a in
-      let stands : FarStands layouts.run.od g.request.base (IsHad cutter.source i octets)
-      there'.isdu there'.carried =
-      subst (λ (q : Progress). FarStands layouts.run.od g.request.base q there'.isdu
-      there'.carried) had
-      (subst (λ (c : List Carried). FarStands layouts.run.od c
-      (after (progress_of current) (move_at cutter p) od) there'.isdu there'.carried)
-      (answers_base (move_at cutter p) g.request.base there'.carried asks) level.stands) in
+      let h' = h laws readers turn NextMessage (Some current) a in
+      let level = before laws readers turn NextMessage (Some current) a in
+      let stands : FarStands g.kind.hands_over layouts.run.od g.request.base
+      (IsHad source i octets) there'.isdu there'.counted there'.carried =
+      subst (λ (q : Progress). FarStands g.kind.hands_over layouts.run.od g.request.base q
+      there'.isdu there'.counted there'.carried) had
+      (subst (λ (c : List Carried). FarStands g.kind.hands_over layouts.run.od c
+      (After current) there'.isdu there'.counted there'.carried)
+      (answers_base (move_at current.cutter current.progress) g.request.base there'.carried asks)
+      level.stands) in
       let answer : h'.answer ≡ Some x =
-      had_answer layouts.run.od g.request.base cutter.source i octets there'.isdu
-      there'.carried h' x stands (tied laws readers turn NextMessage current a).1
-      names_it in
+      had_answer g.kind.hands_over layouts.run.od g.request.base source i octets there'.isdu
+      there'.counted there'.carried h' x stands
+      (tied laws readers turn NextMessage (Some current) a).1 names_it in
       record {
         reads = reads;
         kind = WasAnswered x;
         busy = g.request.busy;
         brings = record {
-          session = answered_session (moment_of (core_out layouts w t NextMessage current) g n
-              (Exchanged true)) (seen_in (core_out layouts w t NextMessage current) g) h'
-              there'.carried cutter.source x refl answer;
+          session = answered_session (moment_of (core_out layouts w t NextMessage (Some current)) g
+              n (Exchanged true)) (seen_in (core_out layouts w t NextMessage (Some current)) g) h'
+              there'.carried source x refl answer;
           frozen = ((tt, (tt, tt)), reads.same refl);
           images = ((tt, ((refl, refl), tt)), refl);
           book = rw says refl;
           reports = rw says refl;
-          apart = exchange_before (Some cutter.source) far steps Clean
+          apart = exchange_before (Some source) far steps Clean
               (master_text layouts.run w.message) (Done x ∷ ShowImage ∷ []) refl refl refl;
           calm = λ k. refl;
           once = refl;
           base = there'.carried;
-          level = record {
-            awake = level.awake;
-            own = level.own;
-            page_is = level.page_is;
-            link_is = level.link_is;
-            isdu = tt;
-            stands = freed_quiet layouts.run.od g.request.base cutter.source i octets
-                there'.isdu there'.carried stands;
-          };
+          level = subst (λ (q : Progress). IsBefore g.page g.kind layouts.run.od there'.carried
+              operate_link q there') (sym (resting_quiet devices false refl))
+              (settled laws readers turn NextMessage (Some current) a (IsHad source i octets) tt
+              had);
           answer = refl;
           busy_is = tt;
+          sure = tt;
           known = λ k. absurd (let z : false ≡ true = k in cc);
         };
       }
 
-  answer_segment : (cutter : Cutting Request) (p : Cursor) (abort : Option Cause)
-      (a : For NextMessage (at cutter p abort)) → IsReading p → ReadsAnswer (move_at cutter p)
-      → after (progress_of (at cutter p abort)) (move_at cutter p) od
-      ≡ IsHad cutter.source (next_segment p) (octets_had p od)
-      → IsOutcomeSaid (is_read cutter.source)
-      (replied_at p t.limit od (cursor cutter p abort)) said
-      → Had_by NextMessage (at cutter p abort) a
-      (going (replied_at p t.limit od
-      (cursor cutter p abort)))
-  answer_segment cutter p abort a reading asks had says =
-      let current : Current = cursor cutter p abort in
-      let size : cutter.size ≡ layouts.run.od = a.valid.size ∙ ap od_size a.stands.joined.told.0 in
-      let found = text laws readers turn NextMessage (Some current) a asks cutter.source
-      (next_segment p) (octets_had p od) had in
-      by_outcome found.0 (replied_at p t.limit od current)
-      (taken current t.limit od found.0 a.valid.current refl reading found.1
-      (found.2 ∙ ap (λ (k : ℕ). joined_octets k (answer_text cutter.source found.0)
-      (next_segment p)) (sym size))
-      (subst (λ (k : ℕ). next_segment p * k < length (answer_text cutter.source found.0))
+  answer_segment : (current : Current) (a : For NextMessage (Some current))
+      → IsReading current.progress → ReadsAnswer (move_at current.cutter current.progress)
+      → is_forgotten current.progress current.again od ≡ false
+      → After current
+      ≡ IsHad current.cutter.source (next_segment current.progress) (octets_had current.progress od)
+      → IsOutcomeSaid (is_read current.cutter.source) (replied t.limit od current) said
+      → Had_by NextMessage (Some current) a (going (replied t.limit od current))
+  answer_segment current a reading asks kept had says =
+      let source = current.cutter.source in
+      let size : current.cutter.size ≡ layouts.run.od = a.valid.size
+      ∙ ap od_size a.stands.joined.told.0 in
+      let found = text laws readers turn NextMessage (Some current) a asks source
+      (next_segment current.progress) (octets_had current.progress od) had in
+      by_outcome found.0 (replied t.limit od current)
+      (taken current t.limit od found.0 a.valid.current kept reading found.1
+      (found.2 ∙ ap (λ (k : ℕ). joined_octets k (answer_text source found.0)
+      (next_segment current.progress)) (sym size))
+      (subst (λ (k : ℕ). next_segment current.progress * k < length (answer_text source found.0))
       (sym size) found.3)) says
     where
       by_outcome : (x : Answer) (outcome : Outcome)
-          → IsTakenUp (cursor cutter p abort) x
-          (next_segment p) (octets_had p od) outcome
-          → IsOutcomeSaid (is_read cutter.source) outcome said
-          → Had_by NextMessage (at cutter p abort) a (going outcome)
+          → IsTakenUp current x (next_segment current.progress) (octets_had current.progress od)
+          outcome → IsOutcomeSaid (is_read current.cutter.source) outcome said
+          → Had_by NextMessage (Some current) a (going outcome)
       by_outcome x (GoesOn next) (joining, is, text_is) says =
-          subst (λ (c : Current). Had_by NextMessage (at cutter p abort) a (Some c)) (sym is)
-          (goes_on laws readers turn NextMessage (at cutter p abort) a
-          (keeps laws readers turn NextMessage (at cutter p abort) a refl refl)
-          (at cutter (Receiving joining (next_segment p)) abort) refl
+          subst (λ (c : Current). Had_by NextMessage (Some current) a (Some c)) (sym is)
+          (goes_on laws readers turn NextMessage (Some current) a
+          (keeps laws readers turn NextMessage (Some current) a refl refl)
+          (at current.cutter (Receiving joining (next_segment current.progress)) false
+          current.abort) refl
           (λ k. absurd (subst ReadsAnswer k asks))
-          (had ∙ ap (λ (xs : List ℕ). IsHad cutter.source (next_segment p) xs) (sym text_is))
-          (tt, a.stands.request.busy.1) refl says)
+          (inl (had ∙ ap (λ (xs : List ℕ). IsHad current.cutter.source
+          (next_segment current.progress) xs) (sym text_is)))
+          (tt, a.stands.request.busy.1) refl refl says)
       by_outcome x (HasText text_) up says =
-          answered cutter p abort a (next_segment p) (octets_had p od) x asks had
-          (names layouts.run.od cutter.source (next_segment p) (octets_had p od) x up.1)
-          (says.only x up.0)
+          answered current a (next_segment current.progress) (octets_had current.progress od) x asks
+          had (names layouts.run.od current.cutter.source (next_segment current.progress)
+          (octets_had current.progress od) x up.1) (says.only x up.0)
 
-  start_read : (cutter : Cutting Request) (counted : ℕ) (abort : Option Cause)
-      (a : For NextMessage (at cutter (Asking counted) abort))
-      → IsOutcomeSaid (is_read cutter.source) (asked cutter abort counted t.limit od) said
-      → Had_by NextMessage (at cutter (Asking counted) abort) a
-      (going (asked cutter abort counted t.limit od))
-  start_read cutter counted abort a says =
-      ⊎_elim
-      (λ (b : (slice_index od 0 == 1) ≡ true).
-      let outcome : asked cutter abort counted t.limit od
-      ≡ GoesOn (waited cutter abort (one_more counted) t.limit) = rw b refl in
-      subst (λ (o : Outcome). Had_by NextMessage (at cutter (Asking counted) abort) a (going o))
-      (sym outcome)
-      (busy cutter counted abort a b (subst
-      (λ (o : Outcome). IsOutcomeSaid (is_read cutter.source) o said) outcome says)))
-      (λ (f : (slice_index od 0 == 1) ≡ false). answer_segment cutter (Asking counted) abort a
-      tt tt (asked_after cutter counted cutter.given od refl a.valid.current.progress
-      ∙ rw f refl) says)
-      (cases_Bool (slice_index od 0 == 1))
+  -- what a START read came to
+  abbrev Said_of : Current → Outcome → Type 0
+  Said_of current outcome = IsOutcomeSaid (is_read current.cutter.source) outcome said
+
+  abbrev Had_as : (current : Current) → For NextMessage (Some current) → Outcome → Type 0
+  Had_as current a outcome = Had_by NextMessage (Some current) a (going outcome)
+
+  start_read : (cutter : Cutting Request) (counted : ℕ) (again : Bool) (abort : Option Cause)
+      (a : For NextMessage (at cutter (Asking counted) again abort))
+      → Said_of (cursor cutter (Asking counted) again abort)
+      (asked cutter abort counted t.limit od)
+      → Had_as (cursor cutter (Asking counted) again abort) a
+      (asked cutter abort counted t.limit od)
+  start_read cutter counted again abort a says = by_first (slice_index od 0 == 1) refl
+    where
+      current : Current
+      current = cursor cutter (Asking counted) again abort
+
+      follows : After current ≡ level_asked trust cutter.source od
+      follows = asked_after trust (vain_by devices NextMessage (Some current) w.tries) devices
+          cutter counted cutter.given od refl a.valid.current.progress
+
+      had : (slice_index od 0 == 1) ≡ false → level_asked trust cutter.source od
+          ≡ IsHad cutter.source 0 od → Had_as current a (asked cutter abort counted t.limit od)
+      had f is = answer_segment current a tt tt refl (follows ∙ is) says
+
+      none : (slice_index od 0 == 1) ≡ false → (slice_index od 0 == 0) ≡ true → (d : Devices)
+          → devices ≡ d → Had_as current a (asked cutter abort counted t.limit od)
+      none f z Own is = had f (ap (λ (d : Devices). level_asked (trusted d) cutter.source od) is
+          ∙ rw (f, z) refl)
+      none f z Any is =
+          let outcome : asked cutter abort counted t.limit od ≡ GoesOn (refused cutter abort) =
+          rw (f, z) refl in
+          subst (Had_as current a) (sym outcome)
+          (refuses current a is (λ k. let q : Path Move Ask Leave = k in cc)
+          (follows ∙ ap (λ (d : Devices). level_asked (trusted d) cutter.source od) is
+          ∙ rw (f, z) refl) (subst (Said_of current) outcome says))
+
+      by_nothing : (slice_index od 0 == 1) ≡ false → (b : Bool) → (slice_index od 0 == 0) ≡ b
+          → Had_as current a (asked cutter abort counted t.limit od)
+      by_nothing f true z = none f z devices refl
+      by_nothing f false z = had f (rw (f, z) refl)
+
+      by_first : (b : Bool) → (slice_index od 0 == 1) ≡ b
+          → Had_as current a (asked cutter abort counted t.limit od)
+      by_first true b =
+          let outcome : asked cutter abort counted t.limit od
+          ≡ GoesOn (waited cutter abort (one_more counted) t.limit) = rw b refl in
+          subst (Had_as current a) (sym outcome)
+          (busy current a counted refl a.stands.request.busy.0 (follows ∙ rw b refl) b
+          (subst (Said_of current) outcome says))
+      by_first false f = by_nothing f (slice_index od 0 == 0) refl
+
+  -- the question whether the device has the one segment
+  question_read : (cutter : Cutting Request) (again : Bool) (abort : Option Cause)
+      (a : For NextMessage (at cutter Doubting again abort))
+      → Said_of (cursor cutter Doubting again abort) (doubted again cutter abort t.limit od)
+      → Had_as (cursor cutter Doubting again abort) a (doubted again cutter abort t.limit od)
+  question_read cutter again abort a says = by_first (slice_index od 0 == 1) refl
+    where
+      current : Current
+      current = cursor cutter Doubting again abort
+
+      any : (devices ≡ Any) × (g.request.busy ≡ 0)
+      any = any_doubts devices g.request.busy a.stands.request.busy.0
+
+      none_counted : 0 ≡ min g.request.busy 65535
+      none_counted = rw any.1 refl
+
+      anew : (slice_index od 0 == 1) ≡ false → (slice_index od 0 == 0) ≡ true → again ≡ false
+          → Had_as current a (doubted again cutter abort t.limit od)
+      anew f z once =
+          let outcome : doubted again cutter abort t.limit od ≡ GoesOn (sent_anew cutter abort) =
+          rw (z, once) refl in
+          let is : After current ≡ progress_of devices false (Some (sent_anew cutter abort)) =
+          rw (f, z, vain_once devices current w.tries any.0 once)
+          (sym (ap (λ (d : Devices). progress_of d false (Some (sent_anew cutter abort))) any.0
+          ∙ anew_clear false cutter abort a.valid.current.progress.0)) in
+          subst (Had_as current a) (sym outcome)
+          (goes_on laws readers turn NextMessage (Some current) a
+          (keeps laws readers turn NextMessage (Some current) a refl refl)
+          (Some (sent_anew cutter abort)) refl
+          (λ k. absurd (let q : Path Move Ask Leave = k in cc)) (inl is) (
+            anew_busy devices cutter g.request.busy any.1 a.valid.current.progress.0,
+            a.stands.request.busy.1,
+          ) refl refl (subst (Said_of current) outcome says))
+
+      unsure : (slice_index od 0 == 1) ≡ false → (slice_index od 0 == 0) ≡ true → again ≡ true
+          → Had_as current a (doubted again cutter abort t.limit od)
+      unsure f z twice =
+          let outcome : doubted again cutter abort t.limit od ≡ GoesOn (refused cutter abort) =
+          rw (twice, z, f) refl in
+          let k = vain_again devices current w.tries any.0 a.stands.request.out.again twice in
+          subst (Had_as current a) (sym outcome)
+          (refuses current a any.0 (λ k. let q : Path Move Ask Leave = k in cc)
+          (rw (f, z, k.1) refl) (subst (Said_of current) outcome says))
+
+      by_again : (slice_index od 0 == 1) ≡ false → (slice_index od 0 == 0) ≡ true → (b : Bool)
+          → again ≡ b → Had_as current a (doubted again cutter abort t.limit od)
+      by_again f z true is = unsure f z is
+      by_again f z false is = anew f z is
+
+      by_nothing : (slice_index od 0 == 1) ≡ false → (b : Bool) → (slice_index od 0 == 0) ≡ b
+          → Had_as current a (doubted again cutter abort t.limit od)
+      by_nothing f true z = by_again f z again refl
+      by_nothing f false z = answer_segment current a tt tt refl (rw (f, z) refl) says
+
+      by_first : (b : Bool) → (slice_index od 0 == 1) ≡ b
+          → Had_as current a (doubted again cutter abort t.limit od)
+      by_first true b =
+          let z : (slice_index od 0 == 0) ≡ false = not_zero (slice_index od 0) b in
+          let outcome : doubted again cutter abort t.limit od
+          ≡ GoesOn (waited cutter abort (one_more 0) t.limit) = rw (z, b) refl in
+          subst (Had_as current a) (sym outcome)
+          (busy current a 0 refl none_counted (rw b refl) b
+          (subst (Said_of current) outcome says))
+      by_first false f = by_nothing f (slice_index od 0 == 0) refl
+
+  -- a COUNT read
+  count_read : (cutter : Cutting Request) (joining : Joining) (last : ℕ) (again : Bool)
+      (abort : Option Cause) (a : For NextMessage (at cutter (Receiving joining last) again abort))
+      → Said_of (cursor cutter (Receiving joining last) again abort)
+      (received again cutter abort joining (last + 1) od)
+      → Had_as (cursor cutter (Receiving joining last) again abort) a
+      (received again cutter abort joining (last + 1) od)
+  count_read cutter joining last again abort a says =
+      by_none (may_be_none trust vain joining.text od) refl
+    where
+      current : Current
+      current = cursor cutter (Receiving joining last) again abort
+
+      vain : ℕ
+      vain = vain_by devices NextMessage (Some current) w.tries
+
+      joins : IsJoining cutter.size last joining
+      joins = a.valid.current.progress
+
+      -- at a port for our own kind nothing went out anew
+      twice_any : again ≡ true → devices ≡ Any
+      twice_any twice = any_again devices (λ own. let z : true ≡ false = sym twice
+          ∙ (a.valid.sure own).0 in cc)
+
+      vain_none : again ≡ false → (k : ℕ) → devices ≡ Any → vain ≡ suc k → ⊥
+      vain_none once k any is = let z : 0 ≡ suc k =
+          sym (vain_once devices current w.tries any once) ∙ is in omega (arith, z)
+
+      kept : may_be_none trust vain joining.text od ≡ false
+          → is_forgotten (Receiving joining last) again od ≡ false
+      kept none = not_both again
+          (forgotten_by (taken_by joining (Count ((last + 1) % 16)) od).took od) (λ twice forgot.
+          let any = twice_any twice in
+          let k = vain_again devices current w.tries any a.stands.request.out.again twice in
+          let is : may_be_none trust vain joining.text od ≡ true =
+          ap (λ (d : Devices). may_be_none (trusted d) vain joining.text od) any
+          ∙ ap (λ (v : ℕ). may_be_none UntilSent v joining.text od) k.1
+          ∙ forgotten_none cutter.size last joining od k.0 joins forgot in
+          let z : true ≡ false = sym is ∙ none in cc)
+
+      refuse : (devices ≡ Any) → (k : ℕ) → vain ≡ suc k
+          → may_be_none trust vain joining.text od ≡ true → again ≡ true
+          → Had_as current a (received again cutter abort joining (last + 1) od)
+      refuse any k is none twice =
+          let none_any : may_be_none UntilSent (suc k) joining.text od ≡ true =
+          sym (ap (λ (d : Devices). may_be_none (trusted d) vain joining.text od) any
+          ∙ ap (λ (v : ℕ). may_be_none UntilSent v joining.text od) is) ∙ none in
+          let outcome : received again cutter abort joining (last + 1) od
+          ≡ GoesOn (refused cutter abort) =
+          ap (λ (b : Bool). received b cutter abort joining (last + 1) od) twice
+          ∙ none_refused cutter.size last cutter abort joining od k joins none_any in
+          subst (Had_as current a) (sym outcome)
+          (refuses current a any (λ k. let q : Path Move Next Leave = k in cc)
+          (ap (λ (b : Bool). if b then Unsure cutter.source
+          else IsHad cutter.source (suc last) (joining.text ++ od)) none)
+          (subst (Said_of current) outcome says))
+
+      by_again : (devices ≡ Any) → (k : ℕ) → vain ≡ suc k
+          → may_be_none trust vain joining.text od ≡ true → (b : Bool) → again ≡ b
+          → Had_as current a (received again cutter abort joining (last + 1) od)
+      by_again any k is none true twice = refuse any k is none twice
+      by_again any k is none false once = absurd (vain_none once k any is)
+
+      by_none : (b : Bool) → may_be_none trust vain joining.text od ≡ b
+          → Had_as current a (received again cutter abort joining (last + 1) od)
+      by_none true none =
+          let k = trusts_any devices vain joining.text od none in
+          by_again k.0 k.1 k.2 none again refl
+      by_none false none =
+          answer_segment current a tt tt (kept none)
+          (ap (λ (b : Bool). if b then Unsure cutter.source
+          else IsHad cutter.source (suc last) (joining.text ++ od)) none) says
 
   -- an ABORT read: the request is cut off, answered or not
-  aborted : (cutter : Cutting Request) (p : Cursor) (cause : Cause)
-      (a : For Abort (at cutter p (Some cause))) → said ≡ SaidCut cause
-      → Had_by Abort (at cutter p (Some cause)) a None
-  aborted cutter p cause a says =
-      let current = at cutter p (Some cause) in
-      let reads = keeps laws readers turn Abort current a refl refl in
+  aborted : (current : Current) (cause : Cause) (a : For Abort (Some current))
+      → current.abort ≡ Some cause → said ≡ SaidCut cause → Had_by Abort (Some current) a None
+  aborted current cause a waits says =
+      let source = current.cutter.source in
+      let reads = keeps laws readers turn Abort (Some current) a refl refl in
       let there' = there laws readers turn in
-      let h' = h laws readers turn Abort current a in
+      let h' = h laws readers turn Abort (Some current) a in
       record {
         reads = reads;
         kind = WasAborted cause;
         busy = g.request.busy;
         brings = record {
-          session = aborted_session (moment_of (core_out layouts w t Abort current) g n
-              (Exchanged true)) (seen_in (core_out layouts w t Abort current) g) h'
-              there'.carried cutter.source cause refl a.stands.request.busy.1;
+          session = aborted_session (moment_of (core_out layouts w t Abort (Some current)) g n
+              (Exchanged true)) (seen_in (core_out layouts w t Abort (Some current)) g) h'
+              there'.carried source cause refl
+              (subst (λ (c : Option Cause). AbortAt devices t.limit c g.request.busy
+              g.request.asked) waits a.stands.request.busy.1);
           frozen = ((tt, (tt, tt)), reads.same refl);
           images = ((tt, ((refl, refl), tt)), refl);
           book = rw says refl;
           reports = rw says refl;
-          apart = exchange_before (Some cutter.source) far steps Clean
+          apart = exchange_before (Some source) far steps Clean
               (master_text layouts.run w.message) (Unknown cause ∷ ShowImage ∷ []) refl refl refl;
           calm = λ k. refl;
           once = refl;
           base = there'.carried;
-          level = before laws readers turn Abort current a;
+          level = reached laws readers turn Abort (Some current) a None
+              (inr (refl, resting_idle devices true));
           answer = refl;
           busy_is = tt;
+          sure = tt;
           known = λ k. absurd (let z : false ≡ true = k in cc);
         };
       }
 
   -- every message of the request
-  request_message : (cutter : Cutting Request) (p : Cursor) (abort : Option Cause)
-      (a : For NextMessage (at cutter p abort))
-      → IsOutcomeSaid (is_read cutter.source)
-      (replied_at p t.limit od (cursor cutter p abort)) said
-      → Had_by NextMessage (at cutter p abort) a
-      (going (replied_at p t.limit od
-      (cursor cutter p abort)))
-  request_message cutter (Cut flow piece) abort a says = segment cutter flow piece abort a says
-  request_message cutter Doubting abort a says = absurd a.stands.request.busy.0
-  request_message cutter (Asking counted) abort a says = start_read cutter counted abort a says
-  request_message cutter (Receiving joining last) abort a says =
-      answer_segment cutter (Receiving joining last) abort a tt tt refl says
-  request_message cutter Refused abort a says = absurd a.stands.request.busy.0
+  request_message : (cutter : Cutting Request) (p : Cursor) (again : Bool) (abort : Option Cause)
+      (a : For NextMessage (at cutter p again abort))
+      → Said_of (cursor cutter p again abort)
+      (replied_at p t.limit od (cursor cutter p again abort))
+      → Had_as (cursor cutter p again abort) a
+      (replied_at p t.limit od (cursor cutter p again abort))
+  request_message cutter (Cut flow piece) again abort a says =
+      segment cutter flow piece again abort a says
+  request_message cutter Doubting again abort a says = question_read cutter again abort a says
+  request_message cutter (Asking counted) again abort a says =
+      start_read cutter counted again abort a says
+  request_message cutter (Receiving joining last) again abort a says =
+      count_read cutter joining last again abort a says
+  request_message cutter Refused again abort a says =
+      absurd (let z : true ≡ false = a.stands.request.out.goes_on refl in cc)
 
-  abort_message : (cutter : Cutting Request) (p : Cursor) (abort : Option Cause)
-      (a : For Abort (at cutter p abort)) → IsTrue (is_some abort)
-      → IfSome abort (λ cause. said ≡ SaidCut cause) → Had_by Abort (at cutter p abort) a None
-  abort_message cutter p None a some says = absurd (let z : false ≡ true = some in cc)
-  abort_message cutter p (Some cause) a some says = aborted cutter p cause a says
+  abort_message : (current : Current) (a : For Abort (Some current)) (abort : Option Cause)
+      → current.abort ≡ abort → IsTrue (is_some abort)
+      → IfSome abort (λ cause. said ≡ SaidCut cause) → Had_by Abort (Some current) a None
+  abort_message current a None is some says = absurd (let z : false ≡ true = some in cc)
+  abort_message current a (Some cause) is some says = aborted current cause a is says
 
   -- a message that says nothing of the request
   other : (e : Exchange) (current : Option Current) (a : For e current)
       (reads : Reads laws readers turn e current a) → move_for e current ≡ Other
+      → clear_after e t.clear ≡ t.clear → (e ≡ NextMessage → ⊥)
       → list_read e od t.events.reading ≡ None → said ≡ quiet_said (request_in current)
       → Had_by e current a current
-  other e current a reads is none says =
+  other e current a reads is same unlike none says =
       goes_on laws readers turn e current a reads current refl
       (λ k. absurd (let z : Path Move Other Leave = sym is ∙ k in cc))
-      (ap (λ (m : Move). after (progress_of current) m od) is) a.stands.request.busy
-      none says
+      (inl (ap (λ (m : Move). after trust (vain_by devices e current w.tries)
+      (progress_of devices t.clear current) m od) is
+      ∙ ap (λ (b : Bool). progress_of devices b current) (sym same))) a.stands.request.busy
+      (other_once devices e w.tries current unlike a.stands.request.out.again) none says
 
   -- the last octet of the events: the list is the frozen one
   reported : (current : Option Current) (a : For ReadEvent current)
@@ -388,6 +720,9 @@ module _ (names : TextNamesAnswer) (taken : AnswersAreTakenUp)
           level = before laws readers turn ReadEvent current a;
           answer = (tied laws readers turn ReadEvent current a).1;
           busy_is = a.stands.request.busy;
+          sure = other_once devices ReadEvent w.tries current
+              (λ k. let z : Path Exchange ReadEvent NextMessage = k in cc)
+              a.stands.request.out.again;
           known = λ e. e;
         };
       }
@@ -412,33 +747,19 @@ module _ (names : TextNamesAnswer) (taken : AnswersAreTakenUp)
           ∙ undue (reading_in t.events g.events) (a.stands.request.out.reads refl)
           ∙ sym (k.more is)) in
           other ReadEvent current a (record
-          { due = k.due; fit = k.fit; form = k.form; same = λ e. same }) refl is says
+          { due = k.due; fit = k.fit; form = k.form; same = λ e. same }) refl refl
+          (λ k. let z : Path Exchange ReadEvent NextMessage = k in cc) is says
       by_list (Some l) is says = reported current a k l is says
-
-  -- of a request nothing is in doubt at a port for devices of our own kind
-  abbrev IsMessage : Exchange → Current → Type 0
-  IsMessage e c = (a : For e (Some c)) → IsTaken e od (core_out layouts w t e (Some c)).session said
-      → Had_by e (Some c) a (current_after e t.limit od (Some c))
-
-  sure_is : (c : Current) → c.again ≡ false → cursor c.cutter c.progress c.abort ≡ c
-  sure_is c once = λ i. record
-      { cutter = c.cutter; progress = c.progress; again = sym once i; abort = c.abort }
-
-  of_sure : (e : Exchange) (c : Current) → IsMessage e (cursor c.cutter c.progress c.abort)
-      → IsMessage e c
-  of_sure e c is a says = subst (IsMessage e)
-      (sure_is c (a.valid.sure a.stands.devices).0) is a says
 
   -- every message
   pub message : (e : Exchange) (current : Option Current) (a : For e current)
       → IsTaken e od (core_out layouts w t e current).session said
       → Had_by e current a (current_after e t.limit od current)
   message NextMessage None a says = absurd (let z : false ≡ true = a.valid.out in cc)
-  message NextMessage (Some c) a says = of_sure NextMessage c
-      (λ b said. request_message c.cutter c.progress c.abort b said) a says
+  message NextMessage (Some c) a says =
+      request_message c.cutter c.progress c.again c.abort a says
   message Abort None a says = absurd (let z : false ≡ true = a.valid.out in cc)
-  message Abort (Some c) a says = of_sure Abort c
-      (λ b said. abort_message c.cutter c.progress c.abort b b.valid.out said) a says
+  message Abort (Some c) a says = abort_message c a c.abort refl a.valid.out says
   message Idle None a says = idle a says
   message Idle (Some c) a says = idle_first c a a.valid.out says
   message ReadEvent None a says = events_message None a
@@ -446,11 +767,12 @@ module _ (names : TextNamesAnswer) (taken : AnswersAreTakenUp)
   message ReadEvent (Some c) a says =
       events_message (Some c) a (list_read ReadEvent od t.events.reading) refl says
   message ConfirmEvents None a says =
-      other ConfirmEvents None a (rests laws readers turn ConfirmEvents None a refl refl) refl
-      refl says
+      other ConfirmEvents None a (rests laws readers turn ConfirmEvents None a refl refl) refl refl
+      (λ k. let z : Path Exchange ConfirmEvents NextMessage = k in cc) refl says
   message ConfirmEvents (Some c) a says =
       other ConfirmEvents (Some c) a (rests laws readers turn ConfirmEvents (Some c) a refl
-      refl) refl refl says
-  message e None a says = other e None a (keeps laws readers turn e None a refl refl) refl refl says
+      refl) refl refl (λ k. let z : Path Exchange ConfirmEvents NextMessage = k in cc) refl says
+  message e None a says = other e None a (keeps laws readers turn e None a refl refl) refl refl
+      (λ k. cc) refl says
   message e (Some c) a says = other e (Some c) a
-      (keeps laws readers turn e (Some c) a refl refl) refl refl says
+      (keeps laws readers turn e (Some c) a refl refl) refl refl (λ k. cc) refl says

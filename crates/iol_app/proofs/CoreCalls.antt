@@ -1,5 +1,5 @@
 -- The calls that aren't turns, over the core's own data.
-use Rattle.std.proofs.Common.{◌≡◌, ◌∙◌, ap, ℕ, true, false, refl, sym, subst, Option, Some, None}
+use Rattle.std.proofs.Common.{◌≡◌, ℕ, true, false, refl, sym, subst, Option, Some, None}
 use Rattle.std.specs.Prelude.{IsSome, IfSome}
 use Rattle.iol_isdu.specs.declared.values.Request.{Request}
 use Rattle.iol_isdu.specs.declared.values.Cause.{Cause}
@@ -8,6 +8,7 @@ use Rattle.iol_image.specs.Image.{IsImage}
 use Rattle.iol_mode.specs.declared.states.Operate.{Operate}
 use Rattle.iol_mode.specs.declared.configuration.Configuration.{Configuration}
 use Rattle.iol_mode.specs.declared.configuration.Devices.{Devices}
+use Rattle.iol_mode.specs.Kinds.{IsFor}
 use Rattle.iol_mode.specs.declared.states.State.{State}
 use Rattle.iol_mode.specs.declared.states.State.TheVariants.{Down as AtDown, Operate as AtOperate}
 use Rattle.iol_steps.specs.declared.mode.Mode.TheVariants.{Operate as ModeOperate}
@@ -26,10 +27,10 @@ use Rattle.iol_app.specs.Seen.{NewSteps, BeginSteps, DenySteps, AbortSteps, Canc
 pub new_steps : (devices : Devices) (busy : ℕ) (new : Core) → new ≡ opened_core devices busy
     → NewSteps new
 unfolding NewSteps
-new_steps devices busy new e = λ own far n told due. subst
+new_steps devices busy new e = λ far for_it n told due. subst
     (λ (c : Core). Stands c (opened_ghost far told due) far n) (sym e)
     (opens devices busy far n told due
-    (ap (λ (c : Core). c.session.configuration.devices) (sym e) ∙ own))
+    (subst (λ (c : Core). IsFor c.session.configuration.devices far.kind) e for_it))
 
 -- in OPERATE with no request under way
 at_free : (P : Core → Type 0) (state : State) (session : SessionState)
@@ -70,13 +71,13 @@ pub begin_steps : (request : Request) (old new : Core) → mode_in old.state ≡
     → OutSuits old.session.exchange old.session.current
     → new ≡ record old { session = begun_in request old.session } → BeginSteps request old new
 unfolding BeginSteps
-begin_steps request old new mode free known suits e = λ g far n stands.
+begin_steps request old new mode free known suits e = λ follows g far n stands.
     subst (λ (k : Core). BeginGives old k g far n request) (sym e)
     (at_free (λ (c : Core). Stands c g far n
     → BeginGives c (record c { session = begun_in request c.session }) g far n request)
     old.state old.session mode free
     (λ s k. begin_gives s old.session g far n request k
-    (subst (OutSuits old.session.exchange) free suits) known) stands)
+    (subst (OutSuits old.session.exchange) free suits) known follows) stands)
 
 -- an abort leaves both ends standing
 module _ (old new : Core) (cause : Cause) (some : IsSome old.session.current)
@@ -93,7 +94,8 @@ module _ (old new : Core) (cause : Cause) (some : IsSome old.session.current)
       → Stands (record c { session = aborted_in BusyTooLong c.session }) g far n)
       old.state old.session stands.joined some (λ s current k.
       aborts_by BusyTooLong g.request.asked s old.session current g far n k
-      (waiting_at old.session.limit g.request.busy g.request.asked BusyTooLong current.abort
+      (waiting_at old.session.configuration.devices old.session.limit g.request.busy
+      g.request.asked BusyTooLong current.abort
       k.request.busy.1 low)) stands)
 
   pub cancel_steps : CancelSteps cause old new
@@ -107,8 +109,10 @@ module _ (old new : Core) (cause : Cause) (some : IsSome old.session.current)
             (asking_ghost true g) far n)
             old.state old.session stands.joined some (λ s current k.
             aborts_by Cancelled true s old.session current g far n k
-            (waiting_at old.session.limit g.request.busy true Cancelled current.abort
-            (marked_at old.session.limit g.request.busy g.request.asked current.abort
+            (waiting_at old.session.configuration.devices old.session.limit g.request.busy true
+            Cancelled current.abort
+            (marked_at old.session.configuration.devices old.session.limit g.request.busy
+            g.request.asked current.abort
             k.request.busy.1) refl)) stands,
         at_request (λ (c : Core). cancelling (session_in c g far)
             ≡ session_in (record c { session = aborted_in Cancelled c.session })

@@ -1,74 +1,37 @@
--- What is left of an attempt without a good reply, where what is out goes out again: at a port for
--- devices of our own kind that very message, and nothing of the session changes.
+-- What is left of an attempt without a good reply in the session, where what is out goes out again.
 use Rattle.std.proofs.lemmas.Grind.{common_steps}
-use Rattle.std.proofs.Common.{◌≡◌, ◌∙◌, ap, refl, sym, subst, arith, ℕ, Bool, true, false, [], Option, Some, None}
-use Rattle.std.specs.Prelude.{is_some}
+use Rattle.std.proofs.Common.{◌≡◌, ◌∙◌, ap, refl, sym, subst, arith, ℕ, Bool, true, false, List, [], Option, Some, None}
+use Rattle.std.specs.Prelude.{is_some, IfSome, IsTrue, if◌then◌else◌}
 use Rattle.iol_octets.specs.declared.flow_control.Flow.TheVariants.{Start}
 use Rattle.iol_mseq.specs.declared.master.MasterMsg.{MasterMsg}
 use Rattle.iol_mode.specs.declared.states.Operate.{Operate}
 use Rattle.iol_mode.specs.Next.{message_out}
 use Rattle.iol_mode.specs.Exchanges.{putting_instead}
 use Rattle.iol_app.specs.declared.event_work.Reading.{Reading}
-use Rattle.iol_app.specs.Messages.{ask_of, head_for, data_for}
-use Rattle.iol_app.specs.Outputs.{carried_by}
-use Rattle.iol_app.proofs.Sessions.{question_head}
+use Rattle.iol_app.specs.Messages.{ask_of, question, head_for, data_for}
+use Rattle.iol_app.specs.Outputs.{IsOutput}
+use Rattle.iol_octets.specs.Control.{control_of}
+use Rattle.iol_mseq.specs.Shape.{Shape}
+use Rattle.iol_mseq.specs.Master.{HasMasterParts}
+use Rattle.iol_page.specs.declared.page.Layouts.{Layouts}
+use Rattle.iol_link.specs.declared.handler.Attempt.{Attempt}
+use Rattle.iol_link.specs.declared.handler.Attempt.TheVariants.{Got, Again, Lost}
+use Rattle.iol_mode.specs.Messages.{stays}
+use Rattle.iol_app.proofs.Sessions.{question_head, question_parts}
 use Rattle.iol_link.specs.Attempts.{Sending}
 use Rattle.iol_mode.specs.declared.configuration.Devices.{Devices}
-use Rattle.iol_mode.specs.declared.configuration.Devices.TheVariants.{Own}
 use Rattle.iol_mode.specs.declared.states.State.{State}
 use Rattle.iol_mode.specs.declared.states.State.TheVariants.{Operate as AtOperate}
-use Rattle.iol_mode.specs.States.{Outcome, waked, state_of}
+use Rattle.iol_mode.specs.States.{Outcome, OperateFits, OutcomeFits, StateFits, operate_by, waked, state_of}
 use Rattle.iol_app.specs.declared.request.Current.{Current}
 use Rattle.iol_app.specs.declared.session.Exchange.{Exchange}
 use Rattle.iol_app.specs.Reports.{is_reading}
 use Rattle.iol_app.specs.Requests.{request_in}
-use Rattle.iol_app.specs.State.{SessionState, od_size, doubts, doubts_by, asked_instead, missed_by, missed_in, IsOutBy}
-use Rattle.iol_app.specs.StationState.{StateFits as Joined, missed_state, missed_session, missed_out, missed_with, settled_session, state_after, session_after}
-use Rattle.iol_app.specs.Core.{Core, after_missed, after_exchange, settled_core}
+use Rattle.iol_app.specs.State.{SessionState, IsSession, od_size, output_length, doubts, doubts_by, asked_instead, missed_by, missed_in, IsOutBy}
+use Rattle.iol_app.specs.StationState.{StateFits as Joined, missed_state, missed_session, missed_out, settled_session, state_after, session_after}
+use Rattle.iol_app.specs.Core.{Core, after_missed, after_exchange}
 
-none_doubted : (devices : Devices) (exchange : Option Exchange) (current : Option Current)
-    → devices ≡ Own → doubts_by devices exchange current ≡ false
-none_doubted devices exchange current own = grind (arith, common_steps)
-
-none_missed : (devices : Devices) (exchange : Option Exchange) (current : Option Current)
-    → devices ≡ Own → missed_by devices exchange current ≡ current
-none_missed devices exchange current own = grind (arith, common_steps)
-
-own_out : (s : SessionState) (out : Option Sending) → s.configuration.devices ≡ Own
-    → missed_out s out ≡ out
-own_out s out own = grind (arith, common_steps, none_doubted)
-
-own_with : (out : Option Sending) (s : SessionState) → s.configuration.devices ≡ Own
-    → missed_with out s ≡ s
-own_with out s own = grind (arith, common_steps, none_doubted, none_missed)
-
-own_state : (state : State) (s : SessionState) → s.configuration.devices ≡ Own
-    → missed_state state s ≡ state
-own_state state s own = grind (arith, common_steps, own_out)
-
-own_session : (state : State) (s : SessionState) → s.configuration.devices ≡ Own
-    → missed_session state s ≡ s
-own_session state s own = grind (arith, common_steps, own_with)
-
-settled_keeps : (outcome : Outcome) (s : SessionState)
-    → (settled_session outcome s).configuration ≡ s.configuration
-settled_keeps outcome s = grind (arith, common_steps)
-
--- there an exchange leaves what it settled
-pub own_settled : (outcome : Outcome) (s : SessionState) → s.configuration.devices ≡ Own
-    → after_exchange outcome s ≡ settled_core outcome s
-own_settled outcome s own =
-    let t : SessionState = settled_session outcome s in
-    let same : t.configuration.devices ≡ Own =
-    ap (λ k. k.devices) (settled_keeps outcome s) ∙ own in
-    λ i. record {
-      state = own_state (state_of outcome) t same i;
-      session = own_session (state_of outcome) t same i;
-    }
-
--- At every port
-
-missed_request_by : (devices : Devices) (exchange : Option Exchange) (current : Option Current)
+pub missed_request_by : (devices : Devices) (exchange : Option Exchange) (current : Option Current)
     → request_in (missed_by devices exchange current) ≡ request_in current
 missed_request_by devices exchange current = grind (arith, common_steps)
 
@@ -125,7 +88,7 @@ missed_out_by s (Some exchange) is (Some sent) h true e =
     let asked : doubts_by s.configuration.devices (Some exchange) s.current ≡ true =
     ap (λ (x : Option Exchange). doubts_by s.configuration.devices x s.current) (sym is) ∙ e in
     rw (e, is) (record {
-      head = question_head (carried_by s.output)
+      head = question_head s.output.carried.items
           ∙ sym (asked_head s.configuration.devices exchange s.events.reading s.current asked);
       octets = sym (asked_data s.configuration.devices exchange (od_size s.layout) s.current asked);
     })
@@ -140,13 +103,50 @@ abbrev core_of : State → SessionState → Core
 core_of state s = record { state = state; session = s }
 
 -- so the session fits the mode as before
-missed_joined : (state : Operate) (sent : Sending) (s : SessionState)
+pub missed_joined : (state : Operate) (sent : Sending) (s : SessionState)
     → state.out ≡ Some sent → Joined (AtOperate state) s
     → Joined (missed_state (AtOperate state) s) (missed_in s)
 missed_joined state sent s out h = record {
   told = h.told;
   out_for = missed_out_by s s.exchange refl state.out h.out_for (doubts s) refl;
 }
+
+question_stays : (out : List ℕ) → IsTrue (stays (question out))
+unfolding control_of
+question_stays out = refl
+
+-- and the mode is one still
+missed_fits : (layouts : Layouts) (sent : Sending) (s : SessionState) (b : Bool)
+    → IsOutput (output_length s.layout) s.output → s.layout ≡ Some layouts.run
+    → OperateFits (record { out = Some sent; layouts = layouts })
+    → OperateFits (record {
+      out = Some (if b then record sent { message = question s.output.carried.items } else sent);
+      layouts = layouts;
+    })
+missed_fits layouts sent s true output told h = record {
+  out = (
+    subst (λ (l : Option Shape). IfSome l
+        (λ layout. HasMasterParts layout (question s.output.carried.items))) told
+        (question_parts s.layout s.output output),
+    question_stays s.output.carried.items,
+  );
+  layouts = h.layouts;
+}
+missed_fits layouts sent s false output told h = h
+
+-- what is left of an attempt fits, as what it settled does
+pub after_fits : (sent : Sending) (layouts : Layouts) (attempt : Attempt) (s : SessionState)
+    → let outcome : Outcome = operate_by sent layouts attempt in
+    IsSession s → s.layout ≡ Some layouts.run → OutcomeFits outcome
+    → Joined (state_of outcome) (settled_session outcome s)
+    → StateFits (after_exchange outcome s).state
+    × Joined (after_exchange outcome s).state (after_exchange outcome s).session
+after_fits sent layouts (Got reply) s valid told fits joined = (fits, joined)
+after_fits sent layouts Lost s valid told fits joined = (fits, joined)
+after_fits sent layouts Again s valid told fits joined = (
+  missed_fits layouts sent s (doubts s) valid.output told fits,
+  missed_joined (record { out = Some sent; layouts = layouts }) sent s refl joined,
+)
 
 -- what the code makes of it: the session asks for this message
 asked_core : (state : Operate) (sent : Sending) (s : SessionState) (m : MasterMsg)

@@ -1,11 +1,11 @@
 -- What is known of the exchange that is due.
 use Rattle.std.proofs.lemmas.Grind.{common_steps}
-use Rattle.std.proofs.Common.{arith, ◌≡◌, Bool, true}
+use Rattle.std.proofs.Common.{arith, ◌≡◌, Bool, true, false}
 use Rattle.std.specs.Prelude.{◌⊎◌}
 use Rattle.iol_steps.specs.Exchange.{output_due}
 use Rattle.iol_app.specs.declared.session.Exchange.{Exchange}
-use Rattle.iol_app.specs.declared.session.Exchange.TheVariants.{ReadEvent, ConfirmEvents}
-use Rattle.iol_app.specs.Requests.{Suits}
+use Rattle.iol_app.specs.declared.session.Exchange.TheVariants.{ReadEvent, ConfirmEvents, Request}
+use Rattle.iol_app.specs.Requests.{Suits, aborts}
 use Rattle.iol_app.specs.Due.{is_under_way, is_confirm_due, is_resting, due_of}
 use Rattle.iol_app.specs.Ends.{output_for}
 use Rattle.iol_app.specs.State.{SessionState}
@@ -17,6 +17,7 @@ pub record IsDue (s : SessionState) (room : Bool) (exchange : Exchange) : Type 0
   pub reads : exchange ≡ ReadEvent
       → (is_under_way s.events.reading ≡ true)
       ⊎ ((is_resting s.events.reading ≡ true) × (s.events.flag ≡ true) × (room ≡ true))
+  pub asks : exchange ≡ Request → aborts s.current ≡ false
 
 pub due_is : (s : SessionState) (room : Bool) → IsDue s room (due_of s room)
 due_is s room = grind (arith, common_steps)

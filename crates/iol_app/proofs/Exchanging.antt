@@ -1,7 +1,6 @@
 -- An exchange in OPERATE: what every outcome needs; a miss, and a loss.
 use Rattle.std.proofs.Common.{◌≡◌, ℕ, suc, ◌+◌, ◌≤◌, min, Bool, true, false, List, [], ◌++◌, filter, refl, sym, ◌∙◌, ap, subst}
-use Rattle.std.proofs.Math.Numerals.{add-one}
-use Rattle.std.specs.Prelude.{Option, Some, None, IsTrue}
+use Rattle.std.specs.Prelude.{Option, Some, None, IsTrue, IfSome, if◌then◌else◌}
 use Rattle.iol_mseq.specs.Shape.{Shape}
 use Rattle.iol_mseq.specs.Texts.{master_text}
 use Rattle.iol_page.specs.Page.{layouts_of}
@@ -11,7 +10,11 @@ use Rattle.iol_far.specs.declared.mode.Mode.TheVariants.{Operate as FarOperate}
 use Rattle.iol_far.specs.Codec.{layout_in}
 use Rattle.iol_far.specs.Far.{Far, output_of}
 use Rattle.iol_far.specs.Local.{LocalStep, locals}
-use Rattle.iol_far.specs.Level.{IsLevel, taken}
+use Rattle.iol_mseq.specs.Master.{HasMasterParts}
+use Rattle.iol_mseq.specs.declared.master.MasterMsg.{MasterMsg}
+use Rattle.iol_far.specs.declared.kind.Kind.{Kind}
+use Rattle.iol_far.specs.Linked.{TextsAreHeard}
+use Rattle.iol_far.specs.Level.{Progress, IsLevel, taken}
 use Rattle.iol_far.specs.Laws.{confirms as octets_confirm}
 use Rattle.iol_link.specs.Attempts.{Sending}
 use Rattle.iol_link.specs.Honest.{Passage, OutLost, far_after}
@@ -23,10 +26,10 @@ use Rattle.iol_steps.specs.declared.said.Said.{Said}
 use Rattle.iol_steps.specs.Step.{Step, WireCall, Exchanged, silence_by, CallFits, is_for_book, is_report, book_said, reports_said, no_make}
 use Rattle.iol_steps.specs.Bridge.{Hidden, IsOpen, hidden_through, told_through, exchange_steps, told_exchanged}
 use Rattle.iol_steps.specs.Kinds.{lost_steps, quiet_said, lost_said}
-use Rattle.iol_steps.specs.Station.{Reading, is_due, images_of}
+use Rattle.iol_steps.specs.Station.{Reading, is_due, images_of, session_of}
 use Rattle.iol_steps.specs.Exchange.{hidden_lost, told_by}
 use Rattle.iol_steps.specs.Turn.{ImageIsLast}
-use Rattle.iol_app.proofs.Given.{Laws, page_locals, page_after, level_locals, level_after}
+use Rattle.iol_app.proofs.Given.{Laws, page_locals, page_after, kind_after, level_locals, level_after}
 use Rattle.iol_app.proofs.OwnSession.{SessionRuns, session_runs-append, exchange_session}
 use Rattle.iol_app.proofs.FrozenPart.{FrozenRuns, frozen_runs-append, exchange_frozen}
 use Rattle.iol_app.proofs.ImagesPart.{ImagesRuns, OutputsSent, images_runs-append, exchange_images}
@@ -42,12 +45,17 @@ use Rattle.iol_app.specs.declared.request.Current.{Current}
 use Rattle.iol_app.specs.declared.session.Exchange.{Exchange}
 use Rattle.iol_app.specs.Requests.{request_in}
 use Rattle.iol_app.specs.Moves.{progress_of, confirms_events}
-use Rattle.iol_app.specs.State.{SessionState}
+use Rattle.iol_app.specs.Messages.{question}
+use Rattle.iol_app.specs.State.{SessionState, IsSession, od_size, doubts, missed_by}
 use Rattle.iol_app.specs.StationState.{StateFits as Joined, mode_in}
 use Rattle.iol_app.proofs.OperateMessages.{exchange_confirms}
-use Rattle.iol_app.proofs.SmallFacts.{confirms_is, more_silence}
+use Rattle.iol_app.proofs.SmallFacts.{confirms_is, more_silence, same_carried}
+use Rattle.iol_app.proofs.Sessions.{question_parts}
+use Rattle.iol_app.proofs.Doubts.{missed_request_by}
+use Rattle.iol_app.proofs.Missing.{Stays, sent_again, asked_for, busy_missed}
 use Rattle.iol_app.proofs.Telling.{told_layout}
-use Rattle.iol_app.specs.Core.{Core, Ghost, Stands, ReceiveGives, OperateRequest, RequestStands, EventsStand, OutputStands, CalmAt, ShownStands, core_out, reading_in, ordered_by, moment_of, seen_in, shown_in, images_in, settled_core}
+use Rattle.iol_app.specs.Core.{Core, Ghost, Stands, ReceiveGives, work_of, vain_by, after_missed, OperateRequest, RequestStands, EventsStand, OutputStands, CalmAt, ShownStands, core_out, reading_in, ordered_by, moment_of, seen_in, shown_in, images_in, settled_core}
+use Rattle.iol_mode.specs.Kinds.{IsFor}
 use Rattle.iol_mode.specs.declared.configuration.Configuration.{Configuration}
 
 -- what the far end's own part is, however far the message came
@@ -89,9 +97,15 @@ module _ (laws : Laws) (layouts : Layouts) (w : Sending) (t : SessionState) (g :
     abbrev xs : List Step
     xs = exchange_steps request far steps passage o
 
-    abbrev up : OperateRequest (record { out = Some w; layouts = layouts }) t.limit current
-        (Some e) R g far
+    abbrev up : OperateRequest (record { out = Some w; layouts = layouts }) (work_of c.session) R
+        g far
     up = stands.request
+
+    abbrev pub progress : Progress
+    progress = progress_of t.configuration.devices t.clear current
+
+    abbrev pub vain : ℕ
+    vain = vain_by t.configuration.devices e current w.tries
 
     -- the far end's part, that of the level by the request's own fields
     pub at : layout_in g.page FarOperate ≡ layouts.run
@@ -103,15 +117,19 @@ module _ (laws : Laws) (layouts : Layouts) (w : Sending) (t : SessionState) (g :
     pub page' : passed.page ≡ g.page
     page' = page_after laws passage (locals far steps) o ∙ page_locals laws steps far ∙ stands.page
 
-    pub level_here : IsLevel g.page layouts.run.od g.request.base up.link (progress_of current)
-        o w.tries (locals far steps)
-    level_here = level_locals laws g.page layouts.run.od some_od g.request.base up.link
-        (progress_of current) o w.tries steps far up.level
+    pub kind' : passed.kind ≡ g.kind
+    kind' = kind_after laws passage (locals far steps) o ∙ laws.much.kind_kept far steps
+        ∙ stands.kind
 
-    pub level' : IsLevel g.page layouts.run.od g.request.base up.link (progress_of current) o
-        (suc w.tries) passed
-    level' = level_after laws g.page layouts.run.od some_od g.request.base up.link
-        (progress_of current) o w.tries passage (locals far steps) level_here
+    pub level_here : IsLevel g.page g.kind layouts.run.od g.request.base up.link progress o vain
+        (locals far steps)
+    level_here = level_locals laws g.page g.kind layouts.run.od some_od g.request.base up.link
+        progress o vain steps far up.level
+
+    pub level' : IsLevel g.page g.kind layouts.run.od g.request.base up.link progress o (suc vain)
+        passed
+    level' = level_after laws g.page g.kind layouts.run.od some_od g.request.base up.link
+        progress o vain passage (locals far steps) level_here
 
     tied_here : IsTied g.request.base request h (locals far steps).carried
     tied_here = tied_locals g.request.base request steps far g.request.hidden up.opens
@@ -148,6 +166,7 @@ module _ (laws : Laws) (layouts : Layouts) (w : Sending) (t : SessionState) (g :
         where
           pub limit : next.session.limit ≡ t.limit
           pub page : after.page ≡ g.page
+          pub kind : after.kind ≡ g.kind
           pub configuration : next.session.configuration ≡ t.configuration
           pub session : SessionRuns (moment_of c g n call) (seen_in c g) h passed.carried ys
               (seen_in next after) after.request.hidden passed.carried
@@ -166,8 +185,8 @@ module _ (laws : Laws) (layouts : Layouts) (w : Sending) (t : SessionState) (g :
           pub wanted : silence_by call n ≡ 0
               → output_of passed ≡ ordered_by (told_by (output_for e) t.output.told)
               w.message.out.items
-          pub request_is : RequestStands next.state next.session.limit next.session.current
-              next.session.exchange next.session.events after passed
+          pub request_is : RequestStands next.state (work_of next.session) next.session.events
+              after passed
           pub events : EventsStand next.state next.session.exchange next.session.events
               after.events passed
           pub output : OutputStands next.state next.session.exchange next.session.output.told
@@ -190,7 +209,7 @@ module _ (laws : Laws) (layouts : Layouts) (w : Sending) (t : SessionState) (g :
               after = after;
               fits = fits;
               silent = silent;
-              terms = (b.limit, b.page, b.configuration);
+              terms = (b.limit, b.page, b.configuration, b.kind);
               clash_free = b.apart.free;
               fresh = λ k. fresh_turn request far steps passage o ys (stands.fresh k).1 (b.calm k);
               said_book = b.apart.book ∙ b.book;
@@ -213,8 +232,11 @@ module _ (laws : Laws) (layouts : Layouts) (w : Sending) (t : SessionState) (g :
               image_is_last = b.last;
               output_is_wanted = λ k. b.wanted k.2;
               stands = record {
-                devices = ap (λ (k : Configuration). k.devices) b.configuration ∙ stands.devices;
                 page = page' ∙ sym b.page;
+                kind = kind' ∙ sym b.kind;
+                for_it = subst (λ (k : Configuration). IsFor k.devices after.kind)
+                    (sym b.configuration) (subst (λ (q : Kind). IsFor t.configuration.devices q)
+                    (sym b.kind) stands.for_it);
                 fits = state_fits;
                 link = subst (λ (f : Far). StateStands next.state n' f) far_is link;
                 joined = joined;
@@ -238,55 +260,109 @@ module _ (laws : Laws) (layouts : Layouts) (w : Sending) (t : SessionState) (g :
         fresh = false;
       }
 
-      pub misses : said ≡ quiet_said request
-          → Ends (Exchanged false) (core_out layouts
-          (record { message = w.message; tries = w.tries + 1 }) t e current) away []
-      misses says = record {
-        limit = refl;
-        page = refl;
-        configuration = refl;
-        session = (tt, refl);
-        frozen = (tt, refl);
-        images = (tt, refl);
-        apart = exchange_before request far steps passage o [] refl refl refl;
-        calm = λ k. refl;
-        spent = refl;
-        once = refl;
-        book = rw says (sym (quiet_book request).0);
-        reports = rw says (sym (quiet_book request).1);
-        last = ((λ k. absurd (more_silence n k.1)), (λ k. absurd (k refl)), (λ k l. refl));
-        wanted = λ k. absurd (more_silence n k);
-        request_is = record {
+      -- what is left of it: the message out stays so, or a question goes out in its place
+      abbrev pub again : Sending
+      again = record { message = w.message; tries = w.tries + 1 }
+
+      abbrev pub missed_core : Core
+      missed_core = after_missed (core_out layouts again t e current)
+
+      module _ (heard : TextsAreHeard) (valid : IsSession c.session) where
+        abbrev s : SessionState
+        s = c.session
+
+        abbrev carried : List ℕ
+        carried = t.output.carried.items
+
+        layout_is : t.layout ≡ Some layouts.run
+        layout_is = stands.joined.told.0
+
+        parts : HasMasterParts layouts.run (question carried)
+        parts = subst (λ (l : Option Shape). IfSome l
+            (λ layout. HasMasterParts layout (question carried))) layout_is
+            (question_parts t.layout t.output valid.output)
+
+        sized : IfSome current (λ q. q.cutter.size ≡ layouts.run.od)
+        sized = subst (λ (l : Option Shape). IfSome current (λ q. q.cutter.size ≡ od_size l))
+            layout_is valid.size
+
+        carries : IfSome g.sent (λ image. carried ≡ image)
+        carries = same_carried g.sent carried carried refl
+            (subst (λ (l : Option Shape). SentSeen l carried g.sent) layout_is stands.sent)
+
+        same_request : request_in (missed_by t.configuration.devices (Some e) current) ≡ request
+        same_request = missed_request_by t.configuration.devices (Some e) current
+
+        -- the request, once the ends are level with what is out from now on
+        abbrev AgainStays : MasterMsg → Type 0
+        AgainStays m = Stays laws heard g.page g.kind layouts g.request.base up.link w R g.sent
+            t.clear t.limit carried at some_od parts carries passed t.configuration.devices e
+            (missed_by t.configuration.devices (Some e) current) m
+
+        abbrev Requests : Sending → Type 0
+        Requests out = OperateRequest (record { out = Some out; layouts = layouts })
+            (work_of missed_core.session) R away passed
+
+        request_out : (m : MasterMsg) → AgainStays m
+            → Requests (record { message = m; tries = w.tries + 1 })
+        request_out m k = record {
           late = tied'.0;
-          opens = p.opens;
+          opens = rw same_request p.opens;
           link = up.link;
-          linked = up.linked;
-          level = subst (λ (k : ℕ). IsLevel g.page layouts.run.od g.request.base up.link
-              (progress_of current) o k passed) (sym (add-one w.tries)) level';
-          out = record {
-            mode = up.out.mode;
-            goes = up.out.goes;
-            confirm = up.out.confirm;
-            reads = up.out.reads;
-            carries = up.out.carries;
-            tells = up.out.tells;
+          linked = k.linked;
+          level = k.level;
+          out = k.out;
+          answer = rw same_request tied'.1;
+          busy = busy_missed t.configuration.devices t.limit e current g.request.busy
+              g.request.asked up.busy;
+          known = rw same_request up.known;
+        }
+
+        request_by : (b : Bool) → doubts s ≡ b
+            → Requests (if b then record again { message = question carried } else again)
+        request_by true is = request_out (question carried)
+            (asked_for laws heard g.page g.kind layouts g.request.base up.link w R g.sent
+            t.clear t.limit carried at some_od parts carries passed t.configuration.devices e
+            current valid.current sized is up.out up.linked level')
+        request_by false is = request_out w.message
+            (sent_again laws heard g.page g.kind layouts g.request.base up.link w R g.sent
+            t.clear t.limit carried at some_od parts carries passed t.configuration.devices e
+            current stands.for_it valid.current sized is up.out up.linked level')
+
+        pub misses : said ≡ quiet_said request → Ends (Exchanged false) missed_core away []
+        misses says = record {
+          limit = refl;
+          page = refl;
+          kind = refl;
+          configuration = refl;
+          session = (
+            tt,
+            ap (λ (r : Option Request). session_of (record (seen_in c g) { request = r }) h
+                passed.carried) (sym same_request),
+          );
+          frozen = (tt, refl);
+          images = (tt, refl);
+          apart = exchange_before request far steps passage o [] refl refl refl;
+          calm = λ k. refl;
+          spent = refl;
+          once = refl;
+          book = rw says (sym (quiet_book request).0);
+          reports = rw says (sym (quiet_book request).1);
+          last = ((λ k. absurd (more_silence n k.1)), (λ k. absurd (k refl)), (λ k l. refl));
+          wanted = λ k. absurd (more_silence n k);
+          request_is = request_by (doubts s) refl;
+          events = subst (λ (b : Bool). EventsTold R b passed told) confirms told';
+          output = p.outputs;
+          sent = stands.sent;
+          shown = record {
+            image = λ k. absurd (k refl);
+            wanted = stands.shown.wanted;
+            lengths = stands.shown.lengths;
+            isdu = stands.shown.isdu;
+            present = stands.shown.present;
+            no_form = stands.shown.no_form;
           };
-          answer = tied'.1;
-          busy = up.busy;
-          known = up.known;
-        };
-        events = subst (λ (b : Bool). EventsTold R b passed told) confirms told';
-        output = p.outputs;
-        sent = stands.sent;
-        shown = record {
-          image = λ k. absurd (k refl);
-          wanted = stands.shown.wanted;
-          lengths = stands.shown.lengths;
-          isdu = stands.shown.isdu;
-          present = stands.shown.present;
-          no_form = stands.shown.no_form;
-        };
-      }
+        }
 
       pub loses : said ≡ lost_said request → 3 ≤ min 3 (n + 1)
           → Ends (Exchanged false) (settled_core (InDown (record { why = Some Lost }))
@@ -299,6 +375,7 @@ module _ (laws : Laws) (layouts : Layouts) (w : Sending) (t : SessionState) (g :
           record {
             limit = refl;
             page = refl;
+            kind = refl;
             configuration = refl;
             session = lost_session (moment_of c g n (Exchanged false)) (seen_in c g) h
                 passed.carried (λ k. absurd (let z : ModeOperate ≡ ModeDown = k in cc)) third;

@@ -1,5 +1,5 @@
 -- The far end's part of an exchange, over the message, the link and the request's level.
-use Rattle.std.proofs.Common.{◌≡◌, ◌≢◌, ◌⊎◌, inl, inr, ℕ, ◌+◌, ◌≤◌, min, Bool, true, false, ◌&&◌, List, length, refl, sym, ◌∙◌, ap, subst, arith}
+use Rattle.std.proofs.Common.{◌≡◌, ◌≢◌, ◌⊎◌, inl, inr, ℕ, suc, ◌+◌, ◌≤◌, min, Bool, true, false, ◌&&◌, List, length, refl, sym, ◌∙◌, ap, subst, arith}
 use Rattle.std.proofs.lemmas.Grind.{common_steps}
 use Rattle.std.specs.Prelude.{Option, Some, None, if◌then◌else◌, nat_lt, IsSome, IfSome}
 use Rattle.iol_mseq.specs.Shape.{Shape, IsLayout}
@@ -17,7 +17,9 @@ use Rattle.iol_far.specs.declared.mode.Mode.TheVariants.{Operate as FarOperate}
 use Rattle.iol_far.specs.Codec.{layout_in, message_in, octets_of}
 use Rattle.iol_far.specs.Far.{Far, WaitingCommand, layout_of, accepted, moved, hear, heard_as, worked, reply_to, output_of, command_in, valid_after, out_after, waits_after, mode_asked, known_mode, is_mode}
 use Rattle.iol_far.specs.Local.{locals}
-use Rattle.iol_far.specs.Level.{Link, Progress, Move, taken as taken_link, IsSent, IsLevel}
+use Rattle.iol_far.specs.declared.kind.Kind.{Kind}
+use Rattle.iol_far.specs.declared.kind.Recalls.{Recalls}
+use Rattle.iol_far.specs.Level.{Link, Progress, Move, Begin, taken as taken_link, IsOutOnce, RecallsAtLeast, IsSent, IsLevel}
 use Rattle.iol_far.specs.Laws.{IsSized, ReplySays}
 use Rattle.iol_steps.specs.declared.mode.Mode.{Mode}
 use Rattle.iol_steps.specs.declared.mode.Mode.TheVariants.{Operate}
@@ -70,20 +72,55 @@ unfolding message_in
 spells_master l o m e = e
 
 -- a message that goes out, whatever it is for
-pub record Goes (page : List ℕ) (run : Shape) (link : Link) (progress : Progress) (o : List ℕ)
-    (message : MasterMsg) (what : Move) (mode : Mode) (sent : Option Image) (told : Bool) : Type
-    0 where
-  pub sent_at : IsSent page run.od link progress o message what
-  pub at_mode : (taken_link link o).mode ≡ far_mode mode
-  pub layout : layout_in page (far_mode mode) ≡ run
-  pub carries : mode ≡ Operate → IfSome sent (λ image. message.out.items ≡ image)
-  pub tells : output_by mode (command_in message) ≡ Some true → IsSome sent
-  pub starting : mode ≢ Operate → told ≡ false
+pub record Goes : Type 0 where
+  pub page : List ℕ
+  pub kind : Kind
+  pub run : Shape
+  pub base : List Carried
+  pub link : Link
+  pub progress : Progress
+  pub message : MasterMsg
+  pub o : List ℕ
+  pub what : Move
+  -- how long the device is trusted to recall an answer, and how often it was out in vain
+  pub trust : Recalls
+  pub vain : ℕ
+  pub mode : Mode
+  pub sent : Option Image
+  pub told : Bool
 
-module _ (laws : Laws) (page : List ℕ) (run : Shape) (base : List Carried) (link : Link)
-    (progress : Progress) (o : List ℕ) (message : MasterMsg) (what : Move) (mode : Mode)
-    (sent : Option Image) (told : Bool)
-    (sending : Goes page run link progress o message what mode sent told) where
+pub record IsGoing (x : Goes) : Type 0 where
+  pub sent_at : IsSent x.page x.run.od x.link x.progress x.o x.message x.what
+  pub once : IsOutOnce x.kind.hands_over x.run.od x.what (suc x.vain)
+  pub trusts : RecallsAtLeast x.trust x.kind.recalls
+  pub at_mode : (taken_link x.link x.o).mode ≡ far_mode x.mode
+  pub layout : layout_in x.page (far_mode x.mode) ≡ x.run
+  pub carries : x.mode ≡ Operate → IfSome x.sent (λ image. x.message.out.items ≡ image)
+  pub tells : output_by x.mode (command_in x.message) ≡ Some true → IsSome x.sent
+  pub starting : x.mode ≢ Operate → x.told ≡ false
+
+module _ (laws : Laws) (going : Goes) (sending : IsGoing going) where
+  open going use {
+    page,
+    kind,
+    run,
+    base,
+    link,
+    progress,
+    o,
+    message,
+    what,
+    trust,
+    vain,
+    mode,
+    sent,
+    told,
+  }
+
+  -- both ends are level
+  abbrev pub Level : Far → Type 0
+  Level far = IsLevel page kind run.od base link progress o vain far
+
   abbrev command : Option Bool
   command = output_by mode (command_in message)
 
@@ -99,21 +136,20 @@ module _ (laws : Laws) (page : List ℕ) (run : Shape) (base : List Carried) (li
       ∙ sending.sent_at.spells
 
   -- a reply to the message says how the far end stands
-  pub says_of : (most : ℕ) (far : Far) → IsLevel page run.od base link progress o most far
-      → (reply : List ℕ) → (hear far o).reply ≡ Some reply
-      → ReplySays page run.od base link progress o message what (hear far o)
-  says_of most far level reply e =
-      (laws.level run.od some).replies page base link progress o message what sending.sent_at
-      most far level reply e
+  pub says_of : (far : Far) → Level far → (reply : List ℕ) → (hear far o).reply ≡ Some reply
+      → ReplySays page kind trust vain run.od base link progress o message what (hear far o)
+  says_of far level reply e =
+      (laws.level run.od some).replies page kind base link progress o message what
+      sending.sent_at vain sending.once trust sending.trusts far level reply e
 
   -- whatever it accepts there is the message, in the layout of the mode
-  pub accepts_as : (most : ℕ) (far : Far) → far.page ≡ page
-      → IsLevel page run.od base link progress o most far → (there : Far) (m : MasterMsg)
+  pub accepts_as : (far : Far) → far.page ≡ page
+      → Level far → (there : Far) (m : MasterMsg)
       → accepted far o ≡ Some (there, m)
       → (m ≡ message) × (there.mode ≡ far_mode mode)
-  accepts_as most far same level there m e =
+  accepts_as far same level there m e =
       let r = accepts_reply far o there m e in
-      let says = says_of most far level r.0 r.1 in
+      let says = says_of far level r.0 r.1 in
       let there_mode : there.mode ≡ far_mode mode =
       sym (ap (λ (q : Option (Far × MasterMsg)). (heard_as far o q).far.mode) e)
       ∙ ap (λ (l : Link). l.mode) says.before.link_is ∙ sending.at_mode in (
@@ -133,11 +169,11 @@ module _ (laws : Laws) (page : List ℕ) (run : Shape) (base : List Carried) (li
           → there.mode ≡ far_mode mode → m ≡ message
       again there m given given2 = grind (arith, common_steps)
 
-  module _ (from far : Far) (n silence tries : ℕ) (answer : Option (List ℕ))
+  module _ (from far : Far) (n silence : ℕ) (answer : Option (List ℕ))
       (h : HonestExchange from n o answer far silence)
-      (level : IsLevel page run.od base link progress o tries from) where
-    pub level_now : IsLevel page run.od base link progress o tries (locals from h.steps)
-    level_now = level_locals laws page run.od some base link progress o tries h.steps from level
+      (level : Level from) where
+    pub level_now : Level (locals from h.steps)
+    level_now = level_locals laws page kind run.od some base link progress o vain h.steps from level
 
     -- what the far end replies is read as that
     reads_reply : (reply : List ℕ) → (hear (locals from h.steps) o).reply ≡ Some reply →
@@ -145,7 +181,7 @@ module _ (laws : Laws) (page : List ℕ) (run : Shape) (base : List Carried) (li
         ≡ Some (reply_to (hear (locals from h.steps) o).far run message)
     reads_reply reply e =
         let g = (hear (locals from h.steps) o).far in
-        let says = says_of tries (locals from h.steps) level_now reply e in
+        let says = says_of (locals from h.steps) level_now reply e in
         let g_mode : g.mode ≡ far_mode mode = ap (λ (l : Link). l.mode) says.before.link_is
         ∙ sending.at_mode in
         let same : layout_of g ≡ run =
@@ -258,12 +294,12 @@ module _ (laws : Laws) (page : List ℕ) (run : Shape) (base : List Carried) (li
           sym (sending.starting (λ op. let z : other ≡ Operate = sym is ∙ op in absurd (cc)))
 
   -- the output once the message is worked
-  module _ (most : ℕ) (g : Far) (same : g.page ≡ page)
-      (level : IsLevel page run.od base link progress o most g) (h : OutputsAt g)
+  module _ (g : Far) (same : g.page ≡ page)
+      (level : Level g) (h : OutputsAt g)
       (awake : g.awake ≡ true)
       (there : Far) (m : MasterMsg) (e : accepted g o ≡ Some (there, m)) where
     is_message : (m ≡ message) × (there.mode ≡ far_mode mode)
-    is_message = accepts_as most g same level there m e
+    is_message = accepts_as g same level there m e
 
     worked_valid : (worked there o m).valid ≡ true → (there.mode ≡ FarOperate) × IsSome sent
     worked_valid v = by_case (valid_by there.mode there.valid (command_in m) v)
@@ -321,58 +357,59 @@ module _ (laws : Laws) (page : List ℕ) (run : Shape) (base : List Carried) (li
       → g.awake ≡ true
   accepts_awake g = grind (arith, common_steps)
 
-  pub outputs_sent : (most : ℕ) (g : Far) → g.page ≡ page
-      → IsLevel page run.od base link progress o most g → OutputsAt g → OutputsSent sent g o
-  outputs_sent most g same level h there m e =
-      sent_output most g same level h (accepts_awake g there m e) there m e
+  pub outputs_sent : (g : Far) → g.page ≡ page
+      → Level g → OutputsAt g → OutputsSent sent g o
+  outputs_sent g same level h there m e =
+      sent_output g same level h (accepts_awake g there m e) there m e
 
-  pub outputs_hear : (most : ℕ) (g : Far) → g.page ≡ page
-      → IsLevel page run.od base link progress o most g → OutputsAt g → OutputsAt (hear g o).far
-  outputs_hear most g same level h = split (accepted g o) refl
+  pub outputs_hear : (g : Far) → g.page ≡ page
+      → Level g → OutputsAt g → OutputsAt (hear g o).far
+  outputs_hear g same level h = split (accepted g o) refl
     where
       split : (q : Option (Far × MasterMsg)) → accepted g o ≡ q → OutputsAt (heard_as g o q).far
       split None e = h
-      split (Some (there, m)) e = worked_outputs most g same level h (accepts_awake g there m e)
+      split (Some (there, m)) e = worked_outputs g same level h (accepts_awake g there m e)
           there m e
 
-  pub outputs_after : (passage : Passage) (most : ℕ) (g : Far) → g.page ≡ page
-      → IsLevel page run.od base link progress o most g → OutputsAt g
+  pub outputs_after : (passage : Passage) (g : Far) → g.page ≡ page
+      → Level g → OutputsAt g
       → OutputsAt (far_after passage g o)
-  outputs_after OutLost most g same level h = h
-  outputs_after other most g same level h = outputs_hear most g same level h
+  outputs_after OutLost g same level h = h
+  outputs_after other g same level h = outputs_hear g same level h
 
   -- with a reply the output is as told then
-  pub replied_told : (most : ℕ) (g : Far) → g.page ≡ page
-      → IsLevel page run.od base link progress o most g → OutputsAt g → (reply : List ℕ)
+  pub replied_told : (g : Far) → g.page ≡ page
+      → Level g → OutputsAt g → (reply : List ℕ)
       → (hear g o).reply ≡ Some reply
       → (hear g o).far.valid ≡ told_by (command) told
-  replied_told most g same level h reply = split (accepted g o) refl
+  replied_told g same level h reply = split (accepted g o) refl
     where
       split : (q : Option (Far × MasterMsg)) → accepted g o ≡ q
           → (heard_as g o q).reply ≡ Some reply
           → (heard_as g o q).far.valid ≡ told_by (command) told
       split None e r = absurd (let z : Path (Option (List ℕ)) None (Some reply) = r in cc)
-      split (Some (there, m)) e r = worked_as_told most g same level h
+      split (Some (there, m)) e r = worked_as_told g same level h
           (accepts_awake g there m e) there m e
 
   -- and in OPERATE it has the octets of the message
-  pub replied_out : (most : ℕ) (g : Far) → g.page ≡ page
-      → IsLevel page run.od base link progress o most g → mode ≡ Operate → (reply : List ℕ)
+  pub replied_out : (g : Far) → g.page ≡ page
+      → Level g → mode ≡ Operate → (reply : List ℕ)
       → (hear g o).reply ≡ Some reply
       → (hear g o).far.out ≡ message.out.items
-  replied_out most g same level op reply = split (accepted g o) refl
+  replied_out g same level op reply = split (accepted g o) refl
     where
       split : (q : Option (Far × MasterMsg)) → accepted g o ≡ q
           → (heard_as g o q).reply ≡ Some reply → (heard_as g o q).far.out ≡ message.out.items
       split None e r = absurd (let z : Path (Option (List ℕ)) None (Some reply) = r in cc)
       split (Some (there, m)) e r =
-          let k = accepts_as most g same level there m e in
+          let k = accepts_as g same level there m e in
           out_is there.mode there.out m.out.items (k.1 ∙ ap far_mode op)
           ∙ ap (λ (x : MasterMsg). x.out.items) k.0
 
   -- what it is handed is what may still be carried out
-  module _ (most : ℕ) (g : Far) (level : IsLevel page run.od base link progress o most g)
+  module _ (g : Far) (level : Level g)
       (request : Option Request) (h : Hidden) (fits : ProgressFits progress request)
+      (begins : (q : Request) → what ≡ Begin q → request ≡ Some q)
       (before : IsOpen g.isdu request h)
       (answer : AnswerFits base request h (hear g o).far.carried) where
     opens_heard : (q : Option (Far × MasterMsg)) → accepted g o ≡ q
@@ -381,8 +418,8 @@ module _ (laws : Laws) (page : List ℕ) (run : Shape) (base : List Carried) (li
     opens_heard (Some (there, m)) k =
         let r = accepts_reply g o there m k in
         subst (λ (q : Option (Far × MasterMsg)). IsOpen (heard_as g o q).far.isdu request h) k
-        (replied_opens page run.od base link progress o message what (hear g o) request h
-        (says_of most g level r.0 r.1) fits answer)
+        (replied_opens page kind trust vain run.od base link progress o message what (hear g o)
+        request h (says_of g level r.0 r.1) fits begins answer)
 
     pub opens_after : (passage : Passage) → IsOpen (far_after passage g o).isdu request h
     opens_after passage = grind (arith, common_steps, opens_heard)

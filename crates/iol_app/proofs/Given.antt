@@ -1,5 +1,5 @@
 -- The laws of the device's definitions, all together.
-use Rattle.std.proofs.Common.{◌≡◌, ℕ, suc, ◌≤◌, List, [], ◌∷◌, refl, ◌∙◌, arith}
+use Rattle.std.proofs.Common.{◌≡◌, inl, inr, ℕ, suc, ◌≤◌, List, [], ◌∷◌, refl, ◌∙◌, arith}
 use Rattle.std.proofs.lemmas.Grind.{common_steps}
 use Rattle.iol_event.specs.declared.event.Event.{Event}
 use Rattle.iol_link.specs.Honest.{Passage, OutLost, far_after}
@@ -7,7 +7,8 @@ use Rattle.iol_far.specs.declared.carried.Carried.{Carried}
 use Rattle.iol_far.specs.Far.{Far}
 use Rattle.iol_far.specs.Local.{LocalStep, local, locals}
 use Rattle.iol_far.specs.Level.{Progress, Link, IsLevel}
-use Rattle.iol_far.specs.Laws.{IsSized, RepliesAreRead, InputStaysSized, MuchStays, LevelLaws, EventLaws, ModesHaveLayouts}
+use Rattle.iol_far.specs.declared.kind.Kind.{Kind}
+use Rattle.iol_far.specs.Laws.{IsSized, RepliesAreRead, InputStaysSized, MuchStays, LevelLaws, LevelStays, EventLaws, ModesHaveLayouts}
 
 pub record Laws : Type 0 where
   pub level : (size : ℕ) → 1 ≤ size → LevelLaws size
@@ -44,19 +45,33 @@ module _ (laws : Laws) where
   sized_locals (step ∷ steps) far h =
       sized_locals steps (local far step) (laws.sized.steps far step h)
 
-  module _ (page : List ℕ) (size : ℕ) (has : 1 ≤ size) (base : List Carried) (link : Link)
-      (p : Progress) (o : List ℕ) where
+  pub kind_after : (passage : Passage) (far : Far) (o : List ℕ)
+      → (far_after passage far o).kind ≡ far.kind
+  kind_after OutLost far o = refl
+  kind_after other far o = laws.much.kind_heard far o
+
+  module _ (page : List ℕ) (kind : Kind) (size : ℕ) (has : 1 ≤ size) (base : List Carried)
+      (link : Link) (p : Progress) (o : List ℕ) where
+    abbrev stays : LevelStays page kind size base link p o
+    stays = (laws.level size has).stays page kind base link p o
+
     pub level_locals : (most : ℕ) (steps : List LocalStep) (far : Far)
-        → IsLevel page size base link p o most far
-        → IsLevel page size base link p o most (locals far steps)
+        → IsLevel page kind size base link p o most far
+        → IsLevel page kind size base link p o most (locals far steps)
     level_locals most [] far h = h
     level_locals most (step ∷ steps) far h =
-        level_locals most steps (local far step)
-        (((laws.level size has).stays page base link p o).steps most far step h)
+        level_locals most steps (local far step) (stays.steps most far step h)
 
     pub level_after : (most : ℕ) (passage : Passage) (far : Far)
-        → IsLevel page size base link p o most far
-        → IsLevel page size base link p o (suc most) (far_after passage far o)
-    level_after most OutLost far h =
-        ((laws.level size has).stays page base link p o).loses most far h
-    level_after most other far h = ((laws.level size has).stays page base link p o).hears most far h
+        → IsLevel page kind size base link p o most far
+        → IsLevel page kind size base link p o (suc most) (far_after passage far o)
+    level_after most OutLost far h = stays.loses most far h
+    level_after most other far h = stays.hears most far h
+
+    -- more hearings are allowed
+    pub level_more : (most more : ℕ) (far : Far) → most ≤ more
+        → IsLevel page kind size base link p o most far
+        → IsLevel page kind size base link p o more far
+    level_more most more far few (inl h) = inl h
+    level_more most more far few (inr (before, rest, h, heard, is)) =
+        inr (before, rest, h, omega (arith, few, heard), is)

@@ -18,7 +18,8 @@ use Rattle.iol_far.specs.Codec.{layout_in, flow_of}
 use Rattle.iol_far.specs.Isdu.{isdu_data, answer_text, fits}
 use Rattle.iol_far.specs.Far.{Far, hear, data_of, reply_to, output_of}
 use Rattle.iol_far.specs.Local.{LocalStep, locals, input_size}
-use Rattle.iol_far.specs.Level.{Progress, Quiet, Had as IsHad, Stands as FarStands, Move, Leave, Link, after, base_after, turned, IsBefore, IsGrown}
+use Rattle.iol_far.specs.declared.kind.Recalls.{Recalls}
+use Rattle.iol_far.specs.Level.{Progress, Quiet, Clear, Had as IsHad, Stands as FarStands, Move, Leave, Link, after, base_after, turned, IsIdle, IsSettled, IsBefore, IsGrown}
 use Rattle.iol_far.specs.Laws.{IsRegular, IsSized, ReplySays, confirms as octets_confirm}
 use Rattle.iol_segment.specs.TextLaws.{joined}
 use Rattle.iol_link.specs.Attempts.{Sending}
@@ -53,17 +54,28 @@ use Rattle.iol_app.specs.Messages.{Head, head_of, read_of}
 use Rattle.iol_app.specs.Requests.{request_in, current_after}
 use Rattle.iol_app.specs.Moves.{progress_of, move_for, confirms_events}
 use Rattle.iol_image.specs.Image.{IsImage}
-use Rattle.iol_app.specs.State.{SessionState, IsSession, absorbed, image_in}
+use Rattle.iol_mode.specs.declared.configuration.Devices.{Devices}
+use Rattle.iol_mode.specs.Kinds.{trusted}
+use Rattle.iol_app.specs.State.{SessionState, IsSession, absorbed, clear_after, image_in}
 use Rattle.iol_app.specs.StationState.{StateFits as Joined}
 use Rattle.iol_app.specs.declared.output.Output.{Output}
-use Rattle.iol_app.specs.Core.{Core, Ghost, Stands, ReceiveGives, OperateRequest, core_out, reading_at, reading_in, moment_of, seen_in, shown_in, settled_core}
+use Rattle.iol_app.specs.Core.{Core, Ghost, Stands, ReceiveGives, work_of, vain_by, OperateRequest, core_out, reading_at, reading_in, moment_of, seen_in, shown_in, settled_core}
 use Rattle.iol_app.proofs.ReadingOn.{Took, reads_next}
 use Rattle.iol_app.proofs.SmallFacts.{confirms_is, same_output, input_is, input_hear, input_locals, image_octets, HasOctets}
-use Rattle.iol_app.proofs.Exchanging.{Passes, gives, at, tied', confirms, told'}
+use Rattle.iol_app.proofs.Exchanging.{Passes, gives, at, some_od as least, tied', confirms, told'}
 
-pub progress_fits : (current : Option Current)
-    → ProgressFits (progress_of current) (request_in current)
-progress_fits current = grind (arith, common_steps)
+pub progress_fits : (devices : Devices) (clear : Bool) (current : Option Current)
+    → ProgressFits (progress_of devices clear current) (request_in current)
+progress_fits devices clear current = grind (arith, common_steps)
+
+-- after IDLE and ABORT the device holds nothing
+left_clear : (trust : Recalls) (vain : ℕ) (p : Progress) (what : Move) (x : List ℕ)
+    → what ≡ Leave → after trust vain p what x ≡ Clear
+left_clear trust vain p what x e = grind (arith, common_steps)
+
+idle_base : (base carried : List Carried) (p : Progress) → IsIdle p → IsGrown base p carried
+    → carried ≡ base
+idle_base base carried p idle grown = grind (arith, common_steps)
 
 -- a reading that is under way goes on
 kept_at : (reading : app.Reading) (flag event : Bool) (due : Event × List Event)
@@ -112,8 +124,10 @@ module _ (laws : Laws) (readers : ReaderLaws) (turn : Good) where
     pub replies : (hear (locals far steps) o).reply ≡ Some octets
     pub far_is : far' ≡ there
     pub reply_is : r ≡ reply_to there layouts.run w.message
-    pub says : ReplySays g.page layouts.run.od g.request.base stands.request.link
-        (progress_of current) o w.message (move_for e current) (hear (locals far steps) o)
+    pub says : ReplySays g.page g.kind (trusted t.configuration.devices)
+        (vain_by t.configuration.devices e current w.tries) layouts.run.od g.request.base
+        stands.request.link (progress_of t.configuration.devices t.clear current) o w.message
+        (move_for e current) (hear (locals far steps) o)
     pub told_as : there.valid ≡ told_by (output_for e) t.output.told
     pub out_is : there.out ≡ w.message.out.items
     pub accepted : IsAccepted layouts g.page stands.request.link w.message
@@ -136,9 +150,25 @@ module _ (laws : Laws) (readers : ReaderLaws) (turn : Good) where
     abbrev m : Moment
     m = moment_of c g n (Exchanged true)
 
-    abbrev up : OperateRequest (record { out = Some w; layouts = layouts }) t.limit current
-        (Some e) R g far
+    abbrev up : OperateRequest (record { out = Some w; layouts = layouts }) (work_of c.session) R
+        g far
     up = a.stands.request
+
+    abbrev devices : Devices
+    devices = t.configuration.devices
+
+    abbrev trust : Recalls
+    trust = trusted devices
+
+    abbrev pub vain : ℕ
+    vain = vain_by devices e current w.tries
+
+    abbrev pub progress : Progress
+    progress = progress_of devices t.clear current
+
+    -- once the reply was had
+    abbrev pub clear : Bool
+    clear = clear_after e t.clear
 
     abbrev what : Move
     what = move_for e current
@@ -150,42 +180,81 @@ module _ (laws : Laws) (readers : ReaderLaws) (turn : Good) where
         w.message.mc.channel w.message.mc.address else [])
     od_is = ap (λ (q : Reply). q.od.items) a.reply_is
 
-    pub before : IsBefore g.page layouts.run.od (base_after what g.request.base there.carried)
-        operate_link (after (progress_of current) what od) there
+    pub before : IsBefore g.page g.kind layouts.run.od
+        (base_after what g.request.base there.carried) operate_link
+        (after trust vain progress what od) there
     before =
-        subst (λ (q : Progress). IsBefore g.page layouts.run.od
+        subst (λ (q : Progress). IsBefore g.page g.kind layouts.run.od
         (base_after what g.request.base there.carried) operate_link q there)
-        (sym (ap (after (progress_of current) what) od_is
-        ∙ data_after layouts.run.od what (progress_of current) w.message.mc.channel
+        (sym (ap (after trust vain progress what) od_is
+        ∙ data_after trust vain layouts.run.od what progress w.message.mc.channel
         w.message.mc.read (flow_of w.message.mc.address) w.message.od.items
         w.message.mc.address there up.out.goes.move))
-        (subst (λ (l : Link). IsBefore g.page layouts.run.od
+        (subst (λ (l : Link). IsBefore g.page g.kind layouts.run.od
         (base_after what g.request.base there.carried) l
-        (after (progress_of current) what (isdu_data layouts.run.od there.isdu)) there)
+        (after trust vain progress what (isdu_data layouts.run.od there.isdu)) there)
         next_link a.says.before)
+
+    pub some_od : 1 ≤ layouts.run.od
+    some_od = least laws layouts w t g far n steps Clean e current a.stands
+
+    -- a request that is over leaves none under way, with the record as it is
+    pub settled : (p : Progress) → IsSettled p → after trust vain progress what od ≡ p
+        → IsBefore g.page g.kind layouts.run.od there.carried operate_link Quiet there
+    settled p over is =
+        (laws.level layouts.run.od some_od).settles g.page g.kind
+        (base_after what g.request.base there.carried) operate_link p there over
+        (subst (λ (q : Progress). IsBefore g.page g.kind layouts.run.od
+        (base_after what g.request.base there.carried) operate_link q there) is before)
+
+    -- how far both ends have come: as the reply says, or none of a request is under way
+    abbrev pub Reaches : Option Current → Type 0
+    Reaches next = (after trust vain progress what od ≡ progress_of devices clear next)
+        ⊎ ((what ≡ Leave) × IsIdle (progress_of devices clear next))
+
+    pub reached : (next : Option Current) → Reaches next
+        → IsBefore g.page g.kind layouts.run.od (base_after what g.request.base there.carried)
+        operate_link (progress_of devices clear next) there
+    reached next (inl is) =
+        subst (λ (q : Progress). IsBefore g.page g.kind layouts.run.od
+        (base_after what g.request.base there.carried) operate_link q there) is before
+    reached next (inr (leaves, idle)) = by_progress (progress_of devices clear next) idle
+      where
+        left : after trust vain progress what od ≡ Clear
+        left = left_clear trust vain progress what od leaves
+
+        by_progress : (p : Progress) → IsIdle p → IsBefore g.page g.kind layouts.run.od
+            (base_after what g.request.base there.carried) operate_link p there
+        by_progress Quiet idle =
+            subst (λ (c : List Carried). IsBefore g.page g.kind layouts.run.od c operate_link
+            Quiet there) (ap (λ (m : Move). base_after m g.request.base there.carried)
+            (sym leaves)) (settled Clear tt left)
+        by_progress Clear idle = subst (λ (q : Progress). IsBefore g.page g.kind layouts.run.od
+            (base_after what g.request.base there.carried) operate_link q there) left before
+        by_progress p idle = absurd idle
 
     pub tied : IsTied g.request.base request h there.carried
     tied = tied' laws layouts w t g far n steps Clean e current a.stands
 
-    quiet_base : progress_of current ≡ Quiet → there.carried ≡ g.request.base
-    quiet_base quiet = subst (λ (q : Progress). IsGrown g.request.base q there.carried) quiet
-        a.says.grown
+    quiet_base : IsIdle progress → there.carried ≡ g.request.base
+    quiet_base idle = idle_base g.request.base there.carried progress idle a.says.grown
 
     -- the segments of an answer, the last of which has octets of its text
     pub text : ReadsAnswer what → (q : Request) (i : ℕ) (octets : List ℕ)
-        → after (progress_of current) what od ≡ IsHad q i octets
+        → after trust vain progress what od ≡ IsHad q i octets
         → (answer : Answer) × IsTrue (fits q answer)
         × (octets ≡ joined layouts.run.od (answer_text q answer) i)
         × (i * layouts.run.od < length (answer_text q answer))
     text k q i octets is =
-        had_text layouts.run.od (base_after what g.request.base there.carried) q i octets
-        there.isdu there.carried
-        (subst (λ (p : Progress). FarStands layouts.run.od
-        (base_after what g.request.base there.carried) p there.isdu there.carried) is
+        had_text g.kind.hands_over trust vain layouts.run.od
+        (base_after what g.request.base there.carried) q i octets
+        there.isdu there.counted there.carried
+        (subst (λ (p : Progress). FarStands g.kind.hands_over layouts.run.od
+        (base_after what g.request.base there.carried) p there.isdu there.counted there.carried) is
         before.stands)
-        what (progress_of current) w.message.mc.channel w.message.mc.read
+        what progress w.message.mc.channel w.message.mc.read
         (flow_of w.message.mc.address) w.message.od.items od k up.out.goes.move
-        (od_is ∙ answers_data layouts.run.od what (progress_of current) w.message.mc.channel
+        (od_is ∙ answers_data layouts.run.od what progress w.message.mc.channel
         w.message.mc.read (flow_of w.message.mc.address) w.message.od.items
         w.message.mc.address there k up.out.goes.move) is
 
@@ -335,9 +404,11 @@ module _ (laws : Laws) (readers : ReaderLaws) (turn : Good) where
       pub calm : IsTrue g.fresh → no_clash (brought_steps kind request)
       pub once : no_make (brought_steps kind request) ≡ true
       pub base : List Carried
-      pub level : IsBefore g.page layouts.run.od base operate_link (progress_of next) there
+      pub level : IsBefore g.page g.kind layouts.run.od base operate_link
+          (progress_of devices clear next) there
       pub answer : AnswerFits base (request_in next) h there.carried
-      pub busy_is : BusySeen t.limit next busy g.request.asked
+      pub busy_is : BusySeen devices t.limit next busy g.request.asked
+      pub sure : IfSome next (λ c. c.again ≡ false)
       pub known : IsSome (request_in next) → IsSome request
 
     pub had : (reads : Reads) (kind : Brought) (busy : ℕ)
@@ -370,6 +441,7 @@ module _ (laws : Laws) (readers : ReaderLaws) (turn : Good) where
         (record {
           limit = refl;
           page = refl;
+          kind = refl;
           configuration = refl;
           session = b.session;
           frozen = b.frozen;
@@ -392,14 +464,15 @@ module _ (laws : Laws) (readers : ReaderLaws) (turn : Good) where
           wanted = λ k. ordered_now;
           request_is = record {
             late = tied.0;
-            opens = stands_open layouts.run.od b.base
-                (progress_of (current_after e t.limit od current)) there.isdu there.carried
+            opens = stands_open g.kind.hands_over layouts.run.od b.base
+                (progress_of devices clear (current_after e t.limit od current)) there.isdu
+                there.counted there.carried
                 (request_in (current_after e t.limit od current)) h b.level.stands
-                (progress_fits (current_after e t.limit od current)) b.answer;
+                (progress_fits devices clear (current_after e t.limit od current)) b.answer;
             link = operate_link;
             linked = inr refl;
             level = b.level;
-            out = tt;
+            out = b.sure;
             answer = b.answer;
             busy = b.busy_is;
             known = λ k. up.known (b.known k);
@@ -443,11 +516,11 @@ module _ (laws : Laws) (readers : ReaderLaws) (turn : Good) where
 
     -- a request goes on, or none is under way
     pub goes_on : (reads : Reads) (next : Option Current) → request_in next ≡ request
-        → (what ≡ Leave → progress_of current ≡ Quiet)
-        → after (progress_of current) what od ≡ progress_of next
-        → BusySeen t.limit next g.request.busy g.request.asked
+        → (what ≡ Leave → IsIdle progress) → Reaches next
+        → BusySeen devices t.limit next g.request.busy g.request.asked
+        → IfSome next (λ c. c.again ≡ false)
         → list_read e od t.events.reading ≡ None → said ≡ quiet_said request → Comes next
-    goes_on reads next same leaves is busy none says = record {
+    goes_on reads next same leaves is busy once none says = record {
       reads = reads;
       kind = Had;
       busy = g.request.busy;
@@ -465,13 +538,13 @@ module _ (laws : Laws) (readers : ReaderLaws) (turn : Good) where
         calm = λ k. refl;
         once = refl;
         base = base_after what g.request.base there.carried;
-        level = subst (λ (q : Progress). IsBefore g.page layouts.run.od
-            (base_after what g.request.base there.carried) operate_link q there) is before;
+        level = reached next is;
         answer = subst (λ (q : Option Request). AnswerFits
             (base_after what g.request.base there.carried) q h there.carried) (sym same)
             (answer_after what g.request.base there.carried request h
             (λ k. quiet_base (leaves k)) tied.1);
         busy_is = busy;
+        sure = once;
         known = subst (λ (q : Option Request). IsSome (request_in next) → IsSome q) same (λ k. k);
       };
     }

@@ -2,7 +2,6 @@
 -- and one list of steps.
 use Rattle.std.proofs.Common.{◌≡◌, ◌∷◌, ◌++◌, List, ℕ, true, Option, sym, ap, ◌∙◌, subst, filter}
 use Rattle.std.specs.Prelude.{IsTrue}
-use Rattle.iol_page.specs.declared.identity.Identity.{Identity}
 use Rattle.iol_far.specs.Far.{Far}
 use Rattle.iol_mode.specs.declared.configuration.Configuration.{Configuration}
 use Rattle.iol_steps.specs.declared.mode.Mode.{Mode}
@@ -16,9 +15,14 @@ use Rattle.iol_app.specs.StationState.{mode_in}
 use Rattle.iol_app.specs.Core.{Core, Ghost, SendGives, CallGives, ordered, moment_of, session_in, images_in}
 use Rattle.iol_app.proofs.Clash.{make_apart}
 
-abbrev moment_by : ℕ → List ℕ → Option Identity → Mode → ℕ → WireCall → Moment
-moment_by limit page expected began n call = record {
-  terms = record { busy_limit = limit; page = page; expected = expected };
+abbrev moment_by : ℕ → List ℕ → Configuration → Mode → ℕ → WireCall → Moment
+moment_by limit page k began n call = record {
+  terms = record {
+    devices = k.devices;
+    busy_limit = limit;
+    page = page;
+    expected = k.expected;
+  };
   began = began;
   silence = n;
   call = call;
@@ -30,14 +34,14 @@ pub turn_of : (c mid next : Core) (g after : Ghost) (far far' : Far) (n n' : ℕ
 turn_of c mid next g after far far' n n' said s r unmade =
     let m : Moment = moment_of c g n r.call in
     let at : moment_of mid after n r.call ≡ m =
-    ap (λ (l : ℕ). moment_by l after.page mid.session.configuration.expected (mode_in mid.state)
-    n r.call) s.terms.0
-    ∙ ap (λ (p : List ℕ). moment_by c.session.limit p mid.session.configuration.expected
+    ap (λ (l : ℕ). moment_by l after.page mid.session.configuration (mode_in mid.state) n r.call)
+    s.terms.0
+    ∙ ap (λ (p : List ℕ). moment_by c.session.limit p mid.session.configuration
     (mode_in mid.state) n r.call) s.terms.1
-    ∙ ap (λ (k : Configuration). moment_by c.session.limit g.page k.expected (mode_in mid.state)
-    n r.call) s.terms.2
-    ∙ ap (λ (b : Mode). moment_by c.session.limit g.page c.session.configuration.expected b n
-    r.call) s.mode in
+    ∙ ap (λ (k : Configuration). moment_by c.session.limit g.page k (mode_in mid.state) n r.call)
+    s.terms.2
+    ∙ ap (λ (b : Mode). moment_by c.session.limit g.page c.session.configuration b n r.call)
+    s.mode in
     let images : images_after m Make (images_in c g far) ≡ images_in mid after far =
     s.images r.call in
     let last : ImageIsLast m (mode_in next.state) (images_in mid after far)
@@ -56,7 +60,12 @@ turn_of c mid next g after far far' n n' said s r unmade =
       after = r.after;
       fits = subst (λ (b : Mode). CallFits b r.call) s.mode r.fits;
       silent = r.silent;
-      terms = (r.terms.0 ∙ s.terms.0, r.terms.1 ∙ s.terms.1, r.terms.2 ∙ s.terms.2);
+      terms = (
+        r.terms.0 ∙ s.terms.0,
+        r.terms.1 ∙ s.terms.1,
+        r.terms.2 ∙ s.terms.2,
+        r.terms.3 ∙ s.terms.3,
+      );
       clash_free = rw (make_apart r.steps unmade) r.clash_free;
       fresh = λ k. r.fresh (subst IsTrue s.fresh k);
       said_book = subst (λ (b : Mode). filter is_for_book r.steps

@@ -1,13 +1,14 @@
 -- The session's part of an exchange, kind by kind.
-use Rattle.std.proofs.Common.{◌≡◌, ℕ, ◌+◌, ◌≤◌, Bool, true, List, refl, arith}
+use Rattle.std.proofs.Common.{◌≡◌, ℕ, zero, suc, ◌+◌, ◌≤◌, Bool, true, false, List, refl, arith}
 use Rattle.std.proofs.lemmas.Grind.{common_steps}
-use Rattle.std.specs.Prelude.{Option, Some, None, ◌==◌, IsTrue, slice_index}
+use Rattle.std.specs.Prelude.{Option, Some, None, ◌==◌, IsTrue, slice_index, replicate}
 use Rattle.iol_isdu.specs.declared.values.Request.{Request}
 use Rattle.iol_isdu.specs.declared.values.Answer.{Answer}
 use Rattle.iol_isdu.specs.declared.values.Cause.{Cause}
 use Rattle.iol_segment.specs.TextLaws.{joined}
 use Rattle.iol_far.specs.declared.carried.Carried.{Carried}
-use Rattle.iol_far.specs.Isdu.{IsduState, fits, answer_text, isdu_data}
+use Rattle.iol_far.specs.declared.kind.HandsOver.{HandsOver}
+use Rattle.iol_far.specs.Isdu.{IsduState, Empty, Receiving as IsReceiving, Whole, Handed, Answered, fits, answer_text, isdu_data}
 use Rattle.iol_far.specs.Level.{Busy as IsBusy, Had as IsHad, Stands as FarStands}
 use Rattle.iol_steps.specs.declared.mode.Mode.{Mode}
 use Rattle.iol_steps.specs.declared.mode.Mode.TheVariants.{Down}
@@ -39,7 +40,7 @@ answered_session m seen h c r a under is = rw (under, is) ((refl, (tt, tt)), ref
 -- whether it had an answer or not
 pub aborted_session : (m : Moment) (seen : Seen) (h : Hidden) (c : List Carried) (r : Request)
     (cause : Cause) → seen.request ≡ Some r
-    → MayAbort m.terms.busy_limit seen.busy seen.asked cause →
+    → MayAbort m.terms.devices m.terms.busy_limit seen.busy seen.asked cause →
     SessionRuns m seen h c (brought_steps (WasAborted cause) seen.request) (freed seen) h c
 aborted_session m seen h c r cause under may = grind (arith, common_steps)
 
@@ -74,18 +75,31 @@ lost_opens state request h opens = grind (arith, common_steps)
 
 -- What a good reply says of the answer
 
-pub busy_base : (size : ℕ) (base : List Carried) (r : Request) (s : IsduState)
-    (c : List Carried) → FarStands size base (IsBusy r) s c
+not_one : (size : ℕ) → (slice_index (replicate size 0) 0 == 1) ≡ true → ⊥
+not_one zero e = absurd (let z : false ≡ true = e in cc)
+not_one (suc size) e = absurd (let z : false ≡ true = e in cc)
+
+pub busy_base : (hands_over : HandsOver) (size : ℕ) (base : List Carried) (r : Request)
+    (s : IsduState) (counted : Option ℕ) (c : List Carried)
+    → FarStands hands_over size base (IsBusy r) s counted c
     → (slice_index (isdu_data size s) 0 == 1) ≡ true → c ≡ base
-busy_base size base r s c given given2 = grind (arith, common_steps)
+busy_base hands_over size base r (Handed q) counted c h e = h.1
+busy_base hands_over size base r (Answered q a None) counted c h e =
+    absurd (not_one size e)
+busy_base hands_over size base r (Answered q a (Some i)) counted c h e = absurd h
+busy_base hands_over size base r Empty counted c h e = absurd h
+busy_base hands_over size base r (IsReceiving text last) counted c h e = absurd h
+busy_base hands_over size base r (Whole q last) counted c h e = absurd h
 
 pub busy_unanswered : (base : List Carried) (r : Request) (h : Hidden) (c : List Carried)
     → AnswerFits base (Some r) h c → c ≡ base → h.answer ≡ None
 busy_unanswered base r h c given given2 = grind (arith, common_steps)
 
-pub had_answer : (size : ℕ) (base : List Carried) (r : Request) (i : ℕ) (text : List ℕ)
-    (s : IsduState) (c : List Carried) (h : Hidden) (x : Answer) →
-    FarStands size base (IsHad r i text) s c → AnswerFits base (Some r) h c →
+pub had_answer : (hands_over : HandsOver) (size : ℕ) (base : List Carried) (r : Request) (i : ℕ)
+    (text : List ℕ) (s : IsduState) (counted : Option ℕ) (c : List Carried) (h : Hidden)
+    (x : Answer) → FarStands hands_over size base (IsHad r i text) s counted c
+    → AnswerFits base (Some r) h c →
     ((a : Answer) → IsTrue (fits r a) → text ≡ joined size (answer_text r a) i → a ≡ x)
     → h.answer ≡ Some x
-had_answer size base r i text s c h x given given2 given3 = grind (arith, common_steps)
+had_answer hands_over size base r i text s counted c h x given given2 given3 =
+    grind (arith, common_steps)

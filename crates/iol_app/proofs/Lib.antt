@@ -39,6 +39,7 @@ pub mod Starting
 pub mod Calling
 pub mod FarSide
 pub mod ReadingOn
+pub mod Missing
 pub mod Exchanging
 pub mod Had
 pub mod Cases

@@ -8,6 +8,7 @@ use Rattle.iol_isdu.specs.declared.values.Request.{Request}
 use Rattle.iol_isdu.specs.declared.values.Answer.{Answer}
 use Rattle.iol_segment.specs.TextLaws.{joined}
 use Rattle.iol_far.specs.declared.carried.Carried.{Carried}
+use Rattle.iol_far.specs.declared.kind.Recalls.{Recalls}
 use Rattle.iol_far.specs.Isdu.{fits, answer_text, isdu_data}
 use Rattle.iol_far.specs.Far.{Far, data_of}
 use Rattle.iol_far.specs.Level.{Progress, Had as IsHad, Move, Ask, Next, Leave, after, IsMove, base_after}
@@ -16,12 +17,13 @@ use Rattle.iol_steps.specs.Station.{AnswerFits}
 use Rattle.iol_steps.specs.Exchange.{ReadsAnswer}
 
 -- only reads on the ISDU channel bring the request on by what they bring
-pub data_after : (size : ℕ) (what : Move) (p : Progress) (channel : Channel) (read : Bool)
-    (flow : Flow) (sent : List ℕ) (address : ℕ) (far : Far)
+pub data_after : (trust : Recalls) (vain size : ℕ) (what : Move) (p : Progress)
+    (channel : Channel) (read : Bool) (flow : Flow) (sent : List ℕ) (address : ℕ) (far : Far)
     → IsMove size what p channel read flow sent →
-    after p what (if read then data_of far size channel address else [])
-    ≡ after p what (isdu_data size far.isdu)
-data_after size what p channel read flow sent address far given = grind (arith, common_steps)
+    after trust vain p what (if read then data_of far size channel address else [])
+    ≡ after trust vain p what (isdu_data size far.isdu)
+data_after trust vain size what p channel read flow sent address far given =
+    grind (arith, common_steps)
 
 -- and brings what the device's ISDU sends
 pub asks_data : (size : ℕ) (p : Progress) (channel : Channel) (read : Bool) (flow : Flow)

@@ -1,14 +1,21 @@
 -- What the two ends' level says of the request that may still be carried out, and of its answer.
-use Rattle.std.proofs.Common.{◌≡◌, ℕ, List, [], ◌∷◌, refl, arith}
+use Rattle.std.proofs.Common.{◌≡◌, inl, inr, ℕ, List, [], ◌∷◌, refl, sym, ◌∙◌, ap, subst, arith}
 use Rattle.std.proofs.lemmas.Grind.{common_steps}
 use Rattle.std.specs.Prelude.{Option, Some, None}
 use Rattle.iol_mseq.specs.declared.master.MasterMsg.{MasterMsg}
 use Rattle.iol_isdu.specs.declared.values.Request.{Request}
 use Rattle.iol_far.specs.declared.carried.Carried.{Carried}
-use Rattle.iol_far.specs.Isdu.{IsduState, Handed, fits}
+use Rattle.iol_isdu.specs.Texts.{request_text}
+use Rattle.iol_segment.specs.TextLaws.{joined}
+use Rattle.iol_segment.specs.JoinLaws.{count_at}
+use Rattle.iol_far.specs.Isdu.{IsduState, Empty, Handed, fits, received, isdu_data}
 use Rattle.iol_far.specs.Far.{Far, Heard, hear, heard_as}
 use Rattle.iol_far.specs.Local.{LocalStep, local, locals}
-use Rattle.iol_far.specs.Level.{Progress, Busy as IsBusy, Stands as FarStands, Move, after, base_after, Link}
+use Rattle.iol_far.specs.declared.kind.Kind.{Kind}
+use Rattle.iol_far.specs.declared.kind.HandsOver.{HandsOver}
+use Rattle.iol_far.specs.declared.kind.HandsOver.TheVariants.{FirstRead, LastSegment}
+use Rattle.iol_far.specs.declared.kind.Recalls.{Recalls}
+use Rattle.iol_far.specs.Level.{Progress, Perhaps, Written, Busy as IsBusy, IsWritten, Stands as FarStands, Move, Begin, Leave, after, base_after, Link}
 use Rattle.iol_far.specs.Laws.{ReplySays}
 use Rattle.iol_steps.specs.Bridge.{Hidden, open_request, IsOpen, hidden_after, hidden_through}
 use Rattle.iol_steps.specs.Station.{AnswerFits, ProgressFits}
@@ -42,30 +49,87 @@ pub hear_carried : (far : Far) (o : List ℕ) → (hear far o).far.carried ≡ f
 hear_carried far o = by_accepted (λ q. (heard_as far o q).far.carried ≡ far.carried) far o refl
     (λ awake m e. refl) (λ awake command w m e. refl)
 
--- the far end is handed a request only while the master hears that it is busy with it, and the
--- record is as it was
-pub stands_handed : (size : ℕ) (base : List Carried) (p : Progress) (q : Request)
-    (c : List Carried) → FarStands size base p (Handed q) c → (p ≡ IsBusy q) × (c ≡ base)
-stands_handed size base p q c h = grind (arith, common_steps)
+unhanded : (text : List ℕ) (last : Option ℕ) (q : Request) → Handed q ≡ received text last → ⊥
+unhanded text last q e = grind (arith, common_steps)
+
+written_handed : (hands_over : HandsOver) (size : ℕ) (base : List Carried) (r : Request) (i : ℕ)
+    (q : Request) (counted : Option ℕ) (c : List Carried)
+    → IsWritten hands_over size base r i (Handed q) counted c → (q ≡ r) × (c ≡ base)
+written_handed FirstRead size base r i q counted c h =
+    absurd (unhanded (joined size (request_text r) i) (count_at i) q h.0)
+written_handed LastSegment size base r i q counted c (e, inl h) =
+    absurd (unhanded (joined size (request_text r) i) (count_at i) q h.1)
+written_handed LastSegment size base r i q counted c (e, inr h) = h.1
+
+-- the far end is handed a request only where the progress names it, and the record is as it was
+pub stands_handed : (hands_over : HandsOver) (size : ℕ) (base : List Carried) (p : Progress)
+    (q : Request) (counted : Option ℕ) (c : List Carried)
+    → FarStands hands_over size base p (Handed q) counted c
+    → ((request : Option Request) → ProgressFits p request → request ≡ Some q) × (c ≡ base)
+stands_handed hands_over size base (Perhaps r) q counted c (is, last, inl h) =
+    absurd (let z : Path IsduState (Handed q) Empty = h.0 in cc)
+stands_handed hands_over size base (Perhaps r) q counted c (is, last, inr h) =
+    let w = written_handed hands_over size base r 0 q counted c h in
+    ((λ request fits. fits ∙ ap (λ (x : Request). Some x) (sym w.0)), w.1)
+stands_handed hands_over size base (Written r i) q counted c h =
+    let w = written_handed hands_over size base r i q counted c h.1 in
+    ((λ request fits. fits ∙ ap (λ (x : Request). Some x) (sym w.0)), w.1)
+stands_handed hands_over size base (IsBusy r) q counted c h =
+    ((λ request fits. fits ∙ ap (λ (x : Request). Some x) (sym h.0)), h.1)
+stands_handed hands_over size base p q counted c h = absurd h
 
 -- what is handed is the request under way, where both stand so
-pub stands_open : (size : ℕ) (base : List Carried) (p : Progress) (state : IsduState)
-    (c : List Carried) (request : Option Request) (h : Hidden) → FarStands size base p state c
-    → ProgressFits p request → AnswerFits base request h c → IsOpen state request h
-stands_open size base p state c request h stands fits answer = grind (arith, common_steps)
+pub stands_open : (hands_over : HandsOver) (size : ℕ) (base : List Carried) (p : Progress)
+    (state : IsduState) (counted : Option ℕ) (c : List Carried) (request : Option Request)
+    (h : Hidden) → FarStands hands_over size base p state counted c → ProgressFits p request
+    → AnswerFits base request h c → IsOpen state request h
+stands_open hands_over size base p (Handed q) counted c request h stands fits answer =
+    let there = stands_handed hands_over size base p q counted c stands in
+    handed_opens base request h c q (there.0 request fits) there.1 answer
+stands_open hands_over size base p state counted c request h stands fits answer = tt
 
--- the request that is then busy was under way before the message, whose move doesn't end it
-busy_named : (p : Progress) (what : Move) (data_in : List ℕ) (base carried : List Carried)
-    (request : Option Request) (q : Request) →
-    after p what data_in ≡ IsBusy q → ProgressFits p request
-    → (request ≡ Some q) × (base_after what base carried ≡ base)
-busy_named p what d base carried request q = grind (arith, common_steps)
+-- the progress behind a reply is that of the request too
+fits_after : (trust : Recalls) (vain : ℕ) (p : Progress) (what : Move) (x : List ℕ)
+    (request : Option Request) → ProgressFits p request
+    → ((q : Request) → what ≡ Begin q → request ≡ Some q)
+    → ProgressFits (after trust vain p what x) request
+fits_after trust vain p (Begin q) x request fits begins = begins q refl
+fits_after trust vain p what x request fits begins = grind (arith, common_steps)
+
+-- where that isn't over, the record that it began with is that of before
+base_kept : (what : Move) (base c : List Carried) → (what ≡ Leave → ⊥)
+    → base_after what base c ≡ base
+base_kept what base c other = grind (arith, common_steps)
 
 -- the far end once it heard a message that it replies to
-pub replied_opens : (page : List ℕ) (size : ℕ) (base : List Carried) (link : Link)
-    (p : Progress) (o : List ℕ) (m : MasterMsg) (what : Move) (heard : Heard)
-    (request : Option Request) (h : Hidden) →
-    ReplySays page size base link p o m what heard → ProgressFits p request
+pub replied_opens : (page : List ℕ) (kind : Kind) (trust : Recalls) (vain size : ℕ)
+    (base : List Carried) (link : Link) (p : Progress) (o : List ℕ) (m : MasterMsg) (what : Move)
+    (heard : Heard) (request : Option Request) (h : Hidden)
+    → ReplySays page kind trust vain size base link p o m what heard → ProgressFits p request
+    → ((q : Request) → what ≡ Begin q → request ≡ Some q)
     → AnswerFits base request h heard.far.carried → IsOpen heard.far.isdu request h
-replied_opens page size base link p o m what heard request h says fits answer =
-    grind (arith, common_steps, stands_handed, busy_named, handed_opens)
+replied_opens page kind trust vain size base link p o m what heard request h says fits begins
+    answer = by_state heard.far.isdu refl
+  where
+    p' : Progress
+    p' = after trust vain p what (isdu_data size heard.far.isdu)
+
+    left : (q : Request) → what ≡ Leave
+        → FarStands kind.hands_over size (base_after what base heard.far.carried) p' (Handed q)
+        heard.far.counted heard.far.carried → ⊥
+    left q e = grind (arith, common_steps)
+
+    by_state : (s : IsduState) → heard.far.isdu ≡ s → IsOpen s request h
+    by_state (Handed q) e =
+        let stands : FarStands kind.hands_over size (base_after what base heard.far.carried) p'
+        (Handed q) heard.far.counted heard.far.carried =
+        subst (λ (s : IsduState). FarStands kind.hands_over size
+        (base_after what base heard.far.carried) p' s heard.far.counted heard.far.carried) e
+        says.before.stands in
+        let there = stands_handed kind.hands_over size (base_after what base heard.far.carried) p' q
+        heard.far.counted heard.far.carried stands in
+        handed_opens base request h heard.far.carried q
+        (there.0 request (fits_after trust vain p what (isdu_data size heard.far.isdu) request
+        fits begins))
+        (there.1 ∙ base_kept what base heard.far.carried (λ k. left q k stands)) answer
+    by_state s e = tt

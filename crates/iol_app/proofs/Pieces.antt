@@ -1,6 +1,6 @@
 -- The two pieces of a turn, over the core's own data.
 use Rattle.std.proofs.lemmas.Grind.{common_steps}
-use Rattle.std.proofs.Common.{◌≡◌, inl, inr, ℕ, Bool, true, false, List, [], ◌∷◌, refl, sym, ap, subst, lit<, Option, Some, None, arith}
+use Rattle.std.proofs.Common.{◌≡◌, inl, inr, ℕ, Bool, true, false, List, [], ◌∷◌, refl, sym, ap, ◌∙◌, subst, lit<, Option, Some, None, arith}
 use Rattle.iol_octets.specs.Control.{control_of}
 use Rattle.iol_mseq.specs.Shape.{startup_shape}
 use Rattle.iol_mseq.specs.Master.{HasMasterParts}
@@ -18,7 +18,7 @@ use Rattle.iol_mode.specs.declared.states.State.{State}
 use Rattle.iol_mode.specs.declared.states.State.TheVariants.{Down as AtDown, Operate as AtOperate}
 use Rattle.iol_mode.specs.Messages.{page_read, command_message, unsent}
 use Rattle.iol_mode.specs.Next.{EnteredFits}
-use Rattle.iol_mode.specs.States.{Outcome, OutcomeFits, StateFits, IsDown, is_starting, state_of, waked, operate_by, counted}
+use Rattle.iol_mode.specs.States.{Outcome, InDown, InStartup, InPreoperate, InOperate, OutcomeFits, StateFits, IsDown, is_starting, state_of, waked, operate_by, counted}
 use Rattle.iol_mode.specs.Exchanges.{IsSending, AreFew, ExchangeGives, AcceptedBy, StandsOn, WakeStands, judged, text_out}
 use Rattle.iol_mode.specs.Turns.{IsRisen}
 use Rattle.iol_mode.specs.Stands.{StateStands}
@@ -34,7 +34,7 @@ use Rattle.iol_app.specs.State.{SessionState, IsSession, IsOutBy, IsMessageFor, 
 use Rattle.iol_app.specs.StationState.{StateFits as Joined, IsStill, NextFits, IsSettledSaid, settled_session, waked_session, mode_in}
 use Rattle.iol_app.specs.StationLaws.{StationLaws}
 use Rattle.iol_app.specs.Core.{came_of, Core, Ghost, Stands, CallGives, ReceiveGives, SendGives, made_ghost, IsAttempted, ordered, moment_of, images_in, after_exchange, settled_core, after_wake, core_out}
-use Rattle.iol_app.proofs.Doubts.{own_settled}
+use Rattle.iol_app.proofs.Doubts.{after_fits}
 use Rattle.iol_app.specs.Pieces.{SendSteps, Received, WakeSteps, ReceiveSteps}
 use Rattle.iol_app.proofs.Turns.{startup_next, preoperate_next, operate_next}
 use Rattle.iol_app.proofs.Settling.{settled_fits}
@@ -78,13 +78,27 @@ pub no_exchange : (e : Option Exchange) (s : SessionState) → IsOutBy e s None 
 no_exchange e s h = grind (arith, common_steps)
 
 -- after a turn a message that is out was sent
-operate_tried : (w : Sending) (layouts : Layouts) (reply : Option Reply)
-    → IsAttempted (state_of (operate_by (counted w reply) layouts (attempt_of w.tries reply)))
-operate_tried w layouts reply = grind (arith, common_steps)
+operate_tried : (w : Sending) (layouts : Layouts) (reply : Option Reply) (s : SessionState)
+    → IsAttempted (after_exchange
+    (operate_by (counted w reply) layouts (attempt_of w.tries reply)) s).state
+operate_tried w layouts reply s = grind (arith, common_steps)
 
 entered_tried : (outcome : Outcome) (n : ℕ) (far : Far) → EnteredFits outcome n far
     → IsAttempted (state_of outcome)
 entered_tried outcome n far h = grind (arith, common_steps)
+
+-- a turn of a start-up leaves no message that would go out again in OPERATE
+risen_settled : (outcome : Outcome) (s : SessionState) (n : ℕ) (far : Far)
+    → EnteredFits outcome n far → after_exchange outcome s ≡ settled_core outcome s
+risen_settled (InDown state) s n far h = refl
+risen_settled (InStartup state) s n far h = refl
+risen_settled (InPreoperate state) s n far h = refl
+risen_settled (InOperate state None) s n far h = absurd h
+risen_settled (InOperate state (Some reply)) s n far h =
+    ap (λ (out : Option Sending). let k : Core =
+    after_exchange (InOperate (record state { out = out }) (Some reply)) s in k) h.out
+    ∙ ap (λ (out : Option Sending). let k : Core =
+    settled_core (InOperate (record state { out = out }) (Some reply)) s in k) (sym h.out)
 
 waked_tried : (devices : Devices) (answered : Bool)
     → IsAttempted (state_of (waked devices answered))
@@ -133,6 +147,8 @@ module _ (laws : StationLaws) (t : SessionState) (came : Option (List ℕ)) (sai
       → AreFew state → OutcomeFits (judged t.configuration state came)
       → ExchangeGives state came (judged t.configuration state came)
       → IsSettledSaid (judged t.configuration state came) t said
+      → StandsOn (state_of (judged t.configuration state came))
+      (after_exchange (judged t.configuration state came) t).state
       → Received (at state) g far n said (after_exchange (judged t.configuration state came) t)
       far' n'
 
@@ -151,7 +167,7 @@ module _ (laws : StationLaws) (t : SessionState) (came : Option (List ℕ)) (sai
       laws.rises.gives (at state) g far far' n n' came starting stands valid x risen fits
       (settled_fits outcome t fits next) in
       subst (λ (c : Core). Received (at state) g far n said c far' n')
-      (sym (own_settled outcome t stands.devices))
+      (sym (risen_settled outcome t n' far' risen.entered))
       (subst (λ (k : Said). Received (at state) g far n k (settled_core outcome t) far' n')
       (sym (still_said outcome t said still says))
       (record {
@@ -165,7 +181,7 @@ module _ (laws : StationLaws) (t : SessionState) (came : Option (List ℕ)) (sai
   -- in OPERATE, where the message is for this
   out_gives : (layouts : Layouts) (w : Sending) (e : Exchange) → t.exchange ≡ Some e
       → Gives (AtOperate (record { out = Some w; layouts = layouts }))
-  out_gives layouts w e is stands x few fits gives says =
+  out_gives layouts w e is stands x few fits gives says on =
       let state : State = AtOperate (record { out = Some w; layouts = layouts }) in
       let outcome : Outcome = judged t.configuration state came in
       let named : SessionState = record t { exchange = Some e } in
@@ -173,37 +189,41 @@ module _ (laws : StationLaws) (t : SessionState) (came : Option (List ℕ)) (sai
       let given = gives far far' n n' stands.link x in
       let joined : Joined (state_of outcome) (settled_session outcome t) =
       settled_fits outcome t fits (out_next (Some w) layouts came t refl stands.joined) in
-      let got : ReceiveGives (core_out layouts w t e t.current) g far n said
-      (settled_core outcome named) far' n' =
+      let next : SessionState → Core = after_exchange outcome in
+      let fitting : StateFits (next t).state × Joined (next t).state (next t).session =
+      after_fits (counted w (good_reply layouts.run w.message came)) layouts
+      (attempt_of w.tries (good_reply layouts.run w.message came)) t valid
+      stands.joined.told.0 fits joined in
+      let got : ReceiveGives (core_out layouts w t e t.current) g far n said (next named) far' n' =
       laws.receives.gives layouts w t e g far far' n n' came said
       (subst (λ (s : SessionState). let c : Core = record { state = state; session = s } in
-      Stands c g far n) same stands) (subst IsSession same valid) x few given.0 fits given.1
-      (subst (λ (s : SessionState). Joined (state_of outcome) (settled_session outcome s)) same
-      joined) (subst (λ (s : SessionState). IsSettledSaid outcome s said) same says) in
-      subst (λ (c : Core). Received (at state) g far n said c far' n')
-      (sym (own_settled outcome t stands.devices))
-      (subst (λ (s : SessionState). let c : Core = record { state = state; session = s } in
-      Received c g far n said (settled_core outcome s) far' n') (sym same)
+      Stands c g far n) same stands) (subst IsSession same valid) x few given.0 given.1
+      (subst (λ (s : SessionState). StandsOn (state_of outcome) (next s).state) same on)
+      (subst (λ (s : SessionState). StateFits (next s).state) same fitting.0)
+      (subst (λ (s : SessionState). Joined (next s).state (next s).session) same fitting.1)
+      (subst (λ (s : SessionState). IsSettledSaid outcome s said) same says) in
+      subst (λ (s : SessionState). let c : Core = record { state = state; session = s } in
+      Received c g far n said (next s) far' n') (sym same)
       (record {
         given = got.given;
         unmade = got.unmade;
-        attempted = operate_tried w layouts (good_reply layouts.run w.message came);
-      }))
+        attempted = operate_tried w layouts (good_reply layouts.run w.message came) named;
+      })
 
   operate_gives : (out : Option Sending) (layouts : Layouts)
       → IsSending (AtOperate (record { out = out; layouts = layouts }))
       → Gives (AtOperate (record { out = out; layouts = layouts }))
-  operate_gives None layouts sends stands x few fits gives says =
+  operate_gives None layouts sends stands x few fits gives says on =
       absurd (let e : false ≡ true = sends in cc)
-  operate_gives (Some w) layouts sends stands x few fits gives says =
+  operate_gives (Some w) layouts sends stands x few fits gives says on =
       let (e, is) = some_exchange t.exchange t w.message stands.joined.out_for in
-      out_gives layouts w e is stands x few fits gives says
+      out_gives layouts w e is stands x few fits gives says on
 
   state_gives : (state : State) → IsSending state → Gives state
-  state_gives (AtDown s) sends stands x few fits gives says = absurd sends
-  state_gives (AtOperate s) sends stands x few fits gives says =
-      operate_gives s.out s.layouts sends stands x few fits gives says
-  state_gives state sends stands x few fits gives says =
+  state_gives (AtDown s) sends stands x few fits gives says on = absurd sends
+  state_gives (AtOperate s) sends stands x few fits gives says on =
+      operate_gives s.out s.layouts sends stands x few fits gives says on
+  state_gives state sends stands x few fits gives says on =
       rise_gives state refl (λ e. absurd (let k : mode_in state ≡ ModeOperate = e in cc))
       stands.joined.0 (judged_next state came t sends stands.joined) stands x fits
       (gives far far' n n' stands.link x) says
@@ -212,12 +232,15 @@ pub receive_steps : StationLaws → (old : Core) (came : Option (List ℕ)) (sai
     (new : Core) → IsSession old.session → IsSending old.state → AreFew old.state
     → OutcomeFits (came_of old came) → ExchangeGives old.state came (came_of old came)
     → IsSettledSaid (came_of old came) old.session said
+    → StandsOn (state_of (came_of old came)) new.state
     → new ≡ after_exchange (came_of old came) old.session → ReceiveSteps old came said new
 unfolding ReceiveSteps
-receive_steps laws old came said new valid sends few fits gives says e = λ g far far' n n' stands x.
+receive_steps laws old came said new valid sends few fits gives says on e =
+    λ g far far' n n' stands x.
     subst (λ (k : Core). Received old g far n said k far' n') (sym e)
     (state_gives laws old.session came said valid g far far' n n' old.state sends stands x
-    few fits gives says)
+    few fits gives says
+    (subst (λ (k : Core). StandsOn (state_of (came_of old came)) k.state) e on))
 
 -- In OPERATE a new message goes out
 module _ (laws : StationLaws) (layouts : Layouts) (t : SessionState) (room : Bool)

@@ -9,13 +9,17 @@ use Rattle.iol_event.specs.declared.event.Event.{Event}
 use Rattle.iol_event.specs.Laws.{MemoryStaysValid, WaitsForAll, GivesFrozen}
 use Rattle.iol_far.specs.Far.{Far, command_in}
 use Rattle.iol_far.specs.Local.{LocalStep, locals}
-use Rattle.iol_far.specs.Level.{Link, IsLevel}
+use Rattle.iol_far.specs.Linked.{TextsAreHeard}
+use Rattle.iol_far.specs.Level.{Progress, Link, IsLevel}
+use Rattle.iol_mode.specs.declared.configuration.Devices.{Devices}
+use Rattle.iol_mode.specs.Kinds.{trusted}
+use Rattle.iol_mode.specs.Exchanges.{StandsOn}
 use Rattle.iol_far.specs.Laws.{RepliesAreRead, InputStaysSized, MuchStays, LevelLaws, EventLaws, ModesHaveLayouts}
 use Rattle.iol_link.specs.Attempts.{Sending, good_reply, attempt_of}
 use Rattle.iol_link.specs.Honest.{Passage, Clean, HonestExchange, far_after}
 use Rattle.iol_link.specs.declared.handler.Attempt.TheVariants.{Again, Lost as WasLost}
 use Rattle.iol_mode.specs.Stands.{IsOperating, IsAccepted}
-use Rattle.iol_mode.specs.States.{Outcome, OutcomeFits, state_of, operate_by, counted}
+use Rattle.iol_mode.specs.States.{Outcome, StateFits, state_of, operate_by, counted}
 use Rattle.iol_mode.specs.Turns.{IsMet}
 use Rattle.iol_steps.specs.declared.mode.Mode.TheVariants.{Operate as ModeOperate}
 use Rattle.iol_steps.specs.declared.said.Said.{Said}
@@ -34,13 +38,14 @@ use Rattle.iol_app.specs.Requests.{request_in}
 use Rattle.iol_app.specs.Messages.{data_for}
 use Rattle.iol_app.specs.Moves.{progress_of, move_for, AnswersAreTakenUp}
 use Rattle.iol_app.specs.State.{SessionState, IsSession, od_size}
-use Rattle.iol_app.specs.StationState.{StateFits as Joined, settled_session, IsSettledSaid}
+use Rattle.iol_app.specs.StationState.{StateFits as Joined, IsSettledSaid}
 use Rattle.iol_app.proofs.OperateMessages.{exchange_command}
 use Rattle.iol_app.proofs.Turns.{good_parts}
 use Rattle.iol_mseq.specs.Shape.{Shape}
-use Rattle.iol_app.specs.Core.{Core, Ghost, Stands, ReceiveGives, Receives, core_out, settled_core}
-use Rattle.iol_app.proofs.SmallFacts.{operating, third_time}
-use Rattle.iol_app.proofs.FarSide.{Goes, silent, replied, says_of, outputs_sent, outputs_after, opens_after, replied_told, replied_out}
+use Rattle.iol_app.specs.Core.{Core, Ghost, Stands, ReceiveGives, Receives, vain_by, core_out, after_exchange}
+use Rattle.iol_app.proofs.SmallFacts.{operating, third_time, begins_request}
+use Rattle.iol_app.proofs.StartExchange.{trusts}
+use Rattle.iol_app.proofs.FarSide.{Goes, IsGoing, silent, replied, says_of, outputs_sent, outputs_after, opens_after, replied_told, replied_out}
 use Rattle.iol_app.proofs.Exchanging.{Passes, gives, misses, loses, at, level_here, tied'}
 use Rattle.iol_app.proofs.Had.{Good, Replied, progress_fits, had}
 use Rattle.iol_app.proofs.Cases.{message}
@@ -56,10 +61,35 @@ module _ (laws : Laws) (layouts : Layouts) (w : Sending) (t : SessionState) (g :
       stands.joined.out_for.head (stands.joined.out_for.octets
       ∙ ap (λ (l : Option Shape). data_for e (od_size l) current) stands.joined.told.0)
 
-  going : Goes g.page layouts.run stands.request.link (progress_of current) o w.message
-      (move_for e current) ModeOperate g.sent t.output.told
+  abbrev devices : Devices
+  devices = t.configuration.devices
+
+  abbrev progress : Progress
+  progress = progress_of devices t.clear current
+
+  abbrev pub going : Goes
   going = record {
+    page = g.page;
+    kind = g.kind;
+    run = layouts.run;
+    base = g.request.base;
+    link = stands.request.link;
+    progress = progress;
+    message = w.message;
+    o = o;
+    what = move_for e current;
+    trust = trusted devices;
+    vain = vain_by devices e current w.tries;
+    mode = ModeOperate;
+    sent = g.sent;
+    told = t.output.told;
+  }
+
+  goes : IsGoing going
+  goes = record {
     sent_at = stands.request.out.goes;
+    once = stands.request.out.once;
+    trusts = trusts devices g.kind stands.for_it;
     at_mode = stands.request.out.mode;
     layout = at laws layouts w t g far n steps Clean e current stands;
     carries = λ k. stands.request.out.carries;
@@ -70,8 +100,8 @@ module _ (laws : Laws) (layouts : Layouts) (w : Sending) (t : SessionState) (g :
   page_here : (locals far steps).page ≡ g.page
   page_here = page_locals laws steps far ∙ stands.page
 
-  level : IsLevel g.page layouts.run.od g.request.base stands.request.link (progress_of current)
-      o w.tries (locals far steps)
+  level : IsLevel g.page g.kind layouts.run.od g.request.base stands.request.link progress o
+      (vain_by devices e current w.tries) (locals far steps)
   level = level_here laws layouts w t g far n steps Clean e current stands
 
   outputs_here : OutputTold g.sent (output_by ModeOperate (command_in w.message) ≡ None)
@@ -82,25 +112,19 @@ module _ (laws : Laws) (layouts : Layouts) (w : Sending) (t : SessionState) (g :
 
   passes : (passage : Passage) → Passes layouts w t g far steps passage e current
   passes passage = record {
-    opens = opens_after laws g.page layouts.run g.request.base stands.request.link
-        (progress_of current) o w.message (move_for e current) ModeOperate g.sent t.output.told
-        going w.tries (locals far steps) level (request_in current)
-        (hidden_through (request_in current) far steps g.request.hidden) (progress_fits current)
+    opens = opens_after laws going goes (locals far steps) level (request_in current)
+        (hidden_through (request_in current) far steps g.request.hidden)
+        (progress_fits devices t.clear current) (λ q k. begins_request e current q k)
         (own_open (request_in current) g.request.hidden steps far stands.request.opens)
         (tied' laws layouts w t g far n steps Clean e current stands).1 passage;
     outputs = subst (λ (c : Option Bool). OutputTold g.sent (c ≡ None) t.output.told
         (far_after passage (locals far steps) o)) commands
-        (outputs_after laws g.page layouts.run g.request.base stands.request.link
-        (progress_of current) o w.message (move_for e current) ModeOperate g.sent
-        t.output.told going passage w.tries (locals far steps) page_here level
-        outputs_here);
-    sends = outputs_sent laws g.page layouts.run g.request.base stands.request.link
-        (progress_of current) o w.message (move_for e current) ModeOperate g.sent t.output.told
-        going w.tries (locals far steps) page_here level outputs_here;
+        (outputs_after laws going goes passage (locals far steps) page_here level outputs_here);
+    sends = outputs_sent laws going goes (locals far steps) page_here level outputs_here;
   }
 
 module _ (names : TextNamesAnswer) (taken : AnswersAreTakenUp) (laws : Laws)
-    (readers : ReaderLaws) where
+    (heard : TextsAreHeard) (readers : ReaderLaws) where
   module _ (layouts : Layouts) (w : Sending) (t : SessionState) (e : Exchange) (g : Ghost)
       (far far' : Far) (n n' : ℕ) (came : Option (List ℕ)) (said : Said) where
     abbrev c : Core
@@ -109,52 +133,59 @@ module _ (names : TextNamesAnswer) (taken : AnswersAreTakenUp) (laws : Laws)
     abbrev after_by : Option Reply → Outcome
     after_by reply = operate_by (counted w reply) layouts (attempt_of w.tries reply)
 
+    -- the link's own part of what is left, and the session's
+    record Left (outcome : Outcome) : Type 0 where
+      pub on : StandsOn (state_of outcome) (after_exchange outcome c.session).state
+      pub fits : StateFits (after_exchange outcome c.session).state
+      pub joined : Joined (after_exchange outcome c.session).state
+          (after_exchange outcome c.session).session
+
     module _ (stands : Stands c g far n) (valid : IsSession c.session)
         (x : HonestExchange far n (master_text layouts.run w.message) came far' n')
         (few : w.tries < 3)
         (accepts : (link : Link) → IsOperating layouts link
         → IsAccepted layouts far.page link w.message) where
+      abbrev sending : Goes
+      sending = going laws layouts w t g far n x.steps e t.current stands
+
+      goes_out : IsGoing sending
+      goes_out = goes laws layouts w t g far n x.steps e t.current stands
+
       by_tries : (b : Bool) → (w.tries == 2) ≡ b → n' ≡ min 3 (n + 1)
           → let o : Outcome = operate_by
           (record { message = w.message; tries = if b then 0 else w.tries + 1 }) layouts
           (if b then WasLost else Again) in
-          IsMet o n' far' → OutcomeFits o → Joined (state_of o) (settled_session o c.session)
-          → IsSettledSaid o c.session said
-          → ReceiveGives c g far n said (settled_core o c.session) far' n'
-      by_tries true two silence met fits joined says =
+          IsMet o n' far' → Left o → IsSettledSaid o c.session said
+          → ReceiveGives c g far n said (after_exchange o c.session) far' n'
+      by_tries true two silence met left says =
           gives laws layouts w t g far n x.steps x.passage e t.current stands far' n' x.far_is
           said (passes laws layouts w t g far n x.steps e t.current stands x.passage)
           (Exchanged false) _ _ _
           (loses laws layouts w t g far n x.steps x.passage e t.current stands far' n' x.far_is
           said (passes laws layouts w t g far n x.steps e t.current stands x.passage) says
           (third_time w.tries n (grind (arith, nat_tests)) stands.link.tries)) tt silence
-          met.stands fits joined tt
-      by_tries false two silence met fits joined says =
+          (left.on far' n' met.stands) left.fits left.joined tt
+      by_tries false two silence met left says =
           gives laws layouts w t g far n x.steps x.passage e t.current stands far' n' x.far_is
           said (passes laws layouts w t g far n x.steps e t.current stands x.passage)
           (Exchanged false) _ _ _
           (misses laws layouts w t g far n x.steps x.passage e t.current stands far' n' x.far_is
-          said (passes laws layouts w t g far n x.steps e t.current stands x.passage) says)
-          tt silence met.stands fits joined tt
+          said (passes laws layouts w t g far n x.steps e t.current stands x.passage) heard valid
+          says) tt silence (left.on far' n' met.stands) left.fits left.joined tt
 
       by_reply : (reply : Option Reply) → good_reply layouts.run w.message came ≡ reply
-          → IsMet (after_by reply) n' far' → OutcomeFits (after_by reply)
-          → Joined (state_of (after_by reply)) (settled_session (after_by reply) c.session)
+          → IsMet (after_by reply) n' far' → Left (after_by reply)
           → IsSettledSaid (after_by reply) c.session said
-          → ReceiveGives c g far n said (settled_core (after_by reply) c.session) far' n'
-      by_reply None good met fits joined says =
+          → ReceiveGives c g far n said (after_exchange (after_by reply) c.session) far' n'
+      by_reply None good met left says =
           by_tries (w.tries == 2) refl
-          (silent laws g.page layouts.run g.request.base stands.request.link
-          (progress_of t.current) (master_text layouts.run w.message) w.message
-          (move_for e t.current) ModeOperate g.sent t.output.told
-          (going laws layouts w t g far n x.steps e t.current stands)
-          far far' n n' w.tries came x stands.request.level good) met fits joined says
-      by_reply (Some r) good met fits joined says =
-          let is = replied laws g.page layouts.run g.request.base stands.request.link
-          (progress_of t.current) (master_text layouts.run w.message) w.message
-          (move_for e t.current) ModeOperate g.sent t.output.told
-          (going laws layouts w t g far n x.steps e t.current stands)
-          far far' n n' w.tries came x stands.request.level r good in
+          (silent laws sending goes_out far far' n n' came x stands.request.level good) met left
+          says
+      by_reply (Some r) good met left says =
+          let is = replied laws sending goes_out far far' n n' came x stands.request.level r good in
+          let level_now = level laws layouts w t g far n x.steps e t.current stands in
+          let here = page_here laws layouts w t g far n x.steps e t.current stands in
+          let outputs = outputs_here laws layouts w t g far n x.steps e t.current stands in
           let turn : Good = record {
             layouts = layouts;
             w = w;
@@ -177,50 +208,35 @@ module _ (names : TextNamesAnswer) (taken : AnswersAreTakenUp) (laws : Laws)
             replies = is.replies;
             far_is = is.far_is;
             reply_is = is.reply_is;
-            says = says_of laws g.page layouts.run g.request.base stands.request.link
-                (progress_of t.current) (master_text layouts.run w.message) w.message
-                (move_for e t.current) ModeOperate g.sent t.output.told
-                (going laws layouts w t g far n x.steps e t.current stands)
-                w.tries (locals far x.steps)
-                (level laws layouts w t g far n x.steps e t.current stands) is.octets
+            says = says_of laws sending goes_out (locals far x.steps) level_now is.octets
                 is.replies;
-            told_as = replied_told laws g.page layouts.run g.request.base stands.request.link
-                (progress_of t.current) (master_text layouts.run w.message) w.message
-                (move_for e t.current) ModeOperate g.sent t.output.told
-                (going laws layouts w t g far n x.steps e t.current stands)
-                w.tries (locals far x.steps)
-                (page_here laws layouts w t g far n x.steps e t.current stands)
-                (level laws layouts w t g far n x.steps e t.current stands)
-                (outputs_here laws layouts w t g far n x.steps e t.current stands)
+            told_as = replied_told laws sending goes_out (locals far x.steps) here level_now outputs
                 is.octets is.replies
                 ∙ ap (λ (k : Option Bool). told_by k t.output.told)
                 (commands laws layouts w t g far n x.steps e t.current stands);
-            out_is = replied_out laws g.page layouts.run g.request.base stands.request.link
-                (progress_of t.current) (master_text layouts.run w.message) w.message
-                (move_for e t.current) ModeOperate g.sent t.output.told
-                (going laws layouts w t g far n x.steps e t.current stands)
-                w.tries (locals far x.steps)
-                (page_here laws layouts w t g far n x.steps e t.current stands)
-                (level laws layouts w t g far n x.steps e t.current stands) refl
+            out_is = replied_out laws sending goes_out (locals far x.steps) here level_now refl
                 is.octets is.replies;
             accepted = subst (λ (p : List ℕ). IsAccepted layouts p stands.request.link w.message)
                 stands.page (accepts stands.request.link (operating layouts
-                (progress_of t.current) stands.request.link stands.request.linked));
+                (progress_of t.configuration.devices t.clear t.current) stands.request.link
+                stands.request.linked));
             valid = valid;
             sized = (good_parts layouts.run w.message came r good).input;
           } in
           let k = message names taken laws readers turn e t.current a says in
-          had laws readers turn e t.current a k.reads k.kind k.busy k.brings met.stands fits joined
+          had laws readers turn e t.current a k.reads k.kind k.busy k.brings
+          (left.on far' n' met.stands) left.fits left.joined
 
 pub receives : ((size : ℕ) → 1 ≤ size → LevelLaws size) → MuchStays → RepliesAreRead
     → InputStaysSized → ((first : Event) (rest : List Event) → EventLaws first rest)
-    → ModesHaveLayouts → MemoryStaysValid → WaitsForAll → GivesFrozen
+    → ModesHaveLayouts → TextsAreHeard → MemoryStaysValid → WaitsForAll → GivesFrozen
     → TextNamesAnswer → AnswersAreTakenUp → Receives
-receives level much reads sized events layouts memory waits gives names taken = record {
-  gives = λ run w t e g far far_new n n_new came said stands valid x few met fits accepts joined
+receives level much reads sized events layouts heard memory waits gives names taken = record {
+  gives = λ run w t e g far far_new n n_new came said stands valid x few met accepts on fits joined
       says.
-      by_reply names taken (all_laws level much reads sized events layouts)
+      by_reply names taken (all_laws level much reads sized events layouts) heard
       (record { memory = memory; waits = waits; gives = gives }) run w t e g far far_new n
       n_new came said stands valid x few accepts
-      (good_reply run.run w.message came) refl met fits joined says;
+      (good_reply run.run w.message came) refl met
+      (record { on = on; fits = fits; joined = joined }) says;
 }

@@ -1,5 +1,5 @@
 -- A new message goes out in OPERATE.
-use Rattle.std.proofs.Common.{◌≡◌, ◌⊎◌, inl, inr, ⊎_elim, ℕ, ◌≤◌, Bool, true, false, List, length, refl, sym, ap, ◌∙◌, subst, arith}
+use Rattle.std.proofs.Common.{◌≡◌, ◌⊎◌, inl, inr, ⊎_elim, ℕ, suc, ◌≤◌, Bool, true, false, List, length, refl, sym, ap, ◌∙◌, subst, arith}
 use Rattle.std.specs.Prelude.{Option, IfSome, IsSome, is_some, bytes_eq, unwrap_or}
 use Rattle.std.proofs.lemmas.Grind.{common_steps}
 use Rattle.std.proofs.lemmas.Bool.{cases_Bool}
@@ -17,8 +17,9 @@ use Rattle.iol_image.specs.Image.{IsImage}
 use Rattle.iol_far.specs.declared.mode.Mode.TheVariants.{Operate as FarOperate}
 use Rattle.iol_far.specs.Codec.{layout_in, message_in, flow_of}
 use Rattle.iol_far.specs.Far.{Far}
-use Rattle.iol_far.specs.Level.{Quiet, Move, Begin, Link, taken, turned, IsMove, MayBegin, IsSent}
+use Rattle.iol_far.specs.Level.{Progress, Move, Begin, Link, taken, turned, IsMove, IsIdle, MayBegin, IsSent, IsLevel}
 use Rattle.iol_far.specs.Laws.{LevelLaws, ModesHaveLayouts}
+use Rattle.iol_mode.specs.declared.configuration.Devices.{Devices}
 use Rattle.iol_mode.specs.Messages.{command_message, unsent}
 use Rattle.iol_mode.specs.Stands.{entering_mode, entering_layout, entering_link, operate_link, StateStands, IsOperating, IsAccepted}
 use Rattle.iol_mode.specs.States.{StateFits}
@@ -31,6 +32,8 @@ use Rattle.iol_app.specs.declared.session.Exchange.{Exchange}
 use Rattle.iol_app.specs.declared.session.Exchange.TheVariants.{TellOutput, DropOutput}
 use Rattle.iol_app.specs.Due.{due_of, is_under_way, is_confirm_due, is_resting}
 use Rattle.iol_app.specs.Messages.{Head, head_for, data_for}
+use Rattle.iol_app.specs.declared.request.Current.{Current}
+use Rattle.iol_app.specs.Requests.{aborts, is_over, IsCurrent}
 use Rattle.iol_app.specs.Moves.{progress_of, move_for, confirms_events, MessagesAreMoves}
 use Rattle.iol_app.specs.Outputs.{carried_by}
 use Rattle.iol_app.specs.Ends.{OperateLink, SentSeen, output_for}
@@ -38,7 +41,7 @@ use Rattle.iol_app.specs.State.{SessionState, IsSession, IsMessageFor, sending, 
 use Rattle.iol_app.proofs.DueFacts.{IsDue, due_is}
 use Rattle.iol_app.proofs.OperateMessages.{tell_differs, page_command}
 use Rattle.iol_app.proofs.Telling.{told_layout}
-use Rattle.iol_app.specs.Core.{Core, Ghost, Stands, Sends, SendGives, core_out, free_core, made_ghost, reading_at, reading_in, ordered_by}
+use Rattle.iol_app.specs.Core.{Core, Ghost, Stands, Sends, SendGives, core_out, free_core, made_ghost, vain_by, AgainBy, reading_at, reading_in, ordered_by}
 use Rattle.iol_app.proofs.SmallFacts.{operating, keeps_some, events_due, confirms_is, not_operate, begins_request, tells_wanted, drops_told, some_or, image_some, sent_made, same_carried}
 
 -- which readings a confirm and a read go out for
@@ -55,6 +58,19 @@ octet_due r flag room due k = grind (arith, common_steps)
 asks_wanted : (wanted : Option Image) (told : Bool) (carried : List ℕ) → IfSome wanted IsImage
     → ordered_by (told_by (output_due wanted told) told) (unwrap_or wanted carried) ≡ wanted
 asks_wanted wanted told carried h = grind (arith, common_steps)
+
+-- it was not out before
+none_vain : (devices : Devices) (e : Exchange) (current : Option Current)
+    → vain_by devices e current 0 ≡ 0
+none_vain devices e current = grind (arith, common_steps)
+
+not_again : (devices : Devices) (e : Exchange) (current : Option Current)
+    → IfSome current (λ c. c.again ≡ false) → IfSome current (AgainBy devices e 0)
+not_again devices e current h = grind (arith, common_steps)
+
+not_over : (current : Option Current) → IfSome current IsCurrent → aborts current ≡ false
+    → IfSome current (λ c. is_over c.progress ≡ false)
+not_over current h none = grind (arith, common_steps)
 
 module _ (levels : (size : ℕ) → 1 ≤ size → LevelLaws size) (modes : ModesHaveLayouts)
     (moves : MessagesAreMoves)
@@ -73,6 +89,12 @@ module _ (levels : (size : ℕ) → 1 ≤ size → LevelLaws size) (modes : Mode
   abbrev link : Link
   link = stands.request.link
 
+  abbrev devices : Devices
+  devices = t.configuration.devices
+
+  abbrev progress : Progress
+  progress = progress_of devices t.clear t.current
+
   due : IsDue t room e
   due = due_is t room
 
@@ -85,7 +107,7 @@ module _ (levels : (size : ℕ) → 1 ≤ size → LevelLaws size) (modes : Mode
   accepted : IsAccepted layouts g.page link m
   accepted =
       subst (λ (p : List ℕ). IsAccepted layouts p link m) stands.page
-      (accepts link (operating layouts (progress_of t.current) link stands.request.linked))
+      (accepts link (operating layouts progress link stands.request.linked))
 
   -- before the first good reply in OPERATE no output is told
   untold : link ≡ entering_link layouts → t.output.told ≡ false
@@ -131,7 +153,7 @@ module _ (levels : (size : ℕ) → 1 ≤ size → LevelLaws size) (modes : Mode
           (λ (f : bytes_eq o command ≡ false). rw f refl)
           (cases_Bool (bytes_eq o command))
 
-      by_link : OperateLink layouts (progress_of t.current) link → (taken link o).mode ≡ FarOperate
+      by_link : OperateLink layouts progress link → (taken link o).mode ≡ FarOperate
       by_link (inr k) = ap (λ (l : Link). (taken l o).mode) k
       by_link (inl k) =
           ⊎_elim
@@ -143,29 +165,32 @@ module _ (levels : (size : ℕ) → 1 ≤ size → LevelLaws size) (modes : Mode
   there : layout_in g.page (taken link o).mode ≡ layouts.run
   there = ap (layout_in g.page) mode ∙ at
 
-  still : (l : Link) → OperateLink layouts (progress_of t.current) l
-      → IfSome l.waits (λ command. progress_of t.current ≡ Quiet)
+  still : (l : Link) → OperateLink layouts progress l
+      → IfSome l.waits (λ command. IsIdle progress)
   still l h1 = grind (arith, common_steps)
 
   abbrev IsMoved : Head → List ℕ → Type 0
-  IsMoved h d = IsMove layouts.run.od (move_for e t.current) (progress_of t.current) h.channel
-      h.read (flow_of h.address) d
+  IsMoved h d = IsMove layouts.run.od (move_for e t.current) progress h.channel h.read
+      (flow_of h.address) d
 
   may_begin : (what : Move) → move_for e t.current ≡ what → MayBegin g.page what
   may_begin (Begin request) k = stands.request.known
       (ap (λ (r : Option Request). is_some r) (begins_request e t.current request k))
   may_begin _ k = tt
 
-  goes : IsSent g.page layouts.run.od link (progress_of t.current) o m (move_for e t.current)
+  goes : IsSent g.page layouts.run.od link progress o m (move_for e t.current)
   goes = record {
     spells = ap (λ (l : Shape). message_in l o) there ∙ accepted.out.spells;
     size_of = ap (λ (l : Shape). l.od) there;
     move = subst (λ (h : Head). IsMoved h m.od.items) (sym is.head)
         (subst (λ (d : List ℕ). IsMoved (head_for e t.events.reading t.current) d) (sym od)
-        (moves t layouts.run e valid stands.joined.told.0 stands.devices));
+        (moves t layouts.run e valid stands.joined.told.0));
     begins = may_begin (move_for e t.current) refl;
-    quiet = still link stands.request.linked;
+    idle = still link stands.request.linked;
   }
+
+  first : vain_by devices e t.current 0 ≡ 0
+  first = none_vain devices e t.current
 
   -- the image that it carries is the one sent
   sent : IfSome (image_or t.output.wanted g.sent) (λ image. image ≡ carried_by t.output)
@@ -178,8 +203,9 @@ module _ (levels : (size : ℕ) → 1 ≤ size → LevelLaws size) (modes : Mode
       → SendGives (free_core layouts t) next g (made_ghost t g) far n
   sends linked fits = record {
     stands = record {
-      devices = stands.devices;
       page = stands.page;
+      kind = stands.kind;
+      for_it = stands.for_it;
       fits = fits;
       link = linked;
       joined = record {
@@ -195,12 +221,16 @@ module _ (levels : (size : ℕ) → 1 ≤ size → LevelLaws size) (modes : Mode
         opens = stands.request.opens;
         link = link;
         linked = stands.request.linked;
-        level = ((levels layouts.run.od
-            (subst (λ (l : Shape). 1 ≤ l.od) at (modes g.page FarOperate).1)).stays g.page
-            g.request.base link (progress_of t.current) o).begins far stands.request.level;
+        level = subst (λ (k : ℕ). IsLevel g.page g.kind layouts.run.od g.request.base link progress
+            o k far) (sym first) (((levels layouts.run.od
+            (subst (λ (l : Shape). 1 ≤ l.od) at (modes g.page FarOperate).1)).stays g.page g.kind
+            g.request.base link progress o).begins far stands.request.level);
         out = record {
           mode = mode;
           goes = goes;
+          once = λ k. subst (λ (n : ℕ). suc n ≤ 1) (sym first) (omega arith);
+          again = not_again devices e t.current stands.request.out;
+          goes_on = λ k. not_over t.current valid.current (due.asks k);
           confirm = λ k. confirm_due t.events.reading t.events.flag g.events.due (due.confirm k);
           reads = λ k. octet_due t.events.reading t.events.flag room g.events.due (due.reads k);
           carries = same_carried (image_or t.output.wanted g.sent) m.out.items
@@ -238,7 +268,7 @@ module _ (levels : (size : ℕ) → 1 ≤ size → LevelLaws size) (modes : Mode
     may = λ call. (refl, stands.calm);
     fresh = refl;
     mode = refl;
-    terms = (refl, refl, refl);
+    terms = (refl, refl, refl, refl);
     images = λ call. refl;
     wants = refl;
     asks = ap (λ (c : Option Bool). ordered_by (told_by c t.output.told) m.out.items) due.output

@@ -41,7 +41,7 @@ use Rattle.iol_app.proofs.Cutting.{length-segment, is_pair, given_goes_on, sent_
 use Rattle.iol_app.proofs.Joining.{StaysCurrent, refused_stays, joined_stays, received_stays}
 
 -- a text has an octet
-text_some : (cutter : Cutting Request) → 0 < length (text_of cutter)
+pub text_some : (cutter : Cutting Request) → 0 < length (text_of cutter)
 text_some cutter = let whole = length-append (request_front cutter.source) in omega (arith, whole)
 
 -- the one segment of a request is all of it
@@ -321,10 +321,10 @@ question_head out = refl
 -- has the parts of the layout too
 pub question_parts : (size : Option Shape) (output : Output)
     → IsOutput (output_length size) output
-    → IfSome size (λ layout. HasMasterParts layout (question (carried_by output)))
+    → IfSome size (λ layout. HasMasterParts layout (question output.carried.items))
 question_parts None output h = tt
 question_parts (Some layout) output h = record {
-  out = carried_length layout.pd_out output.wanted output.carried.items h.carried h.wanted;
+  out = h.carried;
   od = ap (λ (b : Bool). if b then 0 else layout.od)
-      (sym (ap (λ x. x.read) (question_head (carried_by output))));
+      (sym (ap (λ x. x.read) (question_head output.carried.items)));
 }

@@ -8,10 +8,8 @@ use Rattle.iol_mseq.specs.declared.reply.Reply.{Reply}
 use Rattle.iol_image.specs.Image.{IsImage}
 use Rattle.iol_far.specs.declared.mode.Mode.TheVariants.{Operate as FarOperate}
 use Rattle.iol_isdu.specs.declared.values.Request.{Request}
-use Rattle.iol_far.specs.declared.carried.Carried.{Carried}
-use Rattle.iol_far.specs.Level.{Progress, Link, Quiet, Had as IsHad, Stands as FarStands, Begin}
+use Rattle.iol_far.specs.Level.{Progress, Link, Begin}
 use Rattle.iol_page.specs.declared.page.Layouts.{Layouts}
-use Rattle.iol_far.specs.Isdu.{IsduState}
 use Rattle.iol_far.specs.Far.{Far, hear, heard_as}
 use Rattle.iol_far.specs.Local.{LocalStep, local, locals}
 use Rattle.iol_mode.specs.Stands.{entering_mode, IsOperating}
@@ -70,11 +68,6 @@ more_silence n e = grind (arith, nat_tests, common_steps)
 
 pub third_time : (tries silence : ℕ) → tries ≡ 2 → tries ≤ silence → 3 ≤ min 3 (silence + 1)
 third_time tries silence e few = grind (arith, nat_tests, common_steps)
-
-pub freed_quiet : (size : ℕ) (base : List Carried) (r : Request) (i : ℕ) (text : List ℕ)
-    (state : IsduState) (c : List Carried) → FarStands size base (IsHad r i text) state c
-    → FarStands size c Quiet state c
-freed_quiet size base r i text state c h = grind (arith, common_steps)
 
 pub begins_request : (exchange : Exchange) (current : Option Current) (request : Request)
     → move_for exchange current ≡ Begin request → request_in current ≡ Some request

@@ -1,5 +1,5 @@
 -- What one exchange of a start-up comes to, in both its modes.
-use Rattle.std.proofs.Common.{◌≡◌, ◌≢◌, inl, ℕ, ◌≤◌, Bool, true, false, ◌&&◌, List, [], ◌∷◌, ◌++◌, filter, refl, sym, ◌∙◌, ap, subst, arith}
+use Rattle.std.proofs.Common.{◌≡◌, ◌≢◌, inl, ℕ, suc, ◌≤◌, Bool, true, false, ◌&&◌, List, [], ◌∷◌, ◌++◌, filter, refl, sym, ◌∙◌, ap, subst, arith}
 use Rattle.std.proofs.lemmas.Grind.{common_steps}
 use Rattle.std.specs.Prelude.{Option, Some, None, Ok, IfSome, IsTrue, not, unwrap_or}
 use Rattle.iol_octets.specs.declared.control.Channel.{Channel}
@@ -20,7 +20,11 @@ use Rattle.iol_far.specs.Codec.{layout_in, message_in, flow_of}
 use Rattle.iol_far.specs.Far.{Far, WaitingCommand, command_in}
 use Rattle.iol_far.specs.Linked.{TextsAreHeard}
 use Rattle.iol_far.specs.Local.{locals}
-use Rattle.iol_far.specs.Level.{Quiet, Other, Link, IsMove, IsBefore, IsLevel, taken}
+use Rattle.iol_far.specs.declared.kind.Kind.{Kind}
+use Rattle.iol_far.specs.declared.kind.HandsOver.{HandsOver}
+use Rattle.iol_far.specs.declared.kind.HandsOver.TheVariants.{FirstRead, LastSegment}
+use Rattle.iol_far.specs.declared.kind.Recalls.TheVariants.{UntilSent}
+use Rattle.iol_far.specs.Level.{Progress, Quiet, Move, Begin, Other, Link, IsMove, IsOutOnce, IsIdle, RecallsAtLeast, IsBefore, IsLevel, taken}
 use Rattle.iol_far.specs.Laws.{confirms as octets_confirm}
 use Rattle.iol_link.specs.Honest.{HonestExchange, far_after}
 use Rattle.iol_mode.specs.declared.states.Startup.{Startup}
@@ -45,7 +49,7 @@ use Rattle.iol_steps.specs.Images.{Images}
 use Rattle.iol_steps.specs.Station.{far_mode, output_by, images_of, session_of, is_due}
 use Rattle.iol_steps.specs.Station as steps
 use Rattle.iol_steps.specs.Exchange.{reading_flagged}
-use Rattle.iol_app.proofs.Given.{Laws, page_locals, page_after as page_passed, level_locals}
+use Rattle.iol_app.proofs.Given.{Laws, page_locals, page_after as page_passed, kind_after, level_locals}
 use Rattle.iol_app.proofs.OwnSession.{SessionRuns, session_runs-append, exchange_session, own_open}
 use Rattle.iol_app.proofs.FrozenPart.{FrozenRuns, ConfirmsTold, frozen_runs-append, exchange_frozen}
 use Rattle.iol_app.proofs.ImagesPart.{ImagesRuns, images_runs-append, exchange_images}
@@ -61,10 +65,13 @@ use Rattle.iol_app.specs.State.{SessionState, IsSession, told, entered}
 use Rattle.iol_app.specs.StationState.{StateFits as Joined, settled_session, mode_in, why_in}
 use Rattle.iol_app.proofs.StartMessages.{step_channel, sends_channel, preoperate_turns, page_confirms}
 use Rattle.iol_app.proofs.Telling.{startup_layout, told_layout, told_told, told_shown}
-use Rattle.iol_app.specs.Core.{Core, Ghost, Stands, CallGives, RequestStands, EventsStand, OutputStands, OutputOff, CalmAt, ShownStands, moment_of, seen_in, shown_in, images_in, settled_core}
+use Rattle.iol_app.specs.Moves.{progress_of}
+use Rattle.iol_app.specs.Core.{Core, Ghost, Stands, CallGives, work_of, RequestStands, EventsStand, OutputStands, OutputOff, CalmAt, ShownStands, moment_of, seen_in, shown_in, images_in, settled_core}
+use Rattle.iol_mode.specs.Kinds.{IsFor, trusted}
+use Rattle.iol_mode.specs.declared.configuration.Devices.{Devices}
 use Rattle.iol_mode.specs.declared.configuration.Configuration.{Configuration}
 use Rattle.iol_mode.specs.Exchanges.{text_out}
-use Rattle.iol_app.proofs.FarSide.{Goes, outputs_sent, outputs_after, opens_after}
+use Rattle.iol_app.proofs.FarSide.{Goes, IsGoing, outputs_sent, outputs_after, opens_after}
 
 pub data Start : Type 0 where
   InStart : Startup → Start
@@ -122,8 +129,23 @@ no_command mode command below = grind (arith, common_steps)
 below : (start : Start) → mode_at start ≢ ModeOperate
 below start e = grind (arith, common_steps)
 
-waits_quiet : (waits : Option WaitingCommand) → IfSome waits (λ command. Quiet ≡ Quiet)
-waits_quiet waits = grind (arith, common_steps)
+waits_idle : (waits : Option WaitingCommand) → IfSome waits (λ command. IsIdle Quiet)
+waits_idle waits = grind (arith, common_steps)
+
+-- a message to the page hands nothing over
+page_once : (hands_over : HandsOver) (size times : ℕ) → IsOutOnce hands_over size Other times
+page_once FirstRead size times e = absurd (let z : false ≡ true = e in cc)
+page_once LastSegment size times e = absurd (let z : false ≡ true = e in cc)
+
+-- what a port trusts its device with
+pub trusts : (devices : Devices) (kind : Kind) → IsFor devices kind
+    → RecallsAtLeast (trusted devices) kind.recalls
+trusts devices kind h = grind (arith, common_steps)
+
+-- none is under way, and the device may hold an answer of before
+pub resting_quiet : (devices : Devices) (clear : Bool) → clear ≡ false
+    → progress_of devices clear None ≡ Quiet
+resting_quiet devices clear e = grind (arith, common_steps)
 
 -- Its message, and the level of both ends
 
@@ -137,7 +159,8 @@ pub record Message (start : Start) (n : ℕ) (far : Far) : Type 0 where
   pub parts : HasMasterParts shape message
   pub mode : (taken link (master_text shape message)).mode ≡ far_mode (mode_at start)
   pub layout : layout_in far.page (far_mode (mode_at start)) ≡ shape
-  pub level : IsLevel far.page shape.od far.carried link Quiet (master_text shape message) tries far
+  pub level : IsLevel far.page far.kind shape.od far.carried link Quiet
+      (master_text shape message) tries far
 
 abbrev pub message_of : (start : Start) (n : ℕ) (far : Far) → StateFits (state_at start)
     → StateStands (state_at start) n far → Message start n far
@@ -172,6 +195,7 @@ message_of (InPre s) n far fits stands = record {
 pub record Rests (start : Start) (t : SessionState) (g : Ghost) (far : Far) : Type 0 where
   pub late : g.request.hidden.late ≡ None
   pub opens : IsOpen far.isdu None g.request.hidden
+  pub clear : t.clear ≡ false
   pub untold : g.events.told ≡ false
   pub output : OutputOff t.output.told far
   pub fresh : IsTrue g.fresh → ⊥
@@ -182,6 +206,7 @@ rests_of (InStart s) t g far n h =
     record {
       late = h.request.0;
       opens = h.request.1;
+      clear = h.request.2;
       untold = h.events.1;
       output = h.output;
       fresh = h.fresh;
@@ -189,6 +214,7 @@ rests_of (InStart s) t g far n h =
 rests_of (InPre s) t g far n h = record {
   late = h.request.0;
   opens = h.request.1;
+  clear = h.request.2;
   untold = h.events.1;
   output = h.output;
   fresh = h.fresh;
@@ -226,16 +252,36 @@ module _ (laws : Laws) (heard : TextsAreHeard) (start : Start) (session : Sessio
   pub there : layout_in far.page (taken k.link o).mode ≡ k.shape
   there = ap (layout_in far.page) k.mode ∙ k.layout
 
-  pub going : Goes far.page k.shape k.link Quiet o k.message Other (mode_at start) g.sent false
+  abbrev pub going : Goes
   going = record {
+    page = far.page;
+    kind = far.kind;
+    run = k.shape;
+    base = far.carried;
+    link = k.link;
+    progress = Quiet;
+    message = k.message;
+    o = o;
+    what = Other;
+    trust = UntilSent;
+    vain = k.tries;
+    mode = mode_at start;
+    sent = g.sent;
+    told = false;
+  }
+
+  pub goes : IsGoing going
+  goes = record {
     sent_at = record {
       spells = ap (λ (l : Shape). message_in l o) there ∙ heard k.shape k.message k.parts;
       size_of = ap (λ (l : Shape). l.od) there;
       move = subst (λ (a : Channel). IsMove k.shape.od Other Quiet a k.message.mc.read
           (flow_of k.message.mc.address) k.message.od.items) (sym k.page) tt;
       begins = tt;
-      quiet = waits_quiet k.link.waits;
+      idle = waits_idle k.link.waits;
     };
+    once = page_once far.kind.hands_over k.shape.od (suc k.tries);
+    trusts = tt;
     at_mode = k.mode;
     layout = k.layout;
     carries = λ e. absurd (below start e);
@@ -247,8 +293,12 @@ module _ (laws : Laws) (heard : TextsAreHeard) (start : Start) (session : Sessio
   page_here : (locals far x.steps).page ≡ far.page
   page_here = page_locals laws x.steps far
 
-  pub level : IsLevel far.page k.shape.od far.carried k.link Quiet o k.tries (locals far x.steps)
-  level = level_locals laws far.page k.shape.od
+  kind_passed : passed.kind ≡ far.kind
+  kind_passed = kind_after laws x.passage (locals far x.steps) o ∙ laws.much.kind_kept far x.steps
+
+  pub level : IsLevel far.page far.kind k.shape.od far.carried k.link Quiet o k.tries
+      (locals far x.steps)
+  level = level_locals laws far.page far.kind k.shape.od
       (subst (λ (l : Shape). 1 ≤ l.od) k.layout
       (laws.layouts far.page (far_mode (mode_at start))).1) far.carried k.link Quiet o
       k.tries x.steps far k.level
@@ -264,8 +314,7 @@ module _ (laws : Laws) (heard : TextsAreHeard) (start : Start) (session : Sessio
       )
 
   outputs : OutputTold g.sent (output_by (mode_at start) (command_in k.message) ≡ None) false passed
-  outputs = outputs_after laws far.page k.shape far.carried k.link Quiet o k.message Other
-      (mode_at start) g.sent false going x.passage k.tries (locals far x.steps) page_here level
+  outputs = outputs_after laws going goes x.passage (locals far x.steps) page_here level
       outputs_here
 
   off : OutputOff false passed
@@ -280,14 +329,14 @@ module _ (laws : Laws) (heard : TextsAreHeard) (start : Start) (session : Sessio
   tied = tied_locals far.carried None x.steps far g.request.hidden rests.opens (rests.late, refl)
 
   opens : IsOpen passed.isdu None h
-  opens = opens_after laws far.page k.shape far.carried k.link Quiet o k.message Other
-      (mode_at start) g.sent false going k.tries (locals far x.steps) level None h tt
+  opens = opens_after laws going goes (locals far x.steps) level None h tt
+      (λ q e. absurd (let z : Path Move Other (Begin q) = e in cc))
       (own_open None g.request.hidden x.steps far rests.opens)
       (hear_carried (locals far x.steps) o ∙ tied.1) x.passage
 
   pub unconfirmed : octets_confirm o ≡ false
   unconfirmed = sym (confirms_of (layout_in far.page (taken k.link o).mode) o k.message
-      going.sent_at.spells) ∙ page_confirms k.message k.page
+      goes.sent_at.spells) ∙ page_confirms k.message k.page
 
   confirms : ConfirmsTold o (locals far x.steps) (told_through far x.steps false)
   confirms w e = absurd (let z : false ≡ true = sym unconfirmed ∙ e in cc)
@@ -299,7 +348,7 @@ module _ (laws : Laws) (heard : TextsAreHeard) (start : Start) (session : Sessio
 
   -- how the new mode and the session stand
   pub record Left (state : State) (u : SessionState) : Type 0 where
-    pub request : RequestStands state u.limit u.current u.exchange u.events after passed
+    pub request : RequestStands state (work_of u) u.events after passed
     pub events : EventsStand state u.exchange u.events after.events passed
     pub output : OutputStands state u.exchange u.output.told g.sent passed
     pub quiet : CalmAt state n'
@@ -350,7 +399,7 @@ module _ (laws : Laws) (heard : TextsAreHeard) (start : Start) (session : Sessio
         after = after;
         fits = fits_call start answered;
         silent = silence;
-        terms = (b.limit, refl, b.configuration);
+        terms = (b.limit, refl, b.configuration, refl);
         clash_free = before.free;
         fresh = λ e. absurd (rests.fresh e);
         said_book = before.book ∙ b.plain.3 ∙ rw (not_woken start (mode_in next.state)) refl;
@@ -368,14 +417,15 @@ module _ (laws : Laws) (heard : TextsAreHeard) (start : Start) (session : Sessio
         images = images_runs-append m (images_in c g far) i'
             (images_of (shown_in next.session g.sent) passed) xs ys
             (exchange_images m None (shown_in (still session) g.sent) far x.steps x.passage o
-            (outputs_sent laws far.page k.shape far.carried k.link Quiet o k.message Other
-            (mode_at start) g.sent false going k.tries (locals far x.steps) page_here
-            level outputs_here)) b.images;
+            (outputs_sent laws going goes (locals far x.steps) page_here level outputs_here))
+            b.images;
         image_is_last = ((λ e. absurd (below start e.0)), (λ e. b.image), (λ e f. b.image));
         output_is_wanted = λ e. absurd (below start e.0);
         stands = record {
-          devices = ap (λ (k : Configuration). k.devices) b.configuration ∙ stands.devices;
           page = page_passed laws x.passage (locals far x.steps) o ∙ page_here ∙ stands.page;
+          kind = kind_passed ∙ stands.kind;
+          for_it = subst (λ (k : Configuration). IsFor k.devices g.kind) (sym b.configuration)
+              stands.for_it;
           fits = fits;
           link = subst (λ (f : Far). StateStands (state_of outcome) n' f) x.far_is
               risen.both.stands;
@@ -394,13 +444,13 @@ module _ (laws : Laws) (heard : TextsAreHeard) (start : Start) (session : Sessio
 
   kept : (next : Start) → Left (state_at next) (still session)
   kept (InStart s) = record {
-    request = (tied.0, opens);
+    request = (tied.0, opens, rests.clear);
     events = (refl, refl);
     output = off;
     quiet = tt;
   }
   kept (InPre s) = record {
-    request = (tied.0, opens);
+    request = (tied.0, opens, rests.clear);
     events = (refl, refl);
     output = off;
     quiet = tt;
@@ -546,6 +596,8 @@ module _ (laws : Laws) (heard : TextsAreHeard) (start : Start) (session : Sessio
         session = entered r.event (still session);
       }) (MoveTo ModeOperate None ∷ [])
   enters layouts r may held event entered_is =
+      let none : progress_of session.configuration.devices session.clear None ≡ Quiet =
+      resting_quiet session.configuration.devices session.clear rests.clear in
       let at = subst (λ (f : Far). IsEntered (record { out = None; layouts = layouts }) n' f r)
       x.far_is entered_is in
       moves true r.event (AtOperate (record { out = None; layouts = layouts })) may (record {
@@ -553,11 +605,15 @@ module _ (laws : Laws) (heard : TextsAreHeard) (start : Start) (session : Sessio
           late = tied.0;
           opens = opens;
           link = entering_link layouts;
-          linked = inl (refl, refl);
-          level = subst (λ (p : List ℕ). IsBefore p layouts.run.od passed.carried
+          linked = inl (refl, none);
+          level = subst (λ (q : Progress). IsBefore g.page g.kind layouts.run.od passed.carried
+              (entering_link layouts) q passed) (sym none)
+              (subst (λ (q : Kind). IsBefore g.page q layouts.run.od passed.carried
+              (entering_link layouts) Quiet passed) (kind_passed ∙ stands.kind)
+              (subst (λ (p : List ℕ). IsBefore p passed.kind layouts.run.od passed.carried
               (entering_link layouts) Quiet passed)
               (page_passed laws x.passage (locals far x.steps) o ∙ page_here ∙ stands.page)
-              (at.before layouts.run.od);
+              (at.before layouts.run.od)));
           out = tt;
           answer = refl;
           busy = tt;

@@ -17,7 +17,6 @@ use Rattle.iol_event.specs.Memory.{is_empty}
 use Rattle.iol_far.specs.Far.{Far}
 use Rattle.iol_far.specs.Linked.{TextsAreHeard}
 use Rattle.iol_far.specs.Local.{locals}
-use Rattle.iol_far.specs.Level.{Quiet, Other}
 use Rattle.iol_far.specs.Laws.{RepliesAreRead, InputStaysSized, MuchStays, LevelLaws, EventLaws, ModesHaveLayouts}
 use Rattle.iol_link.specs.Attempts.{good_reply}
 use Rattle.iol_link.specs.Honest.{HonestExchange}
@@ -46,9 +45,9 @@ use Rattle.iol_app.specs.StationState.{StateFits as Joined, IsTold as IsToldBy, 
 use Rattle.iol_app.proofs.Telling.{told_stays}
 use Rattle.iol_app.specs.Core.{Ghost, Stands, CallGives, Rises, moment_of, settled_core}
 use Rattle.iol_mode.specs.Exchanges.{text_out, judged}
-use Rattle.iol_app.proofs.FarSide.{silent, replied, IsReplied}
+use Rattle.iol_app.proofs.FarSide.{Goes, IsGoing, silent, replied, IsReplied}
 use Rattle.iol_app.proofs.SmallFacts.{third_time}
-use Rattle.iol_app.proofs.StartExchange.{InStart, InPre, Start, state_at, mode_at, same_expected, still, is_still, Message, message_of, rests_of, going, unconfirmed, Ends, gives, stays, falls, climbs, tells, enters}
+use Rattle.iol_app.proofs.StartExchange.{InStart, InPre, Start, state_at, mode_at, same_expected, still, is_still, Message, message_of, rests_of, going, goes as goes_going, unconfirmed, Ends, gives, stays, falls, climbs, tells, enters}
 
 -- what is known of every start-up
 record Known : Type 0 where
@@ -96,12 +95,16 @@ module _ (known : Known) (session : SessionState) (valid : IsSession (still sess
         ∙ page_passed laws exchange.passage (locals far exchange.steps)
         (master_text k.shape k.message) ∙ page_locals laws exchange.steps far ∙ stands.page
 
+    abbrev sending : Goes
+    sending = going laws heard start session g far far' n n' came stands
+        (rests_of start (still session) g far n stands) k exchange
+
+    goes_out : IsGoing sending
+    goes_out = goes_going laws heard start session g far far' n n' came stands
+        (rests_of start (still session) g far n stands) k exchange
+
     abbrev Good : Reply → Type 0
-    Good r = IsReplied laws far.page k.shape far.carried k.link Quiet
-        (master_text k.shape k.message) k.message Other (mode_at start) g.sent false
-        (going laws heard start session g far far' n n' came stands
-        (rests_of start (still session) g far n stands) k exchange) far far' n n' k.tries
-        came exchange k.level r
+    Good r = IsReplied laws sending goes_out far far' n n' came exchange k.level r
 
     -- after a good reply the hold has ended, and its flag is the memory's
     enters_by : (layouts : Layouts) (r : Reply) → Good r
@@ -123,18 +126,10 @@ module _ (known : Known) (session : SessionState) (valid : IsSession (still sess
 
     -- no good reply
     missed_by : good_reply k.shape k.message came ≡ None → n' ≡ min 3 (n + 1)
-    missed_by none = silent laws far.page k.shape far.carried k.link Quiet
-        (master_text k.shape k.message) k.message Other (mode_at start) g.sent false
-        (going laws heard start session g far far' n n' came stands
-        (rests_of start (still session) g far n stands) k exchange) far far' n n' k.tries
-        came exchange k.level none
+    missed_by none = silent laws sending goes_out far far' n n' came exchange k.level none
 
     had_by : (r : Reply) → good_reply k.shape k.message came ≡ Some r → Good r
-    had_by r good = replied laws far.page k.shape far.carried k.link Quiet
-        (master_text k.shape k.message) k.message Other (mode_at start) g.sent false
-        (going laws heard start session g far far' n n' came stands
-        (rests_of start (still session) g far n stands) k exchange) far far' n n' k.tries
-        came exchange k.level r good
+    had_by r good = replied laws sending goes_out far far' n n' came exchange k.level r good
 
   -- PREOPERATE
   module _ (s : Preoperate) (stands : Stands

@@ -20,9 +20,9 @@ use Rattle.iol_far.specs.Isdu.{answer_text, fits}
 use Rattle.iol_far.specs.SegmentLaws.{AnswersFit}
 use Rattle.iol_app.specs.declared.request.Current.{Current}
 use Rattle.iol_app.specs.declared.request.Progress.{Progress as Cursor}
-use Rattle.iol_app.specs.declared.request.Progress.TheVariants.{Asking, Receiving}
+use Rattle.iol_app.specs.declared.request.Progress.TheVariants.{Doubting, Asking, Receiving}
 use Rattle.iol_app.specs.Requests.{finished, joined, replied_at, ProgressFits, IsCurrent}
-use Rattle.iol_app.specs.Moves.{next_segment, octets_had, IsReading, IsTakenUp, AnswersAreTakenUp}
+use Rattle.iol_app.specs.Moves.{next_segment, octets_had, IsReading, is_forgotten, IsTakenUp, AnswersAreTakenUp}
 use Rattle.iol_app.proofs.Joining.{taken_next}
 
 -- an answer that fits the request of a cut
@@ -111,14 +111,23 @@ joined_up current answer had h low octets same =
     by_stage at e = subst IsUp (sym e)
 
 taken_up : (current : Current) (p : Cursor) (limit : ℕ) (od : List ℕ) (answer : Answer)
-    → IsCurrent current → current.again ≡ false → current.progress ≡ p → IsReading p
+    → IsCurrent current → is_forgotten p current.again od ≡ false → current.progress ≡ p
+    → IsReading p
     → Fitting current.cutter answer
     → octets_had p od ≡ joined_octets current.cutter.size
     (answer_text current.cutter.source answer) (next_segment p)
     → next_segment p * current.cutter.size < length (answer_text current.cutter.source answer)
     → IsTakenUp current answer (next_segment p) (octets_had p od)
     (replied_at p limit od current)
-taken_up current (Asking busy) limit od answer c once e reading h is low =
+taken_up current Doubting limit od answer c kept e reading h is low =
+    let not_busy : (slice_index od 0 == 1) ≡ false =
+    ap (λ (xs : List ℕ). slice_index xs 0 == 1) is
+    ∙ h.laws.busy (is_read current.cutter.source) answer h.valid in
+    let not_none : (slice_index od 0 == 0) ≡ false =
+    ap (λ (xs : List ℕ). slice_index xs 0 == 0) is
+    ∙ h.laws.silent (is_read current.cutter.source) answer h.valid in
+    rw (not_none, not_busy) (joined_up current answer 0 h low od is)
+taken_up current (Asking busy) limit od answer c kept e reading h is low =
     let not_busy : (slice_index od 0 == 1) ≡ false =
     ap (λ (xs : List ℕ). slice_index xs 0 == 1) is
     ∙ h.laws.busy (is_read current.cutter.source) answer h.valid in
@@ -126,18 +135,18 @@ taken_up current (Asking busy) limit od answer c once e reading h is low =
     ap (λ (xs : List ℕ). slice_index xs 0 == 0) is
     ∙ h.laws.silent (is_read current.cutter.source) answer h.valid in
     rw (not_busy, not_none) (joined_up current answer 0 h low od is)
-taken_up current (Receiving joining had) limit od answer c once e reading h is low =
+taken_up current (Receiving joining had) limit od answer c kept e reading h is low =
     rw (
-      once,
+      kept,
       taken_next current.cutter.size had joining od
           (subst (ProgressFits current.cutter current.abort) e c.progress),
       add-one had,
     )
     (joined_up current answer (suc had) h low (joining.text ++ od) is)
-taken_up current other limit od answer c once e reading h is low = absurd reading
+taken_up current other limit od answer c kept e reading h is low = absurd reading
 
 pub answers_are_taken_up : AnswersFit → ((size : ℕ) → 1 ≤ size → TextLaws size) → OneAnswerText
     → AnswersAreTakenUp
-answers_are_taken_up fit_answers laws one current limit od answer c once reading fit is low =
-    taken_up current current.progress limit od answer c once refl reading
+answers_are_taken_up fit_answers laws one current limit od answer c kept reading fit is low =
+    taken_up current current.progress limit od answer c kept refl reading
     (fitting fit_answers laws one current.cutter answer c.some fit) is low

@@ -1,7 +1,7 @@
 -- The octets of an answer that the master has had.
-use Rattle.std.proofs.Common.{◌≡◌, ℕ, suc, ◌*◌, ◌<◌, Bool, List, ◌++◌, length, sym, ◌∙◌, ap, subst, arith}
+use Rattle.std.proofs.Common.{◌≡◌, ℕ, suc, ◌*◌, ◌<◌, Bool, true, false, List, ◌++◌, length, sym, ◌∙◌, ap, subst, arith}
 use Rattle.std.proofs.lemmas.Grind.{common_steps}
-use Rattle.std.specs.Prelude.{Some, IsTrue}
+use Rattle.std.specs.Prelude.{Option, Some, IsTrue, if◌then◌else◌}
 use Rattle.iol_octets.specs.declared.control.Channel.{Channel}
 use Rattle.iol_octets.specs.declared.flow_control.Flow.{Flow}
 use Rattle.iol_isdu.specs.declared.values.Request.{Request}
@@ -9,16 +9,23 @@ use Rattle.iol_isdu.specs.declared.values.Answer.{Answer}
 use Rattle.iol_segment.specs.TextLaws.{joined}
 use Rattle.iol_far.specs.declared.carried.Carried.{Carried}
 use Rattle.iol_far.specs.Isdu.{IsduState, Answered, fits, answer_text, isdu_data}
-use Rattle.iol_far.specs.Level.{Progress, Written, Busy as IsBusy, Had as IsHad, Stands as FarStands, Move, Ask, Next, asked, after, IsMove}
+use Rattle.iol_far.specs.declared.kind.HandsOver.{HandsOver}
+use Rattle.iol_far.specs.declared.kind.Recalls.{Recalls}
+use Rattle.iol_far.specs.Level.{Progress, Perhaps, Written, Busy as IsBusy, Had as IsHad, Unsure, Stands as FarStands, Move, Ask, Next, asked, wondered, may_be_none, after, IsMove}
 use Rattle.iol_steps.specs.Exchange.{ReadsAnswer}
 use Rattle.std.proofs.lemmas.List.{append_cancel_right}
 use Rattle.iol_segment.specs.Cut.{segment}
 use Rattle.iol_app.proofs.Moves.{next_wants}
 
 -- a START read brings the first segment
-first_begins : (size : ℕ) (q r : Request) (i : ℕ) (octets data_in : List ℕ) (a : Answer)
-    → asked q data_in ≡ IsHad r i octets → i * size < length (answer_text r a)
-first_begins size q r i octets data_in a e = grind (arith, common_steps)
+first_begins : (trust : Recalls) (size : ℕ) (q r : Request) (i : ℕ) (octets data_in : List ℕ)
+    (a : Answer) → asked trust q data_in ≡ IsHad r i octets → i * size < length (answer_text r a)
+first_begins trust size q r i octets data_in a e = grind (arith, common_steps)
+
+-- and so does one that is a question
+wondered_begins : (vain size : ℕ) (q r : Request) (i : ℕ) (octets data_in : List ℕ)
+    (a : Answer) → wondered vain q data_in ≡ IsHad r i octets → i * size < length (answer_text r a)
+wondered_begins vain size q r i octets data_in a e = grind (arith, common_steps)
 
 -- a COUNT read the next one
 next_begins : (size : ℕ) (q : Request) (j : ℕ) (t : List ℕ) (r : Request) (i : ℕ)
@@ -45,36 +52,50 @@ next_begins size q j t r i octets data_in a channel read flow sent move e fittin
     subst (λ (n : ℕ). n * size < length (answer_text r a)) number
     (next_wants size r j t channel read flow sent a move' fitting so_far)
 
-begins : (size : ℕ) (what : Move) (p : Progress) (channel : Channel) (read : Bool) (flow : Flow)
-    (sent data_in : List ℕ) (r : Request) (i : ℕ) (octets : List ℕ) (a : Answer)
-    → ReadsAnswer what → IsMove size what p channel read flow sent →
-    after p what data_in ≡ IsHad r i octets → IsTrue (fits r a)
+-- what came was a segment
+had_next : (trust : Recalls) (vain : ℕ) (q r : Request) (j i : ℕ) (t data_in octets : List ℕ)
+    → after trust vain (IsHad q j t) Next data_in ≡ IsHad r i octets
+    → IsHad q (suc j) (t ++ data_in) ≡ IsHad r i octets
+had_next trust vain q r j i t data_in octets e = split (may_be_none trust vain t data_in) e
+  where
+    split : (b : Bool) → (if b then Unsure q else IsHad q (suc j) (t ++ data_in))
+        ≡ IsHad r i octets → IsHad q (suc j) (t ++ data_in) ≡ IsHad r i octets
+    split true k = absurd (let z : Path Progress (Unsure q) (IsHad r i octets) = k in cc)
+    split false k = k
+
+begins : (trust : Recalls) (vain size : ℕ) (what : Move) (p : Progress) (channel : Channel)
+    (read : Bool) (flow : Flow) (sent data_in : List ℕ) (r : Request) (i : ℕ) (octets : List ℕ)
+    (a : Answer) → ReadsAnswer what → IsMove size what p channel read flow sent →
+    after trust vain p what data_in ≡ IsHad r i octets → IsTrue (fits r a)
     → octets ≡ joined size (answer_text r a) i → data_in ≡ segment size (answer_text r a) i
     → i * size < length (answer_text r a)
-begins size Ask (Written q j) channel read flow sent data_in r i octets a k move e fitting whole
-    part = first_begins size q r i octets data_in a e
-begins size Ask (IsBusy q) channel read flow sent data_in r i octets a k move e fitting whole
-    part = first_begins size q r i octets data_in a e
-begins size Next (IsHad q j t) channel read flow sent data_in r i octets a k move e fitting
-    whole part = next_begins size q j t r i octets data_in a channel read flow sent move e
-    fitting whole part
-begins size Ask p channel read flow sent data_in r i octets a k move e fitting whole part =
-    absurd move
-begins size Next p channel read flow sent data_in r i octets a k move e fitting whole part =
-    absurd move
-begins size what p channel read flow sent data_in r i octets a k move e fitting whole part =
-    absurd k
+begins trust vain size Ask (Perhaps q) channel read flow sent data_in r i octets a k move e
+    fitting whole part = wondered_begins vain size q r i octets data_in a e
+begins trust vain size Ask (Written q j) channel read flow sent data_in r i octets a k move e
+    fitting whole part = first_begins trust size q r i octets data_in a e
+begins trust vain size Ask (IsBusy q) channel read flow sent data_in r i octets a k move e fitting
+    whole part = first_begins trust size q r i octets data_in a e
+begins trust vain size Next (IsHad q j t) channel read flow sent data_in r i octets a k move e
+    fitting whole part = next_begins size q j t r i octets data_in a channel read flow sent move
+    (had_next trust vain q r j i t data_in octets e) fitting whole part
+begins trust vain size Ask p channel read flow sent data_in r i octets a k move e fitting whole
+    part = absurd move
+begins trust vain size Next p channel read flow sent data_in r i octets a k move e fitting whole
+    part = absurd move
+begins trust vain size what p channel read flow sent data_in r i octets a k move e fitting whole
+    part = absurd k
 
 -- they are the segments of an answer to the request, the last of which has octets of its text
-pub had_text : (size : ℕ) (base : List Carried) (r : Request) (i : ℕ) (octets : List ℕ)
-    (s : IsduState) (c : List Carried) → FarStands size base (IsHad r i octets) s c →
+pub had_text : (hands_over : HandsOver) (trust : Recalls) (vain size : ℕ) (base : List Carried)
+    (r : Request) (i : ℕ) (octets : List ℕ) (s : IsduState) (counted : Option ℕ)
+    (c : List Carried) → FarStands hands_over size base (IsHad r i octets) s counted c →
     (what : Move) (p : Progress) (channel : Channel) (read : Bool) (flow : Flow)
     (sent data_in : List ℕ) → ReadsAnswer what → IsMove size what p channel read flow sent
-    → data_in ≡ isdu_data size s → after p what data_in ≡ IsHad r i octets →
+    → data_in ≡ isdu_data size s → after trust vain p what data_in ≡ IsHad r i octets →
     (a : Answer) × IsTrue (fits r a) × (octets ≡ joined size (answer_text r a) i)
     × (i * size < length (answer_text r a))
-had_text size base r i octets (Answered q a (Some j)) c h what p channel read flow sent data_in
-    k move part e =
+had_text hands_over trust vain size base r i octets (Answered q a (Some j)) counted c h what p
+    channel read flow sent data_in k move part e =
     let fitting : IsTrue (fits r a) = subst (λ (x : Request). IsTrue (fits x a)) h.0 h.1 in
     let whole : octets ≡ joined size (answer_text r a) i = h.3 in
     let last : data_in ≡ segment size (answer_text r a) i =
@@ -83,8 +104,8 @@ had_text size base r i octets (Answered q a (Some j)) c h what p channel read fl
       a,
       fitting,
       whole,
-      begins size what p channel read flow sent data_in r i octets a k move e
+      begins trust vain size what p channel read flow sent data_in r i octets a k move e
           fitting whole last,
     )
-had_text size base r i octets state c h what p channel read flow sent data_in k move part e =
-    absurd h
+had_text hands_over trust vain size base r i octets state counted c h what p channel read flow
+    sent data_in k move part e = absurd h

@@ -60,6 +60,9 @@ module _ (laws : Laws) (s : Down) (t : SessionState) (g : Ghost) (far : Far) (si
   page_now : (locals far steps).page ≡ g.page
   page_now = page_locals laws steps far ∙ stands.page
 
+  kind_now : (locals far steps).kind ≡ g.kind
+  kind_now = laws.much.kind_kept far steps ∙ stands.kind
+
   abbrev begins : Step → Core
   begins step = record { state = state_of (begun step); session = started t }
 
@@ -87,7 +90,7 @@ module _ (laws : Laws) (s : Down) (t : SessionState) (g : Ghost) (far : Far) (si
         after = after;
         fits = tt;
         silent = refl;
-        terms = (refl, refl, refl);
+        terms = (refl, refl, refl, refl);
         clash_free = before.free;
         fresh = λ k. absurd (stands.fresh k);
         said_book = before.book;
@@ -111,15 +114,16 @@ module _ (laws : Laws) (s : Down) (t : SessionState) (g : Ghost) (far : Far) (si
         );
         output_is_wanted = λ k. absurd (below k.0);
         stands = record {
-          devices = stands.devices;
           page = page_now;
+          kind = kind_now;
+          for_it = stands.for_it;
           fits = fits;
           link = link;
           joined = (stands.joined, subst (λ (q : Option Told). IsTold q (started t)) (sym none) tt);
           calm = tt;
           fresh = λ k. absurd (let z : false ≡ true = k in cc);
           sent = stands.sent;
-          request = (refl, tt);
+          request = (refl, tt, refl);
           events = (refl, refl);
           output = record { untold = refl; off = λ a. refl; waits = tt };
           shown = record {
@@ -154,6 +158,10 @@ module _ (laws : Laws) (s : Down) (t : SessionState) (g : Ghost) (far : Far) (si
   page_woken true = page_now
   page_woken false = page_now
 
+  kind_woken : (wakes : Bool) → (woken_if wakes (locals far steps)).kind ≡ g.kind
+  kind_woken true = kind_now
+  kind_woken false = kind_now
+
   fails : (wakes : Bool) → CallGives c g far silence Idle (after_wake false t)
       (woken_if wakes (locals far steps)) silence
   fails wakes =
@@ -177,7 +185,7 @@ module _ (laws : Laws) (s : Down) (t : SessionState) (g : Ghost) (far : Far) (si
         after = after;
         fits = tt;
         silent = refl;
-        terms = (refl, refl, refl);
+        terms = (refl, refl, refl, refl);
         clash_free = before.free;
         fresh = λ k. absurd (stands.fresh k);
         said_book = before.book;
@@ -200,8 +208,9 @@ module _ (laws : Laws) (s : Down) (t : SessionState) (g : Ghost) (far : Far) (si
         );
         output_is_wanted = λ k. absurd (below k.0);
         stands = record {
-          devices = stands.devices;
           page = page_woken wakes;
+          kind = kind_woken wakes;
+          for_it = stands.for_it;
           fits = tt;
           link = tt;
           joined = (refl, refl);

@@ -1,6 +1,6 @@
 -- A port's own data without the wire, how it stands to a far end and a silence, and
 -- what one call of the wire gives.
-use Rattle.std.specs.Prelude.{◌≤◌, ◌≡◌, ◌≢◌, ℕ, ◌<◌, Bool, true, false, ◌&&◌, if◌then◌else◌, nat_lt, length, List, ◌++◌, filter, Option, Some, None, IfSome, IsSome, IsTrue, ⊤}
+use Rattle.std.specs.Prelude.{◌≤◌, ◌≡◌, ◌≢◌, ℕ, suc, ◌<◌, Bool, true, false, ◌&&◌, if◌then◌else◌, nat_lt, length, List, ◌++◌, filter, Option, Some, None, IfSome, IsSome, IsTrue, unwrap_or, ⊤}
 use Rattle.std.specs.Option.{option_map}
 use Rattle.iol_mseq.specs.Shape.{Shape}
 use Rattle.iol_mseq.specs.Texts.{master_text}
@@ -9,16 +9,18 @@ use Rattle.iol_event.specs.declared.event.Event.{Event}
 use Rattle.iol_image.specs.Image.{IsImage}
 use Rattle.iol_far.specs.declared.carried.Carried.{Carried}
 use Rattle.iol_far.specs.declared.mode.Mode.TheVariants.{Operate as FarOperate}
-use Rattle.iol_far.specs.Level.{Link, Progress, Quiet, IsBefore, IsLevel, IsSent, taken}
+use Rattle.iol_far.specs.declared.kind.Kind.{Kind}
+use Rattle.iol_far.specs.Level.{Link, Progress, IsBefore, IsLevel, IsSent, IsIdle, IsOutOnce, taken}
 use Rattle.iol_link.specs.Attempts.{Sending}
 use Rattle.iol_link.specs.Honest.{HonestWake, HonestExchange}
 use Rattle.iol_mode.specs.declared.configuration.Devices.{Devices}
 use Rattle.iol_mode.specs.declared.states.State.{State}
 use Rattle.iol_mode.specs.declared.states.State.TheVariants.{Down as AtDown, Startup as AtStartup, Preoperate as AtPreoperate, Operate as AtOperate}
 use Rattle.iol_mode.specs.declared.states.Operate.{Operate}
-use Rattle.iol_mode.specs.declared.configuration.Devices.TheVariants.{Own}
+use Rattle.iol_mode.specs.declared.configuration.Devices.TheVariants.{Any}
+use Rattle.iol_mode.specs.Kinds.{IsFor}
 use Rattle.iol_mode.specs.States.{Outcome, OutcomeFits, StateFits, IsDown, state_of, is_starting, waked}
-use Rattle.iol_mode.specs.Exchanges.{text_out, judged}
+use Rattle.iol_mode.specs.Exchanges.{StandsOn, text_out, judged}
 use Rattle.iol_mode.specs.Turns.{IsRisen, IsMet}
 use Rattle.iol_mode.specs.Stands.{StateStands, IsOperating, IsAccepted}
 use Rattle.iol_steps.specs.declared.mode.Mode.TheVariants.{Operate as ModeOperate}
@@ -39,7 +41,7 @@ use Rattle.iol_app.specs.declared.event_work.Reading as app
 use Rattle.iol_app.specs.declared.event_work.Reading.TheVariants.{Resting, UnderWay, ConfirmDue, Refused}
 use Rattle.iol_app.specs.declared.event_work.Events.{Events}
 use Rattle.iol_app.specs.declared.request.Current.{Current}
-use Rattle.iol_app.specs.Requests.{request_in}
+use Rattle.iol_app.specs.Requests.{request_in, is_over}
 use Rattle.iol_isdu.specs.declared.values.Request.{Request}
 use Rattle.iol_app.specs.EventReading.{is_refused}
 use Rattle.iol_app.specs.Moves.{progress_of, move_for, confirms_events}
@@ -49,7 +51,7 @@ use Rattle.iol_app.specs.Due.{due_of}
 use Rattle.iol_app.specs.Outputs.{carried_by}
 use Rattle.iol_app.specs.StationState.{IsSettledSaid, IsPresent, StateFits as Joined, waked_session, settled_session, missed_state, missed_session, mode_in, why_in}
 use Rattle.iol_app.specs.declared.session.Exchange.{Exchange}
-use Rattle.iol_app.specs.declared.session.Exchange.TheVariants.{ReadEvent, ConfirmEvents}
+use Rattle.iol_app.specs.declared.session.Exchange.TheVariants.{ReadEvent, ConfirmEvents, Request as NextMessage}
 use Rattle.iol_page.specs.declared.page.Layouts.{Layouts}
 use Rattle.iol_mseq.specs.declared.master.MasterMsg.{MasterMsg}
 use Rattle.iol_far.specs.Far.{Far}
@@ -76,6 +78,7 @@ pub record OfEvents : Type 0 where
 
 pub record Ghost : Type 0 where
   pub page : List ℕ
+  pub kind : Kind
   pub request : OfRequest
   pub events : OfEvents
   -- the last output wanted that a message carried
@@ -115,13 +118,48 @@ images_in c g far = images_of (shown_in c.session g.sent) far
 
 -- How both ends stand, by component
 
+-- what a session says of requests
+pub record Work : Type 0 where
+  pub devices : Devices
+  pub clear : Bool
+  pub limit : ℕ
+  pub current : Option Current
+  pub exchange : Option Exchange
+
+abbrev pub work_of : SessionState → Work
+work_of s = record {
+  devices = s.configuration.devices;
+  clear = s.clear;
+  limit = s.limit;
+  current = s.current;
+  exchange = s.exchange;
+}
+
+abbrev pub progress_in : Work → Progress
+progress_in w = progress_of w.devices w.clear w.current
+
 -- In OPERATE, with the message that is out
 
-abbrev pub LevelOut : List ℕ → ℕ → List Carried → Link → Progress → Shape → Option Sending → Far
-    → Type 0
-LevelOut page size base link progress run None far = IsBefore page size base link progress far
-LevelOut page size base link progress run (Some sent) far =
-    IsLevel page size base link progress (master_text run sent.message) sent.tries far
+-- how often that was sent in vain, of so many attempts: a question only once it went out again
+abbrev pub vain_by : Devices → Exchange → Option Current → ℕ → ℕ
+vain_by Any NextMessage (Some current) tries = if current.again then tries else 0
+vain_by devices exchange current tries = tries
+
+abbrev pub vain_in : Work → ℕ → ℕ
+vain_in w tries = unwrap_or (option_map (λ exchange. vain_by w.devices exchange w.current tries)
+    w.exchange) tries
+
+-- that it went out again is noted of a request at a port for any device
+abbrev pub AgainBy : Devices → Exchange → ℕ → Current → Type 0
+AgainBy Any NextMessage tries current = current.again ≡ true → 1 ≤ tries
+AgainBy devices exchange tries current = current.again ≡ false
+
+abbrev pub LevelOut : Ghost → Shape → Link → Work → Option Sending → Far → Type 0
+LevelOut g run link w None far =
+    IsBefore g.page g.kind run.od g.request.base link (progress_in w) far
+LevelOut g run link w (Some sent) far =
+    IsLevel g.page g.kind run.od g.request.base link (progress_in w)
+    (master_text run sent.message) (vain_in w sent.tries) far
 
 abbrev pub command_out : Option Exchange → Option Bool
 command_out None = None
@@ -133,44 +171,50 @@ confirm_out (Some exchange) = confirms_events exchange
 
 -- what the message out has to do with the rest: the far end takes it in OPERATE's layout, for the
 -- move that the request's progress asks for; the reading wants it; it carries the image sent
-pub record OutStands (layouts : Layouts) (out : Sending) (exchange : Exchange)
-    (current : Option Current) (reading : Reading) (page : List ℕ) (link : Link)
-    (sent : Option Image) : Type 0 where
+pub record OutStands (layouts : Layouts) (out : Sending) (exchange : Exchange) (w : Work)
+    (reading : Reading) (page : List ℕ) (kind : Kind) (link : Link) (sent : Option Image) : Type
+    0 where
   pub mode : (taken link (master_text layouts.run out.message)).mode ≡ FarOperate
   pub goes :
-      IsSent page layouts.run.od link (progress_of current)
-      (master_text layouts.run out.message) out.message (move_for exchange current)
+      IsSent page layouts.run.od link (progress_in w)
+      (master_text layouts.run out.message) out.message (move_for exchange w.current)
+  -- one that hands a request over was not out before
+  pub once : IsOutOnce kind.hands_over layouts.run.od (move_for exchange w.current)
+      (suc (vain_by w.devices exchange w.current out.tries))
+  pub again : IfSome w.current (AgainBy w.devices exchange out.tries)
+  -- nothing goes out for a request that is over but for its abort
+  pub goes_on : exchange ≡ NextMessage → IfSome w.current
+      (λ current. is_over current.progress ≡ false)
   pub confirm : exchange ≡ ConfirmEvents → is_due reading ≡ true
   pub reads : exchange ≡ ReadEvent → wants_octet reading ≡ true
   pub carries : IfSome sent (λ image. out.message.out.items ≡ image)
   pub tells : output_for exchange ≡ Some true → IsSome sent
 
-abbrev pub OutBy : Layouts → Option Sending → Option Exchange → Option Current → Reading → List ℕ
+abbrev pub OutBy : Layouts → Option Sending → Option Exchange → Work → Reading → List ℕ → Kind
     → Link → Option Image → Type 0
-OutBy layouts (Some out) (Some exchange) current r page link sent =
-    OutStands layouts out exchange current r page link sent
-OutBy layouts None None current r page link sent = ⊤
-OutBy layouts out exchange current r page link sent = ⊥
+OutBy layouts (Some out) (Some exchange) w events page kind link sent =
+    OutStands layouts out exchange w events page kind link sent
+OutBy layouts None None w events page kind link sent =
+    IfSome w.current (λ current. current.again ≡ false)
+OutBy layouts out exchange w events page kind link sent = ⊥
 
 -- the request under way, or that none is
-pub record OperateRequest (s : Operate) (limit : ℕ) (current : Option Current)
-    (exchange : Option Exchange) (reading : Reading) (g : Ghost) (far : Far) : Type 0 where
+pub record OperateRequest (s : Operate) (w : Work) (reading : Reading) (g : Ghost)
+    (far : Far) : Type 0 where
   -- nothing is left over of an earlier request; what the device is handed is this one
   pub late : g.request.hidden.late ≡ None
-  pub opens : IsOpen far.isdu (request_in current) g.request.hidden
+  pub opens : IsOpen far.isdu (request_in w.current) g.request.hidden
   -- both ends are level, as far as the request has come, with the message that is out
   pub link : Link
-  pub linked : OperateLink s.layouts (progress_of current) link
-  pub level :
-      LevelOut g.page s.layouts.run.od g.request.base link
-      (progress_of current) s.layouts.run s.out far
-  pub out : OutBy s.layouts s.out exchange current reading g.page link g.sent
+  pub linked : OperateLink s.layouts (progress_in w) link
+  pub level : LevelOut g s.layouts.run link w s.out far
+  pub out : OutBy s.layouts s.out w.exchange w reading g.page g.kind link g.sent
   -- the record has grown by the device's answer, once it has one
-  pub answer : AnswerFits g.request.base (request_in current) g.request.hidden far.carried
+  pub answer : AnswerFits g.request.base (request_in w.current) g.request.hidden far.carried
   -- the busy replies are counted, and an abort waits for what it may
-  pub busy : BusySeen limit current g.request.busy g.request.asked
+  pub busy : BusySeen w.devices w.limit w.current g.request.busy g.request.asked
   -- a request is under way only where the device has ISDU
-  pub known : IsSome (request_in current) → IsTrue (knows_isdu g.page)
+  pub known : IsSome (request_in w.current) → IsTrue (knows_isdu g.page)
 
 -- the reading of events, with the list whose confirm is due
 abbrev pub reading_at : app.Reading → Bool → Event × List Event → Reading
@@ -182,16 +226,15 @@ reading_at Refused flag due = steps.Resting
 abbrev pub reading_in : Events → OfEvents → Reading
 reading_in events g = reading_at events.reading events.flag g.due
 
--- the link's own part says that nothing is under way in a start-up
-abbrev pub RequestStands : State → ℕ → Option Current → Option Exchange → Events → Ghost → Far
-    → Type 0
-RequestStands (AtDown s) limit current exchange events g far = IsOpen far.isdu None g.request.hidden
-RequestStands (AtStartup s) limit current exchange events g far =
-    (g.request.hidden.late ≡ None) × IsOpen far.isdu None g.request.hidden
-RequestStands (AtPreoperate s) limit current exchange events g far =
-    (g.request.hidden.late ≡ None) × IsOpen far.isdu None g.request.hidden
-RequestStands (AtOperate s) limit current exchange events g far =
-    OperateRequest s limit current exchange (reading_in events g.events) g far
+-- the link's own part says that nothing is under way in a start-up, whatever the device holds
+abbrev pub RequestStands : State → Work → Events → Ghost → Far → Type 0
+RequestStands (AtDown s) w events g far = IsOpen far.isdu None g.request.hidden
+RequestStands (AtStartup s) w events g far =
+    (g.request.hidden.late ≡ None) × IsOpen far.isdu None g.request.hidden × (w.clear ≡ false)
+RequestStands (AtPreoperate s) w events g far =
+    (g.request.hidden.late ≡ None) × IsOpen far.isdu None g.request.hidden × (w.clear ≡ false)
+RequestStands (AtOperate s) w events g far =
+    OperateRequest s w (reading_in events g.events) g far
 
 -- in OPERATE the device's events fit the reading; in a start-up none is read, nor told
 abbrev pub EventsStand : State → Option Exchange → Events → OfEvents → Far → Type 0
@@ -222,9 +265,9 @@ CalmBy (Some out) silence = ⊤
 
 -- of a request begun since the last call of the wire no segment had a good reply, and none is
 -- handed
-abbrev pub FreshAt : State → Option Current → Far → Type 0
-FreshAt (AtOperate s) current far = (progress_of current ≡ Quiet) × (handed far.isdu ≡ None)
-FreshAt s current far = ⊥
+abbrev pub FreshAt : State → Work → Far → Type 0
+FreshAt (AtOperate s) w far = IsIdle (progress_in w) × (handed far.isdu ≡ None)
+FreshAt s w far = ⊥
 
 abbrev pub CalmAt : State → ℕ → Type 0
 CalmAt (AtOperate s) silence = CalmBy s.out silence
@@ -243,20 +286,19 @@ pub record ShownStands (c : Core) (page : List ℕ) : Type 0 where
 
 -- both ends stand together
 pub record Stands (c : Core) (g : Ghost) (far : Far) (silence : ℕ) : Type 0 where
-  -- of a port for any device nothing is said here
-  pub devices : c.session.configuration.devices ≡ Own
   pub page : far.page ≡ g.page
+  -- the port is for devices of its kind
+  pub kind : far.kind ≡ g.kind
+  pub for_it : IsFor c.session.configuration.devices g.kind
   -- the link's part is the lower crate's, word for word
   pub fits : StateFits c.state
   pub link : StateStands c.state silence far
   pub joined : Joined c.state c.session
   pub calm : CalmAt c.state silence
-  pub fresh : IsTrue g.fresh → FreshAt c.state c.session.current far
+  pub fresh : IsTrue g.fresh → FreshAt c.state (work_of c.session) far
   -- the image sent is the one carried last
   pub sent : SentSeen c.session.layout c.session.output.carried.items g.sent
-  pub request :
-      RequestStands c.state c.session.limit c.session.current c.session.exchange c.session.events g
-      far
+  pub request : RequestStands c.state (work_of c.session) c.session.events g far
   pub events : EventsStand c.state c.session.exchange c.session.events g.events far
   pub output : OutputStands c.state c.session.exchange c.session.output.told g.sent far
   pub shown : ShownStands c g.page
@@ -289,6 +331,7 @@ ordered s t = t.output.wanted
 abbrev pub moment_of : Core → Ghost → ℕ → WireCall → Moment
 moment_of c g silence call = record {
   terms = record {
+    devices = c.session.configuration.devices;
     busy_limit = c.session.limit;
     page = g.page;
     expected = c.session.configuration.expected;
@@ -301,7 +344,7 @@ moment_of c g silence call = record {
 -- they stay
 abbrev pub TermsStay : Core → Core → Ghost → Ghost → Type 0
 TermsStay c next g after = (next.session.limit ≡ c.session.limit) × (after.page ≡ g.page)
-    × (next.session.configuration ≡ c.session.configuration)
+    × (next.session.configuration ≡ c.session.configuration) × (after.kind ≡ g.kind)
 
 -- one call of the wire, and one list of steps, each allowed where it is taken, whose effects on the
 -- three parts of the abstract port are what happened; and both ends stand together afterwards
@@ -401,6 +444,7 @@ opened_core devices limit =
 abbrev pub opened_ghost : Far → Bool → Event × List Event → Ghost
 opened_ghost far told due = record {
   page = far.page;
+  kind = far.kind;
   request = record {
     hidden = record { answer = None; late = handed far.isdu };
     busy = 0;
@@ -516,10 +560,11 @@ pub record Receives : Type 0 where
       Stands c g far silence → IsSession c.session
       → HonestExchange far silence (text_out c.state) came far_new silence_new → out.tries < 3
       → let outcome : Outcome = came_of c came in
+      let next : Core = after_exchange outcome c.session in
       -- the link's own laws
-      IsMet outcome silence_new far_new → OutcomeFits outcome
+      IsMet outcome silence_new far_new
       → ((link : Link) → IsOperating layouts link → IsAccepted layouts far.page link out.message)
+      → StandsOn (state_of outcome) next.state → StateFits next.state
       -- the session's own
-      → Joined (state_of outcome) (settled_session outcome c.session)
-      → IsSettledSaid outcome c.session said
-      → ReceiveGives c g far silence said (settled_core outcome c.session) far_new silence_new
+      → Joined next.state next.session → IsSettledSaid outcome c.session said
+      → ReceiveGives c g far silence said next far_new silence_new

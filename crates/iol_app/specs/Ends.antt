@@ -7,6 +7,8 @@ use Rattle.iol_page.specs.declared.page.Layouts.{Layouts}
 use Rattle.iol_far.specs.declared.mode.Mode.TheVariants.{Operate as FarOperate}
 use Rattle.iol_far.specs.Far.{Far}
 use Rattle.iol_far.specs.Level.{Progress, Quiet, Link}
+use Rattle.iol_mode.specs.declared.configuration.Devices.{Devices}
+use Rattle.iol_mode.specs.declared.configuration.Devices.TheVariants.{Any}
 use Rattle.iol_mode.specs.Stands.{entering_link, operate_link}
 use Rattle.iol_steps.specs.Step.{Image}
 use Rattle.iol_steps.specs.Station.{Shown, Reading, EventsFit, WaitsElsewhere, is_due}
@@ -18,23 +20,24 @@ use Rattle.iol_app.specs.declared.session.Exchange.{Exchange}
 use Rattle.iol_app.specs.declared.session.Exchange.TheVariants.{TellOutput, DropOutput}
 use Rattle.iol_app.specs.State.{SessionState}
 
--- so many busy replies: they are counted while the answer is asked for. No text of
--- an answer was refused
-abbrev pub BusyAt : Cursor → ℕ → Type 0
-BusyAt (Sending flow segment) busy = busy ≡ 0
-BusyAt Doubting busy = ⊥
-BusyAt (Asking counted) busy = counted ≡ min busy 65535
-BusyAt (Receiving joining had) busy = ⊤
-BusyAt NoText busy = ⊥
+-- so many busy replies: they are counted while the answer is asked for. Nothing is in doubt, and no
+-- text of an answer was refused, but at a port for any device
+abbrev pub BusyAt : Devices → Cursor → ℕ → Type 0
+BusyAt devices (Sending flow segment) busy = busy ≡ 0
+BusyAt Any Doubting busy = busy ≡ 0
+BusyAt devices (Asking counted) busy = counted ≡ min busy 65535
+BusyAt devices (Receiving joining had) busy = ⊤
+BusyAt Any NoText busy = ⊤
+BusyAt devices cursor busy = ⊥
 
--- an abort waits for too many busy replies, or because the program asked for it
-abbrev pub AbortAt : ℕ → Option Cause → ℕ → Bool → Type 0
-AbortAt limit abort busy asked = IfSome abort (MayAbort limit busy asked)
+-- an abort waits for what it may
+abbrev pub AbortAt : Devices → ℕ → Option Cause → ℕ → Bool → Type 0
+AbortAt devices limit abort busy asked = IfSome abort (MayAbort devices limit busy asked)
 
-abbrev pub BusySeen : ℕ → Option Current → ℕ → Bool → Type 0
-BusySeen limit None busy asked = ⊤
-BusySeen limit (Some current) busy asked = BusyAt current.progress busy
-    × AbortAt limit current.abort busy asked
+abbrev pub BusySeen : Devices → ℕ → Option Current → ℕ → Bool → Type 0
+BusySeen devices limit None busy asked = ⊤
+BusySeen devices limit (Some current) busy asked = BusyAt devices current.progress busy
+    × AbortAt devices limit current.abort busy asked
 
 -- DeviceOperate waits at the device, and no segment of a request had a good reply;
 -- or no command waits

@@ -1,52 +1,66 @@
 -- How far a session has come, as the level of both ends of the link sees it: laws
 -- of the definitions.
-use Rattle.std.specs.Prelude.{◌≡◌, ℕ, zero, suc, ◌*◌, ◌<◌, Bool, true, false, List, ◌++◌, length, Option, Some, None, IsTrue}
+use Rattle.std.specs.Prelude.{◌≡◌, ℕ, zero, suc, ◌+◌, ◌*◌, ◌%◌, ◌<◌, Bool, true, false, ◌&&◌, List, ◌++◌, length, Option, Some, None, IsTrue}
 use Rattle.iol_mseq.specs.Shape.{Shape}
 use Rattle.iol_isdu.specs.Answers.{BeginsWithAnswer, is_read}
 use Rattle.iol_isdu.specs.declared.values.Request.{Request}
 use Rattle.iol_isdu.specs.declared.values.Answer.{Answer}
 use Rattle.iol_segment.specs.Cut.{Cutting}
-use Rattle.iol_segment.specs.Join.{Joining}
+use Rattle.iol_segment.specs.Join.{Joining, taken}
 use Rattle.iol_segment.specs.TextLaws.{joined}
 use Rattle.iol_far.specs.Codec.{flow_of}
 use Rattle.iol_far.specs.Isdu.{answer_text, fits}
-use Rattle.iol_far.specs.Level.{Progress, Quiet, Written, Busy, Had, Move, Begin, More, Ask, Next, Leave, Other, IsMove}
+use Rattle.iol_octets.specs.declared.flow_control.Flow.TheVariants.{Count}
+use Rattle.iol_far.specs.Level.{Progress, Quiet, Clear, Perhaps, Written, Busy, Had, Unsure, Move, Begin, More, Ask, Next, Leave, Other, IsMove}
 use Rattle.iol_app.specs.declared.request.Current.{Current}
 use Rattle.iol_app.specs.declared.request.Progress.{Progress as Cursor}
 use Rattle.iol_app.specs.declared.request.Progress.TheVariants.{Sending, Doubting, Asking, Receiving, Refused}
 use Rattle.iol_app.specs.declared.session.Exchange.{Exchange}
 use Rattle.iol_app.specs.declared.session.Exchange.TheVariants.{Abort, ConfirmEvents, Request as NextMessage, Idle}
-use Rattle.iol_app.specs.Requests.{Outcome, GoesOn, HasText, replied, IsCurrent}
+use Rattle.iol_app.specs.Requests.{Outcome, GoesOn, HasText, forgotten_by, replied, IsCurrent}
 use Rattle.iol_app.specs.State.{SessionState, IsSession}
-use Rattle.iol_mode.specs.declared.configuration.Devices.TheVariants.{Own}
+use Rattle.iol_mode.specs.declared.configuration.Devices.{Devices}
+use Rattle.iol_mode.specs.declared.configuration.Devices.TheVariants.{Own, Any}
 use Rattle.iol_app.specs.Messages.{Head, head_for, data_for}
 
+-- of a request no segment had a good reply: a port for any device begins one only where the device
+-- holds nothing
+abbrev pub unsent : Devices → Progress
+unsent Own = Quiet
+unsent Any = Clear
+
+-- none is under way
+abbrev pub resting : Devices → Bool → Progress
+resting Any true = Clear
+resting devices clear = Quiet
+
 -- so many segments of the request had a good reply
-abbrev pub written : Request → ℕ → Progress
-written request zero = Quiet
-written request (suc i) = Written request i
+abbrev pub written : Devices → Request → ℕ → Progress
+written devices request zero = unsent devices
+written devices request (suc i) = Written request i
 
 -- all that were given but the last
-abbrev pub before_last : Request → ℕ → Progress
-before_last request zero = Quiet
-before_last request (suc given) = written request given
+abbrev pub before_last : Devices → Request → ℕ → Progress
+before_last devices request zero = unsent devices
+before_last devices request (suc given) = written devices request given
 
 -- so many busy replies came since the last segment
-abbrev pub asked_for : Cutting Request → ℕ → Progress
-asked_for cutter zero = written cutter.source cutter.given
-asked_for cutter (suc busy) = Busy cutter.source
+abbrev pub asked_for : Devices → Cutting Request → ℕ → Progress
+asked_for devices cutter zero = written devices cutter.source cutter.given
+asked_for devices cutter (suc busy) = Busy cutter.source
 
-abbrev pub progress_at : Cutting Request → Cursor → Progress
-progress_at cutter (Sending flow segment) = before_last cutter.source cutter.given
-progress_at cutter Doubting = Quiet
-progress_at cutter (Asking busy) = asked_for cutter busy
-progress_at cutter (Receiving joining had) = Had cutter.source had joining.text
-progress_at cutter Refused = Quiet
+abbrev pub progress_at : Devices → Cutting Request → Cursor → Progress
+progress_at devices cutter (Sending flow segment) =
+    before_last devices cutter.source cutter.given
+progress_at devices cutter Doubting = Perhaps cutter.source
+progress_at devices cutter (Asking busy) = asked_for devices cutter busy
+progress_at devices cutter (Receiving joining had) = Had cutter.source had joining.text
+progress_at devices cutter Refused = Unsure cutter.source
 
--- how far the request under way has come
-abbrev pub progress_of : Option Current → Progress
-progress_of None = Quiet
-progress_of (Some current) = progress_at current.cutter current.progress
+-- how far the request under way has come; or none is, and the device surely holds nothing
+abbrev pub progress_of : Devices → Bool → Option Current → Progress
+progress_of devices clear None = resting devices clear
+progress_of devices clear (Some current) = progress_at devices current.cutter current.progress
 
 -- the segment that was given last, so many having been given
 abbrev pub segment_move : Request → ℕ → Move
@@ -73,19 +87,17 @@ move_for Idle current = Leave
 move_for any current = Other
 
 -- the message of this head and data is that move
-abbrev pub IsMoveOf : ℕ → Exchange → Option Current → Head → List ℕ → Type 0
-IsMoveOf size exchange current head od =
-    IsMove size (move_for exchange current) (progress_of current) head.channel head.read
-    (flow_of head.address) od
+abbrev pub IsMoveOf : ℕ → Exchange → Devices → Bool → Option Current → Head → List ℕ → Type 0
+IsMoveOf size exchange devices clear current head od =
+    IsMove size (move_for exchange current) (progress_of devices clear current) head.channel
+    head.read (flow_of head.address) od
 
--- at a port for devices of our own kind each new message is the move that the request's progress
--- asks for
+-- each new message is the move that the request's progress asks for
 abbrev pub MessagesAreMoves : Type 0
 MessagesAreMoves =
     (s : SessionState) (layout : Shape) (exchange : Exchange) → IsSession s → s.layout ≡ Some layout
-    → s.configuration.devices ≡ Own
-    → IsMoveOf layout.od exchange s.current (head_for exchange s.events.reading s.current)
-    (data_for exchange layout.od s.current)
+    → IsMoveOf layout.od exchange s.configuration.devices s.clear s.current
+    (head_for exchange s.events.reading s.current) (data_for exchange layout.od s.current)
 
 -- whether a message for this confirms events
 abbrev pub confirms_events : Exchange → Bool
@@ -104,6 +116,7 @@ octets_had any od = od
 
 -- a segment of the answer is asked for
 abbrev pub IsReading : Cursor → Type 0
+IsReading Doubting = Unit {0}
 IsReading (Asking busy) = Unit {0}
 IsReading (Receiving joining had) = Unit {0}
 IsReading any = ⊥
@@ -117,12 +130,18 @@ IsTakenUp current answer i octets (HasText text) =
     BeginsWithAnswer (is_read current.cutter.source) text answer
     × BeginsWithAnswer (is_read current.cutter.source) octets answer
 
--- no segment of an answer that fits the request is refused, where it was asked for once: it is
--- taken up, and the answer at its last one is that answer
+-- the text is whole with these octets, but a device that has forgotten the answer sends them too
+abbrev pub is_forgotten : Cursor → Bool → List ℕ → Bool
+is_forgotten (Receiving joining had) again od =
+    again && forgotten_by (taken joining (Count ((had + 1) % 16)) od).took od
+is_forgotten cursor again od = false
+
+-- no segment of an answer that fits the request is refused but one that may be none: it is taken
+-- up, and the answer at its last one is that answer
 abbrev pub AnswersAreTakenUp : Type 0
 AnswersAreTakenUp =
     (current : Current) (limit : ℕ) (od : List ℕ) (answer : Answer) → IsCurrent current
-    → current.again ≡ false → IsReading current.progress
+    → is_forgotten current.progress current.again od ≡ false → IsReading current.progress
     → IsTrue (fits current.cutter.source answer)
     → octets_had current.progress od
     ≡ joined current.cutter.size (answer_text current.cutter.source answer)

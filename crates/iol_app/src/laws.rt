@@ -77,6 +77,7 @@ pub(crate) fn receive_gives()
     replies_are_read();
     events_stay_until_confirmed();
     modes_have_layouts();
+    texts_are_heard();
     memory_stays_valid();
     reading_gives_the_frozen_list();
     text_names_its_answer();

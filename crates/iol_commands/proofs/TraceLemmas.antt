@@ -28,7 +28,7 @@ use Rattle.iol_script.specs.Script.{ScriptValue, script_in, calls_in}
 use Rattle.iol_script.specs.Text.{numbered_lines}
 use Rattle.iol_commands.proofs.PlayLemmas.{runs_none, runs_more}
 use Rattle.iol_commands.proofs.RunLemmas.{carried_is}
-use Rattle.iol_commands.specs.RunPlayed.{HasOwnDevice, records_text, first_port, lacks_memory}
+use Rattle.iol_commands.specs.RunPlayed.{HasItsDevice, records_text, first_port, lacks_memory}
 use Rattle.iol_commands.specs.RunPrinted.{answer_text}
 use Rattle.iol_commands.specs.TracePrinted.{layout_at, layout_now, first_tap, tapped_opening, TracesOut, TracesOverWire, PrintsTrace, Stage, stage, tap_at, Passes, TracesCall, Traces, PortTraces, Flows, PrintsNote, PrintsNoteOf}
 
@@ -287,8 +287,8 @@ pub traced_out : (script : ScriptValue) (p q : Parts (Tapped (Simulated (List En
     (a : PortState) (opening : Opening (Tapped (Simulated (List Entry))))
     (tap : Tapped (Simulated (List Entry))) (n m : ℕ) (calls : List Call) (text : List ℕ)
     (last_wire : Simulated (List Entry))
-    → n ≡ 1 → (HasOwnDevice script → StandsFor tapped p a)
-    → (HasOwnDevice script → a ≡ first_port script.limits script.page)
+    → n ≡ 1 → (HasItsDevice script → StandsFor tapped p a)
+    → (HasItsDevice script → a ≡ first_port script)
     → opening ≡ opening_for tapped script.devices script.limits tap → tap ≡ first_tap script
     → IsOpened opening p
     → PortTraces (sim_facts Stores) n p calls m q text

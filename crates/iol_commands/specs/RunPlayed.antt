@@ -8,7 +8,7 @@ use Rattle.iol_far.specs.declared.kind.Kind.{Kind}
 use Rattle.iol_far.specs.Far as device
 use Rattle.iol_far.specs.Isdu.{own}
 use Rattle.iol_link.specs.WireFacts.{WireFacts}
-use Rattle.iol_mode.specs.declared.configuration.Devices.TheVariants.{Own}
+use Rattle.iol_mode.specs.Kinds.{IsFor}
 use Rattle.iol_sim.specs.Params.{Stores}
 use Rattle.iol_sim.specs.declared.params.Entry.{Entry}
 use Rattle.iol_sim.specs.Sim.{Simulated, sim_facts}
@@ -23,10 +23,10 @@ use Rattle.iol_port.specs.EveryWire.{RunGives}
 use Rattle.iol_script.specs.Script.{ScriptValue, script_in, calls_in}
 use Rattle.iol_commands.specs.RunPrinted.{answers_text, record_text, away_text}
 
--- a port of these limits that is opened over a new device of this page, whose
--- record has room for 1,000 requests
-abbrev pub first_port : Limits → List ℕ → PortState
-first_port limits page = opened limits (device.opened page (Some 1000)) 0
+-- the port of a script at first, over its new device, whose record has room for 1,000 requests
+abbrev pub first_port : ScriptValue → PortState
+first_port script = opened script.devices script.limits
+    (device.opened_as script.kind script.page (Some 1000)) 0
 
 -- whether a call was refused for want of memory
 abbrev pub lacks_memory : Answered → Bool
@@ -61,11 +61,10 @@ abbrev pub records_text : Simulated (List Entry) → List ℕ
 records_text sim = record_text sim.device.far.carried
     ++ away_text (option_map (λ d. d.far.carried) sim.away)
 
--- a script of one device, which is of our own kind, and of a port for such devices
-pub record HasOwnDevice (script : ScriptValue) : Type 0 where
+-- a script of one device, which is one of those that its port is for
+pub record HasItsDevice (script : ScriptValue) : Type 0 where
   pub one : script.other ≡ None
-  pub kind : script.kind ≡ own
-  pub port : script.devices ≡ Own
+  pub for_it : IsFor script.devices script.kind
 
 -- Calls are made on a port, one after the other: none of the answers lacks memory,
 -- and the text is what they are.
@@ -96,19 +95,19 @@ first_opening script =
 pub record RunsAlike (script : ScriptValue) (calls : List Call) (answers : List Answered)
     (wire : Simulated (List Entry)) : Type 0 where
   pub after : PortState
-  pub run : Run (first_port script.limits script.page) calls answers after
+  pub run : Run (first_port script) calls answers after
   pub carried : wire.device.far.carried ≡ after.session.carried
 
 -- What is printed for calls: what they answer, and then the records. They are made on a
--- new port over the script's wire; with one device of our own kind the abstract port makes them
--- alike.
+-- new port over the script's wire; with one device, of those that it is for, the abstract port
+-- makes them alike.
 pub record PlaysOut (script : ScriptValue) (calls : List Call) (text : List ℕ) : Type 0 where
   pub answers : List Answered
   pub first : Parts (Simulated (List Entry))
   pub opens : IsOpened (first_opening script) first
   pub last : Parts (Simulated (List Entry))
   pub made : MadeOverWire first calls answers last
-  pub alike : HasOwnDevice script → RunsAlike script calls answers (wire_of last.station.link)
+  pub alike : HasItsDevice script → RunsAlike script calls answers (wire_of last.station.link)
   pub granted : list_any lacks_memory answers ≡ false
   pub text_is : text ≡ answers_text calls answers ++ records_text (wire_of last.station.link)
 

@@ -21,7 +21,7 @@ use Rattle.iol_port.specs.View.{Parts, Opening, Runs, IsOpened, opening_for, sta
 use Rattle.iol_port.specs.EveryWire.{CallGives, page_shown}
 use Rattle.iol_script.specs.Script.{ScriptValue, script_in, calls_in}
 use Rattle.iol_commands.specs.Passing.{PrintsPassed}
-use Rattle.iol_commands.specs.RunPlayed.{HasOwnDevice, RunsAlike, first_wire, records_text, lacks_memory}
+use Rattle.iol_commands.specs.RunPlayed.{HasItsDevice, RunsAlike, first_wire, records_text, lacks_memory}
 use Rattle.iol_commands.specs.RunPrinted.{answer_text}
 
 -- the layout of a mode, if a page asks for these; in down no message is sent
@@ -112,7 +112,7 @@ pub record TracesOut (script : ScriptValue) (calls : List Call) (text : List ℕ
   pub last : Stage (Simulated (List Entry))
   pub calls_text : List ℕ
   pub traces : TracesOverWire (stage 1 first) calls answers last calls_text
-  pub alike : HasOwnDevice script → RunsAlike script calls answers (wire_at last)
+  pub alike : HasItsDevice script → RunsAlike script calls answers (wire_at last)
   pub text_is : text ≡ calls_text ++ records_text (wire_at last)
 
 -- what `trace` prints for lines, which are a script

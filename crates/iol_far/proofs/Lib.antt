@@ -4,9 +4,8 @@ mod Replies
 mod Once
 mod Hearings
 mod Zeros
-mod AnyStanding
-mod AnyMoves
-mod AnyLevels
+mod Standing
+mod Moves
 mod Levels
 mod Sized
 mod Eventful

@@ -8,7 +8,7 @@ use Rattle.iol_isdu.specs.Frame.{total_at}
 use Rattle.iol_segment.specs.Cut.{segment, SegmentsHaveSize}
 use Rattle.iol_segment.specs.Join.{Complete, stage, stage_by}
 use Rattle.iol_segment.specs.TextLaws.{TextLaws, HoldsLength, joined, IsLast}
-use Rattle.iol_far.specs.AnyLevel.{is_open}
+use Rattle.iol_far.specs.Level.{is_open}
 
 -- a total length alone, and how many octets there are, say whether a text is whole
 same_stage : (r : Result ℕ IsduFault) (xs ys text : List ℕ) → length xs ≡ length ys

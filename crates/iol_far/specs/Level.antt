@@ -1,5 +1,6 @@
--- How far the two ends of the link have come with a request, and with their modes.
-use Rattle.std.specs.Prelude.{◌≡◌, ◌⊎◌, ℕ, suc, ◌*◌, ◌%◌, ◌<◌, ◌≤◌, Bool, true, false, List, [], ◌∷◌, ◌++◌, length, Option, Some, None, slice_index, if◌then◌else◌, ◌==◌, bytes_eq, IfSome, IsTrue}
+-- How far the two ends of the link have come with a request, and with their modes, whatever the
+-- kind of device.
+use Rattle.std.specs.Prelude.{◌≡◌, ◌⊎◌, ℕ, zero, suc, ◌*◌, ◌%◌, ◌<◌, ◌≤◌, Bool, true, false, not, ◌&&◌, List, ◌++◌, length, replicate, Option, Some, None, slice_index, if◌then◌else◌, ◌==◌, nat_le, bytes_eq, IfSome, IsTrue, [], ◌∷◌}
 use Rattle.iol_octets.specs.declared.control.Channel.{Channel}
 use Rattle.iol_octets.specs.declared.control.Channel.TheVariants.{Process, Page, Diagnosis, Isdu}
 use Rattle.iol_octets.specs.declared.flow_control.Flow.{Flow}
@@ -10,56 +11,102 @@ use Rattle.iol_isdu.specs.declared.values.Request.{Request}
 use Rattle.iol_isdu.specs.declared.values.Answer.{Answer}
 use Rattle.iol_isdu.specs.Texts.{IsRequest, request_text}
 use Rattle.iol_segment.specs.Cut.{segment}
+use Rattle.iol_segment.specs.Join.{Stage, Open, stage}
 use Rattle.iol_segment.specs.TextLaws.{joined, IsLast}
+use Rattle.iol_segment.specs.TextLaws as texts
 use Rattle.iol_segment.specs.JoinLaws.{count_at}
 use Rattle.iol_far.specs.declared.carried.Carried.{Carried}
-use Rattle.iol_far.specs.declared.mode.Mode.{Mode}
-use Rattle.iol_far.specs.Isdu.{IsduState, Empty, Handed, Answered, received, answer_text, fits, own}
+use Rattle.iol_far.specs.declared.kind.Kind.{Kind}
+use Rattle.iol_far.specs.declared.kind.HandsOver.{HandsOver}
+use Rattle.iol_far.specs.declared.kind.HandsOver.TheVariants.{FirstRead, LastSegment}
+use Rattle.iol_far.specs.declared.kind.Recalls.{Recalls}
+use Rattle.iol_far.specs.declared.kind.Recalls.TheVariants.{UntilLeft, UntilSent}
+use Rattle.iol_far.specs.Isdu.{IsduState, Empty, Handed, Answered, received, answer_text, fits}
 use Rattle.iol_far.specs.Codec.{layout_in, message_in, flow_of}
 use Rattle.iol_far.specs.Far.{Far, WaitingCommand, hear, waits_after, mode_asked, known_mode, command_in}
+use Rattle.iol_far.specs.declared.mode.Mode.{Mode}
 use Rattle.iol_far.specs.Local.{LocalStep, local}
 
 -- A request
 
 -- how far the request under way has come, by the good replies that the master had
 pub data Progress : Type 0 where
-  -- none is under way, or none of its segments had a good reply
+  -- none is under way; the device may hold an answer of before
   Quiet : Progress
+  -- none is under way, and the device holds nothing
+  Clear : Progress
+  -- its only segment was sent, which the device may have heard
+  Perhaps : Request → Progress
   -- the segments up to this one had a good reply
   Written : Request → ℕ → Progress
   -- the device said that it is busy with it
   Busy : Request → Progress
   -- the answer's segments up to this one were had, and these are their octets
   Had : Request → ℕ → List ℕ → Progress
+  -- it has ended, and whether it was carried out can't be known
+  Unsure : Request → Progress
 
 -- a record with one more pair at its end
 abbrev pub grown_by : List Carried → Request → Answer → List Carried
 grown_by base request answer = base ++ record { request = request; answer = answer } ∷ []
 
--- the far end's ISDU state and record are as that progress says, but for what it
--- does by itself; the record was `base` when the request was begun
-abbrev pub Stands : ℕ → List Carried → Progress → IsduState → List Carried → Type 0
-Stands size base Quiet Empty carried = carried ≡ base
-Stands size base Quiet (Answered request answer last) carried = carried ≡ base
-Stands size base (Written request i) state carried = IsRequest request
-    × (state ≡ received (joined size (request_text request) i) (count_at i)) × (carried ≡ base)
-Stands size base (Busy request) (Handed held) carried = (held ≡ request) × (carried ≡ base)
-Stands size base (Busy request) (Answered held answer None) carried = (held ≡ request)
+-- the request is with the application, or it was answered, and none of the answer was sent
+abbrev pub IsTaken : List Carried → Request → IsduState → List Carried → Type 0
+IsTaken base request (Handed held) carried = (held ≡ request) × (carried ≡ base)
+IsTaken base request (Answered held answer None) carried = (held ≡ request)
     × IsTrue (fits held answer) × (carried ≡ grown_by base request answer)
-Stands size base (Had request i text) (Answered held answer (Some sent)) carried =
-    (held ≡ request) × IsTrue (fits held answer) × (sent ≡ i)
+IsTaken base request state carried = ⊥
+
+-- the request's segments up to this one were received; with the last of them it is taken, where
+-- that hands it over
+abbrev pub IsWritten : HandsOver → ℕ → List Carried → Request → ℕ → IsduState → Option ℕ
+    → List Carried → Type 0
+IsWritten FirstRead size base request i state counted carried =
+    (state ≡ received (joined size (request_text request) i) (count_at i)) × (carried ≡ base)
+IsWritten LastSegment size base request i state counted carried = (counted ≡ count_at i)
+    × ((texts.IsBefore size (request_text request) i
+    × (state ≡ received (joined size (request_text request) i) (count_at i)) × (carried ≡ base))
+    ⊎ (IsLast size (request_text request) i × IsTaken base request state carried))
+
+-- the record has grown by nothing, or by the request with some answer
+abbrev pub IsGrownOnce : List Carried → Request → List Carried → Type 0
+IsGrownOnce base request carried = (carried ≡ base)
+    ⊎ ((answer : Answer) × (carried ≡ grown_by base request answer))
+
+-- the far end's ISDU state, the COUNT that it keeps, and its record are as that progress says,
+-- but for what it does by itself; the record was `base` when the request was begun
+abbrev pub Stands : HandsOver → ℕ → List Carried → Progress → IsduState → Option ℕ
+    → List Carried → Type 0
+Stands hands_over size base Quiet Empty counted carried = carried ≡ base
+Stands hands_over size base Quiet (Answered request answer last) counted carried = carried ≡ base
+Stands hands_over size base Clear Empty counted carried = carried ≡ base
+Stands hands_over size base (Perhaps request) state counted carried = IsRequest request
+    × IsLast size (request_text request) 0
+    × (((state ≡ Empty) × (carried ≡ base))
+    ⊎ IsWritten hands_over size base request 0 state counted carried)
+Stands hands_over size base (Written request i) state counted carried = IsRequest request
+    × IsWritten hands_over size base request i state counted carried
+Stands hands_over size base (Busy request) state counted carried =
+    IsTaken base request state carried
+Stands hands_over size base (Had request i text) (Answered held answer (Some sent)) counted
+    carried = (held ≡ request) × IsTrue (fits held answer) × (sent ≡ i)
     × (text ≡ joined size (answer_text request answer) i) × (carried ≡ grown_by base request answer)
-Stands size base progress state carried = ⊥
+Stands hands_over size base (Unsure request) Empty counted carried =
+    IsGrownOnce base request carried
+Stands hands_over size base (Unsure request) (Answered held answer last) counted carried =
+    (held ≡ request) × IsTrue (fits held answer) × (carried ≡ grown_by base request answer)
+Stands hands_over size base progress state counted carried = ⊥
 
 -- since then the record has grown by nothing, or by the request under way with some answer
 abbrev pub IsGrown : List Carried → Progress → List Carried → Type 0
 IsGrown base Quiet carried = carried ≡ base
-IsGrown base (Written request i) carried = (carried ≡ base)
-    ⊎ ((answer : Answer) × (carried ≡ grown_by base request answer))
-IsGrown base (Busy request) carried = (carried ≡ base)
-    ⊎ ((answer : Answer) × (carried ≡ grown_by base request answer))
+IsGrown base Clear carried = carried ≡ base
+IsGrown base (Perhaps request) carried = IsGrownOnce base request carried
+IsGrown base (Written request i) carried = IsGrownOnce base request carried
+IsGrown base (Busy request) carried = IsGrownOnce base request carried
 IsGrown base (Had request i text) carried = (answer : Answer)
     × (carried ≡ grown_by base request answer)
+IsGrown base (Unsure request) carried = IsGrownOnce base request carried
 
 -- what a new message of the master does
 pub data Move : Type 0 where
@@ -74,47 +121,67 @@ pub data Move : Type 0 where
   -- nothing on the ISDU channel
   Other : Move
 
--- busy, or the answer's first segment
-abbrev pub asked : Request → List ℕ → Progress
-asked request data_in = if slice_index data_in 0 == 1 then Busy request else Had request 0 data_in
-
--- the progress once the reply was had, which brought these octets
-abbrev pub after : Progress → Move → List ℕ → Progress
-after progress (Begin request) data_in = Written request 0
-after (Written request i) More data_in = Written request (suc i)
-after (Written request i) Ask data_in = asked request data_in
-after (Busy request) Ask data_in = asked request data_in
-after (Had request i text) Next data_in = Had request (suc i) (text ++ data_in)
-after progress Leave data_in = Quiet
-after progress any data_in = progress
-
--- the message of this channel, direction, flow and octets is that move, at this progress
-abbrev pub IsMove : ℕ → Move → Progress → Channel → Bool → Flow → List ℕ → Type 0
-IsMove size (Begin request) Quiet Isdu false Start octets = IsRequest request
-    × (octets ≡ segment size (request_text request) 0)
-IsMove size More (Written request i) Isdu false (Count count) octets =
-    (suc i * size < length (request_text request)) × (count ≡ suc i % 16)
-    × (octets ≡ segment size (request_text request) (suc i))
-IsMove size Ask (Written request i) Isdu true Start octets = IsLast size (request_text request) i
-IsMove size Ask (Busy request) Isdu true Start octets = Unit {0}
--- the text had so far is no whole answer
-IsMove size Next (Had request i text) Isdu true (Count count) octets =
-    (count ≡ suc i % 16)
-    × ((answer : Answer) → IsTrue (fits request answer)
-    → text ≡ joined size (answer_text request answer) i
-    → suc i * size < length (answer_text request answer))
-IsMove size Leave progress Isdu read Idle1 octets = Unit {0}
-IsMove size Leave progress Isdu read Idle2 octets = Unit {0}
-IsMove size Leave progress Isdu read Abort octets = Unit {0}
-IsMove size Other progress Process read flow octets = Unit {0}
-IsMove size Other progress Page read flow octets = Unit {0}
-IsMove size Other progress Diagnosis read flow octets = Unit {0}
-IsMove size any progress channel read flow octets = ⊥
-
 -- the record that the next request begins with
 abbrev pub base_after : Move → List Carried → List Carried → List Carried
 base_after Leave base carried = carried
 base_after any base carried = base
+
+-- What a reply says
+
+-- nothing came in place of an answer, as only a device sends that has forgotten it
+abbrev pub nothing_came : Recalls → Request → List ℕ → Progress
+nothing_came UntilLeft request data_in = Had request 0 data_in
+nothing_came UntilSent request data_in = Unsure request
+
+-- busy, nothing, or the answer's first segment
+abbrev pub asked : Recalls → Request → List ℕ → Progress
+asked recalls request data_in =
+    if slice_index data_in 0 == 1 then Busy request else
+    if slice_index data_in 0 == 0 then nothing_came recalls request data_in else
+    Had request 0 data_in
+
+-- nothing came: the device has not heard of the request, where it was asked for the first time;
+-- else it may have answered before
+abbrev pub unheard_of : ℕ → Request → Progress
+unheard_of zero request = Clear
+unheard_of (suc tries) request = Unsure request
+
+-- the same where the device may not have heard of the request
+abbrev pub wondered : ℕ → Request → List ℕ → Progress
+wondered tries request data_in =
+    if slice_index data_in 0 == 1 then Busy request else
+    if slice_index data_in 0 == 0 then unheard_of tries request else
+    Had request 0 data_in
+
+abbrev pub is_open : Stage → Bool
+is_open Open = true
+is_open other = false
+
+-- whether octets behind those of an answer may be those of a device that has forgotten it: zeros,
+-- where the answer would end, from one that was asked for them before
+abbrev pub may_be_none : Recalls → ℕ → List ℕ → List ℕ → Bool
+may_be_none UntilSent (suc tries) text data_in =
+    bytes_eq data_in (replicate (length data_in) 0) && not (is_open (stage (text ++ data_in)))
+may_be_none recalls tries text data_in = false
+
+-- the progress once the reply was had, which brought these octets after so many tries in vain; the
+-- device recalls an answer so long, or longer
+abbrev pub after : Recalls → ℕ → Progress → Move → List ℕ → Progress
+after recalls tries progress (Begin request) data_in = Written request 0
+after recalls tries (Written request i) More data_in = Written request (suc i)
+after recalls tries (Perhaps request) Ask data_in = wondered tries request data_in
+after recalls tries (Written request i) Ask data_in = asked recalls request data_in
+after recalls tries (Busy request) Ask data_in = asked recalls request data_in
+after recalls tries (Had request i text) Next data_in =
+    if may_be_none recalls tries text data_in then Unsure request else
+    Had request (suc i) (text ++ data_in)
+after recalls tries progress Leave data_in = Clear
+after recalls tries progress any data_in = progress
+
+-- the device recalls an answer so long, or longer
+abbrev pub RecallsAtLeast : Recalls → Recalls → Type 0
+RecallsAtLeast UntilLeft UntilSent = ⊥
+RecallsAtLeast recalls of_device = Unit {0}
 
 -- Both ends of the link
 
@@ -151,9 +218,59 @@ abbrev pub MayBegin : List ℕ → Move → Type 0
 MayBegin page (Begin request) = IsTrue (knows_isdu page)
 MayBegin page what = Unit {0}
 
--- What a master sends: octets that spell the message in the layout in which the far
--- end accepts them, the message being that move. Before the first good reply in a
--- layout no request is under way
+-- What the master sends
+
+-- the message of this channel, direction, flow and octets is that move, at this progress
+abbrev pub IsMove : ℕ → Move → Progress → Channel → Bool → Flow → List ℕ → Type 0
+IsMove size (Begin request) Quiet Isdu false Start octets = IsRequest request
+    × (octets ≡ segment size (request_text request) 0)
+IsMove size (Begin request) Clear Isdu false Start octets = IsRequest request
+    × (octets ≡ segment size (request_text request) 0)
+IsMove size More (Written request i) Isdu false (Count count) octets =
+    (suc i * size < length (request_text request)) × (count ≡ suc i % 16)
+    × (octets ≡ segment size (request_text request) (suc i))
+IsMove size Ask (Perhaps request) Isdu true Start octets = Unit {0}
+IsMove size Ask (Written request i) Isdu true Start octets = IsLast size (request_text request) i
+IsMove size Ask (Busy request) Isdu true Start octets = Unit {0}
+-- the text had so far is no whole answer
+IsMove size Next (Had request i text) Isdu true (Count count) octets =
+    (count ≡ suc i % 16)
+    × ((answer : Answer) → IsTrue (fits request answer)
+    → text ≡ joined size (answer_text request answer) i
+    → suc i * size < length (answer_text request answer))
+IsMove size Leave progress Isdu read Idle1 octets = Unit {0}
+IsMove size Leave progress Isdu read Idle2 octets = Unit {0}
+IsMove size Leave progress Isdu read Abort octets = Unit {0}
+IsMove size Other progress Process read flow octets = Unit {0}
+IsMove size Other progress Page read flow octets = Unit {0}
+IsMove size Other progress Diagnosis read flow octets = Unit {0}
+IsMove size any progress channel read flow octets = ⊥
+
+-- whether hearing that move hands a request over, each time: the only segment of one, where the
+-- last segment does
+abbrev pub hands_whole : HandsOver → ℕ → Move → Bool
+hands_whole LastSegment size (Begin request) = nat_le (length (request_text request)) size
+hands_whole hands_over size what = false
+
+-- a move that hands a request over was out at most once
+abbrev pub IsOutOnce : HandsOver → ℕ → Move → ℕ → Type 0
+IsOutOnce hands_over size what times = hands_whole hands_over size what ≡ true → times ≤ 1
+
+-- no request is under way
+abbrev pub IsIdle : Progress → Type 0
+IsIdle Quiet = Unit {0}
+IsIdle Clear = Unit {0}
+IsIdle progress = ⊥
+
+-- the application has nothing of a request, and gets nothing of it any more
+abbrev pub IsSettled : Progress → Type 0
+IsSettled (Perhaps request) = ⊥
+IsSettled (Written request i) = ⊥
+IsSettled (Busy request) = ⊥
+IsSettled progress = Unit {0}
+
+-- Octets that spell the message in the layout in which the far end accepts them, the message being
+-- that move. Before the first good reply in a layout no request is under way
 pub record IsSent (page : List ℕ) (size : ℕ) (link : Link) (progress : Progress) (octets : List ℕ)
     (message : MasterMsg) (what : Move) : Type 0 where
   pub spells : message_in (layout_in page (taken link octets).mode) octets ≡ Some message
@@ -161,22 +278,31 @@ pub record IsSent (page : List ℕ) (size : ℕ) (link : Link) (progress : Progr
   pub move : IsMove size what progress message.mc.channel message.mc.read
       (flow_of message.mc.address) message.od.items
   pub begins : MayBegin page what
-  pub quiet : IfSome link.waits (λ command. progress ≡ Quiet)
+  pub idle : IfSome link.waits (λ command. IsIdle progress)
+
+-- what may be under way while the message is out
+abbrev pub under_way : HandsOver → ℕ → Progress → Move → Progress
+under_way hands_over size progress (Begin request) =
+    if hands_whole hands_over size (Begin request) then Perhaps request else progress
+under_way hands_over size progress what = progress
+
+-- Both ends
 
 -- a request is under way only where the page has ISDU
 abbrev pub HasIsduFor : List ℕ → Progress → Type 0
 HasIsduFor page Quiet = Unit {0}
+HasIsduFor page Clear = Unit {0}
 HasIsduFor page progress = IsTrue (knows_isdu page)
 
--- The far end is of our own kind, and as the master's fields say, with no message out
-pub record IsBefore (page : List ℕ) (size : ℕ) (base : List Carried) (link : Link)
+-- The far end is of this kind, and as the master's fields say, with no message out
+pub record IsBefore (page : List ℕ) (kind : Kind) (size : ℕ) (base : List Carried) (link : Link)
     (progress : Progress) (far : Far) : Type 0 where
   pub awake : far.awake ≡ true
-  pub own : far.kind ≡ own
+  pub kind_is : far.kind ≡ kind
   pub page_is : far.page ≡ page
   pub link_is : link_of far ≡ link
   pub isdu : HasIsduFor page progress
-  pub stands : Stands size base progress far.isdu far.carried
+  pub stands : Stands kind.hands_over size base progress far.isdu far.counted far.carried
 
 -- What happens at the far end while a message is out
 pub data Happening : Type 0 where
@@ -195,8 +321,10 @@ hearings (Hears ∷ rest) = suc (hearings rest)
 
 -- The far end sleeps, or it comes from the state before the message that is out by
 -- local steps and at most that many hearings of it
-abbrev pub IsLevel : List ℕ → ℕ → List Carried → Link → Progress → List ℕ → ℕ → Far → Type 0
-IsLevel page size base link progress octets most far =
+abbrev pub IsLevel : List ℕ → Kind → ℕ → List Carried → Link → Progress → List ℕ → ℕ → Far
+    → Type 0
+IsLevel page kind size base link progress octets most far =
     ((far.awake ≡ false) × (far.isdu ≡ Empty) × IsGrown base progress far.carried)
-    ⊎ ((before : Far) × (rest : List Happening) × IsBefore page size base link progress before
+    ⊎ ((before : Far) × (rest : List Happening)
+    × IsBefore page kind size base link progress before
     × (hearings rest ≤ most) × (far ≡ happened before octets rest))

@@ -4,10 +4,8 @@ pub mod Record
 pub mod Far
 pub mod Local
 pub mod Level
-pub mod AnyLevel
 pub mod SegmentLaws
 pub mod Laws
-pub mod AnyLaws
 pub mod Linked
 pub mod Regular
 pub mod Octets

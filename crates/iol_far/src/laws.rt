@@ -3,7 +3,6 @@ ghost use Rattle.std.specs.Prelude.{◌≤◌, ℕ, List};
 ghost use Rattle.iol_event.specs.declared.event.Event.{Event};
 ghost use Rattle.iol_far.specs.SegmentLaws.{SegmentLaws};
 ghost use Rattle.iol_far.specs.Laws.{OnceIsEnough, MessagesAreHeard, ModesHaveLayouts, RepliesAreRead, InputStaysSized, MuchStays, OutputStaysInOperate, LevelLaws, EventLaws};
-ghost use Rattle.iol_far.specs.AnyLaws.{AnyLevelLaws};
 ghost use Rattle.iol_far.specs.Linked.{LinkLaws, TextsAreHeard};
 ghost use Rattle.iol_far.specs.Regular.{RegularStays};
 
@@ -68,19 +67,11 @@ pub fn requests_are_received()
 ///
 /// A request of one segment is sent to a device that surely holds nothing. Where no good reply
 /// comes, a START read goes out in place of the repeat, whose reply says whether it was heard.
-pub fn asking_ends_stay_level()
-    ensures { (size : ℕ) → 1 ≤ size → AnyLevelLaws size }
-{
-    texts_join();
-    cut_is_whole();
-}
-
-/// What a master may conclude of the device while a message is out, and from one good reply:
-/// where a request stands, which mode both ends are in, and what the record may have gained.
 pub fn ends_stay_level()
     ensures { (size : ℕ) → 1 ≤ size → LevelLaws size }
 {
-    asking_ends_stay_level();
+    texts_join();
+    cut_is_whole();
 }
 
 /// A list of frozen events stays while it is read, and its confirm, however often

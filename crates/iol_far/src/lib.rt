@@ -7,8 +7,8 @@
 //! the standard leaves open is a profile of this project).
 //!
 //! Definitions begin in `specs/Far`, with `hear`; then `Isdu`, `Local` and `Record`, and `Level`:
-//! how far a request has come between both ends. `AnyLevel` is the same at devices of any kind, for
-//! a master that asks before it repeats. The laws say what hearing, repeating and losing leave.
+//! how far a request has come between both ends, whatever the kind of device. The laws say what
+//! hearing, repeating and losing leave.
 #![tactic(auto)]
 
 mod carried;
@@ -19,9 +19,8 @@ mod mode;
 pub use carried::Carried;
 pub use kind::{HandsOver, Kind, Recalls};
 pub use laws::{
-    asking_ends_stay_level, ends_stay_level, events_stay_until_confirmed,
-    hearing_again_changes_nothing, links_stay_level, messages_are_heard, modes_have_layouts,
-    page_and_room_stay, parts_stay_regular, replies_are_read, requests_are_received,
-    texts_are_heard,
+    ends_stay_level, events_stay_until_confirmed, hearing_again_changes_nothing, links_stay_level,
+    messages_are_heard, modes_have_layouts, page_and_room_stay, parts_stay_regular,
+    replies_are_read, requests_are_received, texts_are_heard,
 };
 pub use mode::Mode;

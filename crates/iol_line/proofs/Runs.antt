@@ -76,7 +76,7 @@ unfolding IsRun
 began p devices limits from opens well = (
   [],
   [],
-  opened limits from.far from.silence,
+  opened devices limits from.far from.silence,
   refl,
   opens
       from.far from.silence well,
@@ -88,6 +88,6 @@ pub record_kept : OpensSound → PiecesSound → (p : HonestPort) → CoreKeeps 
 unfolding IsRun
 record_kept opens stay p keeps is well =
     let (pieces, replies, b, run, stands) = is well in
-    let first : IsSound (opened p.limits p.from.far p.from.silence) =
-    opens p.limits p.from.far p.from.silence in
+    let first : IsSound (opened p.devices p.limits p.from.far p.from.silence) =
+    opens p.devices p.limits p.from.far p.from.silence in
     keeps p.at.far p.at.silence b stands (stay _ b pieces replies run first)

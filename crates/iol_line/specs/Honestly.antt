@@ -26,7 +26,7 @@ pub record HonestPort : Type 0 where
 abbrev pub line_at : Standing → WireFacts (Unit {0})
 line_at at = at_end at.far at.silence
 
--- it was opened for devices of our own kind, and the device had been handed no request then
+-- the device is one of those that it was opened for, and had been handed no request then
 abbrev pub BeganWell : HonestPort → Type 0
 BeganWell p = OpensWell (opened_at p.devices p.limits p.from.far p.from.silence)
 
@@ -35,7 +35,7 @@ BeganWell p = OpensWell (opened_at p.devices p.limits p.from.far p.from.silence)
 unfoldable pub IsRun : HonestPort → Type 0
 IsRun p =
     BeganWell p → (pieces : List Piece) × (replies : List Answered) × (b : PortState)
-    × Pieces (opened p.limits p.from.far p.from.silence) pieces replies b
+    × Pieces (opened p.devices p.limits p.from.far p.from.silence) pieces replies b
     × StandsFor (line_at p.at) p.parts b
 
 -- for some choice both ends stand together, and the record fits the journal

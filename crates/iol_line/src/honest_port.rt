@@ -113,8 +113,7 @@ impl<A: Allocator + Copy> HonestPort<A> {
         HonestPort::open_for(alloc, limits, Devices::Own, near)
     }
 
-    /// A port as [`PortCore::open_for`] gives it, whose line stands there. What is promised of it
-    /// over a lossy line is promised of one for our own devices alone.
+    /// A port as [`PortCore::open_for`] gives it, whose line stands there.
     pub fn open_for<T>(
         alloc: A,
         limits: &Limits,

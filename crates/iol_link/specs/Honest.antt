@@ -4,7 +4,7 @@ use Rattle.iol_mseq.specs.Shape.{Shape, IsLayout}
 use Rattle.iol_mseq.specs.Master.{master_in}
 use Rattle.iol_mseq.specs.Replies.{reply_in}
 use Rattle.iol_mseq.specs.declared.master.MasterMsg.{MasterMsg}
-use Rattle.iol_far.specs.Isdu.{handed, own}
+use Rattle.iol_far.specs.Isdu.{handed}
 use Rattle.iol_far.specs.Far.{Far, hear}
 use Rattle.iol_far.specs.Local.{LocalStep, locals, woken, IsWorkedOff}
 use Rattle.iol_far.specs.Laws.{IsRegular}
@@ -65,11 +65,10 @@ pub record HonestExchange (far : Far) (silence : ℕ) (sent : List ℕ) (answer 
   pub answer_is : IsAnswer passage (locals far steps) sent answer
   pub silence_is : silence_new ≡ silence_after silence (brought passage (locals far steps) sent)
 
--- one wake of a device of our own kind: some steps of the far end by itself, then the wake's effect
--- or nothing; a rate is answered only where it took effect
+-- one wake: some steps of the far end by itself, then the wake's effect or nothing; a rate is
+-- answered only where it took effect
 -- WIRE-3
 pub record HonestWake (far : Far) (answered : Bool) (far_new : Far) : Type 0 where
-  pub own : far.kind ≡ own
   pub steps : List LocalStep
   pub wakes : Bool
   pub far_is : far_new ≡ (if wakes then woken (locals far steps) else locals far steps)

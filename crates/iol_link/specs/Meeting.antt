@@ -1,13 +1,14 @@
 -- What one exchange over an honest wire tells the master of the far end.
-use Rattle.std.specs.Prelude.{◌≡◌, ℕ, ◌+◌, ◌<◌, ◌≤◌, List, Option, Some, None}
+use Rattle.std.specs.Prelude.{◌≡◌, ℕ, suc, ◌+◌, ◌<◌, ◌≤◌, List, Option, Some, None}
 use Rattle.iol_mseq.specs.Shape.{Shape, IsLayout}
 use Rattle.iol_mseq.specs.declared.master.MasterMsg.{MasterMsg}
 use Rattle.iol_mseq.specs.declared.reply.Reply.{Reply}
 use Rattle.iol_far.specs.declared.carried.Carried.{Carried}
+use Rattle.iol_far.specs.declared.kind.Recalls.{Recalls}
 use Rattle.iol_far.specs.Isdu.{isdu_data}
 use Rattle.iol_far.specs.Codec.{layout_in, message_in}
 use Rattle.iol_far.specs.Far.{Far, reply_to}
-use Rattle.iol_far.specs.Level.{Link, taken, turned, Progress, Move, after, base_after, IsSent, IsBefore, IsLevel, IsGrown}
+use Rattle.iol_far.specs.Level.{Link, taken, turned, Progress, Move, after, base_after, RecallsAtLeast, IsOutOnce, IsSent, under_way, IsBefore, IsLevel, IsGrown}
 use Rattle.iol_far.specs.Linked.{IsAt, IsLinked}
 use Rattle.iol_link.specs.Honest.{HonestExchange}
 use Rattle.iol_link.specs.Attempts.{good_reply}
@@ -51,21 +52,25 @@ pub record LinkExchanges : Type 0 where
 
 -- The request and the record too
 
-pub record LevelMet (page : List ℕ) (size : ℕ) (base : List Carried) (link : Link)
-    (progress : Progress) (octets : List ℕ) (message : MasterMsg) (what : Move) (layout : Shape)
-    (silence : ℕ) (far : Far) (reply : Reply) : Type 0 where
+-- the state before the next message, for a master that trusts a device to recall its answers so
+-- long, after so many tries in vain
+pub record LevelMet (page : List ℕ) (recalls : Recalls) (tries size : ℕ) (base : List Carried)
+    (link : Link) (progress : Progress) (octets : List ℕ) (message : MasterMsg) (what : Move)
+    (layout : Shape) (silence : ℕ) (far : Far) (reply : Reply) : Type 0 where
   pub silent : silence ≡ 0
-  pub before : IsBefore far.page size (base_after what base far.carried)
-      (turned page link octets message) (after progress what (isdu_data size far.isdu)) far
+  pub before : IsBefore far.page far.kind size (base_after what base far.carried)
+      (turned page link octets message)
+      (after recalls tries progress what (isdu_data size far.isdu)) far
   pub grown : IsGrown base progress far.carried
   pub reply_is : reply ≡ reply_to far layout message
 
 pub record LevelMissed (size : ℕ) (base : List Carried) (link : Link) (progress : Progress)
-    (octets : List ℕ) (tries silence : ℕ) (far : Far) : Type 0 where
+    (octets : List ℕ) (what : Move) (tries silence : ℕ) (far : Far) : Type 0 where
   pub few : tries + 1 ≤ silence
-  pub level : IsLevel far.page size base link progress octets (tries + 1) far
-  pub grown : IsGrown base progress far.carried
+  pub level : IsLevel far.page far.kind size base link progress octets (tries + 1) far
+  pub grown : IsGrown base (under_way far.kind.hands_over size progress what) far.carried
 
+-- A message that hands a request over was not out before
 pub record LevelExchanges (size : ℕ) : Type 0 where
   pub met : (far : Far) (silence : ℕ) (octets : List ℕ) (answer : Option (List ℕ)) (far_new : Far)
       (silence_new : ℕ) → HonestExchange far silence octets answer far_new silence_new
@@ -73,10 +78,12 @@ pub record LevelExchanges (size : ℕ) : Type 0 where
       → IsOut far.page link octets message layout
       → (base : List Carried) (progress : Progress) (what : Move)
       → IsSent far.page size link progress octets message what
-      → IsLevel far.page size base link progress octets tries far
+      → IsOutOnce far.kind.hands_over size what (suc tries)
+      → (recalls : Recalls) → RecallsAtLeast recalls far.kind.recalls
+      → IsLevel far.page far.kind size base link progress octets tries far
       → (reply : Reply) → good_reply layout message answer ≡ Some reply
-      → LevelMet far.page size base link progress octets message what layout silence_new far_new
-      reply
+      → LevelMet far.page recalls tries size base link progress octets message what layout
+      silence_new far_new reply
   pub missed : (far : Far) (silence : ℕ) (octets : List ℕ) (answer : Option (List ℕ))
       (far_new : Far) (silence_new : ℕ)
       → HonestExchange far silence octets answer far_new silence_new
@@ -84,13 +91,16 @@ pub record LevelExchanges (size : ℕ) : Type 0 where
       → IsOut far.page link octets message layout
       → (base : List Carried) (progress : Progress) (what : Move)
       → IsSent far.page size link progress octets message what
-      → IsLevel far.page size base link progress octets tries far
+      → IsOutOnce far.kind.hands_over size what (suc tries)
+      → IsLevel far.page far.kind size base link progress octets tries far
       → tries < 3 → tries ≤ silence → good_reply layout message answer ≡ None
-      → LevelMissed size base link progress octets tries silence_new far_new
+      → LevelMissed size base link progress octets what tries silence_new far_new
 
 -- what an exchange leaves as it was
-abbrev pub PageStays : Type 0
-PageStays =
-    (far : Far) (silence : ℕ) (octets : List ℕ) (answer : Option (List ℕ)) (far_new : Far)
-    (silence_new : ℕ) → HonestExchange far silence octets answer far_new silence_new
-    → far_new.page ≡ far.page
+pub record DeviceStays : Type 0 where
+  pub page : (far : Far) (silence : ℕ) (octets : List ℕ) (answer : Option (List ℕ))
+      (far_new : Far) (silence_new : ℕ)
+      → HonestExchange far silence octets answer far_new silence_new → far_new.page ≡ far.page
+  pub kind : (far : Far) (silence : ℕ) (octets : List ℕ) (answer : Option (List ℕ))
+      (far_new : Far) (silence_new : ℕ)
+      → HonestExchange far silence octets answer far_new silence_new → far_new.kind ≡ far.kind

@@ -3,20 +3,21 @@ ghost use Rattle.std.specs.Prelude.{◌≡◌};
 
 use iol_page::{CycleTime, Identity};
 
-/// For which devices a port is: those at which it has a request carried out at most once.
-///
-/// Of `Own` that is proved, over a lossy line. Of `Any` it is tested; what each call does with such
-/// a port is proved over every line.
+/// For which devices a port is: those at which it has a request carried out at most once, over a
+/// lossy line on which a wake that is answered has reset the device.
 #[derive(Clone, Copy, Debug, PartialEq, Eq)]
 pub enum Devices {
-    /// Our own, which hand a request over at the first START read, on a line where a wake that is
-    /// answered has reset the device. A start-up begins with the page, and a message that had no
-    /// good reply goes out again.
+    /// Our own, which hand a request over at the first START read, and recall the answer until the
+    /// master leaves it. A start-up begins with the page, and a message that had no good reply goes
+    /// out again.
     Own,
-    /// Any by the standard. One that answers a wake which didn't reset it still has its mode, and
-    /// a request with it: a start-up begins with DeviceStartup, so that it leaves both first. One
-    /// that hands a request over with its last segment would do it again at a repeat: a START write
-    /// of a whole request isn't repeated, but asked for.
+    /// Any by the standard. One that hands a request over with its last segment would do it again
+    /// at a repeat: a START write of a whole request isn't repeated, but asked for. Where it can't
+    /// be known what the device made of it, the request is cut off for `Protocol`.
+    ///
+    /// One that answers a wake which didn't reset it still has its mode, and a request with it: a
+    /// start-up begins with DeviceStartup, so that it leaves both first. That this is enough is
+    /// tested.
     ///
     /// Rules LINK-13, REQ-14.
     Any,

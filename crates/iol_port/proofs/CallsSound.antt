@@ -31,6 +31,7 @@ use Rattle.iol_steps.specs.Step.{Image, Step, Moment, Exchanged}
 use Rattle.iol_port.specs.declared.call.Call.TheVariants as call
 use Rattle.iol_port.specs.declared.call.Answered.TheVariants as answered
 use Rattle.iol_port.specs.Owned.{Happens}
+use Rattle.iol_mode.specs.declared.configuration.Devices.{Devices}
 
 -- some steps in the book and in the session, whatever becomes of the events and the images
 pub record Moves (m : Moment) (steps : List Step) (a b : PortState) : Type 0 where
@@ -319,9 +320,9 @@ module _ (laws : BookLaws) where
   pub sound_fits : (a : PortState) → IsSound a → RecordFits a
   sound_fits a sound = record_fits a.book a.session a.base sound
 
-  pub opened_sound : (limits : Limits) (far : Far) (silence : ℕ)
-      → IsSound (opened limits far silence)
-  opened_sound limits far silence = record {
+  pub opened_sound : (devices : Devices) (limits : Limits) (far : Far) (silence : ℕ)
+      → IsSound (opened devices limits far silence)
+  opened_sound devices limits far silence = record {
     replayed = refl;
     same = refl;
     sure = λ _. refl;

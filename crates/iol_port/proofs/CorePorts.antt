@@ -99,7 +99,7 @@ is_sent mid k g far n sends tried stands =
               may = λ call. tt;
               images = λ call. refl;
               fresh = λ k. k;
-              terms = (refl, refl, refl);
+              terms = (refl, refl, refl, refl);
               asks = λ up calm. again.asks tried calm;
             }),
       )
@@ -169,12 +169,8 @@ module _ (p : Bare) (far : Far) (n : ℕ) (base : ℕ) (g : Ghost) (k : Core) (b
             frozen = s.frozen ∙ frozen;
             kept = refl;
             silence = refl;
-            terms = terms_of _ _ _ _ _ _ (
-              s.terms.0 ∙ terms.0,
-              s.terms.1 ∙ terms.1,
-              s.terms.2
-                  ∙ terms.2,
-            );
+            terms = terms_of _ _ _ _ _ _ (s.terms.0 ∙ terms.0) (s.terms.1 ∙ terms.1)
+                (s.terms.2 ∙ terms.2);
             pending = refl;
           }),
         ),
@@ -194,11 +190,12 @@ module _ (p : Bare) (far : Far) (n : ℕ) (base : ℕ) (g : Ghost) (k : Core) (b
       → b.state ≡ p.book.state → GoesOut
   idle_out after true s book =
       goes_out [] (core_of p.station) g after true s refl refl (tt, tt) book (λ call. (tt, tt))
-      refl s.may (λ call. refl) refl (refl, refl, refl) refl
+      refl s.may (λ call. refl) refl (refl, refl, refl, refl) refl
       (λ k. absurd (let e : false ≡ true = k in cc))
   idle_out after false s book =
       goes_out [] (core_of p.station) g after false s refl refl tt book (λ call. tt) refl s.may
-      (λ call. refl) refl (refl, refl, refl) refl (λ k. absurd (let e : false ≡ true = k in cc))
+      (λ call. refl) refl (refl, refl, refl, refl) refl (λ k. absurd
+      (let e : false ≡ true = k in cc))
 
   -- the next request is taken
   taking_out : (t : Ticket) (q : Request) → next_taken p.book.state.standing ≡ Some (t, q)
@@ -211,13 +208,13 @@ module _ (p : Bare) (far : Far) (n : ℕ) (base : ℕ) (g : Ghost) (k : Core) (b
       (core_of p.station) { session = begun_in q p.station.session }) (begun_ghost g) after
       true s refl refl (head, (tt, tt)) book
       (λ call. (begins.may (moment_by before call) t.0 refl, (tt, tt))) (sym (begins.is t.0))
-      (λ call. (tt, s.may call)) (λ call. refl) refl (refl, refl, refl) refl (λ _. refl)
+      (λ call. (tt, s.may call)) (λ call. refl) refl (refl, refl, refl, refl) refl (λ _. refl)
   taking_out t q head begins after false s book =
       goes_out (Take t.0 q ∷ []) (record
       (core_of p.station) { session = begun_in q p.station.session }) (begun_ghost g) after
       false s refl refl (head, tt) book
       (λ call. (begins.may (moment_by before call) t.0 refl, tt)) (sym (begins.is t.0))
-      (λ call. (tt, s.may call)) (λ call. refl) refl (refl, refl, refl) refl (λ _. refl)
+      (λ call. (tt, s.may call)) (λ call. refl) refl (refl, refl, refl, refl) refl (λ _. refl)
 
   -- or denied
   denying_out : (t : Ticket) → option_map (λ x. x.0) (next_taken p.book.state.standing) ≡ Some t
@@ -228,11 +225,13 @@ module _ (p : Bare) (far : Far) (n : ℕ) (base : ℕ) (g : Ghost) (k : Core) (b
   denying_out t head may after true s book =
       goes_out (Deny t.0 ∷ []) (core_of p.station) g after true s refl refl (head, (tt, tt)) book
       (λ call. (may (moment_by before call) refl, (tt, tt))) refl (λ call. (tt, s.may call))
-      (λ call. refl) refl (refl, refl, refl) refl (λ k. absurd (let e : false ≡ true = k in cc))
+      (λ call. refl) refl (refl, refl, refl, refl) refl (λ k. absurd
+      (let e : false ≡ true = k in cc))
   denying_out t head may after false s book =
       goes_out (Deny t.0 ∷ []) (core_of p.station) g after false s refl refl (head, tt) book
       (λ call. (may (moment_by before call) refl, tt)) refl (λ call. (tt, s.may call))
-      (λ call. refl) refl (refl, refl, refl) refl (λ k. absurd (let e : false ≡ true = k in cc))
+      (λ call. refl) refl (refl, refl, refl, refl) refl (λ k. absurd
+      (let e : false ≡ true = k in cc))
 
   abbrev At : StationState (Unit {0}) → BookState → Type 0
   At s start = SendSteps (core_of s) k × (b.state ≡ start)
@@ -246,14 +245,14 @@ module _ (p : Bare) (far : Far) (n : ℕ) (base : ℕ) (g : Ghost) (k : Core) (b
       (subst (λ (x : StationState (Unit {0})). At x start) s_is at) in
       let (after, made, sent) = is_sent (core_of p.station) k g far n sends tried stands in
       idle_out after made sent book
-  begins_out s start (inr (inl (t, q, head, b_is, none, s_is, begins))) at tried stands =
+  begins_out s start (inr (inl (t, q, head, b_is, none, s_is, follows, begins))) at tried stands =
       let mid : StationState (Unit {0}) =
       record p.station { session = begun_in q p.station.session } in
       let (sends, book) = subst (λ (x : BookState). At mid x) b_is
       (subst (λ (x : StationState (Unit {0})). At x start) s_is at) in
       let gives : BeginGives (core_of p.station) (core_of mid) g far n q =
       subst (λ (x : StationState (Unit {0})). BeginGives (core_of p.station) (core_of x) g
-      far n q) s_is (begins g far n stands) in
+      far n q) s_is (begins follows g far n stands) in
       let (after, made, sent) = is_sent (core_of mid) k (begun_ghost g) far n sends tried
       gives.stands in
       taking_out t q head gives after made sent book
@@ -344,7 +343,7 @@ receives p next base g out far far' n n' said shows r free posts keeps =
             fits = x.fits;
             silence = x.silent;
             clash_free = x.clash_free;
-            terms = terms_of _ _ _ _ _ _ x.terms;
+            terms = terms_of _ _ _ _ _ _ x.terms.0 x.terms.1 x.terms.2;
           };
           work = record {
             may_book = MayBookAll-filter x.steps p.book.state
@@ -450,7 +449,7 @@ pub begins_over : {W : Type 0} (wire : W) (c d : Core) (b after : BookState)
     → BeginsNext (station_of wire c) b (station_of wire d) after
 begins_over wire c d b after (inl (same, kept)) =
     inl (ap (λ (s : StationState (Unit {0})). station_of wire (core_of s)) same, kept)
-begins_over wire c d b after (inr (inl (t, q, head, taken, free, is, steps))) =
+begins_over wire c d b after (inr (inl (t, q, head, taken, free, is, follows, steps))) =
     inr (inl (
       t,
       q,
@@ -459,6 +458,7 @@ begins_over wire c d b after (inr (inl (t, q, head, taken, free, is, steps))) =
       free,
       ap
           (λ (s : StationState (Unit {0})). station_of wire (core_of s)) is,
+      follows,
       steps,
     ))
 begins_over wire c d b after (inr (inr (t, head, denied, free, same, told, steps))) =
@@ -511,9 +511,9 @@ module _ {W : Type 0} (facts : WireFacts W) (wire : W) where
 
   pub opens_over : (devices : Devices) (limits : Limits) (p : Bare) → CoreOpensFor devices limits p
       → OpensWell (opening_for facts devices limits wire)
-      → StandsFor facts (parts_over wire p) (opened limits (far wire) (silence wire))
-  opens_over devices limits p opens (is_honest, quiet, own) =
-      over_wire p _ is_honest (opens (far wire) (silence wire) (refl, quiet, own))
+      → StandsFor facts (parts_over wire p) (opened devices limits (far wire) (silence wire))
+  opens_over devices limits p opens (is_honest, quiet, for_it) =
+      over_wire p _ is_honest (opens (far wire) (silence wire) (refl, quiet, for_it))
 
   pub call_over : (p next : Bare) (c : Call) (reply : Answered) → CoreDoes p c reply next
       → Does facts (parts_over wire p) c reply (parts_over wire next)

@@ -29,6 +29,7 @@ use Rattle.iol_port.specs.Owned.{Owned, IsOneOf, pairs_of, CarriesOut, IsCutOff,
 use Rattle.iol_port.proofs.CallsSound.{piece_leaves, told_outcome}
 use Rattle.iol_port.proofs.Replaying.{steps_keep}
 use Rattle.iol_port.proofs.OwnedLists.{ahead_once, ahead_given, ahead_next, waiting_push, waiting_without, waiting_others, each_inserted, each_looked, each_removed, each_others, each_push, one_counts, apart_of, Tally, HasAnswer, OutcomeStands, outcome_then, marked_sent, tally_in, OwnsAll, GoesTo, still, goes_then, goes_step, waits_owns, same_sent, cut_owns, step_owns}
+use Rattle.iol_mode.specs.declared.configuration.Devices.{Devices}
 
 -- Where the mode is down, it stays so until a wake has success
 
@@ -277,8 +278,10 @@ carries_out given before pieces replies b owned u owns done = record {
 }
 
 -- a port that is opened
-module _ (limits : Limits) (far : Far) (silence : ℕ) (Happened : Piece → Answered → Type 0) where
-  start : OwnsPort limits.given far.carried Happened [] (ticket_of 0) (opened limits far silence)
+module _ (devices : Devices) (limits : Limits) (far : Far) (silence : ℕ) (Happened : Piece
+    → Answered → Type 0) where
+  start : OwnsPort limits.given far.carried Happened [] (ticket_of 0)
+      (opened devices limits far silence)
   start = record {
     record_is = sym (append-nil far.carried);
     once = record {
@@ -294,19 +297,19 @@ module _ (limits : Limits) (far : Far) (silence : ℕ) (Happened : Piece → Ans
   }
 
 pub each_done_has_its_pair : EachDoneHasItsPair
-each_done_has_its_pair limits far silence pieces replies b run =
+each_done_has_its_pair devices limits far silence pieces replies b run =
     let end = run_owns limits.given far.carried (Happens pieces replies)
-    (opened limits far silence) b pieces replies [] (ticket_of 0) run (λ c r i. i)
-    (start limits far silence (Happens pieces replies)) in (
+    (opened devices limits far silence) b pieces replies [] (ticket_of 0) run (λ c r i. i)
+    (start devices limits far silence (Happens pieces replies)) in (
       end.goes.owned,
       carries_out limits.given far.carried pieces replies b end.goes.owned
           end.goes.ticket end.goes.owns (λ t a i. end.got t (outcome.Done a) i),
     )
 
 -- a run, and one that goes on from where it led
-module _ (limits : Limits) (far : Far) (silence : ℕ) (pieces more : List Piece)
+module _ (devices : Devices) (limits : Limits) (far : Far) (silence : ℕ) (pieces more : List Piece)
     (replies others : List Answered) (a c : PortState)
-    (run : Pieces (opened limits far silence) pieces replies a) where
+    (run : Pieces (opened devices limits far silence) pieces replies a) where
   abbrev Both : Piece → Answered → Type 0
   Both d r = Happens (pieces ++ more) (replies ++ others) d r
 
@@ -314,11 +317,12 @@ module _ (limits : Limits) (far : Far) (silence : ℕ) (pieces more : List Piece
   tally owned u p = tally_at limits.given far.carried Both owned u p
 
   first : RunOwns limits.given far.carried Both
-      (tally [] (ticket_of 0) (opened limits far silence)) pieces replies a
-  first = run_owns limits.given far.carried Both (opened limits far silence) a pieces replies []
+      (tally [] (ticket_of 0) (opened devices limits far silence)) pieces replies a
+  first = run_owns limits.given far.carried Both (opened devices limits far silence) a pieces
+      replies []
       (ticket_of 0) run
       (λ d r i. (happens_both _ a pieces more replies others run d r).0 (inl i))
-      (start limits far silence Both)
+      (start devices limits far silence Both)
 
   then_run : (b : PortState) (after : List Piece) (answers : List Answered) (owned : List Owned)
       (u : Ticket) → Pieces b after answers c
@@ -380,33 +384,34 @@ module _ (limits : Limits) (far : Far) (silence : ℕ) (pieces more : List Piece
       by t x (inr i) = all.got t (outcome.Done x) i
 
 pub cut_for_good_stays_out : CutForGoodStaysOut
-cut_for_good_stays_out limits far silence pieces more replies others a c run rest =
-    stays_out limits far silence pieces more replies others a c run
+cut_for_good_stays_out devices limits far silence pieces more replies others a c run rest =
+    stays_out devices limits far silence pieces more replies others a c run
     (IsCutForGood pieces replies a) a before_it.goes.owned before_it.goes.ticket more others
     later before_it.goes.owns later refl
     (λ t (cause, sure, cut). let (none, late) =
-    cut_then limits far silence pieces more replies others a c run t cause cut in
+    cut_then devices limits far silence pieces more replies others a c run t cause cut in
     omega (arith, none, late sure))
   where
     before_it : RunOwns limits.given far.carried (Happens (pieces ++ more) (replies ++ others))
         (tally_at limits.given far.carried (Happens (pieces ++ more) (replies ++ others)) []
-        (ticket_of 0) (opened limits far silence)) pieces replies a
-    before_it = first limits far silence pieces more replies others a c run
+        (ticket_of 0) (opened devices limits far silence)) pieces replies a
+    before_it = first devices limits far silence pieces more replies others a c run
 
     later : RunOwns limits.given far.carried (Happens (pieces ++ more) (replies ++ others))
         (tally_at limits.given far.carried (Happens (pieces ++ more) (replies ++ others))
         before_it.goes.owned before_it.goes.ticket a) more others c
-    later = then_run limits far silence pieces more replies others a c run a more others
+    later = then_run devices limits far silence pieces more replies others a c run a more others
         before_it.goes.owned before_it.goes.ticket rest (λ d r i. i) before_it.goes.owns
 
 pub late_ends : LateEnds
 unfolding run_then goes_then
-late_ends limits far silence pieces more piece replies others a b c run wakes rest =
-    stays_out limits far silence pieces (piece ∷ more) replies (answered.Nothing ∷ others) a c
+late_ends devices limits far silence pieces more piece replies others a b c run wakes rest =
+    stays_out devices limits far silence pieces (piece ∷ more) replies (answered.Nothing ∷ others)
+    a c
     run (IsCutOff pieces replies a) b woken.goes.owned woken.goes.ticket more others all
     woken.goes.owns later refl
     (λ t (cause, cut). let (none, _) =
-    cut_then limits far silence pieces (piece ∷ more) replies (answered.Nothing ∷ others) a
+    cut_then devices limits far silence pieces (piece ∷ more) replies (answered.Nothing ∷ others) a
     c run t cause cut in omega (arith, none, woken.woken t.0))
   where
     Happened : Piece → Answered → Type 0
@@ -414,8 +419,8 @@ late_ends limits far silence pieces more piece replies others a b c run wakes re
 
     before_it : RunOwns limits.given far.carried Happened
         (tally_at limits.given far.carried Happened [] (ticket_of 0)
-        (opened limits far silence)) pieces replies a
-    before_it = first limits far silence pieces (piece ∷ more) replies
+        (opened devices limits far silence)) pieces replies a
+    before_it = first devices limits far silence pieces (piece ∷ more) replies
         (answered.Nothing ∷ others) a c run
 
     woken : GoesWoken limits.given far.carried Happened
@@ -427,7 +432,7 @@ late_ends limits far silence pieces more piece replies others a b c run wakes re
     later : RunOwns limits.given far.carried Happened
         (tally_at limits.given far.carried Happened woken.goes.owned woken.goes.ticket b) more
         others c
-    later = then_run limits far silence pieces (piece ∷ more) replies
+    later = then_run devices limits far silence pieces (piece ∷ more) replies
         (answered.Nothing ∷ others) a c run b more others woken.goes.owned woken.goes.ticket
         rest (λ d r i. inr i) woken.goes.owns
 

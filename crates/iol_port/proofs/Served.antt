@@ -30,6 +30,7 @@ use Rattle.iol_port.proofs.CleanStages.{segment_within}
 use Rattle.iol_mode.specs.declared.configuration.Configuration.{Configuration}
 use Rattle.iol_mode.specs.declared.configuration.Devices.TheVariants.{Own}
 use Rattle.iol_port.proofs.CleanSession.{calm_ready}
+use Rattle.iol_far.specs.declared.kind.HandsOver.TheVariants.{FirstRead}
 
 -- Room in the record
 
@@ -178,12 +179,12 @@ module _ {W : Type 0} (facts : WireFacts W) where
         operating = is.at.stood.operating;
         level = record {
           awake = is.at.stood.awake;
-          own = is.at.stood.own;
+          kind_is = is.at.stood.own;
           page_is = refl;
           link_is = is.at.stood.at;
           isdu = _;
-          stands = subst (λ (s : IsduState). Stands layouts.run.od (far is.wire).carried Quiet s
-              (far is.wire).carried) (sym is.at.fits.3.1) refl;
+          stands = subst (λ (s : IsduState). Stands FirstRead layouts.run.od (far is.wire).carried
+              Quiet s (far is.wire).counted (far is.wire).carried) (sym is.at.fits.3.1) refl;
         };
         isdu = is.at.stood.isdu;
         told = is.at.stood.told;

@@ -37,10 +37,20 @@ pub none_down : (state : State) (session : SessionState) (g : Ghost) (answer : O
 none_down state session g answer fits down = grind (arith, common_steps)
 
 pub terms_of : (limit was : ℕ) (page old : List ℕ) (asks asked : Configuration)
-    → (limit ≡ was) × (page ≡ old) × (asks ≡ asked)
-    → let a : Terms = record { busy_limit = limit; page = page; expected = asks.expected } in
-    let b : Terms = record { busy_limit = was; page = old; expected = asked.expected } in a ≡ b
-terms_of limit was page old asks asked same = cc
+    → limit ≡ was → page ≡ old → asks ≡ asked
+    → let a : Terms = record {
+      devices = asks.devices;
+      busy_limit = limit;
+      page = page;
+      expected = asks.expected;
+    } in
+    let b : Terms = record {
+      devices = asked.devices;
+      busy_limit = was;
+      page = old;
+      expected = asked.expected;
+    } in a ≡ b
+terms_of limit was page old asks asked same_limit same_page same_asks = cc
 
 module _ {W : Type 0} (facts : WireFacts W) (p next : Parts W) (base : ℕ) (g : Ghost)
     (said : Said) where
@@ -80,7 +90,7 @@ module _ {W : Type 0} (facts : WireFacts W) (p next : Parts W) (base : ℕ) (g :
           fits = x.fits;
           silence = x.silent;
           clash_free = x.clash_free;
-          terms = terms_of _ _ _ _ _ _ x.terms;
+          terms = terms_of _ _ _ _ _ _ x.terms.0 x.terms.1 x.terms.2;
         },
         record {
           may_book = book.0;
@@ -125,7 +135,7 @@ module _ {W : Type 0} (facts : WireFacts W) (p next : Parts W) (base : ℕ) (g :
           silence = x.silent;
           clash_free = rw (clash_free-take k.0 q x.steps (x.fresh refl)
               (clash_free-deny k.0 x.steps _ _ said x.said_book)) x.clash_free;
-          terms = terms_of _ _ _ _ _ _ x.terms;
+          terms = terms_of _ _ _ _ _ _ x.terms.0 x.terms.1 x.terms.2;
         },
         record {
           may_book = (head, book.0);
@@ -170,7 +180,7 @@ module _ {W : Type 0} (facts : WireFacts W) (p next : Parts W) (base : ℕ) (g :
           fits = x.fits;
           silence = x.silent;
           clash_free = rw (clash_free-deny k.0 x.steps _ _ said x.said_book) x.clash_free;
-          terms = terms_of _ _ _ _ _ _ x.terms;
+          terms = terms_of _ _ _ _ _ _ x.terms.0 x.terms.1 x.terms.2;
         },
         record {
           may_book = (head, book.0);
@@ -248,13 +258,13 @@ module _ {W : Type 0} (facts : WireFacts W) where
             stood t.given.after t.stands base,
             (refl, idle_turn facts p next base g said (record { posts = posts; keeps = kept }) t),
           )
-      by_begins (inr (inl (k, q, head, b_is, none, s_is, begins))) turned base g shows =
+      by_begins (inr (inl (k, q, head, b_is, none, s_is, follows, begins))) turned base g shows =
           let mid : StationState W = record p.station { session = begun_in q p.station.session } in
           let (gives, posts) = subst (λ (c : BookState). at mid c) b_is
           (subst (λ (x : StationState W). at x b) s_is turned) in
           let taken = subst (λ (x : StationState W). BeginGives (core_of p.station) (core_of x)
           g (far_of facts p.station) (silence_of facts p.station) q) s_is
-          (begins g (far_of facts p.station) (silence_of facts p.station) shows.both) in
+          (begins follows g (far_of facts p.station) (silence_of facts p.station) shows.both) in
           let t = gives (begun_ghost g) (record
           { is_honest = shows.is_honest; both = taken.stands; attempted = shows.out.1 }) in (
             whole base t.given.after,

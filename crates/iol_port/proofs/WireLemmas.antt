@@ -149,7 +149,7 @@ module _ {W : Type 0} (facts : WireFacts W) where
 
   -- a new port
   pub port_new : (o : Opening W) (p : Parts W)
-      → (OpensWell o → StandsFor facts p (opened o.limits o.far o.silence))
+      → (OpensWell o → StandsFor facts p (opened o.devices o.limits o.far o.silence))
       → wire_of p.station.link ≡ o.wire → p.book.state ≡ book.opened o.limits → p.sent ≡ false
       → mode_of p.station.link ≡ Down
       → IsPort facts o p

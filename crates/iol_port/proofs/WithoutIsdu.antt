@@ -21,6 +21,7 @@ use Rattle.iol_port.specs.Denials.{CarriesNone, IsDeniedWithoutIsdu}
 use Rattle.iol_port.proofs.Replaying.{steps_keep}
 use Rattle.iol_port.proofs.CallsSound.{piece_leaves, pieces_keep, pieces_told}
 use Rattle.iol_port.proofs.OwnedLists.{Each, each_removed, each_inserted, each_looked}
+use Rattle.iol_mode.specs.declared.configuration.Devices.{Devices}
 
 -- Outcomes of another kind
 
@@ -124,20 +125,21 @@ module _ (page : List ℕ) (carried : List Carried) where
 not_true : (b : Bool) → (b ≡ true → ⊥) → b ≡ false
 not_true b never = grind arith
 
-opened_holds : (limits : Limits) (far : Far) (silence : ℕ)
-    → AllHold far.page far.carried (opened limits far silence)
-opened_holds limits far silence = (refl, ((λ none. refl), λ knows. tt))
+opened_holds : (devices : Devices) (limits : Limits) (far : Far) (silence : ℕ)
+    → AllHold far.page far.carried (opened devices limits far silence)
+opened_holds devices limits far silence = (refl, ((λ none. refl), λ knows. tt))
 
 pub carries_none : CarriesNone
-carries_none limits far silence pieces replies b run none =
+carries_none devices limits far silence pieces replies b run none =
     let end = pieces_keep (AllHold far.page far.carried) (piece_holds far.page far.carried)
-    (opened limits far silence) b pieces replies run (opened_holds limits far silence) in
+    (opened devices limits far silence) b pieces replies run
+    (opened_holds devices limits far silence) in
     ap (λ (s : Session). s.carried) (end.1.0 none)
 
 pub denied_without_isdu : IsDeniedWithoutIsdu
-denied_without_isdu limits far silence pieces replies b run ticket happens =
+denied_without_isdu devices limits far silence pieces replies b run ticket happens =
     let (mid, holds, told) = pieces_told (AllHold far.page far.carried)
-    (piece_holds far.page far.carried) (opened limits far silence) b pieces replies run
-    (opened_holds limits far silence) ticket NoIsdu happens in
+    (piece_holds far.page far.carried) (opened devices limits far silence) b pieces replies run
+    (opened_holds devices limits far silence) ticket NoIsdu happens in
     not_true (knows_isdu far.page) (λ knows. each_looked IsOther mid.book.standing.outcomes
     ticket NoIsdu told (holds.1.1 knows) refl)

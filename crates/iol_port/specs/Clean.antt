@@ -91,8 +91,8 @@ IsLevelBetween {W} facts p =
     ≡ InOperate (record { wire = wire; state = record { out = None; layouts = layouts } })
     → p.station.session.current ≡ None
     → (link : Link) × IsOperating layouts link
-    × IsBefore (facts.far wire).page layouts.run.od (facts.far wire).carried link Quiet
-    (facts.far wire)
+    × IsBefore (facts.far wire).page (facts.far wire).kind layouts.run.od (facts.far wire).carried
+    link Quiet (facts.far wire)
 
 module _ {W : Type 0} (facts : WireFacts W) where
   open facts use {honest, far, clean}
@@ -149,7 +149,8 @@ module _ {W : Type 0} (facts : WireFacts W) where
     pub ready : is_ready p.station.session true ≡ true
     pub link : Link
     pub operating : IsOperating layouts link
-    pub level : IsBefore (far wire).page layouts.run.od (far wire).carried link Quiet (far wire)
+    pub level : IsBefore (far wire).page own layouts.run.od (far wire).carried link Quiet
+        (far wire)
     pub isdu : knows_isdu (far wire).page ≡ true
     pub told : p.station.session.isdu ≡ Some true
     pub quiet : IsQuiet (far wire).events

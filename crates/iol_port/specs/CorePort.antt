@@ -82,12 +82,12 @@ IsNewFor devices limits p =
 abbrev pub IsNew : Limits → Parts (Unit {0}) → Type 0
 IsNew limits p = IsNewFor Own limits p
 
--- it stands for the abstract port that is opened, with each far end that was handed no request,
--- where it is for devices of our own kind
+-- it stands for the abstract port that is opened, with each far end of its devices that was handed
+-- no request
 abbrev pub CoreOpensFor : Devices → Limits → Parts (Unit {0}) → Type 0
 CoreOpensFor devices limits p = (far : Far) (silence : ℕ)
     → OpensWell (opened_at devices limits far silence)
-    → StandsFor (at_end far silence) p (opened limits far silence)
+    → StandsFor (at_end far silence) p (opened devices limits far silence)
 
 abbrev pub CoreOpens : Limits → Parts (Unit {0}) → Type 0
 CoreOpens limits p = CoreOpensFor Own limits p

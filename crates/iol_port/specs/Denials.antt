@@ -11,20 +11,23 @@ use Rattle.iol_port.specs.declared.call.Answered.{Answered}
 use Rattle.iol_port.specs.declared.call.Answered.TheVariants as answered
 use Rattle.iol_port.specs.Run.{PortState, Piece, Whole, Pieces, opened}
 use Rattle.iol_port.specs.Owned.{Happens}
+use Rattle.iol_mode.specs.declared.configuration.Devices.{Devices}
 
 -- in no run of a port that is opened, across losses, restarts and archives, does a
 -- device without ISDU carry anything out
 abbrev pub CarriesNone : Type 0
 CarriesNone =
-    (limits : Limits) (far : Far) (silence : ℕ) (pieces : List Piece) (replies : List Answered)
-    (b : PortState) → Pieces (opened limits far silence) pieces replies b
+    (devices : Devices) (limits : Limits) (far : Far) (silence : ℕ) (pieces : List Piece)
+    (replies : List Answered)
+    (b : PortState) → Pieces (opened devices limits far silence) pieces replies b
     → knows_isdu far.page ≡ false → b.session.carried ≡ far.carried
 
 -- and each outcome NoIsdu that was collected is that of such a device
 abbrev pub IsDeniedWithoutIsdu : Type 0
 IsDeniedWithoutIsdu =
-    (limits : Limits) (far : Far) (silence : ℕ) (pieces : List Piece) (replies : List Answered)
-    (b : PortState) → Pieces (opened limits far silence) pieces replies b
+    (devices : Devices) (limits : Limits) (far : Far) (silence : ℕ) (pieces : List Piece)
+    (replies : List Answered)
+    (b : PortState) → Pieces (opened devices limits far silence) pieces replies b
     → (ticket : Ticket)
     → Happens pieces replies (Whole (call.Collect ticket)) (answered.Outcome NoIsdu)
     → knows_isdu far.page ≡ false

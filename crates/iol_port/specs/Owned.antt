@@ -17,6 +17,7 @@ use Rattle.iol_port.specs.declared.call.Call.TheVariants as call
 use Rattle.iol_port.specs.declared.call.Answered.{Answered}
 use Rattle.iol_port.specs.declared.call.Answered.TheVariants as answered
 use Rattle.iol_port.specs.Run.{PortState, Piece, Whole, PieceOf, Pieces, opened}
+use Rattle.iol_mode.specs.declared.configuration.Devices.{Devices}
 
 -- a request that the device carried out: the ticket under which it was submitted,
 -- itself, and the answer
@@ -66,8 +67,9 @@ pub record CarriesOut (given : ℕ) (before : List Carried) (pieces : List Piece
 -- so it is in every run of a port that is opened, across losses, restarts and archives
 abbrev pub EachDoneHasItsPair : Type 0
 EachDoneHasItsPair =
-    (limits : Limits) (far : Far) (silence : ℕ) (pieces : List Piece) (replies : List Answered)
-    (b : PortState) → Pieces (opened limits far silence) pieces replies b
+    (devices : Devices) (limits : Limits) (far : Far) (silence : ℕ) (pieces : List Piece)
+    (replies : List Answered)
+    (b : PortState) → Pieces (opened devices limits far silence) pieces replies b
     → (owned : List Owned)
     × CarriesOut limits.given far.carried pieces replies b.session.carried owned
 
@@ -92,9 +94,9 @@ IsCutForGood pieces replies a ticket =
 -- REQ-12
 abbrev pub CutForGoodStaysOut : Type 0
 CutForGoodStaysOut =
-    (limits : Limits) (far : Far) (silence : ℕ) (pieces more : List Piece)
+    (devices : Devices) (limits : Limits) (far : Far) (silence : ℕ) (pieces more : List Piece)
     (replies others : List Answered) (a c : PortState)
-    → Pieces (opened limits far silence) pieces replies a → Pieces a more others c
+    → Pieces (opened devices limits far silence) pieces replies a → Pieces a more others c
     → (owned later : List Owned) × (a.session.carried ≡ far.carried ++ pairs_of owned)
     × CarriesOut limits.given far.carried (pieces ++ more) (replies ++ others) c.session.carried
     (owned ++ later)
@@ -111,9 +113,10 @@ pub record Wakes (piece : Piece) (a b : PortState) : Type 0 where
 -- REQ-12
 abbrev pub LateEnds : Type 0
 LateEnds =
-    (limits : Limits) (far : Far) (silence : ℕ) (pieces more : List Piece) (piece : Piece)
+    (devices : Devices) (limits : Limits) (far : Far) (silence : ℕ) (pieces more : List Piece)
+    (piece : Piece)
     (replies others : List Answered) (a b c : PortState)
-    → Pieces (opened limits far silence) pieces replies a → Wakes piece a b
+    → Pieces (opened devices limits far silence) pieces replies a → Wakes piece a b
     → Pieces b more others c
     → (owned later : List Owned) × (b.session.carried ≡ far.carried ++ pairs_of owned)
     × CarriesOut limits.given far.carried (pieces ++ piece ∷ more)

@@ -14,10 +14,12 @@ use Rattle.iol_port.specs.declared.call.Answered.{Answered}
 use Rattle.iol_port.specs.declared.call.Answered.TheVariants as answered
 use Rattle.iol_port.specs.Run.{PortState, TurnOf, SendOf, ReceiveOf, Piece, Whole, PieceOf, Pieces, Run, opened}
 use Rattle.iol_port.specs.Sound.{IsSound, RecordFits}
+use Rattle.iol_mode.specs.declared.configuration.Devices.{Devices}
 
 -- a port that is opened is sound
 abbrev pub OpensSound : Type 0
-OpensSound = (limits : Limits) (far : Far) (silence : ℕ) → IsSound (opened limits far silence)
+OpensSound = (devices : Devices) (limits : Limits) (far : Far) (silence : ℕ)
+    → IsSound (opened devices limits far silence)
 
 -- and every run keeps it so
 abbrev pub RunsSound : Type 0

@@ -89,7 +89,7 @@ impl<W: Wire, A: Handle> Port<W, A> {
         ensures opening { IfOk result (λ p. p.opening ≡ opening_of W.facts limits.now wire) }
         ensures parts { IfOk result (λ p. IsOpened p.opening p.parts) }
         ensures stands { IfOk result (λ p. OpensWell p.opening → StandsFor W.facts p.parts
-            (opened limits.now (W.facts.far wire) (W.facts.silence wire))) }
+            (opened Devices.Own limits.now (W.facts.far wire) (W.facts.silence wire))) }
         ensures writer { IfOk result (λ p. p.writer ≡ None) }
         ensures refused { IfErr result (λ e. e.0 ≡ fault.Book OutOfMemory) }
         ensures back { IfErr result (λ e. e.1 ≡ wire) }
@@ -99,8 +99,7 @@ impl<W: Wire, A: Handle> Port<W, A> {
 
     /// The same, for these devices.
     ///
-    /// For any it has them leave their mode first, and asks before it repeats; over a lossy line
-    /// nothing more is promised then than over every line.
+    /// For any it has them leave their mode first, and asks before it repeats.
     ///
     /// Rules LINK-13, REQ-14.
     pub fn open_for(
@@ -114,7 +113,7 @@ impl<W: Wire, A: Handle> Port<W, A> {
             ≡ opening_for W.facts devices limits.now wire) }
         ensures parts { IfOk result (λ p. IsOpened p.opening p.parts) }
         ensures stands { IfOk result (λ p. OpensWell p.opening → StandsFor W.facts p.parts
-            (opened limits.now (W.facts.far wire) (W.facts.silence wire))) }
+            (opened devices limits.now (W.facts.far wire) (W.facts.silence wire))) }
         ensures writer { IfOk result (λ p. p.writer ≡ None) }
         ensures refused { IfErr result (λ e. e.0 ≡ fault.Book OutOfMemory) }
         ensures back { IfErr result (λ e. e.1 ≡ wire) }

@@ -109,8 +109,7 @@ impl<A: Allocator + Copy> PortCore<A> {
 
     /// The same, for these devices.
     ///
-    /// For any it has them leave their mode first, and asks before it repeats; over a lossy line
-    /// nothing more is promised then than over every line.
+    /// For any it has them leave their mode first, and asks before it repeats.
     ///
     /// Rules LINK-13, REQ-14.
     pub fn open_for(alloc: A, limits: &Limits, devices: Devices) -> Result<PortCore<A>, PortFault>

@@ -3,11 +3,11 @@ use Rattle.std.proofs.Common.{◌≡◌, refl, ◌∙◌, ap, Bool, true, false,
 use Rattle.std.specs.Prelude.{MatchBool}
 use Rattle.iol_isdu.specs.declared.values.Request.{Request}
 use Rattle.iol_isdu.specs.declared.values.Answer.{Answer}
-use Rattle.iol_far.specs.Isdu.{handed, fits, own}
+use Rattle.iol_far.specs.Isdu.{handed, fits}
 use Rattle.iol_far.specs.Far.{Far, hear}
 use Rattle.iol_far.specs.Local.{LocalStep, Carry, local, locals, woken, has_room}
 use Rattle.iol_device.specs.App.{Gives, IsCarriedOut}
-use Rattle.iol_far.specs.Laws.{IsRegular, MuchStays}
+use Rattle.iol_far.specs.Laws.{IsRegular}
 use Rattle.iol_link.specs.Honest.{HonestExchange, HonestWake, OutLost, BackLost, Clean, silence_after}
 
 -- what the application does is a step of the device's own
@@ -26,17 +26,10 @@ own_steps {P} gives (Some request) old before new after h = split (has_room old)
 
 module _ {P : Type 0} (gives : Gives P) (old : Far) (before : P) (worked : Far) (after : P)
     (work : IsCarriedOut gives (handed old.isdu) old before worked after) where
-  pub worked_kind : MuchStays → worked.kind ≡ old.kind
-  worked_kind much =
-      let made = own_steps gives (handed old.isdu) old before worked after work in
-      ap (λ (f : Far). f.kind) made.1 ∙ much.kind_kept old made.0
-
-  pub woken_is_honest : old.kind ≡ own → (new : Far) → new ≡ woken worked
-      → HonestWake old true new
-  woken_is_honest mine new woke =
+  pub woken_is_honest : (new : Far) → new ≡ woken worked → HonestWake old true new
+  woken_is_honest new woke =
       let made = own_steps gives (handed old.isdu) old before worked after work in
       record {
-        own = mine;
         steps = made.0;
         wakes = true;
         far_is = woke ∙ ap woken made.1;

@@ -1,6 +1,5 @@
 //! A device with one parameter, and a simulated wire to it.
 ghost use Rattle.std.specs.Prelude.{⊤, ◌≡◌, IfSome};
-ghost use Rattle.iol_far.specs.Isdu.{own};
 
 use iol_device::{App, Device, Kept};
 use iol_isdu::{Answer, Octets, Place, Request};
@@ -47,9 +46,7 @@ pub fn open_device<P: App, A: Allocator + Copy>(
     alloc: A,
     app: P,
     page: &[u8; 10],
-) -> Option<Device<P, Kept<A>>>
-    ensures { IfSome result (λ device. device.far.kind ≡ own) }
-{
+) -> Option<Device<P, Kept<A>>> {
     let page = Page::from_octets(page);
     if page.layouts().is_err() {
         return None;

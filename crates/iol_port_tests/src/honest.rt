@@ -1,7 +1,6 @@
 //! A port whose line is claimed to be honest, with a real device at its far end: the premise
 //! can be met, and is at every turn.
 ghost use Rattle.std.specs.Prelude.{◌≡◌, ℕ, IfOk, true};
-ghost use Rattle.iol_far.specs.Isdu.{own};
 ghost use Rattle.iol_far.specs.Octets.{octets_in};
 ghost use Rattle.iol_link.specs.Honest.{HonestExchange, HonestWake, silence_after};
 ghost use Rattle.iol_port.specs.declared.awaited.Awaited.{Awaited};
@@ -13,7 +12,6 @@ use crate::limits::LIMITS;
 use iol_app::{Asked, Mode};
 use iol_book::{Outcome, Ticket};
 use iol_device::{App, Device};
-use iol_far::page_and_room_stay;
 use iol_isdu::{Answer, Request};
 use iol_line::HonestPort;
 use iol_link::Rate;
@@ -43,22 +41,17 @@ fn port_to(alloc: Global, device: &Device<Parameter>) -> Result<HonestPort, Port
 
 /// The device works, and a wake-up request comes to it.
 fn wake<P: App>(device: &mut Device<P>)
-    requires { device.old.far.kind ≡ own }
-    ensures honest { HonestWake device.old.far true device.new.far }
-    ensures own { device.new.far.kind ≡ own }
+    ensures { HonestWake device.old.far true device.new.far }
 {
-    page_and_room_stay();
     device.work();
     device.wake();
 }
 
 /// The device works, and these octets come to it and its reply comes back.
 fn pass<P: App>(device: &mut Device<P>, sent: &[u8]) -> Option<Message>
-    ensures kind { device.new.far.kind ≡ device.old.far.kind }
-    ensures honest { (silence : ℕ) → HonestExchange device.old.far silence sent.now
+    ensures { (silence : ℕ) → HonestExchange device.old.far silence sent.now
         (octets_in result) device.new.far (silence_after silence (octets_in result)) }
 {
-    page_and_room_stay();
     device.parts_are_regular();
     device.work();
     device.hear(sent)
@@ -66,12 +59,10 @@ fn pass<P: App>(device: &mut Device<P>, sent: &[u8]) -> Option<Message>
 
 /// The same, and the octets are lost.
 fn lose<P: App>(device: &mut Device<P>, sent: &[u8]) -> Option<Message>
-    ensures kind { device.new.far.kind ≡ device.old.far.kind }
-    ensures honest { (silence : ℕ) → HonestExchange device.old.far silence sent.now
+    ensures { (silence : ℕ) → HonestExchange device.old.far silence sent.now
         (octets_in result) device.new.far (silence_after silence (octets_in result)) }
 {
     let _ = sent;
-    page_and_room_stay();
     device.parts_are_regular();
     device.work();
     None
@@ -79,11 +70,9 @@ fn lose<P: App>(device: &mut Device<P>, sent: &[u8]) -> Option<Message>
 
 /// The same, and the reply is lost.
 fn lose_reply<P: App>(device: &mut Device<P>, sent: &[u8]) -> Option<Message>
-    ensures kind { device.new.far.kind ≡ device.old.far.kind }
-    ensures honest { (silence : ℕ) → HonestExchange device.old.far silence sent.now
+    ensures { (silence : ℕ) → HonestExchange device.old.far silence sent.now
         (octets_in result) device.new.far (silence_after silence (octets_in result)) }
 {
-    page_and_room_stay();
     device.parts_are_regular();
     device.work();
     let _ = device.hear(sent);
@@ -92,8 +81,7 @@ fn lose_reply<P: App>(device: &mut Device<P>, sent: &[u8]) -> Option<Message>
 
 /// What comes back, as the fate of the exchange is.
 fn exchange<P: App>(device: &mut Device<P>, sent: &[u8], fate: Fate) -> Option<Message>
-    ensures kind { device.new.far.kind ≡ device.old.far.kind }
-    ensures honest { (silence : ℕ) → HonestExchange device.old.far silence sent.now
+    ensures { (silence : ℕ) → HonestExchange device.old.far silence sent.now
         (octets_in result) device.new.far (silence_after silence (octets_in result)) }
 {
     match fate {
@@ -106,9 +94,7 @@ fn exchange<P: App>(device: &mut Device<P>, sent: &[u8], fate: Fate) -> Option<M
 /// One turn of a port with this device at the far end of its line.
 fn meet(port: &mut HonestPort, device: &mut Device<Parameter>, fate: Fate)
     requires far { port.old.at.far ≡ device.old.far }
-    requires own { device.old.far.kind ≡ own }
     ensures far { port.new.at.far ≡ device.new.far }
-    ensures own { device.new.far.kind ≡ own }
 {
     match port.send() {
         Asked::Wake => {

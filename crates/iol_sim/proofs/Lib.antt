@@ -1,5 +1,4 @@
 pub mod Scripts
-pub mod KindLemmas
 pub mod Calls
 pub mod Entries
 pub mod Crosses

@@ -6,7 +6,6 @@ use Rattle.iol_device.specs.Device.{Running}
 use Rattle.iol_device.specs.Hearing.{heard}
 use Rattle.iol_far.specs.Octets.{octets_in}
 use Rattle.iol_far.specs.Far.{Far, hear}
-use Rattle.iol_far.specs.Isdu.{is_own}
 use Rattle.iol_far.specs.Local.{woken}
 use Rattle.iol_device.specs.App.{Gives}
 use Rattle.iol_link.specs.Honest.{silence_after}
@@ -35,13 +34,10 @@ pub record Simulated (P : Type 0) : Type 0 where
 abbrev pub devices_of : {P : Type 0} → Simulated P → Devices P
 devices_of sim = record { device = sim.device; away = sim.away }
 
--- whether it is a line to one device: with two, another one may stand at the far end later
+-- whether it loses messages and replies, and does no worse: a line to one device. With two,
+-- another one may stand at the far end later
 abbrev pub has_one_device : {P : Type 0} → Simulated P → Bool
 has_one_device sim = not (is_some sim.away)
-
--- whether it loses messages and replies, and does no worse: one device, of our own kind
-unfoldable pub is_lossy : {P : Type 0} → Simulated P → Bool
-is_lossy sim = has_one_device sim && is_own sim.device.far.kind
 
 -- A clean wire: its script has ended, the application works before each call, and it isn't silent
 
@@ -149,7 +145,7 @@ pub record IsExchange {P : Type 0} (gives : Gives P) (old : Simulated P) (sent :
 -- nothing
 abbrev pub sim_facts : {P : Type 0} → Gives P → WireFacts (Simulated P)
 sim_facts gives = record {
-  honest = is_lossy;
+  honest = has_one_device;
   far = λ sim. sim.device.far;
   silence = λ sim. sim.silence;
   clean = is_clean;

@@ -1,9 +1,8 @@
 //! A wire that is simulated: a device stands at its far end, and a script says what
 //! happens to it and to each call.
 //!
-//! A [`Sim`] loses and damages messages as its script says. With one device of our own kind it is
-//! an honest wire whatever the script. With two, which the script exchanges, or with a device of
-//! another kind, it is not.
+//! A [`Sim`] loses and damages messages as its script says. With one device it is an honest wire
+//! whatever the script; with two, which the script exchanges, it is not.
 //! A [`Raw`] answers given messages in order, and is not honest.
 //! [`Params`] is an application for the device: parameters that are read and written.
 //!

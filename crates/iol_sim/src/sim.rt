@@ -24,8 +24,7 @@ const LONGEST: usize = 66;
 /// A wire with a device at its far end, and a script of what happens to it and to each call.
 /// There may be a second device, which the script plugs in in place of the first.
 ///
-/// With one device of our own kind it is a lossy line. With two it isn't: another device may come
-/// to its far end. Nor is it one with a device of another kind.
+/// With one device it is a lossy line. With two it isn't: another device may come to its far end.
 ///
 /// Each call first uses the steps of the script up to and with the next fate, then
 /// has the application work where that is automatic, as it is at first, and then

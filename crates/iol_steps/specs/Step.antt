@@ -14,6 +14,7 @@ use Rattle.iol_far.specs.declared.mode.Mode.TheVariants.{Operate as FarOperate}
 use Rattle.iol_far.specs.Codec.{layout_in}
 use Rattle.iol_steps.specs.declared.mode.Mode.{Mode}
 use Rattle.iol_steps.specs.declared.mode.Mode.TheVariants.{Down, Startup, Preoperate, Operate}
+use Rattle.iol_mode.specs.declared.configuration.Devices.{Devices}
 use Rattle.iol_mode.specs.declared.why.Why.{Why}
 use Rattle.iol_mode.specs.Why.{why_of}
 use Rattle.iol_steps.specs.declared.said.Said.{Said}
@@ -82,9 +83,10 @@ CallFits Preoperate (Exchanged replied) = ⊤
 CallFits Operate (Exchanged replied) = ⊤
 CallFits mode call = ⊥
 
--- what no turn changes: how many busy replies a request may have, the page of the port's
--- device, and the device that is expected
+-- what no turn changes: for which devices the port is, how many busy replies a request may have,
+-- the page of the port's device, and the device that is expected
 pub record Terms : Type 0 where
+  pub devices : Devices
   pub busy_limit : ℕ
   pub page : List ℕ
   pub expected : Option Identity

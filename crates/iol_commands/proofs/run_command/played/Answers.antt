@@ -1,10 +1,10 @@
-use Rattle.std.proofs.Common.{Some, ◌∙◌, ap, rules}
+use Rattle.std.proofs.Common.{◌≡◌, Some, rules}
 use Rattle.iol_far.specs.Far as device
 use Rattle.iol_script.specs.Script.{ScriptValue}
-use Rattle.iol_sim.specs.Sim.{is_lossy}
+use Rattle.iol_sim.specs.Sim.{has_one_device}
 use Rattle.std.specs.String.{string_bytes}
 use Rattle.iol_script.specs.Text.{numbered_lines}
-use Rattle.iol_commands.specs.RunPlayed.{HasOwnDevice}
+use Rattle.iol_commands.specs.RunPlayed.{HasItsDevice}
 use Rattle.iol_commands.proofs.RunLemmas.{has_lossy_line, opens_well, opened_first, script_printed}
 use Rattle.iol_commands.proofs.run_command.played.Goals as goal
 
@@ -23,18 +23,18 @@ returns-clause-printed g c =
       limits = script.limits;
       steps = script.steps.items;
     } in
-    let new = λ (has : HasOwnDevice value). c.in_ok-wire.ensures.far
-    ∙ ap (λ k. device.opened_as k script.page (Some 1000)) has.kind in
-    let stands = λ (has : HasOwnDevice value). c.in-Ok.ensures.stands
+    let first = device.opened_as script.kind script.page (Some 1000) in
+    let new : wire.device.far ≡ first = c.in_ok-wire.ensures.far in
+    let stands = λ (has : HasItsDevice value). c.in-Ok.ensures.stands
     (opens_well c.in-Ok.port.opening script.devices script.limits wire wire.device.far
-    wire.silence (is_lossy wire) script.page opening
-    (has_lossy_line value wire c.in_ok-wire.ensures.whole has) (new has) has.port) in
+    wire.silence (has_one_device wire) script.kind script.page opening
+    (has_lossy_line value wire c.in_ok-wire.ensures.whole has) new has.for_it) in
     let more = c.in_ok-play_lines.ensures in
     script_printed c.in-Ok.port.parts c.play_lines.new.port.parts _ c.in-Ok.port.opening wire
     c.wire.result.now (numbered_lines c.args.input.now) _ more.0
     (string_bytes c.new-output.result) (string_bytes c.play_lines.new.output)
     (string_bytes c.print_records.new.output)
     c.in_ok-script.ensures.script c.in-Ok.ensures.opening c.in_ok-wire.ensures.whole
-    c.in-Ok.ensures.parts stands (λ has. opened_first script.limits wire.device.far wire.silence
-    script.page (new has) quiet) more.2
+    c.in-Ok.ensures.parts stands (λ has. opened_first script.devices script.limits
+    wire.device.far first wire.silence new quiet) more.2
     (search rules) (search rules) more.1 c.in_ok-print_records.ensures

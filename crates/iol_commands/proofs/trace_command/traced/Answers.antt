@@ -4,10 +4,10 @@ use Rattle.iol_far.specs.Far as device
 use Rattle.iol_port.specs.Run.{opened}
 use Rattle.iol_script.specs.Script.{ScriptValue, calls_in}
 use Rattle.iol_script.specs.Text.{numbered_lines}
-use Rattle.iol_sim.specs.Sim.{Simulated, is_lossy}
+use Rattle.iol_sim.specs.Sim.{Simulated, has_one_device}
 use Rattle.iol_sim.specs.declared.params.Entry.{Entry}
 use Rattle.iol_tap.specs.Tapped.{Tapped}
-use Rattle.iol_commands.specs.RunPlayed.{HasOwnDevice, records_text}
+use Rattle.iol_commands.specs.RunPlayed.{HasItsDevice, records_text}
 use Rattle.iol_commands.specs.TracePrinted.{TracesOut, first_tap}
 use Rattle.iol_commands.proofs.RunLemmas.{has_lossy_line, opens_well, opened_first}
 use Rattle.iol_commands.proofs.TraceLemmas.{traced_out, whole_written}
@@ -28,27 +28,28 @@ returns-clause-printed g c =
     let wire = c.in_ok-wire_of.field-0 in
     let tap = c.new-wire.result in
     let port = c.in-Ok.port in
-    let new = λ (has : HasOwnDevice script).
+    let first_far = device.opened_as given.kind given.page (Some 1000) in
+    let new : tap.wire.device.far ≡ first_far =
     ap (λ (t : Tapped (Simulated (List Entry))). t.wire.device.far) c.new-wire.ensures
-    ∙ c.in_ok-wire_of.ensures.far
-    ∙ ap (λ k. device.opened_as k given.page (Some 1000)) has.kind in
+    ∙ c.in_ok-wire_of.ensures.far in
     let quiet = ap (λ (t : Tapped (Simulated (List Entry))). t.wire.silence) c.new-wire.ensures
     ∙ c.in_ok-wire_of.ensures.silence in
     let first : tap ≡ first_tap script = c.new-wire.ensures
     ∙ ap (λ (s : Simulated (List Entry)). record { wire = s; last = None })
     c.in_ok-wire_of.ensures.whole in
-    let stands = λ (has : HasOwnDevice script). c.in-Ok.ensures.stands
+    let stands = λ (has : HasItsDevice script). c.in-Ok.ensures.stands
     (opens_well port.opening given.devices given.limits tap tap.wire.device.far
-    tap.wire.silence (is_lossy tap.wire) given.page c.in-Ok.ensures.opening
+    tap.wire.silence (has_one_device tap.wire) given.kind given.page c.in-Ok.ensures.opening
     (has_lossy_line script tap.wire (ap (λ (t : Tapped (Simulated (List Entry))). t.wire) first)
-    has) (new has) has.port) in
+    has) new has.for_it) in
     let wire_is = c.wire-2.ensures ∙ ap (λ (t : Tapped (Simulated (List Entry))). t.wire)
     c.wire.ensures in
     let followed = c.in_ok-follow.ensures.traced in
     let calls = calls_in (numbered_lines c.args.input.now) in
-    let opened_as = opened given.limits tap.wire.device.far tap.wire.silence in
-    let begins = λ (has : HasOwnDevice script).
-    opened_first given.limits tap.wire.device.far tap.wire.silence given.page (new has) quiet in
+    let opened_as = opened given.devices given.limits tap.wire.device.far tap.wire.silence in
+    let begins = λ (has : HasItsDevice script).
+    opened_first given.devices given.limits tap.wire.device.far first_far tap.wire.silence new quiet
+    in
     let out : TracesOut script calls (followed.0 ++ records_text c.wire-2.result.now) =
     traced_out script port.parts c.follow.new.port.parts opened_as port.opening tap
     c.new-tracer.result.number c.follow.new.self.number calls followed.0 c.wire-2.result.now

@@ -103,7 +103,8 @@ returns-then-put_next-clause-steps g c =
     (receive_steps c.station_laws.ensures c.put_next.new.self
     (octets_in c.exchange.ensures.passed.came)
     c.exchange.new.said c.exchange.new.self c.exchange.ensures.valid (is_out g c).0 up.few up.fits
-    up.gives up.said_is up.is) c.exchange.ensures.passed.passes c.exchange.ensures.passed.honesty
+    up.gives up.said_is up.on up.is) c.exchange.ensures.passed.passes
+    c.exchange.ensures.passed.honesty
 
 -- what was asked for went out, and brought what the exchange brought
 replied : (g : given.Over) (c : goal.After-exchange g)

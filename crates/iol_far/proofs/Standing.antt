@@ -21,8 +21,7 @@ use Rattle.iol_far.specs.Isdu.{IsduState, Empty, Receiving, Whole, Handed, Answe
 use Rattle.iol_far.specs.Far.{Far}
 use Rattle.iol_far.specs.Local.{carried_by, has_room}
 use Rattle.iol_far.specs.SegmentLaws.{SegmentLaws}
-use Rattle.iol_far.specs.Level.{grown_by}
-use Rattle.iol_far.specs.AnyLevel.{IsTaken, IsWritten, IsGrownOnce}
+use Rattle.iol_far.specs.Level.{grown_by, IsTaken, IsWritten, IsGrownOnce}
 
 -- What is recalled
 

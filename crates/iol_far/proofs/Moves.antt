@@ -25,11 +25,10 @@ use Rattle.iol_far.specs.Isdu.{IsduState, Empty, Receiving, Whole, Handed, Answe
 use Rattle.iol_far.specs.Far.{Far, isdu_after, counted_after}
 use Rattle.iol_far.specs.Local.{carried_by}
 use Rattle.iol_far.specs.SegmentLaws.{SegmentLaws}
-use Rattle.iol_far.specs.Level.{Move, Begin, More, Ask, Next, Leave, Other, grown_by, base_after}
-use Rattle.iol_far.specs.AnyLevel.{Progress, Quiet, Clear, Perhaps, Written, Busy, Had, Unsure, Stands, IsTaken, IsWritten, IsGrownOnce, IsGrown, IsMove, nothing_came, asked, wondered, may_be_none, after, RecallsAtLeast, hands_whole, under_way}
+use Rattle.iol_far.specs.Level.{Move, Begin, More, Ask, Next, Leave, Other, grown_by, base_after, Progress, Quiet, Clear, Perhaps, Written, Busy, Had, Unsure, Stands, IsTaken, IsWritten, IsGrownOnce, IsGrown, IsMove, nothing_came, asked, wondered, may_be_none, after, RecallsAtLeast, hands_whole, under_way}
 use Rattle.iol_far.proofs.Once.{not_handed, bytes_same}
 use Rattle.iol_far.proofs.Zeros.{zeros_close}
-use Rattle.iol_far.proofs.AnyStanding.{begun, appended, kept, Found, Finds, taken, begins, nothing, busy, first, none, found_finds, asked_taken, asked_empty, asked_written, asked_again, IsFetched, fetched, fetched_again, carries}
+use Rattle.iol_far.proofs.Standing.{begun, appended, kept, Found, Finds, taken, begins, nothing, busy, first, none, found_finds, asked_taken, asked_empty, asked_written, asked_again, IsFetched, fetched, fetched_again, carries}
 
 -- What stands
 

@@ -1,6 +1,0 @@
-use Rattle.iol_far.proofs.AnyLevels.{any_level_laws}
-use Rattle.iol_far.proofs.laws.asking_ends_stay_level.Goals as goal
-
-pub returns : goal.returns
-returns c = λ size low. any_level_laws size (c.texts_join.ensures size low)
-    c.cut_is_whole.ensures.sized
