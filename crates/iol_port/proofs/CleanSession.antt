@@ -2,6 +2,7 @@
 use Rattle.std.proofs.Common.{append-nil, ◌≡◌, inr, ℕ, Bool, true, false, ◌&&◌, List, [], ◌∷◌, ◌++◌, refl, sym, ap, subst, ◌∙◌, Option, Some, None, arith}
 use Rattle.std.proofs.lemmas.Grind.{common_steps}
 use Rattle.std.specs.Prelude.{IsTrue, if◌then◌else◌, MatchBool}
+use Rattle.iol_octets.specs.declared.control.Channel.{Channel}
 use Rattle.iol_octets.specs.declared.control.Channel.TheVariants.{Isdu}
 use Rattle.iol_mseq.specs.Master.{HasMasterParts}
 use Rattle.iol_mseq.specs.Texts.{master_text}
@@ -13,10 +14,11 @@ use Rattle.iol_isdu.specs.declared.values.Request.{Request}
 use Rattle.iol_isdu.specs.declared.values.Answer.{Answer}
 use Rattle.iol_far.specs.declared.carried.Carried.{Carried}
 use Rattle.iol_far.specs.Octets.{octets_in}
-use Rattle.iol_far.specs.Isdu.{IsduState, Handed, Answered, handed, fits}
+use Rattle.iol_far.specs.Isdu.{IsduState, Handed, Answered, handed, fits, own}
 use Rattle.iol_far.specs.Far.{Far, hear}
 use Rattle.iol_far.specs.Local.{Carry, local, carried_by, has_room, IsWorkedOff}
-use Rattle.iol_far.specs.Level.{Link, link_of}
+use Rattle.iol_far.specs.Level.{Link, Quiet, Stands, IsBefore, link_of}
+use Rattle.iol_far.specs.declared.kind.HandsOver.TheVariants.{FirstRead}
 use Rattle.iol_far.specs.Laws.{IsSized, RepliesAreRead, InputStaysSized}
 use Rattle.iol_mode.specs.States.{InOperate as OutOperate, operate_turned}
 use Rattle.iol_mode.specs.Stands.{operate_link, IsOperating, IsAccepted}
@@ -24,24 +26,27 @@ use Rattle.iol_steps.specs.declared.said.Said.{Said}
 use Rattle.iol_app.specs.declared.request.Current.{Current}
 use Rattle.iol_app.specs.declared.request.Progress.{Progress}
 use Rattle.iol_app.specs.declared.session.Exchange.{Exchange}
-use Rattle.iol_app.specs.declared.session.Exchange.TheVariants.{Request as NextMessage}
+use Rattle.iol_app.specs.declared.session.Exchange.TheVariants.{Request as NextMessage, Idle}
 use Rattle.iol_mode.specs.Next.{AnyLink}
 use Rattle.iol_app.specs.Requests.{current_after, IsSaid}
-use Rattle.iol_app.specs.Due.{due_of, is_ready}
-use Rattle.iol_app.specs.Messages.{Head, head_of, progress_head, progress_data, request_head, request_data}
-use Rattle.iol_app.specs.State.{SessionState, sending, sent, sent_by, absorbed, IsMessageFor, IsOutFor}
+use Rattle.iol_app.specs.Due.{due_of, is_ready, may_follow}
+use Rattle.iol_app.specs.Messages.{Head, head_of, progress_head, head_for, progress_data, request_head, request_data}
+use Rattle.iol_app.specs.State.{SessionState, sending, sent, sent_by, absorbed, IsMessageFor, IsOutFor, IsTaken}
 use Rattle.iol_app.specs.StationState.{StationState, wire_of, IsSettled, IsTurn, IsLinkTurn, IsOperateTurn}
 use Rattle.iol_link.specs.Honest.{CleanExchange}
 use Rattle.iol_link.specs.WireFacts.{WireFacts}
 use Rattle.iol_port.specs.Clean.{ExchangesCleanly, IsQuiet, IsCalm, Stood}
 use Rattle.iol_port.proofs.CleanHearing.{HeardWell, heard_well}
-use Rattle.iol_mode.specs.declared.configuration.Devices.TheVariants.{Own}
 
 -- What is due
 
 request_due : (s : SessionState) (room : Bool) (c : Current) → IsCalm s → s.current ≡ Some c
     → c.abort ≡ None → due_of s room ≡ NextMessage
 request_due s room c calm is abort = grind (arith, common_steps)
+
+pub idle_due : (s : SessionState) (room : Bool) → IsCalm s → s.current ≡ None
+    → due_of s room ≡ Idle
+idle_due s room calm free = grind (arith, common_steps)
 
 -- a session that would send IDLE 1 is calm, without a request
 pub ready_calm : (s : SessionState) → is_ready s true ≡ true → IsCalm s
@@ -51,10 +56,10 @@ ready_calm s e = grind (arith, common_steps)
 pub ready_any : (s : SessionState) (room : Bool) → is_ready s true ≡ true → is_ready s room ≡ true
 ready_any s room e = grind (arith, common_steps)
 
--- and a calm session without a request would send it, at a port for devices of our own kind
+-- and a calm session without a request would send it
 pub calm_ready : (s : SessionState) (room : Bool) → IsCalm s → s.current ≡ None
-    → s.configuration.devices ≡ Own → is_ready s room ≡ true
-calm_ready s room calm free own = grind (arith, common_steps)
+    → may_follow s.configuration.devices s.clear ≡ true → is_ready s room ≡ true
+calm_ready s room calm free follows = grind (arith, common_steps)
 
 -- and with a request begun it is calm too
 pub begun_calm : (s : SessionState) (current : Option Current) → IsCalm s
@@ -67,10 +72,15 @@ begun_calm s current h = record {
   flag = h.flag;
 }
 
--- after the good reply to the request's message, without the Event flag
-absorbed_calm : (s : SessionState) (reply : Reply) → IsCalm s → reply.event ≡ false
-    → IsCalm (absorbed NextMessage reply (sending NextMessage s))
-absorbed_calm s reply h e = grind (arith, common_steps)
+-- what a new message is of
+abbrev pub channel_for : Exchange → SessionState → Channel
+channel_for exchange s = (head_for exchange s.events.reading s.current).channel
+
+-- after the good reply to a message of the ISDU channel, without the Event flag
+absorbed_calm : (exchange : Exchange) (s : SessionState) (reply : Reply) → IsCalm s
+    → channel_for exchange s ≡ Isdu → reply.event ≡ false
+    → IsCalm (absorbed exchange reply (sending exchange s))
+absorbed_calm exchange s reply h channel e = grind (arith, common_steps)
 
 -- The request's messages are of the ISDU channel
 
@@ -139,7 +149,39 @@ work_same far ready (Some request) h = by_room (has_room far) h
 module _ {W : Type 0} (facts : WireFacts W) where
   open facts use {far}
 
-  -- What a turn gives that sends a message of the request
+  -- between requests both ends are level
+  pub level_between : (layouts : Layouts) (station : StationState W) (wire : W)
+      → Stood facts layouts operate_link station wire
+      → Stands FirstRead layouts.run.od (far wire).carried Quiet (far wire).isdu
+      (far wire).counted (far wire).carried
+      → IsBefore (far wire).page own layouts.run.od (far wire).carried operate_link Quiet
+      (far wire)
+  level_between layouts station wire stood stands = record {
+    awake = stood.awake;
+    kind_is = stood.own;
+    page_is = refl;
+    link_is = stood.at;
+    isdu = _;
+    stands = stands;
+  }
+
+  -- What a turn gives that sends a message of the ISDU channel
+  pub record Exchanged (layouts : Layouts) (exchange : Exchange) (old : StationState W) (wire : W)
+      (said : Said) (new : StationState W) : Type 0 where
+    pub next : W
+    pub stood : Stood facts layouts operate_link new next
+    pub message : MasterMsg
+    pub for : IsMessageFor exchange (sending exchange old.session) message
+    pub parts : HasMasterParts layouts.run message
+    pub ready : Far
+    pub work : IsWorkedOff (handed (far wire).isdu) (far wire) ready
+    pub answer : Option (List ℕ)
+    pub reply : Reply
+    pub heard_as : HeardWell layouts message ready (far next) answer reply
+    pub session : new.session ≡ absorbed exchange reply (sending exchange old.session)
+    pub said_is : IsTaken exchange reply.od.items (sending exchange old.session) said
+
+  -- and one of the request
   pub record Turned (layouts : Layouts) (old : StationState W) (wire : W) (c : Current)
       (said : Said) (new : StationState W) : Type 0 where
     pub next : W
@@ -156,37 +198,36 @@ module _ {W : Type 0} (facts : WireFacts W) where
     pub current : new.session.current
         ≡ current_after NextMessage old.session.limit reply.od.items (Some c)
     pub limit : new.session.limit ≡ old.session.limit
+    pub clear : new.session.clear ≡ false
     pub said_is : IsSaid NextMessage old.session.limit reply.od.items (Some c) said
 
   module _ (cleanly : ExchangesCleanly facts) (read_back : RepliesAreRead)
       (stays_sized : InputStaysSized) where
-    pub turned : (layouts : Layouts) (link : Link) (old : StationState W) (wire : W)
-        (room : Bool) (c : Current) (said : Said) (new : StationState W)
-        → Stood facts layouts link old wire → old.session.current ≡ Some c → c.abort ≡ None
-        → IsTurn facts room old said new
-        → Turned layouts old wire c said new
-    turned layouts link old wire room c said new stood is abort turn =
+    pub exchanged : (layouts : Layouts) (link : Link) (old : StationState W) (wire : W)
+        (room : Bool) (exchange : Exchange) (said : Said) (new : StationState W)
+        → Stood facts layouts link old wire → due_of old.session room ≡ exchange
+        → channel_for exchange old.session ≡ Isdu → IsTurn facts room old said new
+        → Exchanged layouts exchange old wire said new
+    exchanged layouts link old wire room exchange said new stood due channel_is turn =
         by_turn (subst (λ (l : AnyLink W). IsLinkTurn facts l old.session room said new)
         stood.link_is turn)
       where
         s : SessionState
         s = old.session
 
-        sent_is : sent (due_of s room) s ≡ sending NextMessage s
+        sent_is : sent (due_of s room) s ≡ sending exchange s
         sent_is = ap (λ (e : Option Exchange). sent_by e (due_of s room) s) stood.calm.exchange
-            ∙ ap (λ (e : Exchange). sending e s) (request_due s room c stood.calm is abort)
+            ∙ ap (λ (e : Exchange). sending e s) due
 
         by_turn : IsOperateTurn facts wire (record { out = None; layouts = layouts }) s room
-            said new → Turned layouts old wire c said new
+            said new → Exchanged layouts exchange old wire said new
         by_turn t =
             let message : MasterMsg = t.message in
             let o : List ℕ = master_text layouts.run message in
-            let for : IsMessageFor NextMessage (sending NextMessage s) message =
+            let for : IsMessageFor exchange (sending exchange s) message =
             subst (λ (z : SessionState). IsOutFor (Some message) z) sent_is t.is_for in
-            let head : head_of message.mc ≡ progress_head c.progress = for.head
-            ∙ ap request_head is in
-            let channel : message.mc.channel ≡ Isdu = ap (λ (h : Head). h.channel) head
-            ∙ progress_channel c.progress in
+            let channel : message.mc.channel ≡ Isdu = ap (λ (h : Head). h.channel) for.head
+            ∙ channel_is in
             let done = cleanly wire o t.exchange.answer (wire_of new.link) stood.is_clean
             t.exchange.called in
             let x : CleanExchange (far wire) o (octets_in t.exchange.answer)
@@ -209,7 +250,7 @@ module _ {W : Type 0} (facts : WireFacts W) where
             (octets_in t.exchange.answer) reply =
             rw (x.far_is, x.answer_is) found.1 in
             let settled : IsSettled (OutOperate (record { out = None; layouts = layouts })
-            (Some reply)) (sending NextMessage s) said new =
+            (Some reply)) (sending exchange s) said new =
             subst (λ (z : SessionState). IsSettled
             (OutOperate (record { out = None; layouts = layouts }) (Some reply)) z said new)
             sent_is
@@ -223,7 +264,7 @@ module _ {W : Type 0} (facts : WireFacts W) where
                 is_honest = subst IsTrue (sym t.exchange.both.honesty) stood.is_honest;
                 is_clean = done.1;
                 calm = subst IsCalm (sym settled.session)
-                    (absorbed_calm s reply stood.calm well.event);
+                    (absorbed_calm exchange s reply stood.calm channel_is well.event);
                 told = ap (λ (z : SessionState). z.isdu) settled.session ∙ stood.told;
                 operating = inr_link;
                 awake = well.awake;
@@ -233,21 +274,49 @@ module _ {W : Type 0} (facts : WireFacts W) where
                 quiet = well.quiet;
               };
               message = message;
-              head = head;
-              octets = for.octets ∙ ap request_data is;
+              for = for;
               parts = t.parts refl;
               ready = x.ready;
               work = x.work;
               answer = octets_in t.exchange.answer;
               reply = reply;
               heard_as = well;
-              current = ap (λ (z : SessionState). z.current) settled.session
-                  ∙ ap (λ (q : Option Current). current_after NextMessage s.limit reply.od.items
-                  q) is;
-              limit = ap (λ (z : SessionState). z.limit) settled.session;
-              said_is = subst (λ (q : Option Current). IsSaid NextMessage s.limit reply.od.items
-                  q said) is settled.said_is;
+              session = settled.session;
+              said_is = settled.said_is;
             }
           where
             inr_link : IsOperating layouts operate_link
             inr_link = inr refl
+
+    pub turned : (layouts : Layouts) (link : Link) (old : StationState W) (wire : W)
+        (room : Bool) (c : Current) (said : Said) (new : StationState W)
+        → Stood facts layouts link old wire → old.session.current ≡ Some c → c.abort ≡ None
+        → IsTurn facts room old said new
+        → Turned layouts old wire c said new
+    turned layouts link old wire room c said new stood is abort turn =
+        let s : SessionState = old.session in
+        let x : Exchanged layouts NextMessage old wire said new =
+        exchanged layouts link old wire room NextMessage said new stood
+        (request_due s room c stood.calm is abort)
+        (ap (λ (q : Option Current). (request_head q).channel) is ∙ progress_channel c.progress)
+        turn in
+        record {
+          next = x.next;
+          stood = x.stood;
+          message = x.message;
+          head = x.for.head ∙ ap request_head is;
+          octets = x.for.octets ∙ ap request_data is;
+          parts = x.parts;
+          ready = x.ready;
+          work = x.work;
+          answer = x.answer;
+          reply = x.reply;
+          heard_as = x.heard_as;
+          current = ap (λ (z : SessionState). z.current) x.session
+              ∙ ap (λ (q : Option Current). current_after NextMessage s.limit x.reply.od.items q)
+              is;
+          limit = ap (λ (z : SessionState). z.limit) x.session;
+          clear = ap (λ (z : SessionState). z.clear) x.session;
+          said_is = subst (λ (q : Option Current). IsSaid NextMessage s.limit x.reply.od.items
+              q said) is x.said_is;
+        }

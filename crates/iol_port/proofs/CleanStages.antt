@@ -7,7 +7,7 @@ use Rattle.std.proofs.lemmas.Bool.Decides.{nat_tests}
 use Rattle.std.proofs.lemmas.List.{length-append, append-nil}
 use Rattle.std.proofs.Math.Numerals.{add-one}
 use Rattle.iol_octets.specs.declared.flow_control.Flow.{Flow}
-use Rattle.iol_octets.specs.declared.flow_control.Flow.TheVariants.{Start, Count}
+use Rattle.iol_octets.specs.declared.flow_control.Flow.TheVariants.{Start, Count, Idle1}
 use Rattle.iol_octets.specs.Flow.{flow_address}
 use Rattle.iol_isdu.specs.declared.values.Request.{Request}
 use Rattle.iol_isdu.specs.declared.values.Answer.{Answer}
@@ -63,6 +63,10 @@ answer_some request answer = omega (arith, length-append (answer_front (is_read 
 pub flow_start : flow_of 0x10 ≡ Start
 unfolding flow_of
 flow_start = refl
+
+pub flow_idle : flow_of 0x11 ≡ Idle1
+unfolding flow_of
+flow_idle = refl
 
 pub flow_count : (n : ℕ) → flow_of (n % 16) ≡ Count (n % 16)
 unfolding flow_of
@@ -229,7 +233,8 @@ SaidAt stage said = said ≡ SaidBusy
 
 -- The work
 
-work_none : (f ready : Far) → handed f.isdu ≡ None → IsWorkedOff (handed f.isdu) f ready → ready ≡ f
+pub work_none : (f ready : Far) → handed f.isdu ≡ None → IsWorkedOff (handed f.isdu) f ready
+    → ready ≡ f
 work_none f ready e h = subst (λ (q : Option Request). IsWorkedOff q f ready) e h
 
 record Worked (request : Request) (base : List Carried) (ready : Far) : Type 0 where
@@ -324,6 +329,7 @@ module _ {W : Type 0} (facts : WireFacts W) where
           room = ap (λ (most : Option ℕ). takes_more most base) (t.heard_as.room ∙ same.room)
               ∙ room;
           limit = subst (λ (n : ℕ). 2 ≤ n) (sym t.limit) limit;
+          after = t.clear;
         };
         turns_are = turns;
         said_is = is;

@@ -25,11 +25,13 @@ use Rattle.iol_port.specs.declared.call.Call.{Call}
 use Rattle.iol_port.specs.declared.call.Call.TheVariants as call
 use Rattle.iol_port.specs.View.{Parts}
 use Rattle.iol_port.specs.Turns.{Stage, Written, Waiting, Reading, Ended, turns_at, turns_needed}
-use Rattle.iol_port.specs.Clean.{CleanLaws, IsAt, MayStart, MayServe, IsAfter, CleanTurn, takes_all, record_of, IsOnTime, IsOnItsWay, AreServed, CleanRuns, CleanServes}
+use Rattle.iol_port.specs.Clean.{CleanLaws, IsAt, IsBetween, MayStart, MayServe, IsAfter, CleanTurn, takes_all, turns_between, record_of, IsOnTime, IsOnItsWay, AreServed, CleanRuns, CleanServes}
 use Rattle.iol_port.proofs.CleanStages.{segment_within}
 use Rattle.iol_mode.specs.declared.configuration.Configuration.{Configuration}
-use Rattle.iol_mode.specs.declared.configuration.Devices.TheVariants.{Own}
-use Rattle.iol_port.proofs.CleanSession.{calm_ready}
+use Rattle.iol_mode.specs.declared.configuration.Devices.{Devices}
+use Rattle.iol_mode.specs.declared.configuration.Devices.TheVariants.{Any}
+use Rattle.iol_app.specs.Due.{may_follow}
+use Rattle.iol_port.proofs.CleanSession.{calm_ready, level_between}
 use Rattle.iol_far.specs.declared.kind.HandsOver.TheVariants.{FirstRead}
 
 -- Room in the record
@@ -105,6 +107,24 @@ none_left needed n e = omega (arith, e)
 one_more : (needed n : ℕ) → needed ≤ suc n → suc (suc n - needed) ≡ suc (suc n) - needed
 one_more needed n few = omega (arith, few)
 
+-- Turns between two requests
+
+any_between : (devices : Devices) (rest : List (Ticket × Request)) → turns_between devices rest ≡ 1
+    → devices ≡ Any
+any_between devices rest given = grind (arith, common_steps)
+
+-- where there is none, a request that waits may follow at once
+may_between : (devices : Devices) (rest : List (Ticket × Request)) → turns_between devices rest ≡ 0
+    → 1 ≤ length rest → may_follow devices false ≡ true
+may_between devices rest given some = grind (arith, common_steps)
+
+none_behind : (devices : Devices) → turns_between devices [] ≡ 0
+none_behind devices = grind (arith, common_steps)
+
+at_most_one : (devices : Devices) (rest : List (Ticket × Request))
+    → (turns_between devices rest ≡ 0) ⊎ (turns_between devices rest ≡ 1)
+at_most_one devices rest = grind (arith, common_steps)
+
 module _ {W : Type 0} (facts : WireFacts W) where
   open facts use {honest, far}
 
@@ -129,11 +149,11 @@ module _ {W : Type 0} (facts : WireFacts W) where
     asks_is = turn.asks ∙ steady.asks_is;
   }
 
-  -- where another request follows, the port is for devices of our own kind
-  abbrev pub Follows : List (Ticket × Request) → Parts W → Type 0
-  Follows rest now = 1 ≤ length rest → now.station.session.configuration.devices ≡ Own
+  steady_devices : {room : Option ℕ} (asks : Configuration) (now : Parts W) → Steady room asks now
+      → now.station.session.configuration.devices ≡ asks.devices
+  steady_devices asks now steady = ap (λ (k : Configuration). k.devices) steady.asks_is
 
-  module _ (layouts : Layouts) where
+  module _ (layouts : Layouts) (devices : Devices) where
     abbrev pub needed : Request → Answer → ℕ
     needed request answer = turns_needed layouts.run.od request answer
 
@@ -150,6 +170,13 @@ module _ {W : Type 0} (facts : WireFacts W) where
           → IsTrue (has_room (far (wire_of now.station.link)))
           → MayStart facts layouts ticket request now
 
+    -- right behind a request, where IDLE 1 comes before those behind it
+    abbrev pub Rests : ℕ → Request → List (Ticket × Request) → Answer → List Carried → BookState
+        → Parts W → Type 0
+    Rests n request rest answer base book now =
+        (turns_between devices rest ≡ 1) × (needed request answer ≡ n)
+        × IsBetween facts layouts (grown_by base request answer) book false now
+
     -- where the port stands after so many turns
     abbrev pub Going : ℕ → List (Ticket × Request) → List Carried → BookState → Parts W → Type 0
     Going zero requests base book now = Idle requests base book now
@@ -157,40 +184,59 @@ module _ {W : Type 0} (facts : WireFacts W) where
     Going (suc n) (next ∷ rest) base book now =
         ((after : After (suc n) next base book now)
         × ((answer : Answer) → after.stage ≡ Ended answer → ⊥))
-        ⊎ ((answer : Answer) × (needed next.1 answer ≤ suc n)
-        × Going (suc n - needed next.1 answer) rest (grown_by base next.1 answer)
-        (posted (took book next) (Done answer)) now)
+        ⊎ ((answer : Answer)
+        × (Rests (suc n) next.1 rest answer base (posted (took book next) (Done answer)) now
+        ⊎ ((needed next.1 answer + turns_between devices rest ≤ suc n)
+        × Going (suc n - (needed next.1 answer + turns_between devices rest)) rest
+        (grown_by base next.1 answer) (posted (took book next) (Done answer)) now)))
 
-    idle_at : (ticket : Ticket) (request : Request) (base : List Carried) (book : BookState)
-        (answer : Answer) (now : Parts W) (rest : List (Ticket × Request))
-        → IsAt facts layouts ticket request base book (Ended answer) now → Follows rest now
-        → Idle rest (grown_by base request answer)
-        (posted (took book (ticket, request)) (Done answer)) now
-    idle_at ticket request base book answer now rest is own = record {
-      record_is = record_at layouts ticket request base book (Ended answer) now is ∙ is.at.fits.1;
+    -- a request has its answer
+    between_at : (ticket : Ticket) (request : Request) (base : List Carried) (book : BookState)
+        (answer : Answer) (now : Parts W)
+        → IsAt facts layouts ticket request base book (Ended answer) now
+        → IsBetween facts layouts (grown_by base request answer)
+        (posted (took book (ticket, request)) (Done answer)) false now
+    between_at ticket request base book answer now is = record {
+      wire = is.wire;
+      stood = is.at.stood;
+      free = is.at.fits.0;
+      clear_is = is.at.after;
+      level = level_between facts layouts now.station is.wire is.at.stood
+          (subst (λ (s : IsduState). Stands FirstRead layouts.run.od (far is.wire).carried
+          Quiet s (far is.wire).counted (far is.wire).carried) (sym is.at.fits.3.1) refl);
+      record_is = is.at.fits.1;
+      book_is = is.book_is;
+    }
+
+    between_record : (base : List Carried) (book : BookState) (clear : Bool) (now : Parts W)
+        → IsBetween facts layouts base book clear now → record_of facts now ≡ base
+    between_record base book clear now is =
+        ap (λ (l : AnyLink W). (far (wire_of l)).carried) is.stood.link_is ∙ is.record_is
+
+    -- where a request may follow the next one may start
+    idle_between : (rest : List (Ticket × Request)) (base : List Carried) (book : BookState)
+        (clear : Bool) (now : Parts W) → now.station.session.configuration.devices ≡ devices
+        → (1 ≤ length rest → may_follow devices clear ≡ true)
+        → IsBetween facts layouts base book clear now → Idle rest base book now
+    idle_between rest base book clear now devices_are follows is = record {
+      record_is = between_record base book clear now is;
       book_is = is.book_is;
       may = λ more next other is_next room. record {
         wire = is.wire;
-        link_is = is.at.stood.link_is;
-        is_honest = is.at.stood.is_honest;
-        is_clean = is.at.stood.is_clean;
-        ready = calm_ready now.station.session true is.at.stood.calm is.at.fits.0 (own more);
+        link_is = is.stood.link_is;
+        is_honest = is.stood.is_honest;
+        is_clean = is.stood.is_clean;
+        ready = calm_ready now.station.session true is.stood.calm is.free
+            (ap (λ (d : Devices). may_follow d now.station.session.clear) devices_are
+            ∙ ap (may_follow devices) is.clear_is ∙ follows more);
         link = operate_link;
-        operating = is.at.stood.operating;
-        level = record {
-          awake = is.at.stood.awake;
-          kind_is = is.at.stood.own;
-          page_is = refl;
-          link_is = is.at.stood.at;
-          isdu = _;
-          stands = subst (λ (s : IsduState). Stands FirstRead layouts.run.od (far is.wire).carried
-              Quiet s (far is.wire).counted (far is.wire).carried) (sym is.at.fits.3.1) refl;
-        };
-        isdu = is.at.stood.isdu;
-        told = is.at.stood.told;
-        quiet = is.at.stood.quiet;
-        room = subst (λ (l : AnyLink W). IsTrue (has_room (far (wire_of l))))
-            is.at.stood.link_is room;
+        operating = is.stood.operating;
+        level = is.level;
+        isdu = is.stood.isdu;
+        told = is.stood.told;
+        quiet = is.stood.quiet;
+        room = subst (λ (l : AnyLink W). IsTrue (has_room (far (wire_of l)))) is.stood.link_is
+            room;
         next = is_next;
       };
     }
@@ -198,50 +244,56 @@ module _ {W : Type 0} (facts : WireFacts W) where
     -- a request after one more turn
     went : (n : ℕ) (next : Ticket × Request) (rest : List (Ticket × Request))
         (base : List Carried) (book : BookState) (now : Parts W)
-        → Follows rest now → After (suc n) next base book now
-        → Going (suc n) (next ∷ rest) base book now
-    went n next rest base book now own after = by after.stage after.is_at after.turns_are
+        → now.station.session.configuration.devices ≡ devices
+        → After (suc n) next base book now → Going (suc n) (next ∷ rest) base book now
+    went n next rest base book now devices_are after = by after.stage after.is_at after.turns_are
       where
         by : (stage : Stage) → IsAt facts layouts next.0 next.1 base book stage now
             → turns_at layouts.run.od next.1 stage ≡ suc n
             → Going (suc n) (next ∷ rest) base book now
-        by (Ended answer) is turns = inr (
-          answer,
-          omega (arith, turns),
-          subst (λ (k : ℕ). Going k rest (grown_by base next.1 answer)
-              (posted (took book next) (Done answer)) now)
-              (sym (none_left (needed next.1 answer) n turns))
-              (idle_at next.0 next.1 base book answer now rest is own),
-        )
+        by (Ended answer) is turns =
+            let behind : IsBetween facts layouts (grown_by base next.1 answer)
+            (posted (took book next) (Done answer)) false now =
+            between_at next.0 next.1 base book answer now is in
+            inr (
+              answer,
+              elim (at_most_one devices rest) [
+                | inl none ↦ inr (
+                  omega (arith, turns, none),
+                  subst (λ (k : ℕ). Going k rest (grown_by base next.1 answer)
+                      (posted (took book next) (Done answer)) now)
+                      (sym (none_left (needed next.1 answer + turns_between devices rest) n
+                      (omega (arith, turns, none))))
+                      (idle_between rest (grown_by base next.1 answer)
+                      (posted (took book next) (Done answer)) false now devices_are
+                      (may_between devices rest none) behind),
+                )
+                | inr one ↦ inl (one, turns, behind)
+              ],
+            )
         by stage is turns = inl (
           record { stage = stage; is_at = is; turns_are = turns },
           λ
               answer e. cc,
         )
 
-    next_own : {room : Option ℕ} (asks : Configuration) (mid next : Parts W)
-        (rest : List (Ticket × Request)) → Steady room asks mid → CleanTurn facts mid next
-        → (1 ≤ length rest → asks.devices ≡ Own) → Follows rest next
-    next_own asks mid next rest steady turn own more =
-        ap (λ (k : Configuration). k.devices) (turn.asks ∙ steady.asks_is) ∙ own more
-
     -- one turn more
     going_more : (room : Option ℕ) (asks : Configuration) (n : ℕ)
         (requests : List (Ticket × Request)) (base : List Carried) (book : BookState)
         (mid next : Parts W) → Queue book requests
         → takes_all room base (length requests) ≡ true → Steady room asks mid
-        → (2 ≤ length requests → asks.devices ≡ Own) → CleanTurn facts mid next
+        → asks.devices ≡ devices → CleanTurn facts mid next
         → Going n requests base book mid → Going (suc n) requests base book next
-    going_more room asks zero [] base book mid next queue fits steady own turn idle =
+    going_more room asks zero [] base book mid next queue fits steady same turn idle =
         let grown = turn.grows steady.is_honest in
         (grown.0, grown.1 ∙ ap (λ (xs : List Carried). xs ++ grown.0) idle.record_is)
-    going_more room asks (suc n) [] base book mid next queue fits steady own turn (more, is) =
+    going_more room asks (suc n) [] base book mid next queue fits steady same turn (more, is) =
         let grown = turn.grows steady.is_honest in (
           more ++ grown.0,
           grown.1 ∙ ap (λ (xs : List Carried). xs ++ grown.0) is
               ∙ append_assoc base more grown.0,
         )
-    going_more room asks zero (first ∷ rest) base book mid next queue fits steady own turn idle =
+    going_more room asks zero (first ∷ rest) base book mid next queue fits steady same turn idle =
         let some : has_room (far (wire_of mid.station.link)) ≡ true =
         rw (steady.room_is, idle.record_is) (takes_first room base (length rest) fits) in
         let is_next : next_taken mid.book.state.standing ≡ Some first =
@@ -250,29 +302,49 @@ module _ {W : Type 0} (facts : WireFacts W) where
         let after : After 1 first (record_of facts mid) mid.book.state next =
         turn.starts layouts first.0 first.1 (idle.may (omega arith) first.0 first.1 is_next some) in
         went 0 first rest base book next
-        (next_own asks mid next rest steady turn (λ more. own (omega (arith, more))))
+        (steady_devices asks next (steady_more room asks mid next steady turn) ∙ same)
         (subst (λ (b : BookState). After 1 first base b next) idle.book_is
         (subst (λ (xs : List Carried). After 1 first xs mid.book.state next) idle.record_is
         after))
-    going_more room asks (suc n) (first ∷ rest) base book mid next queue fits steady own turn
+    going_more room asks (suc n) (first ∷ rest) base book mid next queue fits steady same turn
         (inl (after, goes)) =
         went (suc n) first rest base book next
-        (next_own asks mid next rest steady turn (λ more. own (omega (arith, more))))
+        (steady_devices asks next (steady_more room asks mid next steady turn) ∙ same)
         (subst (λ (k : ℕ). After (suc k) first base book next) after.turns_are
         (turn.goes_on layouts first.0 first.1 base book after.stage after.is_at goes))
-    going_more room asks (suc n) (first ∷ rest) base book mid next queue fits steady own turn
-        (inr (answer, few, going)) = inr (
+    going_more room asks (suc n) (first ∷ rest) base book mid next queue fits steady same turn
+        (inr (answer, inl (one, needs, rests))) = inr (
           answer,
-          omega (arith, few),
-          subst (λ (k : ℕ). Going k rest (grown_by base first.1 answer)
-              (posted (took book first) (Done answer)) next)
-              (one_more (needed first.1 answer) n few)
-              (going_more room asks (suc n - needed first.1 answer) rest
-              (grown_by base first.1 answer)
-              (posted (took book first) (Done answer)) mid next
-              (queue_rest book first rest answer queue)
-              (takes_rest room base (length rest) first.1 answer fits) steady
-              (λ more. own (omega (arith, more))) turn going),
+          inr (
+            omega (arith, one, needs),
+            subst (λ (k : ℕ). Going k rest (grown_by base first.1 answer)
+                (posted (took book first) (Done answer)) next)
+                (sym (none_left (needed first.1 answer + turns_between devices rest) (suc n)
+                (omega (arith, one, needs))))
+                (let any : devices ≡ Any = any_between devices rest one in
+                idle_between rest (grown_by base first.1 answer)
+                (posted (took book first) (Done answer)) true next
+                (steady_devices asks next (steady_more room asks mid next steady turn) ∙ same)
+                (λ more. ap (λ (d : Devices). may_follow d true) any)
+                (turn.rests (steady_devices asks mid steady ∙ same ∙ any) layouts
+                (grown_by base first.1 answer) (posted (took book first) (Done answer)) rests)),
+          ),
+        )
+    going_more room asks (suc n) (first ∷ rest) base book mid next queue fits steady same turn
+        (inr (answer, inr (few, going))) = inr (
+          answer,
+          inr (
+            omega (arith, few),
+            subst (λ (k : ℕ). Going k rest (grown_by base first.1 answer)
+                (posted (took book first) (Done answer)) next)
+                (one_more (needed first.1 answer + turns_between devices rest) n few)
+                (going_more room asks
+                (suc n - (needed first.1 answer + turns_between devices rest)) rest
+                (grown_by base first.1 answer)
+                (posted (took book first) (Done answer)) mid next
+                (queue_rest book first rest answer queue)
+                (takes_rest room base (length rest) first.1 answer fits) steady same turn going),
+          ),
         )
 
     -- what that says of the record and of the book
@@ -317,35 +389,51 @@ module _ {W : Type 0} (facts : WireFacts W) where
 
     are_served : CleanLaws → (n : ℕ) (requests : List (Ticket × Request)) (base : List Carried)
         (book : BookState) (now : Parts W) → Going n requests base book now
-        → AreServed facts layouts n requests base book now
+        → AreServed facts devices layouts n requests base book now
     are_served laws zero requests base book now idle = (idle.record_is, idle.book_is)
     are_served laws (suc n) [] base book now grown = grown
     are_served laws (suc n) (next ∷ rest) base book now (inl (after, goes)) =
         inl (on_its_way laws after.stage (suc n) next base book now after.is_at after.turns_are
         goes)
-    are_served laws (suc n) (next ∷ rest) base book now (inr (answer, few, going)) =
+    are_served laws (suc n) (next ∷ rest) base book now (inr (answer, inl (one, needs, rests))) =
+        let after : BookState = posted (took book next) (Done answer) in
+        let none : suc n - (needed next.1 answer + turns_between devices rest) ≡ 0 =
+        omega (arith, one, needs) in
         inr (
           answer,
-          few,
-          are_served laws (suc n - needed next.1 answer) rest
+          omega (arith, needs),
+          subst (λ (k : ℕ). AreServed facts devices layouts k rest (grown_by base next.1 answer)
+              after now) (sym none)
+              (between_record (grown_by base next.1 answer) after false now rests, rests.book_is),
+        )
+    are_served laws (suc n) (next ∷ rest) base book now (inr (answer, inr (few, going))) =
+        inr (
+          answer,
+          omega (arith, few),
+          are_served laws (suc n - (needed next.1 answer + turns_between devices rest)) rest
               (grown_by base next.1 answer) (posted (took book next) (Done answer)) now going,
         )
 
     -- of one request alone
     on_time : (ticket : Ticket) (request : Request) (p : Parts W) (n : ℕ) (now : Parts W)
-        → AreServed facts layouts (suc n) ((ticket, request) ∷ []) (record_of facts p)
+        → AreServed facts devices layouts (suc n) ((ticket, request) ∷ []) (record_of facts p)
         p.book.state now
         → IsOnTime facts layouts ticket request p (suc n) now
     on_time ticket request p n now (inl given) = grind (arith, common_steps)
     on_time ticket request p n now (inr (answer, few, rest)) =
-        by (suc n - needed request answer) refl rest
+        by (suc n - (needed request answer + turns_between devices [])) refl rest
       where
-        by : (left : ℕ) → suc n - needed request answer ≡ left
-            → AreServed facts layouts left [] (grown_by (record_of facts p) request answer)
+        none : turns_between devices [] ≡ 0
+        none = none_behind devices
+
+        by : (left : ℕ) → suc n - (needed request answer + turns_between devices []) ≡ left
+            → AreServed facts devices layouts left [] (grown_by (record_of facts p) request answer)
             (posted (took p.book.state (ticket, request)) (Done answer)) now
             → IsOnTime facts layouts ticket request p (suc n) now
-        by zero left (is, book) = inr (inr (inl (answer, is, omega (arith, few, left), book)))
-        by (suc k) left (more, is) = inr (inr (inr (answer, more, is, omega (arith, few, left))))
+        by zero left (is, book) =
+            inr (inr (inl (answer, is, omega (arith, few, left, none), book)))
+        by (suc k) left (more, is) =
+            inr (inr (inr (answer, more, is, omega (arith, few, left, none))))
 
     -- where it begins
     begins : (first : Ticket × Request) (rest : List (Ticket × Request)) (p : Parts W)
@@ -398,7 +486,6 @@ module _ {W : Type 0} (facts : WireFacts W) where
           others = drop 1 list;
           in_order = headed list (ticket, request) head;
           room = takes_one (far (wire_of p.station.link)).room (record_of facts p) some;
-          own = λ more. absurd (omega (arith, more));
         }
 
   -- Whole runs
@@ -410,11 +497,15 @@ module _ {W : Type 0} (facts : WireFacts W) where
       → (layouts : Layouts) (first : Ticket × Request) (rest : List (Ticket × Request))
       → MayServe facts layouts first rest p
       → Steady (far (wire_of p.station.link)).room p.station.session.configuration now
-      × Going layouts n (first ∷ rest) (record_of facts p) p.book.state now
+      × Going layouts p.station.session.configuration.devices n (first ∷ rest)
+      (record_of facts p) p.book.state now
 
   pub so_far_none : (p : Parts W) → SoFar p [] p
   so_far_none p zero e layouts first rest may =
-      (steady_first layouts first.0 first.1 p may.starts, begins layouts first rest p may)
+      let devices : Devices = p.station.session.configuration.devices in (
+        steady_first layouts devices first.0 first.1 p may.starts,
+        begins layouts devices first rest p may,
+      )
   so_far_none p (suc n) e layouts first rest may = absurd (cc)
 
   so_far_snoc : (p mid next : Parts W) (calls : List Call) (c : Call) → SoFar p calls mid
@@ -424,14 +515,14 @@ module _ {W : Type 0} (facts : WireFacts W) where
       × (c ≡ call.Turn) = snoc_turns calls c n e in
       let mid_is = so_far (length calls) found.1 layouts first rest may in
       let t : CleanTurn facts mid next = turn found.2 in
-      let room : Option ℕ = (far (wire_of p.station.link)).room in (
+      let room : Option ℕ = (far (wire_of p.station.link)).room in
+      let devices : Devices = p.station.session.configuration.devices in (
         steady_more room p.station.session.configuration mid next mid_is.0 t,
-        subst (λ (k : ℕ). Going layouts k (first ∷ rest) (record_of facts p) p.book.state next)
-            (sym found.0)
-            (going_more layouts room p.station.session.configuration (length calls)
+        subst (λ (k : ℕ). Going layouts devices k (first ∷ rest) (record_of facts p)
+            p.book.state next) (sym found.0)
+            (going_more layouts devices room p.station.session.configuration (length calls)
             (first ∷ rest) (record_of facts p) p.book.state mid next
-            (queue_first layouts first rest p may) may.room mid_is.0
-            (λ more. may.own (omega (arith, more))) t mid_is.1),
+            (queue_first layouts devices first rest p may) may.room mid_is.0 refl t mid_is.1),
       )
 
   pub so_far_more : (p mid next : Parts W) (calls : List Call) (i : ℕ) (d : Call)
@@ -445,11 +536,14 @@ module _ {W : Type 0} (facts : WireFacts W) where
   pub clean_serves : CleanLaws → (p next : Parts W) (calls : List Call) (i : ℕ)
       → length calls ≤ i → SoFar p (take i calls) next → CleanServes facts p calls next
   clean_serves laws p next calls i all so_far n e layouts first rest may =
-      are_served layouts laws n (first ∷ rest) (record_of facts p) p.book.state next
+      are_served layouts p.station.session.configuration.devices laws n (first ∷ rest)
+      (record_of facts p) p.book.state next
       (so_far n (take_all i calls all ∙ e) layouts first rest may).1
 
   pub clean_runs : (p next : Parts W) (calls : List Call) → CleanServes facts p calls next
       → CleanRuns facts p calls next
   clean_runs p next calls serves n e layouts ticket request may =
-      on_time layouts ticket request p n next
-      (serves (suc n) e layouts (ticket, request) [] (may_serve layouts ticket request p may))
+      let devices : Devices = p.station.session.configuration.devices in
+      on_time layouts devices ticket request p n next
+      (serves (suc n) e layouts (ticket, request) []
+      (may_serve layouts devices ticket request p may))

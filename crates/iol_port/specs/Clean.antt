@@ -26,7 +26,8 @@ use Rattle.iol_book.specs.declared.entries.Ticket.{Ticket}
 use Rattle.iol_book.specs.declared.entries.Outcome.TheVariants.{Done}
 use Rattle.iol_book.specs.BookModel.{BookState, next_taken, took, posted}
 use Rattle.iol_mode.specs.Next.{in_operate as InOperate}
-use Rattle.iol_mode.specs.declared.configuration.Devices.TheVariants.{Own}
+use Rattle.iol_mode.specs.declared.configuration.Devices.{Devices}
+use Rattle.iol_mode.specs.declared.configuration.Devices.TheVariants.{Any}
 use Rattle.iol_app.specs.Due.{is_under_way, is_confirm_due, is_resting, is_ready}
 use Rattle.iol_app.specs.State.{SessionState}
 use Rattle.iol_app.specs.StationState.{StationState, wire_of}
@@ -59,6 +60,13 @@ pub record CleanLaws : Type 0 where
 abbrev pub takes_all : Option ℕ → List Carried → ℕ → Bool
 takes_all None carried count = true
 takes_all (Some room) carried count = nat_le (length carried + count) room
+
+-- how many turns lie between a request and those behind it: where one waits a port for any device
+-- sends IDLE 1 first
+-- REQ-13, REQ-14
+abbrev pub turns_between : Devices → List (Ticket × Request) → ℕ
+turns_between Any (next ∷ rest) = 1
+turns_between devices rest = 0
 
 -- no event is at the device
 pub record IsQuiet (memory : Events) : Type 0 where
@@ -124,6 +132,8 @@ module _ {W : Type 0} (facts : WireFacts W) where
         (far wire).carried
     pub room : IsTrue (takes_more (far wire).room base)
     pub limit : 2 ≤ station.session.limit
+    -- its last good reply was to a message of the request
+    pub after : station.session.clear ≡ false
 
   -- a port at this stage of the request of that ticket
   pub record IsAt (layouts : Layouts) (ticket : Ticket) (request : Request) (base : List Carried)
@@ -133,6 +143,20 @@ module _ {W : Type 0} (facts : WireFacts W) where
     pub book_is : p.book.state ≡ book_at book ticket request stage
     pub valid : IsRequest request
     pub low : 1 ≤ layouts.run.od
+
+  -- a port between requests, with this book: none is under way, and the device, whose record is
+  -- so, has none in hand
+  pub record IsBetween (layouts : Layouts) (base : List Carried) (book : BookState) (clear : Bool)
+      (p : Parts W) : Type 0 where
+    pub wire : W
+    pub stood : Stood layouts operate_link p.station wire
+    pub free : p.station.session.current ≡ None
+    -- whether the device surely holds no text
+    pub clear_is : p.station.session.clear ≡ clear
+    pub level : IsBefore (far wire).page own layouts.run.od (far wire).carried operate_link Quiet
+        (far wire)
+    pub record_is : (far wire).carried ≡ base
+    pub book_is : p.book.state ≡ book
 
   -- From here a request takes an exact number of turns: the port is in OPERATE over a clean
   -- wire, and its next turn would send IDLE 1, with room for events; both ends are level, the
@@ -178,7 +202,7 @@ module _ {W : Type 0} (facts : WireFacts W) where
 
   -- From here requests that wait take the sum of their turns: the first may start, they wait in
   -- this order before all others, and the device's record has room for the pairs of all of them.
-  -- A port for any device sends IDLE 1 between two
+  -- At a port for any device there is one turn more between two
   -- REQ-13
   pub record MayServe (layouts : Layouts) (first : Ticket × Request)
       (rest : List (Ticket × Request)) (p : Parts W) : Type 0 where
@@ -188,7 +212,6 @@ module _ {W : Type 0} (facts : WireFacts W) where
         ≡ first ∷ (rest ++ others)
     pub room : IsTrue (takes_all (far (wire_of p.station.link)).room (record_of facts p)
         (suc (length rest)))
-    pub own : 1 ≤ length rest → p.station.session.configuration.devices ≡ Own
 
   -- how a request stands that is taken and not done after so many turns, the record having been
   -- `base` and the book this one: nothing entered the record yet, or its answer did
@@ -202,20 +225,23 @@ module _ {W : Type 0} (facts : WireFacts W) where
 
   -- How requests that wait stand after so many turns. Before the first turn none is taken. Then
   -- the first of them is on its way; or it is done with an answer, after as many turns as are
-  -- needed, and the others stand so after the turns that are left. Where none is left more turns
-  -- may have been made, of which only the record is said.
+  -- needed, and the others stand so after the turns that are left, but for those between two
+  -- requests. Where no request is left more turns may have been made, of which only the record is
+  -- said.
   -- REQ-13
   abbrev pub AreServed :
-      Layouts → ℕ → List (Ticket × Request) → List Carried → BookState → Parts W → Type 0
-  AreServed layouts zero requests base book new =
+      Devices → Layouts → ℕ → List (Ticket × Request) → List Carried → BookState → Parts W
+      → Type 0
+  AreServed devices layouts zero requests base book new =
       (record_of facts new ≡ base) × (new.book.state ≡ book)
-  AreServed layouts (suc n) [] base book new =
+  AreServed devices layouts (suc n) [] base book new =
       (more : List Carried) × (record_of facts new ≡ base ++ more)
-  AreServed layouts (suc n) (next ∷ rest) base book new =
+  AreServed devices layouts (suc n) (next ∷ rest) base book new =
       IsOnItsWay layouts (suc n) next base book new
       ⊎ ((answer : Answer)
       × (turns_needed layouts.run.od next.1 answer ≤ suc n)
-      × AreServed layouts (suc n - turns_needed layouts.run.od next.1 answer) rest
+      × AreServed devices layouts
+      (suc n - (turns_needed layouts.run.od next.1 answer + turns_between devices rest)) rest
       (grown_by base next.1 answer) (posted (took book next) (Done answer)) new)
 
   -- at some stage, so many turns on
@@ -225,8 +251,9 @@ module _ {W : Type 0} (facts : WireFacts W) where
     pub is_at : IsAt layouts ticket request base book stage p
     pub turns_are : turns_at layouts.run.od request stage ≡ turns
 
-  -- one turn: the next request begins, or goes one stage on; on an honest wire the record only
-  -- grows, and may grow as far as before
+  -- one turn: the next request begins, or goes one stage on; behind a request a port for any device
+  -- sends IDLE 1, and no request begins; on an honest wire the record only grows, and may grow as
+  -- far as before
   -- REQ-13
   pub record CleanTurn (p next : Parts W) : Type 0 where
     pub starts : (layouts : Layouts) (ticket : Ticket) (request : Request)
@@ -238,6 +265,9 @@ module _ {W : Type 0} (facts : WireFacts W) where
         → ((answer : Answer) → stage ≡ Ended answer → ⊥)
         → IsAfter layouts ticket request base book
         (suc (turns_at layouts.run.od request stage)) next
+    pub rests : p.station.session.configuration.devices ≡ Any
+        → (layouts : Layouts) (base : List Carried) (book : BookState)
+        → IsBetween layouts base book false p → IsBetween layouts base book true next
     pub honesty : honest (wire_of next.station.link) ≡ honest (wire_of p.station.link)
     pub asks : next.station.session.configuration ≡ p.station.session.configuration
     pub grows : IsTrue (honest (wire_of p.station.link))
@@ -260,4 +290,5 @@ module _ {W : Type 0} (facts : WireFacts W) where
   CleanServes p calls next =
       (n : ℕ) → calls ≡ replicate n call.Turn → (layouts : Layouts) (first : Ticket × Request)
       (rest : List (Ticket × Request)) → MayServe layouts first rest p
-      → AreServed layouts n (first ∷ rest) (record_of facts p) p.book.state next
+      → AreServed p.station.session.configuration.devices layouts n (first ∷ rest)
+      (record_of facts p) p.book.state next
