@@ -49,9 +49,9 @@ typedef struct { uint8_t length; uint8_t octets[32]; } iol_image;
 
 typedef struct { void *at; bool is_open; } iol_port;
 
-/* Opens a port for devices of our own kind, whose link is down. Its journal has at most `journal` entries, 4 to 1,000,000; a request is cut off
- * after `busy` busy replies, 2 to 65,535; `queue` tickets may be outstanding at a time, 1 to 64; the first ticket is
- * `given` + 1.
+/* Opens a port for devices of our own kind, whose link is down. Its journal has at most `journal` entries, 4 to
+ * 1,000,000; a request is cut off after `busy` busy replies, 2 to 65,535; `queue` tickets may be outstanding at a time,
+ * 1 to 64; the first ticket is `given` + 1.
  * 253 it is open already, 254 `journal`, `busy` or `queue` is out of its range, 24 no memory. */
 uint8_t iol_port_open(iol_port *port, uint32_t journal, uint16_t busy, uint8_t queue, uint64_t given);
 
@@ -60,7 +60,8 @@ uint8_t iol_port_open(iol_port *port, uint32_t journal, uint16_t busy, uint8_t q
  * neither. */
 #define IOL_DEVICES_OWN 0
 #define IOL_DEVICES_ANY 1
-uint8_t iol_port_open_for(iol_port *port, uint8_t devices, uint32_t journal, uint16_t busy, uint8_t queue, uint64_t given);
+uint8_t iol_port_open_for(iol_port *port, uint8_t devices, uint32_t journal, uint16_t busy, uint8_t queue,
+    uint64_t given);
 
 /* Ends the port, and gives its memory back. 252. */
 uint8_t iol_port_close(iol_port *port);
