@@ -8,7 +8,7 @@ use Rattle.iol_image.specs.Image.{IsImage}
 use Rattle.iol_mode.specs.declared.states.Operate.{Operate}
 use Rattle.iol_mode.specs.declared.configuration.Configuration.{Configuration}
 use Rattle.iol_mode.specs.declared.configuration.Devices.{Devices}
-use Rattle.iol_mode.specs.Kinds.{IsFor}
+use Rattle.iol_mode.specs.Kinds.{IsFor, SeesPulses}
 use Rattle.iol_mode.specs.declared.states.State.{State}
 use Rattle.iol_mode.specs.declared.states.State.TheVariants.{Down as AtDown, Operate as AtOperate}
 use Rattle.iol_steps.specs.declared.mode.Mode.TheVariants.{Operate as ModeOperate}
@@ -27,10 +27,11 @@ use Rattle.iol_app.specs.Seen.{NewSteps, BeginSteps, DenySteps, AbortSteps, Canc
 pub new_steps : (devices : Devices) (busy : ℕ) (new : Core) → new ≡ opened_core devices busy
     → NewSteps new
 unfolding NewSteps
-new_steps devices busy new e = λ far for_it n told due. subst
+new_steps devices busy new e = λ far for_it sees n told due. subst
     (λ (c : Core). Stands c (opened_ghost far told due) far n) (sym e)
     (opens devices busy far n told due
-    (subst (λ (c : Core). IsFor c.session.configuration.devices far.kind) e for_it))
+    (subst (λ (c : Core). IsFor c.session.configuration.devices far.kind) e for_it)
+    (subst (λ (c : Core). SeesPulses c.session.configuration.devices far) e sees))
 
 -- in OPERATE with no request under way
 at_free : (P : Core → Type 0) (state : State) (session : SessionState)

@@ -29,7 +29,7 @@ use Rattle.iol_steps.specs.Kinds.{lost_steps, quiet_said, lost_said}
 use Rattle.iol_steps.specs.Station.{Reading, is_due, images_of, session_of}
 use Rattle.iol_steps.specs.Exchange.{hidden_lost, told_by}
 use Rattle.iol_steps.specs.Turn.{ImageIsLast}
-use Rattle.iol_app.proofs.Given.{Laws, page_locals, page_after, kind_after, level_locals, level_after}
+use Rattle.iol_app.proofs.Given.{Laws, page_locals, page_after, kind_after, level_locals, level_after, sees_kept, misses_passed}
 use Rattle.iol_app.proofs.OwnSession.{SessionRuns, session_runs-append, exchange_session}
 use Rattle.iol_app.proofs.FrozenPart.{FrozenRuns, frozen_runs-append, exchange_frozen}
 use Rattle.iol_app.proofs.ImagesPart.{ImagesRuns, OutputsSent, images_runs-append, exchange_images}
@@ -55,7 +55,7 @@ use Rattle.iol_app.proofs.Doubts.{missed_request_by}
 use Rattle.iol_app.proofs.Missing.{Stays, sent_again, asked_for, busy_missed}
 use Rattle.iol_app.proofs.Telling.{told_layout}
 use Rattle.iol_app.specs.Core.{Core, Ghost, Stands, ReceiveGives, work_of, vain_by, after_missed, OperateRequest, RequestStands, EventsStand, OutputStands, CalmAt, ShownStands, core_out, reading_in, ordered_by, moment_of, seen_in, shown_in, images_in, settled_core}
-use Rattle.iol_mode.specs.Kinds.{IsFor}
+use Rattle.iol_mode.specs.Kinds.{IsFor, SeesPulses}
 use Rattle.iol_mode.specs.declared.configuration.Configuration.{Configuration}
 
 -- what the far end's own part is, however far the message came
@@ -237,6 +237,9 @@ module _ (laws : Laws) (layouts : Layouts) (w : Sending) (t : SessionState) (g :
                 for_it = subst (λ (k : Configuration). IsFor k.devices after.kind)
                     (sym b.configuration) (subst (λ (q : Kind). IsFor t.configuration.devices q)
                     (sym b.kind) stands.for_it);
+                sees = subst (λ (k : Configuration). SeesPulses k.devices passed)
+                    (sym b.configuration) (sees_kept t.configuration.devices far passed
+                    (misses_passed laws passage steps far o) stands.sees);
                 fits = state_fits;
                 link = subst (λ (f : Far). StateStands next.state n' f) far_is link;
                 joined = joined;

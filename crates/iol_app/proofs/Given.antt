@@ -8,6 +8,9 @@ use Rattle.iol_far.specs.Far.{Far}
 use Rattle.iol_far.specs.Local.{LocalStep, local, locals}
 use Rattle.iol_far.specs.Level.{Progress, Link, IsLevel}
 use Rattle.iol_far.specs.declared.kind.Kind.{Kind}
+use Rattle.iol_mode.specs.declared.configuration.Devices.{Devices}
+use Rattle.iol_mode.specs.declared.configuration.Devices.TheVariants.{Own, Any}
+use Rattle.iol_mode.specs.Kinds.{SeesPulses}
 use Rattle.iol_far.specs.Laws.{IsSized, RepliesAreRead, InputStaysSized, MuchStays, LevelLaws, LevelStays, EventLaws, ModesHaveLayouts}
 
 pub record Laws : Type 0 where
@@ -31,7 +34,19 @@ all_laws level much reads sized events layouts =
       layouts = layouts;
     }
 
+-- its device sees each pulse still
+pub sees_kept : (devices : Devices) (far far' : Far) → far'.misses_pulses ≡ far.misses_pulses
+    → SeesPulses devices far → SeesPulses devices far'
+sees_kept Own far far' same h = same ∙ h
+sees_kept Any far far' same h = tt
+
 module _ (laws : Laws) where
+  pub misses_passed : (passage : Passage) (steps : List LocalStep) (far : Far) (o : List ℕ)
+      → (far_after passage (locals far steps) o).misses_pulses ≡ far.misses_pulses
+  misses_passed OutLost steps far o = laws.much.misses_kept far steps
+  misses_passed other steps far o = laws.much.misses_heard (locals far steps) o
+      ∙ laws.much.misses_kept far steps
+
   pub page_locals : (steps : List LocalStep) (far : Far) → (locals far steps).page ≡ far.page
   page_locals [] far = refl
   page_locals (step ∷ steps) far = page_locals steps (local far step) ∙ laws.much.page_kept far step

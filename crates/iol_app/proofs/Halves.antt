@@ -1,12 +1,13 @@
 -- A message goes out, and what comes back is taken up, with no call between: one call of the wire
 -- and one list of steps.
-use Rattle.std.proofs.Common.{◌≡◌, ◌∷◌, ◌++◌, List, ℕ, true, Option, sym, ap, ◌∙◌, subst, filter}
+use Rattle.std.proofs.Common.{◌≡◌, ◌∷◌, ◌++◌, List, ℕ, true, Option, sym, ap, ◌∙◌, subst, filter, Bool}
 use Rattle.std.specs.Prelude.{IsTrue}
 use Rattle.iol_far.specs.Far.{Far}
 use Rattle.iol_mode.specs.declared.configuration.Configuration.{Configuration}
 use Rattle.iol_steps.specs.declared.mode.Mode.{Mode}
+use Rattle.iol_mode.specs.States.{is_reset}
 use Rattle.iol_steps.specs.declared.said.Said.{Said}
-use Rattle.iol_steps.specs.Step.{Make, WireCall, Moment, CallFits, is_for_book, no_make, woke_up, book_said}
+use Rattle.iol_steps.specs.Step.{Make, WireCall, Moment, CallFits, is_for_book, no_make, resets, book_said}
 use Rattle.iol_steps.specs.Session.{Session, MaySessionAll, session_through}
 use Rattle.iol_steps.specs.FrozenEvents.{Frozen, MayFrozenAll, frozen_through}
 use Rattle.iol_steps.specs.Images.{Images, MayImagesAll, images_after, images_through}
@@ -68,8 +69,8 @@ turn_of c mid next g after far far' n n' said s r unmade =
       );
       clash_free = rw (make_apart r.steps unmade) r.clash_free;
       fresh = λ k. r.fresh (subst IsTrue s.fresh k);
-      said_book = subst (λ (b : Mode). filter is_for_book r.steps
-          ≡ woke_up b (mode_in next.state) ++ book_said said) s.mode r.said_book;
+      said_book = subst (λ (b : Bool). filter is_for_book r.steps
+          ≡ resets b (is_reset next.state) ++ book_said said) s.reset r.said_book;
       said_reports = r.said_reports;
       session = (
         (

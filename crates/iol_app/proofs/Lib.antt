@@ -33,8 +33,11 @@ pub mod OperateMessages
 pub mod Reporting
 pub mod Ending
 pub mod SmallFacts
+pub mod Orderly
+pub mod Effects
 pub mod Waking
 pub mod StartExchange
+pub mod Leaving
 pub mod Starting
 pub mod Calling
 pub mod FarSide

@@ -18,7 +18,7 @@ use Rattle.iol_mode.specs.declared.states.State.{State}
 use Rattle.iol_mode.specs.declared.states.State.TheVariants.{Down as AtDown, Operate as AtOperate}
 use Rattle.iol_mode.specs.Messages.{page_read, command_message, unsent}
 use Rattle.iol_mode.specs.Next.{EnteredFits}
-use Rattle.iol_mode.specs.States.{Outcome, InDown, InStartup, InPreoperate, InOperate, OutcomeFits, StateFits, IsDown, is_starting, state_of, waked, operate_by, counted}
+use Rattle.iol_mode.specs.States.{Outcome, InDown, InStartup, InPreoperate, InOperate, OutcomeFits, StateFits, IsDown, is_reset, is_starting, state_of, waked, operate_by, counted}
 use Rattle.iol_mode.specs.Exchanges.{IsSending, AreFew, ExchangeGives, AcceptedBy, StandsOn, WakeStands, judged, text_out}
 use Rattle.iol_mode.specs.Turns.{IsRisen}
 use Rattle.iol_mode.specs.Stands.{StateStands}
@@ -157,7 +157,7 @@ module _ (laws : StationLaws) (t : SessionState) (came : Option (List ℕ)) (sai
       → IsStill t → NextFits (judged t.configuration state came) t → Stands (at state) g far n
       → HonestExchange far n (text_out state) came far' n'
       → OutcomeFits (judged t.configuration state came)
-      → IsRisen (judged t.configuration state came) n' far far'
+      → IsRisen (is_reset state) (judged t.configuration state came) n' far far'
       → IsSettledSaid (judged t.configuration state came) t said
       → Received (at state) g far n said
       (after_exchange (judged t.configuration state came) t) far' n'
@@ -275,7 +275,7 @@ pub wake_steps : StationLaws → (old : Core) (answered : Bool) (new : Core) →
 unfolding WakeSteps
 wake_steps laws old answered new down stands_by e = λ g far far' n stands x.
     let given : CallGives old g far n Idle (after_wake answered old.session) far' n =
-    laws.wakes.gives old g far far' n answered stands down x (stands_by far far' n x)
+    laws.wakes.gives old g far far' n answered stands down x (stands_by far far' n stands.sees x)
     (waked_fits old.session.configuration.devices answered) in
     subst (λ (k : Core). Received old g far n Idle k far' n) (sym e)
     (record {

@@ -206,6 +206,7 @@ module _ (levels : (size : ℕ) → 1 ≤ size → LevelLaws size) (modes : Mode
       page = stands.page;
       kind = stands.kind;
       for_it = stands.for_it;
+      sees = stands.sees;
       fits = fits;
       link = linked;
       joined = record {
@@ -268,6 +269,7 @@ module _ (levels : (size : ℕ) → 1 ≤ size → LevelLaws size) (modes : Mode
     may = λ call. (refl, stands.calm);
     fresh = refl;
     mode = refl;
+    reset = refl;
     terms = (refl, refl, refl, refl);
     images = λ call. refl;
     wants = refl;

@@ -35,21 +35,23 @@ use Rattle.iol_mode.specs.declared.states.State.TheVariants.{Down as AtDown, Sta
 use Rattle.iol_image.specs.Image.{IsImage}
 use Rattle.iol_mode.specs.declared.why.Why.{Why}
 use Rattle.iol_mode.specs.Next.{IsEntered}
-use Rattle.iol_mode.specs.Stands.{startup_link, preoperate_link, entering_link, StateStands}
-use Rattle.iol_mode.specs.States.{Outcome, InDown, OutcomeFits, StateFits, state_of}
+use Rattle.iol_mode.specs.declared.states.Step.{Step as PageStep}
+use Rattle.iol_mode.specs.declared.states.Step.TheVariants.{Reset, First, Read, Ident, Leave, Cycle, Enter}
+use Rattle.iol_mode.specs.Stands.{startup_link, preoperate_link, entering_link, StepLevel, StateStands}
+use Rattle.iol_mode.specs.States.{Outcome, InDown, OutcomeFits, StateFits, state_of, is_behind, is_reset}
 use Rattle.iol_mode.specs.Turns.{IsRisen}
 use Rattle.iol_steps.specs.declared.mode.Mode.{Mode}
 use Rattle.iol_steps.specs.declared.mode.Mode.TheVariants.{Down as ModeDown, Startup as ModeStartup, Preoperate as ModePreoperate, Operate as ModeOperate}
 use Rattle.iol_steps.specs.declared.said.Said.TheVariants.{Idle}
-use Rattle.iol_steps.specs.Step.{Step, TellLength, Move as MoveTo, Exchanged, silence_by, output_length, CallFits, is_clash_free, is_for_book, is_report, woke_up}
+use Rattle.iol_steps.specs.Step.{Step, TellLength, Move as MoveTo, Exchanged, silence_by, output_length, CallFits, is_clash_free, is_for_book, is_report, resets}
 use Rattle.iol_steps.specs.Bridge.{Hidden, IsOpen, hidden_through, told_through, exchange_steps, told_exchanged}
 use Rattle.iol_steps.specs.Kinds.{Seen}
-use Rattle.iol_steps.specs.Session.{MayMove}
+use Rattle.iol_steps.specs.Session.{MayMove, HoldsNothing}
 use Rattle.iol_steps.specs.Images.{Images}
 use Rattle.iol_steps.specs.Station.{far_mode, output_by, images_of, session_of, is_due}
 use Rattle.iol_steps.specs.Station as steps
 use Rattle.iol_steps.specs.Exchange.{reading_flagged}
-use Rattle.iol_app.proofs.Given.{Laws, page_locals, page_after as page_passed, kind_after, level_locals}
+use Rattle.iol_app.proofs.Given.{Laws, page_locals, page_after as page_passed, kind_after, level_locals, sees_kept, misses_passed}
 use Rattle.iol_app.proofs.OwnSession.{SessionRuns, session_runs-append, exchange_session, own_open}
 use Rattle.iol_app.proofs.FrozenPart.{FrozenRuns, ConfirmsTold, frozen_runs-append, exchange_frozen}
 use Rattle.iol_app.proofs.ImagesPart.{ImagesRuns, images_runs-append, exchange_images}
@@ -67,18 +69,19 @@ use Rattle.iol_app.proofs.StartMessages.{step_channel, sends_channel, preoperate
 use Rattle.iol_app.proofs.Telling.{startup_layout, told_layout, told_told, told_shown}
 use Rattle.iol_app.specs.Moves.{progress_of}
 use Rattle.iol_app.specs.Core.{Core, Ghost, Stands, CallGives, work_of, RequestStands, EventsStand, OutputStands, OutputOff, CalmAt, ShownStands, moment_of, seen_in, shown_in, images_in, settled_core}
-use Rattle.iol_mode.specs.Kinds.{IsFor, trusted}
+use Rattle.iol_mode.specs.Kinds.{IsFor, SeesPulses, trusted}
 use Rattle.iol_mode.specs.declared.configuration.Devices.{Devices}
 use Rattle.iol_mode.specs.declared.configuration.Configuration.{Configuration}
 use Rattle.iol_mode.specs.Exchanges.{text_out}
 use Rattle.iol_app.proofs.FarSide.{Goes, IsGoing, outputs_sent, outputs_after, opens_after}
 
+-- a start-up whose device was reset
 pub data Start : Type 0 where
-  InStart : Startup → Start
+  InStart : (s : Startup) → is_behind s.step ≡ true → Start
   InPre : Preoperate → Start
 
 abbrev pub state_at : Start → State
-state_at (InStart s) = AtStartup s
+state_at (InStart s b) = AtStartup s
 state_at (InPre s) = AtPreoperate s
 
 abbrev pub mode_at : Start → Mode
@@ -126,6 +129,22 @@ no_command : (mode : Mode) (command : Option MasterCommand) → mode ≢ ModeOpe
     → output_by mode command ≡ None
 no_command mode command below = grind (arith, common_steps)
 
+pub reset_at : (start : Start) → is_reset (state_at start) ≡ true
+reset_at (InStart s b) = b
+reset_at (InPre s) = refl
+
+-- both ends are level then
+pub level_behind : (step : PageStep) (o : List ℕ) (tries : ℕ) (far : Far) → is_behind step ≡ true
+    → StepLevel step o tries far
+    → IsLevel far.page far.kind startup_shape.od far.carried startup_link Quiet o tries far
+level_behind Reset o tries far e h = absurd (cc)
+level_behind First o tries far e h = absurd (cc)
+level_behind (Read octets) o tries far e h = h
+level_behind (Ident told pre) o tries far e h = h
+level_behind (Leave told pre) o tries far e h = h
+level_behind (Cycle told) o tries far e h = h
+level_behind (Enter told) o tries far e h = h
+
 below : (start : Start) → mode_at start ≢ ModeOperate
 below start e = grind (arith, common_steps)
 
@@ -164,7 +183,7 @@ pub record Message (start : Start) (n : ℕ) (far : Far) : Type 0 where
 
 abbrev pub message_of : (start : Start) (n : ℕ) (far : Far) → StateFits (state_at start)
     → StateStands (state_at start) n far → Message start n far
-message_of (InStart s) n far fits stands = record {
+message_of (InStart s b) n far fits stands = record {
   shape = startup_shape;
   message = s.sent.message;
   tries = s.sent.tries;
@@ -174,7 +193,8 @@ message_of (InStart s) n far fits stands = record {
   parts = fits.parts;
   mode = refl;
   layout = startup_layout far.page;
-  level = stands.level;
+  level = level_behind s.step (master_text startup_shape s.sent.message) s.sent.tries far b
+      stands.level;
 }
 message_of (InPre s) n far fits stands = record {
   shape = s.pre;
@@ -202,13 +222,13 @@ pub record Rests (start : Start) (t : SessionState) (g : Ghost) (far : Far) : Ty
 
 pub rests_of : (start : Start) (t : SessionState) (g : Ghost) (far : Far) (n : ℕ)
     → Stands (record { state = state_at start; session = t }) g far n → Rests start t g far
-rests_of (InStart s) t g far n h =
+rests_of (InStart s b) t g far n h =
     record {
-      late = h.request.0;
+      late = h.request.0 b;
       opens = h.request.1;
       clear = h.request.2;
       untold = h.events.1;
-      output = h.output;
+      output = h.output.1 b;
       fresh = h.fresh;
     }
 rests_of (InPre s) t g far n h = record {
@@ -374,16 +394,13 @@ module _ (laws : Laws) (heard : TextsAreHeard) (start : Start) (session : Sessio
     pub image : next.session.image ≡ None
     pub shown : ShownStands next g.page
 
-  not_woken : (start : Start) (ended : Mode) → woke_up (mode_at start) ended ≡ []
-  not_woken start ended = grind (arith, common_steps)
-
   fits_call : (start : Start) (answered : Bool) → CallFits (mode_at start) (Exchanged answered)
   fits_call start answered = grind (arith, common_steps)
 
   pub gives : (answered : Bool) → n' ≡ silence_by (Exchanged answered) n
       → (outcome : Outcome) (u : SessionState) → settled_session outcome (still session) ≡ u
       → (ys : List Step) → Ends answered (record { state = state_of outcome; session = u }) ys
-      → IsRisen outcome n' far far' → OutcomeFits outcome
+      → IsRisen true outcome n' far far' → OutcomeFits outcome
       → Joined (state_of outcome) (settled_session outcome (still session))
       → CallGives c g far n Idle (settled_core outcome (still session)) far' n'
   gives answered silence outcome u same ys b risen fits joined =
@@ -402,7 +419,8 @@ module _ (laws : Laws) (heard : TextsAreHeard) (start : Start) (session : Sessio
         terms = (b.limit, refl, b.configuration, refl);
         clash_free = before.free;
         fresh = λ e. absurd (rests.fresh e);
-        said_book = before.book ∙ b.plain.3 ∙ rw (not_woken start (mode_in next.state)) refl;
+        said_book = before.book ∙ b.plain.3
+            ∙ sym (ap (λ (r : Bool). resets r (is_reset next.state) ++ []) (reset_at start));
         said_reports = before.reports ∙ b.plain.4;
         session = session_runs-append m (seen_in c g) (seen_in c g) (seen_in next after)
             g.request.hidden h h far.carried passed.carried passed.carried xs ys
@@ -426,6 +444,9 @@ module _ (laws : Laws) (heard : TextsAreHeard) (start : Start) (session : Sessio
           kind = kind_passed ∙ stands.kind;
           for_it = subst (λ (k : Configuration). IsFor k.devices g.kind) (sym b.configuration)
               stands.for_it;
+          sees = subst (λ (k : Configuration). SeesPulses k.devices passed) (sym b.configuration)
+              (sees_kept session.configuration.devices far passed
+              (misses_passed laws x.passage x.steps far o) stands.sees);
           fits = fits;
           link = subst (λ (f : Far). StateStands (state_of outcome) n' f) x.far_is
               risen.both.stands;
@@ -443,10 +464,15 @@ module _ (laws : Laws) (heard : TextsAreHeard) (start : Start) (session : Sessio
   -- The outcomes
 
   kept : (next : Start) → Left (state_at next) (still session)
-  kept (InStart s) = record {
-    request = (tied.0, opens, rests.clear);
+  kept (InStart s b) = record {
+    request = (
+      λ _. tied.0,
+      opens,
+      rests.clear,
+      λ k. absurd (let z : true ≡ false = sym b ∙ k in cc),
+    );
     events = (refl, refl);
-    output = off;
+    output = (refl, λ _. off);
     quiet = tt;
   }
   kept (InPre s) = record {
@@ -487,7 +513,7 @@ module _ (laws : Laws) (heard : TextsAreHeard) (start : Start) (session : Sessio
   -- its mode alone moves; what is told of events may change
   moves : (answered event : Bool) (state : State)
       → MayMove (moment_of c g n (Exchanged answered)) (mode_at start) (mode_in state)
-      (why_in state)
+      (why_in state) × HoldsNothing (mode_in state) h.late
       → Left state (entered event (still session))
       → Ends answered (record { state = state; session = entered event (still session) })
       (MoveTo (mode_in state) (why_in state) ∷ [])
@@ -510,7 +536,7 @@ module _ (laws : Laws) (heard : TextsAreHeard) (start : Start) (session : Sessio
       → Ends answered (settled_core (InDown (record { why = Some why })) (still session))
       (MoveTo ModeDown (Some why) ∷ [])
   falls answered why may =
-      moves answered session.events.flag (AtDown (record { why = Some why })) may
+      moves answered session.events.flag (AtDown (record { why = Some why })) (may, tt)
       (record { request = opens; events = tt; output = tt; quiet = tt })
 
   -- it comes to PREOPERATE
@@ -518,18 +544,19 @@ module _ (laws : Laws) (heard : TextsAreHeard) (start : Start) (session : Sessio
       ModePreoperate None → Ends true
       (record { state = AtPreoperate s; session = still session })
       (MoveTo ModePreoperate None ∷ [])
-  climbs s may = moves true session.events.flag (AtPreoperate s) may (kept (InPre s))
+  climbs s may = moves true session.events.flag (AtPreoperate s) (may, tied.0) (kept (InPre s))
 
   -- the page is whole, that of the device that is expected, and is told
-  pub tells : (s : Startup) (read : Told) → mode_at start ≡ ModeStartup
+  pub tells : (s : Startup) (behind : is_behind s.step ≡ true) (read : Told)
+      → mode_at start ≡ ModeStartup
       → seen_in (record { state = AtStartup s; session = still session }) after ≡ seen_in c g
       → layouts_of g.page ≡ Ok read.layouts → read.layouts.isdu ≡ knows_isdu g.page
       → read.page ≡ g.page → is_expected session.configuration.expected g.page ≡ true
       → IsSession (still session)
       → Ends true (record { state = AtStartup s; session = told read (still session) })
       (TellLength ∷ [])
-  tells s read first same asked isdu page right valid =
-      let q = kept (InStart s) in
+  tells s behind read first same asked isdu page right valid =
+      let q = kept (InStart s behind) in
       let layouts : Layouts = read.layouts in
       let size : output_length g.page ≡ layouts.run.pd_out =
       ap (λ (l : Shape). l.pd_out) (told_layout g.page FarOperate layouts asked) in
@@ -569,8 +596,9 @@ module _ (laws : Laws) (heard : TextsAreHeard) (start : Start) (session : Sessio
         left = record {
           request = q.request;
           events = q.events;
-          output = subst (λ (b : Bool). OutputOff b passed)
-              (sym (told_told layouts.run.pd_out (still session).output)) off;
+          output = subst (λ (b : Bool). (b ≡ false)
+              × (IsTrue (is_behind s.step) → OutputOff b passed))
+              (sym (told_told layouts.run.pd_out (still session).output)) (refl, λ _. off);
           quiet = q.quiet;
         };
         sent = w.sent;
@@ -600,7 +628,8 @@ module _ (laws : Laws) (heard : TextsAreHeard) (start : Start) (session : Sessio
       resting_quiet session.configuration.devices session.clear rests.clear in
       let at = subst (λ (f : Far). IsEntered (record { out = None; layouts = layouts }) n' f r)
       x.far_is entered_is in
-      moves true r.event (AtOperate (record { out = None; layouts = layouts })) may (record {
+      moves true r.event (AtOperate (record { out = None; layouts = layouts })) (may, tied.0)
+      (record {
         request = record {
           late = tied.0;
           opens = opens;

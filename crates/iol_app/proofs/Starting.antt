@@ -16,6 +16,7 @@ use Rattle.iol_event.specs.declared.event.Event.{Event}
 use Rattle.iol_event.specs.Memory.{is_empty}
 use Rattle.iol_far.specs.Far.{Far}
 use Rattle.iol_far.specs.Linked.{TextsAreHeard}
+use Rattle.iol_far.specs.Orderly.{OrderlyLaws}
 use Rattle.iol_far.specs.Local.{locals}
 use Rattle.iol_far.specs.Laws.{RepliesAreRead, InputStaysSized, MuchStays, LevelLaws, EventLaws, ModesHaveLayouts}
 use Rattle.iol_link.specs.Attempts.{good_reply}
@@ -25,14 +26,14 @@ use Rattle.iol_mode.specs.declared.states.Startup.{Startup}
 use Rattle.iol_mode.specs.declared.states.Preoperate.{Preoperate}
 use Rattle.iol_mode.specs.declared.states.Told.{Told}
 use Rattle.iol_mode.specs.declared.states.Step.{Step as PageStep}
-use Rattle.iol_mode.specs.declared.states.Step.TheVariants.{Reset, Read, Ident, Leave, Cycle, Enter}
+use Rattle.iol_mode.specs.declared.states.Step.TheVariants.{Reset, First, Read, Ident, Leave, Cycle, Enter}
 use Rattle.iol_mode.specs.declared.states.State.{State}
 use Rattle.iol_mode.specs.declared.states.State.TheVariants.{Startup as AtStartup, Preoperate as AtPreoperate}
 use Rattle.iol_mode.specs.declared.why.Why.TheVariants.{Lost, WrongDevice}
 use Rattle.iol_mode.specs.Why.{why_of}
 use Rattle.iol_mode.specs.Next.{IsEntered, read_by}
 use Rattle.iol_mode.specs.Stands.{StepStands}
-use Rattle.iol_mode.specs.States.{Outcome, InDown, InOperate, OutcomeFits, StepFits, state_of, is_starting, begun, step_behind, step_after, told_of, page_taken, taken_where, checked, startup_by, startup_turned, preoperate_by, preoperate_after, preoperate_turned}
+use Rattle.iol_mode.specs.States.{Outcome, InDown, InOperate, is_behind, is_reset, OutcomeFits, StepFits, state_of, is_starting, begun, step_behind, step_after, told_of, page_taken, taken_where, checked, startup_by, startup_turned, preoperate_by, preoperate_after, preoperate_turned}
 use Rattle.iol_mode.specs.Turns.{IsRisen}
 use Rattle.iol_steps.specs.declared.mode.Mode.TheVariants.{Down as ModeDown, Startup as ModeStartup, Preoperate as ModePreoperate, Operate as ModeOperate}
 use Rattle.iol_steps.specs.declared.said.Said.TheVariants.{Idle}
@@ -47,6 +48,7 @@ use Rattle.iol_app.specs.Core.{Ghost, Stands, CallGives, Rises, moment_of, settl
 use Rattle.iol_mode.specs.Exchanges.{text_out, judged}
 use Rattle.iol_app.proofs.FarSide.{Goes, IsGoing, silent, replied, IsReplied}
 use Rattle.iol_app.proofs.SmallFacts.{third_time}
+use Rattle.iol_app.proofs.Leaving.{leaving_rises}
 use Rattle.iol_app.proofs.StartExchange.{InStart, InPre, Start, state_at, mode_at, same_expected, still, is_still, Message, message_of, rests_of, going, goes as goes_going, unconfirmed, Ends, gives, stays, falls, climbs, tells, enters}
 
 -- what is known of every start-up
@@ -84,7 +86,7 @@ module _ (known : Known) (session : SessionState) (valid : IsSession (still sess
     by : (answered : Bool) → n' ≡ silence_by (Exchanged answered) n
         → (outcome : Outcome) (u : SessionState) → settled_session outcome (still session) ≡ u
         → (ys : List Step) → By answered outcome u ys
-        → IsRisen outcome n' far far' → OutcomeFits outcome
+        → IsRisen true outcome n' far far' → OutcomeFits outcome
         → Joined (state_of outcome) (settled_session outcome (still session))
         → CallGivesBy (state_at start) outcome
     by = gives laws heard start session g far far' n n' came stands
@@ -139,7 +141,7 @@ module _ (known : Known) (session : SessionState) (valid : IsSession (still sess
         → let o : Outcome = preoperate_by
         (record { message = s.sent.message; tries = if b then 0 else s.sent.tries + 1 })
         s.cycle_written s.pre s.layouts (if b then WasLost else Again) in
-        IsRisen o n' far far' → OutcomeFits o
+        IsRisen true o n' far far' → OutcomeFits o
         → Joined (state_of o) (settled_session o (still session))
         → CallGivesBy (AtPreoperate s) o
     pre_tries true two silence risen fits joined =
@@ -153,7 +155,7 @@ module _ (known : Known) (session : SessionState) (valid : IsSession (still sess
         (InPre _) refl) risen fits joined
 
     pre_written : (written : Bool) (r : Reply) → Good (InPre s) stands x r
-        → IsRisen (preoperate_after written s.pre s.layouts r) n' far far'
+        → IsRisen true (preoperate_after written s.pre s.layouts r) n' far far'
         → OutcomeFits (preoperate_after written s.pre s.layouts r)
         → Joined (state_of (preoperate_after written s.pre s.layouts r))
         (settled_session (preoperate_after written s.pre s.layouts r) (still session))
@@ -167,7 +169,7 @@ module _ (known : Known) (session : SessionState) (valid : IsSession (still sess
         refl) risen fits joined
 
     pre_rises : (q : Option Reply) → good_reply s.pre s.sent.message came ≡ q
-        → IsRisen (preoperate_turned s q) n' far far' → OutcomeFits (preoperate_turned s q)
+        → IsRisen true (preoperate_turned s q) n' far far' → OutcomeFits (preoperate_turned s q)
         → Joined (state_of (preoperate_turned s q))
         (settled_session (preoperate_turned s q) (still session))
         → CallGivesBy (AtPreoperate s) (preoperate_turned s q)
@@ -177,7 +179,7 @@ module _ (known : Known) (session : SessionState) (valid : IsSession (still sess
         pre_written s.cycle_written r (had_by (InPre s) stands x r e) risen fits joined
 
   -- STARTUP
-  module _ (s : Startup) (stands : Stands
+  module _ (s : Startup) (b : is_behind s.step ≡ true) (stands : Stands
       (record { state = AtStartup s; session = still session }) g far n)
       (x : HonestExchange far n (text_out (AtStartup s)) came far' n') where
     abbrev m : Moment
@@ -190,28 +192,29 @@ module _ (known : Known) (session : SessionState) (valid : IsSession (still sess
         → let o : Outcome = startup_by session.configuration
         (record { message = s.sent.message; tries = if b then 0 else s.sent.tries + 1 })
         s.step (if b then WasLost else Again) in
-        IsRisen o n' far far' → OutcomeFits o
+        IsRisen true o n' far far' → OutcomeFits o
         → Joined (state_of o) (settled_session o (still session)) → CallGivesBy (AtStartup s) o
     start_tries true two silence risen fits joined =
-        by (InStart s) stands x false silence _ _ refl _
-        (falls laws heard (InStart s) session g far far' n n' came stands _ _ _ false Lost
+        by (InStart s b) stands x false silence _ _ refl _
+        (falls laws heard (InStart s b) session g far far' n n' came stands _ _ _ false Lost
         (third_time s.sent.tries n (grind (arith, nat_tests)) stands.link.tries)) risen
         fits joined
     start_tries false two silence risen fits joined =
-        by (InStart s) stands x false silence _ _
+        by (InStart s b) stands x false silence _ _
         (told_stays (read_by s.step) (still session) valid stands.joined.1) _
-        (stays laws heard (InStart s) session g far far' n n' came stands _ _ _ false
-        (InStart _) refl) risen fits joined
+        (stays laws heard (InStart s b) session g far far' n n' came stands _ _ _ false
+        (InStart _ b) refl) risen fits joined
 
-    module _ (r : Reply) (good : Good (InStart s) stands x r) where
-      goes : (step : PageStep) → told_in (read_by step) (still session) ≡ still session
-          → IsRisen (begun step) n' far far' → OutcomeFits (begun step)
+    module _ (r : Reply) (good : Good (InStart s b) stands x r) where
+      goes : (step : PageStep) → is_behind step ≡ true
+          → told_in (read_by step) (still session) ≡ still session
+          → IsRisen true (begun step) n' far far' → OutcomeFits (begun step)
           → Joined (state_of (begun step)) (settled_session (begun step) (still session))
           → CallGivesBy (AtStartup s) (begun step)
-      goes step same risen fits joined =
-          by (InStart s) stands x true good.silence_is _ _ same _
-          (stays laws heard (InStart s) session g far far' n n' came stands _ _ _ true
-          (InStart _) refl) risen fits joined
+      goes step behind same risen fits joined =
+          by (InStart s b) stands x true good.silence_is _ _ same _
+          (stays laws heard (InStart s b) session g far far' n n' came stands _ _ _ true
+          (InStart _ behind) refl) risen fits joined
 
       may_fault : (fault : PageFault) → page_fault g.page ≡ Some (why_of fault)
           → MayMove m ModeStartup ModeDown (Some (why_of fault))
@@ -223,6 +226,10 @@ module _ (known : Known) (session : SessionState) (valid : IsSession (still sess
           → told_in (read_by (step_behind page p)) (still session) ≡ told page (still session)
       behind_session page p = grind (arith, common_steps)
 
+      behind_page : (page : Told) (p : Option Shape) → is_behind (step_behind page p) ≡ true
+      behind_page page None = refl
+      behind_page page (Some pre) = refl
+
       behind_told : (page : Told) (p : Option Shape) → StepStands (step_behind page p) far'
           → (layouts_of far'.page ≡ Ok page.layouts) × (page.page ≡ far'.page)
       behind_told page None q = q
@@ -232,7 +239,7 @@ module _ (known : Known) (session : SessionState) (valid : IsSession (still sess
       asks_now = session.configuration
 
       abbrev Rising : Outcome → Type 0
-      Rising outcome = IsRisen outcome n' far far' → OutcomeFits outcome
+      Rising outcome = IsRisen true outcome n' far far' → OutcomeFits outcome
           → Joined (state_of outcome) (settled_session outcome (still session))
           → CallGivesBy (AtStartup s) outcome
 
@@ -240,20 +247,21 @@ module _ (known : Known) (session : SessionState) (valid : IsSession (still sess
           → is_expected asks_now.expected octets ≡ true → Rising (page_taken asks_now asked octets)
       by_taken (Err fault) octets known risen fits joined =
           let asked : layouts_of g.page ≡ Err fault =
-          ap layouts_of (sym (page_new (InStart s) stands x)) ∙ risen.fault fault refl in
-          by (InStart s) stands x true good.silence_is _ _ refl _
-          (falls laws heard (InStart s) session g far far' n n' came stands _ _ _ true
+          ap layouts_of (sym (page_new (InStart s b) stands x)) ∙ risen.fault fault refl in
+          by (InStart s b) stands x true good.silence_is _ _ refl _
+          (falls laws heard (InStart s b) session g far far' n n' came stands _ _ _ true
           (why_of fault) (may_fault fault (ap fault_in asked))) risen fits joined
       by_taken (Ok layouts) octets known risen fits joined =
           let read : Told = told_of asks_now layouts octets in
-          let new : far'.page ≡ g.page = page_new (InStart s) stands x in
+          let new : far'.page ≡ g.page = page_new (InStart s b) stands x in
           let behind = behind_told read layouts.pre risen.both.stands.step in
           let asked : layouts_of g.page ≡ Ok layouts = ap layouts_of (sym new) ∙ behind.0 in
           let page : octets ≡ g.page = behind.1 ∙ new in
           let right : is_expected asks_now.expected g.page ≡ true =
           ap (is_expected asks_now.expected) (sym page) ∙ known in
-          by (InStart s) stands x true good.silence_is _ _ (behind_session read layouts.pre) _
-          (tells laws heard (InStart s) session g far far' n n' came stands _ _ _ _ read refl
+          by (InStart s b) stands x true good.silence_is _ _ (behind_session read layouts.pre) _
+          (tells laws heard (InStart s b) session g far far' n n' came stands _ _ _ _
+          (behind_page read layouts.pre) read refl
           refl asked (asked_by layouts asked).isdu page right valid) risen fits joined
 
       -- another device is there than the one that is expected
@@ -261,12 +269,12 @@ module _ (known : Known) (session : SessionState) (valid : IsSession (still sess
           → Rising (InDown (record { why = Some (WrongDevice (identity_of octets)) }))
       by_wrong octets unknown risen fits joined =
           let found : identity_of g.page ≡ identity_of octets =
-          ap identity_of (sym (page_new (InStart s) stands x))
+          ap identity_of (sym (page_new (InStart s b) stands x))
           ∙ risen.device (identity_of octets) refl in
           let wrong : is_expected asks_now.expected g.page ≡ false =
           same_expected asks_now.expected g.page octets found ∙ unknown in
-          by (InStart s) stands x true good.silence_is _ _ refl _
-          (falls laws heard (InStart s) session g far far' n n' came stands _ _ _ true
+          by (InStart s b) stands x true good.silence_is _ _ refl _
+          (falls laws heard (InStart s b) session g far far' n n' came stands _ _ _ true
           (WrongDevice (identity_of octets)) (found, wrong)) risen fits joined
 
       by_known : (b : Bool) (octets : List ℕ) → is_expected asks_now.expected octets ≡ b
@@ -280,67 +288,91 @@ module _ (known : Known) (session : SessionState) (valid : IsSession (still sess
       by_octets true octets risen fits joined =
           by_known (is_expected asks_now.expected octets) octets refl risen fits joined
       by_octets false octets risen fits joined =
-          goes (Read (record { items = octets })) refl risen fits joined
+          goes (Read (record { items = octets })) refl refl risen fits joined
 
-      by_step : (step : PageStep) → StepFits step → StepStands step far
+      by_step : (step : PageStep) → is_behind step ≡ true → StepFits step → StepStands step far
           → IsToldBy (read_by step) (still session) → Rising (step_after asks_now step r)
-      by_step Reset proper at before risen fits joined =
-          goes (Read (record { items = [] })) refl risen fits joined
-      by_step (Read read) proper at before risen fits joined =
+      by_step Reset behind proper at before risen fits joined = absurd (cc)
+      by_step First behind proper at before risen fits joined = absurd (cc)
+      by_step (Read read) behind proper at before risen fits joined =
           by_octets (length (read.items ++ slice_index r.od.items 0 ∷ []) == 10)
           (read.items ++ slice_index r.od.items 0 ∷ []) risen fits joined
-      by_step (Ident page pre) proper at before risen fits joined =
-          goes (Leave page pre) (told_stays (Some page) (still session) valid before) risen fits
+      by_step (Ident page pre) behind proper at before risen fits joined =
+          goes (Leave page pre) refl (told_stays (Some page) (still session) valid before) risen
+          fits joined
+      by_step (Cycle page) behind proper at before risen fits joined =
+          goes (Enter page) refl (told_stays (Some page) (still session) valid before) risen fits
           joined
-      by_step (Cycle page) proper at before risen fits joined =
-          goes (Enter page) (told_stays (Some page) (still session) valid before) risen fits joined
-      by_step (Leave page pre) proper at before risen fits joined =
+      by_step (Leave page pre) behind proper at before risen fits joined =
           let q = asked_of page.layouts at.0 in
           let present : is_present g.page ≡ true = q.present ∙ sym q.old
           ∙ ap (λ (p : Option Shape). is_some p) proper.pre_is in
-          by (InStart s) stands x true good.silence_is _ _ refl _
-          (climbs laws heard (InStart s) session g far far' n n' came stands _ _ _ _
+          by (InStart s b) stands x true good.silence_is _ _ refl _
+          (climbs laws heard (InStart s b) session g far far' n n' came stands _ _ _ _
           present) risen fits joined
-      by_step (Enter page) proper at before risen fits joined =
+      by_step (Enter page) behind proper at before risen fits joined =
           let q = asked_of page.layouts at.0 in
           let none : not (is_old g.page) ≡ false = sym q.old
           ∙ ap (λ (p : Option Shape). is_some p) proper.old in
           let old : is_old g.page ≡ true = grind (arith, common_steps, none) in
-          by (InStart s) stands x true good.silence_is _ _ refl _
-          (enters_by (InStart s) stands x page.layouts r good old risen.entered) risen fits
+          by (InStart s b) stands x true good.silence_is _ _ refl _
+          (enters_by (InStart s b) stands x page.layouts r good old risen.entered) risen fits
           joined
 
     start_rises : (q : Option Reply) → good_reply startup_shape s.sent.message came ≡ q
         → let o : Outcome = startup_turned session.configuration s q in
-        IsRisen o n' far far' → OutcomeFits o
+        IsRisen true o n' far far' → OutcomeFits o
         → Joined (state_of o) (settled_session o (still session)) → CallGivesBy (AtStartup s) o
     start_rises None e risen fits joined =
-        start_tries (s.sent.tries == 2) refl (missed_by (InStart s) stands x e) risen fits joined
+        start_tries (s.sent.tries == 2) refl (missed_by (InStart s b) stands x e) risen fits joined
     start_rises (Some r) e risen fits joined =
-        by_step r (had_by (InStart s) stands x r e) s.step stands.fits.step stands.link.step
+        by_step r (had_by (InStart s b) stands x r e) s.step b stands.fits.step stands.link.step
         stands.joined.1 risen fits joined
 
 -- in both
-rises_at : Known → (state : State) (t : SessionState) (g : Ghost) (far far' : Far) (n n' : ℕ)
-    (came : Option (List ℕ)) → is_starting state ≡ true
-    → Stands (record { state = state; session = t }) g far n → IsSession t
-    → HonestExchange far n (text_out state) came far' n'
-    → let o : Outcome = judged t.configuration state came in
-    IsRisen o n' far far' → OutcomeFits o → Joined (state_of o) (settled_session o t)
-    → CallGives (record { state = state; session = t }) g far n Idle (settled_core o t) far' n'
-rises_at known (AtStartup s) t g far far' n n' came up stands valid x risen fits joined =
+-- whose device was reset
+rises_behind : Known → (s : Startup) (t : SessionState) (g : Ghost) (far far' : Far) (n n' : ℕ)
+    (came : Option (List ℕ)) → is_behind s.step ≡ true
+    → Stands (record { state = AtStartup s; session = t }) g far n → IsSession t
+    → HonestExchange far n (text_out (AtStartup s)) came far' n'
+    → let o : Outcome = judged t.configuration (AtStartup s) came in
+    IsRisen (is_behind s.step) o n' far far' → OutcomeFits o
+    → Joined (state_of o) (settled_session o t)
+    → CallGives (record { state = AtStartup s; session = t }) g far n Idle (settled_core o t) far'
+    n'
+rises_behind known s t g far far' n n' came b stands valid x risen fits joined =
     let e : t ≡ still t = is_still t stands.joined.0.0 stands.joined.0.1
     (stands.shown.image (λ k. absurd (let z : ModeStartup ≡ ModeOperate = k in cc)))
-    stands.events.0 stands.output.untold in
+    stands.events.0 stands.output.0 in
     let o : Outcome = startup_turned t.configuration s
     (good_reply startup_shape s.sent.message came) in
     subst (λ (u : SessionState). CallGives (record { state = AtStartup s; session = u }) g far n
     Idle (settled_core o u) far' n') (sym e)
-    (start_rises known t (subst IsSession e valid) g far far' n n' came s
+    (start_rises known t (subst IsSession e valid) g far far' n n' came s b
     (subst (λ (u : SessionState). Stands (record { state = AtStartup s; session = u }) g far
-    n) e stands) x (good_reply startup_shape s.sent.message came) refl risen fits
+    n) e stands) x (good_reply startup_shape s.sent.message came) refl
+    (subst (λ (r : Bool). IsRisen r o n' far far') b risen) fits
     (subst (λ (u : SessionState). Joined (state_of o) (settled_session o u)) e joined))
-rises_at known (AtPreoperate s) t g far far' n n' came up stands valid x risen fits joined =
+
+rises_at : Known → OrderlyLaws → (state : State) (t : SessionState) (g : Ghost) (far far' : Far)
+    (n n' : ℕ) (came : Option (List ℕ)) → is_starting state ≡ true
+    → Stands (record { state = state; session = t }) g far n → IsSession t
+    → HonestExchange far n (text_out state) came far' n'
+    → let o : Outcome = judged t.configuration state came in
+    IsRisen (is_reset state) o n' far far' → OutcomeFits o
+    → Joined (state_of o) (settled_session o t)
+    → CallGives (record { state = state; session = t }) g far n Idle (settled_core o t) far' n'
+rises_at known leaves (AtStartup s) t g far far' n n' came up stands valid x risen fits joined =
+    split (is_behind s.step) refl
+  where
+    split : (b : Bool) → is_behind s.step ≡ b
+        → CallGives (record { state = AtStartup s; session = t }) g far n Idle
+        (settled_core (judged t.configuration (AtStartup s) came) t) far' n'
+    split true b =
+        rises_behind known s t g far far' n n' came b stands valid x risen fits joined
+    split false b = leaving_rises known.laws leaves known.heard s t g far far' n n' came b stands x
+        risen fits
+rises_at known leaves (AtPreoperate s) t g far far' n n' came up stands valid x risen fits joined =
     let e : t ≡ still t = is_still t stands.joined.0.0 stands.joined.0.1
     (stands.shown.image (λ k. absurd (let z : ModePreoperate ≡ ModeOperate = k in cc)))
     stands.events.0 stands.output.untold in
@@ -351,17 +383,17 @@ rises_at known (AtPreoperate s) t g far far' n n' came up stands valid x risen f
     (subst (λ (u : SessionState). Stands (record { state = AtPreoperate s; session = u }) g
     far n) e stands) x (good_reply s.pre s.sent.message came) refl risen fits
     (subst (λ (u : SessionState). Joined (state_of o) (settled_session o u)) e joined))
-rises_at known state t g far far' n n' came up stands valid x risen fits joined =
+rises_at known leaves state t g far far' n n' came up stands valid x risen fits joined =
     absurd (let z : false ≡ true = up in cc)
 
 pub rises : ((size : ℕ) → 1 ≤ size → LevelLaws size) → MuchStays → RepliesAreRead
     → InputStaysSized → ((first : Event) (rest : List Event) → EventLaws first rest)
-    → ModesHaveLayouts → TextsAreHeard → PagesAskForLayouts → Rises
-rises levels much reads sized events layouts heard asks = record {
+    → ModesHaveLayouts → OrderlyLaws → TextsAreHeard → PagesAskForLayouts → Rises
+rises levels much reads sized events layouts leaves heard asks = record {
   gives = λ c g far far' n n' came up stands valid x risen fits joined.
       rises_at (record {
         laws = all_laws levels much reads sized events layouts;
         heard = heard;
         asks = asks;
-      }) c.state c.session g far far' n n' came up stands valid x risen fits joined;
+      }) leaves c.state c.session g far far' n n' came up stands valid x risen fits joined;
 }

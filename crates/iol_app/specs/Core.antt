@@ -18,15 +18,15 @@ use Rattle.iol_mode.specs.declared.states.State.{State}
 use Rattle.iol_mode.specs.declared.states.State.TheVariants.{Down as AtDown, Startup as AtStartup, Preoperate as AtPreoperate, Operate as AtOperate}
 use Rattle.iol_mode.specs.declared.states.Operate.{Operate}
 use Rattle.iol_mode.specs.declared.configuration.Devices.TheVariants.{Any}
-use Rattle.iol_mode.specs.Kinds.{IsFor}
-use Rattle.iol_mode.specs.States.{Outcome, OutcomeFits, StateFits, IsDown, state_of, is_starting, waked}
+use Rattle.iol_mode.specs.Kinds.{IsFor, SeesPulses}
+use Rattle.iol_mode.specs.States.{Outcome, OutcomeFits, StateFits, IsDown, state_of, is_behind, is_reset, is_starting, waked}
 use Rattle.iol_mode.specs.Exchanges.{StandsOn, text_out, judged}
 use Rattle.iol_mode.specs.Turns.{IsRisen, IsMet}
 use Rattle.iol_mode.specs.Stands.{StateStands, IsOperating, IsAccepted}
 use Rattle.iol_steps.specs.declared.mode.Mode.TheVariants.{Operate as ModeOperate}
 use Rattle.iol_steps.specs.declared.said.Said.{Said}
 use Rattle.iol_steps.specs.declared.said.Said.TheVariants.{Idle}
-use Rattle.iol_steps.specs.Step.{Step, Make, Take, WireCall, Moment, Image, silence_by, CallFits, is_clash_free, no_make, is_for_book, is_report, book_said, reports_said, woke_up, output_length}
+use Rattle.iol_steps.specs.Step.{Step, Make, Take, WireCall, Moment, Image, silence_by, CallFits, is_clash_free, no_make, is_for_book, is_report, book_said, reports_said, resets, output_length}
 use Rattle.iol_steps.specs.Session.{Session, MaySession, MaySessionAll, session_after, session_through}
 use Rattle.iol_steps.specs.FrozenEvents.{Frozen, MayFrozenAll, frozen_through}
 use Rattle.iol_steps.specs.Images.{Images, MayImages, MayImagesAll, images_after, images_through, image_or}
@@ -226,11 +226,14 @@ reading_at Refused flag due = steps.Resting
 abbrev pub reading_in : Events → OfEvents → Reading
 reading_in events g = reading_at events.reading events.flag g.due
 
--- the link's own part says that nothing is under way in a start-up, whatever the device holds
+-- the link's own part says that nothing is under way in a start-up, whatever the device holds.
+-- Until it was reset it may carry out an earlier request, at a port for any device
 abbrev pub RequestStands : State → Work → Events → Ghost → Far → Type 0
 RequestStands (AtDown s) w events g far = IsOpen far.isdu None g.request.hidden
 RequestStands (AtStartup s) w events g far =
-    (g.request.hidden.late ≡ None) × IsOpen far.isdu None g.request.hidden × (w.clear ≡ false)
+    (IsTrue (is_behind s.step) → g.request.hidden.late ≡ None)
+    × IsOpen far.isdu None g.request.hidden × (w.clear ≡ false)
+    × (is_behind s.step ≡ false → w.devices ≡ Any)
 RequestStands (AtPreoperate s) w events g far =
     (g.request.hidden.late ≡ None) × IsOpen far.isdu None g.request.hidden × (w.clear ≡ false)
 RequestStands (AtOperate s) w events g far =
@@ -253,7 +256,8 @@ pub record OutputOff (told : Bool) (far : Far) : Type 0 where
 -- in OPERATE it is as told, unless a command is out
 abbrev pub OutputStands : State → Option Exchange → Bool → Option Image → Far → Type 0
 OutputStands (AtDown s) exchange told sent far = ⊤
-OutputStands (AtStartup s) exchange told sent far = OutputOff told far
+OutputStands (AtStartup s) exchange told sent far = (told ≡ false)
+    × (IsTrue (is_behind s.step) → OutputOff told far)
 OutputStands (AtPreoperate s) exchange told sent far = OutputOff told far
 OutputStands (AtOperate s) exchange told sent far =
     OutputTold sent (command_out exchange ≡ None) told far
@@ -290,6 +294,7 @@ pub record Stands (c : Core) (g : Ghost) (far : Far) (silence : ℕ) : Type 0 wh
   -- the port is for devices of its kind
   pub kind : far.kind ≡ g.kind
   pub for_it : IsFor c.session.configuration.devices g.kind
+  pub sees : SeesPulses c.session.configuration.devices far
   -- the link's part is the lower crate's, word for word
   pub fits : StateFits c.state
   pub link : StateStands c.state silence far
@@ -361,7 +366,7 @@ pub record CallGives (c : Core) (g : Ghost) (far : Far) (silence : ℕ) (said : 
   -- in the call of a request begun since the last one, no step clashes with its taking
   pub fresh : IsTrue g.fresh → IsTrue (list_all is_calm steps)
   pub said_book : filter is_for_book steps
-      ≡ woke_up (mode_in c.state) (mode_in next.state) ++ book_said said
+      ≡ resets (is_reset c.state) (is_reset next.state) ++ book_said said
   pub said_reports : filter is_report steps ≡ reports_said said
   pub session : MaySessionAll (moment_of c g silence call) steps (session_in c g far)
       × (session_through steps (session_in c g far) ≡ session_in next after far_new)
@@ -421,7 +426,7 @@ pub record Rises : Type 0 where
       → HonestExchange far silence (text_out c.state) came far_new silence_new
       → let outcome : Outcome = came_of c came in
       -- the link's own laws, and the session's
-      IsRisen outcome silence_new far far_new → OutcomeFits outcome
+      IsRisen (is_reset c.state) outcome silence_new far far_new → OutcomeFits outcome
       → Joined (state_of outcome) (settled_session outcome c.session)
       → CallGives c g far silence Idle (settled_core outcome c.session) far_new silence_new
 
@@ -520,6 +525,7 @@ free_core layouts t = record {
 pub record SendGives (c next : Core) (g after : Ghost) (far : Far) (silence : ℕ) : Type 0 where
   pub stands : Stands next after far silence
   pub mode : mode_in next.state ≡ mode_in c.state
+  pub reset : is_reset next.state ≡ is_reset c.state
   pub session : session_in c g far ≡ session_in next after far
   pub frozen : frozen_in g far ≡ frozen_in after far
   pub may : (call : WireCall) → MayImages (moment_of c g silence call) Make (images_in c g far)

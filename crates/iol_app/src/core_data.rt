@@ -5,7 +5,8 @@ ghost use Rattle.std.specs.Option.{option_copied, option_map};
 ghost use Rattle.iol_far.specs.Octets.{octets_in};
 ghost use Rattle.iol_link.specs.Attempts.{attempt_in};
 ghost use Rattle.iol_link.specs.WireFacts.{Wakes};
-ghost use Rattle.iol_mode.specs.States.{IsDown, OutcomeFits, outcome_with, state_of};
+ghost use Rattle.iol_mode.specs.Kinds.{IsHonestFor};
+ghost use Rattle.iol_mode.specs.States.{IsDown, OutcomeFits, is_reset, outcome_with, state_of};
 ghost use Rattle.iol_mode.specs.Stands.{StateStands};
 ghost use Rattle.iol_mode.specs.Exchanges.{IsSending, AreFew, ExchangeGives, StandsOn, WakeStands, tries_in, text_out};
 ghost use Rattle.iol_app.specs.EventReading.{is_refused};
@@ -26,6 +27,7 @@ use crate::laws::station_laws;
 use crate::message::blank;
 use crate::output::OutputFault;
 use crate::session::Session;
+use iol_far::page_and_room_stay;
 use iol_image::Image;
 use iol_isdu::{Cause, Request};
 use iol_link::{AttemptView, Rate, Wire};
@@ -83,6 +85,16 @@ impl Core {
             state: State::Down(Down { why: None }),
             session: Session::new(busy, devices),
         }
+    }
+
+    /// Whether the device was reset in this session, or has left the mode that it was in before:
+    /// it holds nothing of a request of before.
+    ///
+    /// Rule LINK-13.
+    pub fn is_reset(&self) -> bool
+        ensures { result ≡ is_reset self.now.state }
+    {
+        self.state.is_reset()
     }
 
     /// The mode, why the link is down, and whether a StatusCode was refused since
@@ -466,7 +478,7 @@ impl Core {
     /// Rule PD-7.
     pub fn turn<W: Wire>(&mut self, wire: &mut W, room: bool, said: &mut Said) -> Brought
         requires idle { said.old ≡ Said.Idle }
-        requires stands { IsTrue (W.facts.honest wire.old)
+        requires stands { IsHonestFor W.facts self.old.session.configuration.devices wire.old
             → StateStands self.old.state (W.facts.silence wire.old) (W.facts.far wire.old) }
         ensures request { request_in self.new.session.current
             ≡ request_after (request_in self.old.session.current) said.new }
@@ -483,10 +495,11 @@ impl Core {
             (asked_in self.old.state self.old.session room) (tries_in self.old.state) result)
             room (station_of wire.old self.old) said.new (station_of wire.new self.new) }
         ensures honest { W.facts.honest wire.new ≡ W.facts.honest wire.old }
-        ensures stands { IsTrue (W.facts.honest wire.new)
+        ensures stands { IsHonestFor W.facts self.new.session.configuration.devices wire.new
             → StateStands self.new.state (W.facts.silence wire.new) (W.facts.far wire.new) }
     {
         station_laws();
+        page_and_room_stay();
         self.session.is_valid();
         if self.put_next(room) {
             self.exchange(wire, said)

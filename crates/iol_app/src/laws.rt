@@ -6,8 +6,8 @@ ghost use Rattle.iol_app.specs.Core.{Wakes, Rises, Receives, Sends};
 
 use iol_event::{memory_stays_valid, reading_gives_the_frozen_list};
 use iol_far::{
-    ends_stay_level, events_stay_until_confirmed, modes_have_layouts, page_and_room_stay,
-    replies_are_read, requests_are_received, texts_are_heard,
+    devices_leave_their_mode, ends_stay_level, events_stay_until_confirmed, modes_have_layouts,
+    page_and_room_stay, replies_are_read, requests_are_received, texts_are_heard,
 };
 use iol_isdu::{one_text_each, one_text_in_front};
 use iol_page::pages_ask_for_layouts;
@@ -43,6 +43,8 @@ pub(crate) fn wake_gives()
     replies_are_read();
     events_stay_until_confirmed();
     modes_have_layouts();
+    devices_leave_their_mode();
+    texts_are_heard();
 }
 
 /// An exchange of a start-up, in STARTUP and in PREOPERATE.
@@ -55,6 +57,7 @@ pub(crate) fn rise_gives()
     replies_are_read();
     events_stay_until_confirmed();
     modes_have_layouts();
+    devices_leave_their_mode();
     texts_are_heard();
     pages_ask_for_layouts();
 }

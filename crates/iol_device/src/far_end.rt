@@ -40,7 +40,7 @@ pub(crate) struct FarEnd<R: Record = Kept> {
 }
 
 impl<R: Record> Model for FarEnd<R> {
-    ghost use Rattle.std.specs.Prelude.{[], option_map, unwrap_or};
+    ghost use Rattle.std.specs.Prelude.{[], false, option_map, unwrap_or};
     ghost use Rattle.iol_far.specs.Far.{Far};
     ghost use Rattle.iol_device.specs.Inside.{IsSound};
 
@@ -53,6 +53,7 @@ impl<R: Record> Model for FarEnd<R> {
       isdu = d.isdu.state;
       kind = d.isdu.kind;
       counted = d.isdu.counted;
+      misses_pulses = false;
       events = d.events;
       input = d.input;
       out = unwrap_or d.out [];

@@ -10,5 +10,6 @@ mod Levels
 mod Sized
 mod Eventful
 mod LawProofs
+mod Orderly
 mod Linking
 mod Regularly

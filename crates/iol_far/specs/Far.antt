@@ -36,6 +36,9 @@ pub record Far : Type 0 where
   -- which some keep
   pub kind : Kind
   pub counted : Option ℕ
+  -- whether it may miss the pulse of a wake-up request, and hear the test read behind it alone;
+  -- fixed for its life
+  pub misses_pulses : Bool
   pub events : Events
   -- process data: the input, the last output octets heard, whether they are valid
   pub input : Option (List ℕ)
@@ -63,6 +66,7 @@ opened_as kind page room = record {
   isdu = Empty;
   kind = kind;
   counted = None;
+  misses_pulses = false;
   events = no_events;
   input = None;
   out = [];

@@ -87,10 +87,15 @@ pub record OutputStaysInOperate : Type 0 where
       → IsValidInOperate (local far step)
   pub wakes : (far : Far) → IsValidInOperate (woken far)
 
--- Hearing carries nothing out, and nothing changes the kind, the page or the record's room
+-- Hearing carries nothing out, and nothing changes the kind, whether it misses pulses, the page or
+-- the record's room
 pub record MuchStays : Type 0 where
   pub kind_heard : (far : Far) (octets : List ℕ) → (hear far octets).far.kind ≡ far.kind
   pub kind_kept : (far : Far) (steps : List LocalStep) → (locals far steps).kind ≡ far.kind
+  pub misses_heard : (far : Far) (octets : List ℕ)
+      → (hear far octets).far.misses_pulses ≡ far.misses_pulses
+  pub misses_kept : (far : Far) (steps : List LocalStep)
+      → (locals far steps).misses_pulses ≡ far.misses_pulses
   pub page_heard : (far : Far) (octets : List ℕ) → (hear far octets).far.page ≡ far.page
   pub page_kept : (far : Far) (step : LocalStep) → (local far step).page ≡ far.page
   pub room_heard : (far : Far) (octets : List ℕ) → (hear far octets).far.room ≡ far.room

@@ -6,6 +6,7 @@ pub mod Local
 pub mod Level
 pub mod SegmentLaws
 pub mod Laws
+pub mod Orderly
 pub mod Linked
 pub mod Regular
 pub mod Octets

@@ -3,6 +3,7 @@ ghost use Rattle.std.specs.Prelude.{◌≤◌, ℕ, List};
 ghost use Rattle.iol_event.specs.declared.event.Event.{Event};
 ghost use Rattle.iol_far.specs.SegmentLaws.{SegmentLaws};
 ghost use Rattle.iol_far.specs.Laws.{OnceIsEnough, MessagesAreHeard, ModesHaveLayouts, RepliesAreRead, InputStaysSized, MuchStays, OutputStaysInOperate, LevelLaws, EventLaws};
+ghost use Rattle.iol_far.specs.Orderly.{OrderlyLaws};
 ghost use Rattle.iol_far.specs.Linked.{LinkLaws, TextsAreHeard};
 ghost use Rattle.iol_far.specs.Regular.{RegularStays};
 
@@ -108,5 +109,17 @@ pub fn parts_stay_regular()
     ensures { RegularStays }
 {
     memory_stays_valid();
+    modes_have_layouts();
+}
+
+/// What a device makes of messages to the page in STARTUP's layout, whatever its mode: it stays as
+/// it can be, keeps what it held or nothing, and behind a reply to DeviceStartup it is in STARTUP,
+/// or leaves its mode for it with the next other message.
+///
+/// Rule LINK-13.
+#[tactic(auto, using(crate::proofs::Orderly::orderly_laws))]
+pub fn devices_leave_their_mode()
+    ensures { OrderlyLaws }
+{
     modes_have_layouts();
 }

@@ -19,8 +19,9 @@ mod mode;
 pub use carried::Carried;
 pub use kind::{HandsOver, Kind, Recalls};
 pub use laws::{
-    ends_stay_level, events_stay_until_confirmed, hearing_again_changes_nothing, links_stay_level,
-    messages_are_heard, modes_have_layouts, page_and_room_stay, parts_stay_regular,
-    replies_are_read, requests_are_received, texts_are_heard,
+    devices_leave_their_mode, ends_stay_level, events_stay_until_confirmed,
+    hearing_again_changes_nothing, links_stay_level, messages_are_heard, modes_have_layouts,
+    page_and_room_stay, parts_stay_regular, replies_are_read, requests_are_received,
+    texts_are_heard,
 };
 pub use mode::Mode;

@@ -5,7 +5,7 @@ use Rattle.iol_event.specs.Memory.{Events, event_octet}
 use Rattle.iol_far.specs.Far.{Far}
 use Rattle.iol_far.specs.Level.{link_of}
 use Rattle.iol_far.specs.Local.{LocalStep, locals, woken}
-use Rattle.iol_link.specs.Honest.{HonestExchange, HonestWake}
+use Rattle.iol_link.specs.Honest.{HonestExchange, SeenWake}
 use Rattle.iol_judge.specs.declared.events.Places.{Places}
 use Rattle.iol_judge.specs.declared.events.Shown.{Shown}
 use Rattle.iol_judge.specs.declared.events.Shown.TheVariants.{Held, Any, Fresh, Filled}
@@ -134,7 +134,7 @@ pub record NeverBlamed : Type 0 where
       → IsFair (woke judged wake) far_new
   -- one of our own kind
   pub wakes : (judged : Judged) (far : Far) (wake : Wake) (far_new : Far)
-      → HonestWake far (is_answered wake) far_new → IsFair judged far
+      → SeenWake far (is_answered wake) far_new → IsFair judged far
       → IsFair (woke judged wake) far_new
   pub exchanges : (judged : Judged) (far : Far) (silence : ℕ) (sent : List ℕ)
       (answer : Option (List ℕ)) (far_new : Far) (silence_new : ℕ)

@@ -26,7 +26,8 @@ pub record HonestPort : Type 0 where
 abbrev pub line_at : Standing → WireFacts (Unit {0})
 line_at at = at_end at.far at.silence
 
--- the device is one of those that it was opened for, and had been handed no request then
+-- the device is one of those that it was opened for, and had been handed no request then; at a port
+-- for our own it is also one that misses no pulse of a wake
 abbrev pub BeganWell : HonestPort → Type 0
 BeganWell p = OpensWell (opened_at p.devices p.limits p.from.far p.from.silence)
 

@@ -324,9 +324,9 @@ impl<A: Allocator + Copy> HonestPort<A> {
     }
 
     /// A law of each such port, without code: at every moment the journal says where each ticket
-    /// stands; the port is a run, in pieces, of the one that was opened; and if the device had
-    /// been handed no request when the port was opened, the device's record fits the journal,
-    /// and between requests both ends are level.
+    /// stands; the port is a run, in pieces, of the one that was opened; and if when the port was
+    /// opened the device was one that the port is for, and had been handed no request, the
+    /// device's record fits the journal, and between requests both ends are level.
     pub fn keeps_record(&self)
         ensures replayed { IsReplayed self.now.parts.book.state }
         ensures run { IsRun self.now }

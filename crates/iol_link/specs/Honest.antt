@@ -1,5 +1,5 @@
 -- What an honest wire does with octets and with a wake, and what becomes of the far end meanwhile.
-use Rattle.std.specs.Prelude.{◌≡◌, ℕ, ◌+◌, min, Bool, true, if◌then◌else◌, List, Option, Some, None}
+use Rattle.std.specs.Prelude.{◌≡◌, ◌⊎◌, ℕ, ◌+◌, min, Bool, true, if◌then◌else◌, List, [], ◌∷◌, Option, Some, None, IsSome}
 use Rattle.iol_mseq.specs.Shape.{Shape, IsLayout}
 use Rattle.iol_mseq.specs.Master.{master_in}
 use Rattle.iol_mseq.specs.Replies.{reply_in}
@@ -8,6 +8,7 @@ use Rattle.iol_far.specs.Isdu.{handed}
 use Rattle.iol_far.specs.Far.{Far, hear}
 use Rattle.iol_far.specs.Local.{LocalStep, locals, woken, IsWorkedOff}
 use Rattle.iol_far.specs.Laws.{IsRegular}
+use Rattle.iol_far.specs.Orderly.{IsOrderly}
 
 -- nothing, or octets that are well-formed in no layout in which the sent octets spell a message
 -- WIRE-2
@@ -68,11 +69,30 @@ pub record HonestExchange (far : Far) (silence : ℕ) (sent : List ℕ) (answer 
 -- one wake: some steps of the far end by itself, then the wake's effect or nothing; a rate is
 -- answered only where it took effect
 -- WIRE-3
-pub record HonestWake (far : Far) (answered : Bool) (far_new : Far) : Type 0 where
+pub record SeenWake (far : Far) (answered : Bool) (far_new : Far) : Type 0 where
   pub steps : List LocalStep
   pub wakes : Bool
   pub far_is : far_new ≡ (if wakes then woken (locals far steps) else locals far steps)
   pub answered_is : answered ≡ true → wakes ≡ true
+
+-- the test read of a wake: that of the page's first octet
+-- WIRE-3
+abbrev pub test_read : List ℕ
+test_read = 0xA2 ∷ 0x00 ∷ []
+
+-- One whose pulse the far end misses, as it may: it hears the test read as it is, and keeps what it
+-- holds; a rate is answered only where its layout has a reply
+-- WIRE-3
+pub record UnseenWake (far : Far) (answered : Bool) (far_new : Far) : Type 0 where
+  pub misses : far.misses_pulses ≡ true
+  pub orderly : IsOrderly far
+  pub steps : List LocalStep
+  pub far_is : far_new ≡ (hear (locals far steps) test_read).far
+  pub answered_is : answered ≡ true → IsSome (hear (locals far steps) test_read).reply
+
+-- WIRE-3
+abbrev pub HonestWake : Far → Bool → Far → Type 0
+HonestWake far answered far_new = SeenWake far answered far_new ⊎ UnseenWake far answered far_new
 
 -- one exchange on a clean wire: a handed request is carried out where the record
 -- has room, and the far end does nothing else by itself; the octets are heard, and

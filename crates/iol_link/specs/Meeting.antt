@@ -104,3 +104,7 @@ pub record DeviceStays : Type 0 where
   pub kind : (far : Far) (silence : ℕ) (octets : List ℕ) (answer : Option (List ℕ))
       (far_new : Far) (silence_new : ℕ)
       → HonestExchange far silence octets answer far_new silence_new → far_new.kind ≡ far.kind
+  pub misses : (far : Far) (silence : ℕ) (octets : List ℕ) (answer : Option (List ℕ))
+      (far_new : Far) (silence_new : ℕ)
+      → HonestExchange far silence octets answer far_new silence_new
+      → far_new.misses_pulses ≡ far.misses_pulses

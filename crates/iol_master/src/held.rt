@@ -187,7 +187,7 @@ impl<W: Wire, K: Ledger, A: Handle> Held<W, K, A> {
     /// publishes that there is none, once, where the port was given a writer.
     ///
     /// What waits goes on waiting. The device may still carry the request that was cut off out,
-    /// once, until a wake succeeds.
+    /// once, until it is reset.
     pub fn restart<R: Wait>(&mut self, rt: &R)
         ensures does { Does W.facts self.old.parts call.Restart answered.Nothing self.new.parts }
         ensures gives { RestartGives self.old.parts self.new.parts }
@@ -311,8 +311,8 @@ impl<W: Wire, K: Ledger, A: Handle> Held<W, K, A> {
     /// Hands the journal out and begins a new one, which is empty. Tickets go on.
     ///
     /// Refused, with nothing changed, by 28 where a ticket is outstanding, or where a request was
-    /// cut off by a lost link or a restart and no wake succeeded since, as the device may still
-    /// carry that request out.
+    /// cut off by a lost link or a restart and the device wasn't reset since, as it may still carry
+    /// that request out.
     pub fn archive(&mut self) -> Result<Vec<Entry, A>, PortFault>
         ensures does { Does W.facts self.old.parts
             call.Archive

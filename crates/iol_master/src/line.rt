@@ -203,7 +203,7 @@ impl<K: Ledger, A: Allocator + Copy> LinePort<K, A> {
     /// that the answer ends is ended by it, and not cut off. A restart that waits is one restart,
     /// however often it was wanted. What is submitted meanwhile waits on through it.
     ///
-    /// The device may still carry the request that was cut off out, once, until a wake succeeds.
+    /// The device may still carry the request that was cut off out, once, until it is reset.
     pub fn restart(&mut self)
         ensures { RestartsOnce self.old self.new }
     {
@@ -330,8 +330,8 @@ impl<K: Ledger, A: Allocator + Copy> LinePort<K, A> {
     /// Hands the journal out and begins a new one, which is empty. Tickets go on.
     ///
     /// Refused, with nothing changed, by 28 where a ticket is outstanding, or where a request was
-    /// cut off by a lost link or a restart and no wake succeeded since, as the device may still
-    /// carry that request out.
+    /// cut off by a lost link or a restart and the device wasn't reset since, as it may still carry
+    /// that request out.
     pub fn archive(&mut self) -> Result<Vec<Entry, A>, PortFault>
         ensures does { CoreDoes self.old.parts call.Archive
             (reply_of (λ entries. answered.Archived (length entries.items)) result)

@@ -1,6 +1,6 @@
 -- One exchange, whatever the mode.
 use Rattle.std.proofs.Common.{◌≡◌, ℕ, ◌<◌, List, Option, refl, ◌∙◌, ap, sym, IsTrue}
-use Rattle.std.specs.Prelude.{true, false, Some, None, IfSome}
+use Rattle.std.specs.Prelude.{true, false, Some, None, IfSome, IsSome}
 use Rattle.arrayvec.specs.ArrayVec.{ArrayVec}
 use Rattle.iol_mseq.specs.Shape.{startup_shape}
 use Rattle.iol_mseq.specs.declared.master.MasterMsg.{MasterMsg}
@@ -11,16 +11,18 @@ use Rattle.iol_link.specs.declared.handler.Attempt.{Attempt}
 use Rattle.iol_link.specs.Attempts.{Sending, good_reply}
 use Rattle.iol_link.specs.WireFacts.{WireFacts, Passes}
 use Rattle.iol_mode.specs.declared.configuration.Configuration.{Configuration}
+use Rattle.iol_mode.specs.declared.configuration.Devices.TheVariants.{Own}
+use Rattle.iol_mode.specs.Kinds.{IsHonestFor}
 use Rattle.iol_mode.specs.declared.states.State.{State}
 use Rattle.iol_mode.specs.declared.states.State.TheVariants.{Down as AtDown, Startup as AtStartup, Preoperate as AtPreoperate, Operate as AtOperate}
 use Rattle.iol_mode.specs.States.{Outcome, any_device, OperateFits, OutcomeFits, StateFits, Takes, is_starting, counted, operate_by, sending_of}
-use Rattle.iol_mode.specs.Stands.{StateStands, IsTold}
+use Rattle.iol_mode.specs.Stands.{StateStands, OutcomeStands, IsTold}
 use Rattle.iol_mode.specs.Turns.{IsEnd, IsOperateTurn, IsStartTurn, IsStartTried}
-use Rattle.iol_mode.specs.Exchanges.{AreFew, text_out, putting, instead, putting_instead, judged, attempted, OutGives, ExchangeGives, StandsOn, OutAccepted, AcceptedBy}
+use Rattle.iol_mode.specs.Exchanges.{IsSending, IsOperateSending, AreFew, text_out, putting, instead, putting_instead, judged, attempted, OutGives, StateGives, ExchangeGives, StandsOn, OutAccepted, AcceptedBy}
 use Rattle.iol_mode.specs.Laws.{Laws}
 use Rattle.iol_mode.specs.Messages.{stays}
 use Rattle.iol_mseq.specs.Master.{HasMasterParts}
-use Rattle.iol_mode.proofs.Startups.{startup_risen}
+use Rattle.iol_mode.proofs.Leaving.{startup_risen}
 use Rattle.iol_mode.proofs.Preoperates.{preoperate_risen}
 use Rattle.iol_mode.proofs.Operates.{accepted, replaced_stands, operate_both, operate_accepted}
 
@@ -110,11 +112,48 @@ is_end (AtDown s) m takes came attempt outcome is ends = absurd takes
 is_end (AtStartup s) m takes came attempt outcome is ends = absurd takes
 is_end (AtPreoperate s) m takes came attempt outcome is ends = absurd takes
 
+pub starts_sending : (s : State) → is_starting s ≡ true → IsSending s
+starts_sending (AtStartup s) e = tt
+starts_sending (AtPreoperate s) e = tt
+starts_sending (AtDown s) e = absurd (cc)
+starts_sending (AtOperate s) e = absurd (cc)
+
+pub operates_sending : (s : State) → IsOperateSending s → IsSending s
+operates_sending (AtOperate s) h = h
+operates_sending (AtStartup s) h = absurd h
+operates_sending (AtPreoperate s) h = absurd h
+operates_sending (AtDown s) h = absurd h
+
+-- both ends stand afterwards
+pub given_stands : (s : State) (outcome : Outcome) (far far' : Far) (n' : ℕ) → IsSending s
+    → StateGives s far outcome n' far' → OutcomeStands outcome n' far'
+given_stands (AtDown s) outcome far far' n' sends h = absurd sends
+given_stands (AtStartup s) outcome far far' n' sends h = h.both.stands
+given_stands (AtPreoperate s) outcome far far' n' sends h = h.both.stands
+given_stands (AtOperate s) outcome far far' n' sends h = by s.out sends h
+  where
+    by : (out : Option Sending) → IsSome out → OutGives out s.layouts far outcome n' far'
+        → OutcomeStands outcome n' far'
+    by None sends h = absurd (cc)
+    by (Some sent) sends h = h.0.stands
+
+-- the device of a wire that sees each pulse did so before
+pub saw_pulses : {W : Type 0} (facts : WireFacts W) → Laws → (wire new : W) (o : List ℕ)
+    (answer : Option (ArrayVec ℕ)) → Passes facts wire o answer new
+    → facts.honest new ≡ facts.honest wire → IsHonestFor facts Own new
+    → IsHonestFor facts Own wire
+saw_pulses facts laws wire new o answer passes honesty h =
+    let up : IsTrue (facts.honest wire) = sym honesty ∙ h.0 in (
+      up,
+      sym (laws.device.misses (facts.far wire) (facts.silence wire) o (octets_in answer)
+          (facts.far new) (facts.silence new) (passes up)) ∙ h.1,
+    )
+
 module _ {W : Type 0} (facts : WireFacts W) where
   open facts use {honest, far, silence}
 
   pub operate_turn : (wire new : W) (s : State) (m : MasterMsg) (outcome : Outcome)
-      → StateFits s → Takes s m → (IsTrue (honest wire)
+      → StateFits s → Takes s m → (IsHonestFor facts Own wire
       → StateStands s (silence wire) (far wire)) → StandsOn s (putting m s)
       → AreFew (putting m s)
       → (answer : Option (ArrayVec ℕ))
@@ -125,11 +164,11 @@ module _ {W : Type 0} (facts : WireFacts W) where
       → IsOperateTurn facts wire s m outcome new
   operate_turn wire new (AtOperate s) m outcome fits takes stood on few answer called passes
       honesty is after gives =
-      let given : IsTrue (honest wire)
+      let given : IsHonestFor facts Own wire
       → OutGives (Some (sending_of s.out m)) s.layouts (far wire) outcome (silence new)
       (far new) =
       λ h. gives (far wire) (far new) (silence wire) (silence new)
-      (on (far wire) (silence wire) (stood h)) (passes h) in
+      (on (far wire) (silence wire) (stood h)) (passes h.0) in
       record {
         exchange = record {
           answer = answer;
@@ -153,7 +192,7 @@ module _ {W : Type 0} (facts : WireFacts W) where
       honesty is after gives = absurd takes
 
   pub start_turn : (wire new : W) (s : State) (outcome : Outcome) → is_starting s ≡ true
-      → (IsTrue (honest wire) → StateStands s (silence wire) (far wire))
+      → (IsHonestFor facts Own wire → StateStands s (silence wire) (far wire))
       → (answer : Option (ArrayVec ℕ)) → facts.exchange_gives wire (text_out s) answer new
       → Passes facts wire (text_out s) answer new → honest new ≡ honest wire
       → outcome ≡ judged any_device s (octets_in answer) → OutcomeFits outcome
@@ -168,7 +207,7 @@ module _ {W : Type 0} (facts : WireFacts W) where
           outcome_is = is;
           fits = after;
         };
-        risen = λ h. gives (far wire) (far new) (silence wire) (silence new) (stood h) (passes h);
+        risen = λ h. gives (far wire) (far new) (silence wire) (silence new) (stood h) (passes h.0);
       }
   start_turn wire new (AtPreoperate s) outcome starts stood answer called passes honesty is
       after gives = record {
@@ -180,7 +219,7 @@ module _ {W : Type 0} (facts : WireFacts W) where
           outcome_is = is;
           fits = after;
         };
-        risen = λ h. gives (far wire) (far new) (silence wire) (silence new) (stood h) (passes h);
+        risen = λ h. gives (far wire) (far new) (silence wire) (silence new) (stood h) (passes h.0);
       }
   start_turn wire new (AtDown s) outcome starts stood answer called passes honesty is after
       gives = absurd (let z : false ≡ true = starts in cc)

@@ -1,6 +1,6 @@
 -- What goes out in a mode, what is made of what comes back, and what one exchange
 -- over an honest wire gives: plain data, without the wire.
-use Rattle.std.specs.Prelude.{ℕ, ◌<◌, List, [], Option, Some, None, IsSome, IfSome, ⊤, Bool}
+use Rattle.std.specs.Prelude.{ℕ, ◌<◌, List, [], Option, Some, None, IsSome, IfSome, ⊤, Bool, true}
 use Rattle.iol_mseq.specs.Shape.{Shape, startup_shape}
 use Rattle.iol_mseq.specs.Texts.{master_text}
 use Rattle.iol_mseq.specs.declared.master.MasterMsg.{MasterMsg}
@@ -15,9 +15,10 @@ use Rattle.iol_mode.specs.declared.configuration.Configuration.{Configuration}
 use Rattle.iol_mode.specs.declared.configuration.Devices.{Devices}
 use Rattle.iol_mode.specs.declared.states.State.{State}
 use Rattle.iol_mode.specs.declared.states.State.TheVariants.{Down as AtDown, Startup as AtStartup, Preoperate as AtPreoperate, Operate as AtOperate}
-use Rattle.iol_mode.specs.States.{Outcome, InDown, InOperate, counted, operate_by, startup_turned, preoperate_turned, sending_of, state_of, waked}
+use Rattle.iol_mode.specs.States.{Outcome, InDown, InOperate, is_behind, counted, operate_by, startup_turned, preoperate_turned, sending_of, state_of, waked}
 use Rattle.iol_mode.specs.Stands.{IsOperating, IsAccepted, IsTold, StateStands, text_in}
 use Rattle.iol_mode.specs.Turns.{IsMet, IsRisen}
+use Rattle.iol_mode.specs.Kinds.{SeesPulses}
 
 -- a message is out
 abbrev pub IsSending : State → Type 0
@@ -121,9 +122,10 @@ OutGives (Some sent) layouts far outcome silence_new far_new =
 
 abbrev pub StateGives : State → Far → Outcome → ℕ → Far → Type 0
 StateGives (AtDown s) far outcome silence_new far_new = ⊤
-StateGives (AtStartup s) far outcome silence_new far_new = IsRisen outcome silence_new far far_new
+StateGives (AtStartup s) far outcome silence_new far_new =
+    IsRisen (is_behind s.step) outcome silence_new far far_new
 StateGives (AtPreoperate s) far outcome silence_new far_new =
-    IsRisen outcome silence_new far far_new
+    IsRisen true outcome silence_new far far_new
 StateGives (AtOperate s) far outcome silence_new far_new =
     OutGives s.out s.layouts far outcome silence_new far_new
 
@@ -147,5 +149,5 @@ AcceptedBy s far = ⊤
 -- one wake of a port for these devices, which was answered or not
 abbrev pub WakeStands : Devices → Bool → Type 0
 WakeStands devices answered =
-    (far far_new : Far) (silence : ℕ) → HonestWake far answered far_new
+    (far far_new : Far) (silence : ℕ) → SeesPulses devices far → HonestWake far answered far_new
     → StateStands (state_of (waked devices answered)) silence far_new

@@ -1,6 +1,6 @@
 -- What one turn of a link is: one call of the wire, whose answer alone says what
 -- becomes of the mode.
-use Rattle.std.specs.Prelude.{◌≡◌, ℕ, ◌<◌, Option, IsTrue}
+use Rattle.std.specs.Prelude.{◌≡◌, ℕ, ◌<◌, Bool, true, Option, IsTrue}
 use Rattle.arrayvec.specs.ArrayVec.{ArrayVec}
 use Rattle.iol_mseq.specs.Shape.{Shape, startup_shape}
 use Rattle.iol_mseq.specs.Texts.{master_text}
@@ -13,10 +13,12 @@ use Rattle.iol_page.specs.declared.page.Layouts.{Layouts}
 use Rattle.iol_link.specs.declared.handler.Attempt.{Attempt}
 use Rattle.iol_link.specs.Attempts.{Sending, good_reply, attempt_of}
 use Rattle.iol_link.specs.WireFacts.{WireFacts, Passes}
+use Rattle.iol_mode.specs.declared.configuration.Devices.TheVariants.{Own}
+use Rattle.iol_mode.specs.Kinds.{IsHonestFor}
 use Rattle.iol_mode.specs.declared.states.State.{State}
 use Rattle.iol_mode.specs.declared.states.State.TheVariants.{Startup as AtStartup, Preoperate as AtPreoperate, Operate as AtOperate}
 use Rattle.iol_mode.specs.declared.states.Operate.{Operate}
-use Rattle.iol_mode.specs.States.{Outcome, any_device, OutcomeFits, OperateFits, startup_turned, preoperate_turned, operate_by, operate_turned, sending_of}
+use Rattle.iol_mode.specs.States.{Outcome, any_device, is_behind, OutcomeFits, OperateFits, startup_turned, preoperate_turned, operate_by, operate_turned, sending_of}
 use Rattle.iol_mode.specs.Stands.{OperateStands, OutcomeStands, IsOperating, IsAccepted}
 use Rattle.iol_mode.specs.Next.{MetFits, LostFits, FaultFits, DeviceFits, EnteredFits}
 
@@ -26,11 +28,13 @@ pub record IsMet (outcome : Outcome) (silence : ℕ) (far : Far) : Type 0 where
   pub met : MetFits outcome far
   pub lost : LostFits outcome silence
 
--- in a start-up also: the record stands still, a page fault is one of the far end's
--- page, as is an identity that isn't expected, and the turn that enters OPERATE tells how
-pub record IsRisen (outcome : Outcome) (silence : ℕ) (old far : Far) : Type 0 where
+-- in a start-up also: once the device was reset the record stands still; a page fault is one of
+-- the far end's page, as is an identity that isn't expected, and the turn that enters OPERATE
+-- tells how
+pub record IsRisen (reset : Bool) (outcome : Outcome) (silence : ℕ) (old far : Far) :
+    Type 0 where
   pub both : IsMet outcome silence far
-  pub still : far.carried ≡ old.carried
+  pub still : IsTrue reset → far.carried ≡ old.carried
   pub fault : FaultFits outcome far
   pub device : DeviceFits outcome far
   pub entered : EnteredFits outcome silence far
@@ -54,10 +58,11 @@ module _ {W : Type 0} (facts : WireFacts W) where
     pub fits : OutcomeFits outcome
 
   -- in a start-up
-  pub record IsRise (wire : W) (layout : Shape) (message : MasterMsg)
+  pub record IsRise (wire : W) (reset : Bool) (layout : Shape) (message : MasterMsg)
       (turned : Option Reply → Outcome) (outcome : Outcome) (new : W) : Type 0 where
     pub exchange : IsExchange wire layout message turned outcome new
-    pub risen : IsTrue (honest wire) → IsRisen outcome (silence new) (far wire) (far new)
+    pub risen : IsHonestFor facts Own wire → IsRisen reset outcome (silence new) (far wire)
+        (far new)
 
   -- the message was sent once, and the attempt ended by what came back
   abbrev pub IsTried : W → Shape → Sending → Attempt → W → Type 0
@@ -75,9 +80,10 @@ module _ {W : Type 0} (facts : WireFacts W) where
   -- LINK-1
   abbrev pub IsStartTurn : W → State → Outcome → W → Type 0
   IsStartTurn wire (AtStartup s) outcome new =
-      IsRise wire startup_shape s.sent.message (startup_turned any_device s) outcome new
+      IsRise wire (is_behind s.step) startup_shape s.sent.message (startup_turned any_device s)
+      outcome new
   IsStartTurn wire (AtPreoperate s) outcome new =
-      IsRise wire s.pre s.sent.message (preoperate_turned s) outcome new
+      IsRise wire true s.pre s.sent.message (preoperate_turned s) outcome new
   IsStartTurn wire s outcome new = ⊥
 
   -- in OPERATE: also how the link stood before
@@ -85,11 +91,11 @@ module _ {W : Type 0} (facts : WireFacts W) where
       (new : W) : Type 0 where
     pub exchange : IsExchange wire s.layouts.run (sending_of s.out message).message
         (operate_turned s message) outcome new
-    pub both : IsTrue (honest wire) → IsMet outcome (silence new) (far new)
+    pub both : IsHonestFor facts Own wire → IsMet outcome (silence new) (far new)
     pub fits : OperateFits s
-    pub stood : IsTrue (honest wire) → OperateStands s (silence wire) (far wire)
+    pub stood : IsHonestFor facts Own wire → OperateStands s (silence wire) (far wire)
     pub few : (sending_of s.out message).tries < 3
-    pub accepted : IsTrue (honest wire) → (link : FarLink) → IsOperating s.layouts link
+    pub accepted : IsHonestFor facts Own wire → (link : FarLink) → IsOperating s.layouts link
         → IsAccepted s.layouts (far wire).page link (sending_of s.out message).message
 
   -- LINK-1

@@ -4,20 +4,19 @@ ghost use Rattle.std.specs.Prelude.{◌≡◌};
 use iol_page::{CycleTime, Identity};
 
 /// For which devices a port is: those at which it has a request carried out at most once, over a
-/// lossy line on which a wake that is answered has reset the device.
+/// lossy line.
 #[derive(Clone, Copy, Debug, PartialEq, Eq)]
 pub enum Devices {
-    /// Our own, which hand a request over at the first START read, and recall the answer until the
-    /// master leaves it. A start-up begins with the page, and a message that had no good reply goes
-    /// out again.
+    /// Our own, which hand a request over at the first START read, recall the answer until the
+    /// master leaves it, and are reset by each wake that they answer. A start-up begins with the
+    /// page, and a message that had no good reply goes out again.
     Own,
     /// Any by the standard. One that hands a request over with its last segment would do it again
     /// at a repeat: a START write of a whole request isn't repeated, but asked for. Where it can't
     /// be known what the device made of it, the request is cut off for `Protocol`.
     ///
     /// One that answers a wake which didn't reset it still has its mode, and a request with it: a
-    /// start-up begins with DeviceStartup, so that it leaves both first. That this is enough is
-    /// tested.
+    /// start-up begins with DeviceStartup, so that it leaves both first.
     ///
     /// Rules LINK-13, REQ-14.
     Any,

@@ -14,7 +14,10 @@ ghost use Rattle.iol_mode.specs.Laws.{Laws};
 
 use crate::configuration::{Configuration, Devices};
 use crate::states::{Startup, State, operate_done, preoperate_done, startup_done, woken};
-use iol_far::{ends_stay_level, links_stay_level, page_and_room_stay, texts_are_heard};
+use iol_far::{
+    devices_leave_their_mode, ends_stay_level, links_stay_level, page_and_room_stay,
+    texts_are_heard,
+};
 use iol_link::{AttemptView, Handler, Rate, exchanges_keep_ends_level};
 use iol_mseq::{Layout, MasterMsg, Message, write_master};
 use iol_page::pages_ask_for_layouts;
@@ -27,6 +30,7 @@ pub(crate) fn laws()
     texts_are_heard();
     ends_stay_level();
     links_stay_level();
+    devices_leave_their_mode();
     exchanges_keep_ends_level();
     page_and_room_stay();
 }

@@ -8,8 +8,10 @@ ghost use Rattle.iol_mseq.specs.Texts.{master_text};
 ghost use Rattle.iol_far.specs.Octets.{octets_in};
 ghost use Rattle.iol_link.specs.declared.wire.Rate.{Rate};
 ghost use Rattle.iol_link.specs.WireFacts.{Wakes, Passes};
+ghost use Rattle.iol_mode.specs.declared.configuration.Devices.TheVariants.{Own};
+ghost use Rattle.iol_mode.specs.Kinds.{IsHonestFor};
 ghost use Rattle.iol_mode.specs.Messages.{stays};
-ghost use Rattle.iol_mode.specs.States.{StateFits, IsDown, Takes, is_starting, waked, state_of, outcome_with, any_device, startup_turned, preoperate_turned};
+ghost use Rattle.iol_mode.specs.States.{StateFits, IsDown, Takes, is_behind, is_starting, waked, state_of, outcome_with, any_device, startup_turned, preoperate_turned};
 ghost use Rattle.iol_mode.specs.Stands.{OutcomeStands, IsTold};
 ghost use Rattle.iol_mode.specs.Next.{wire_of, outcome_of, told_by, message_out};
 ghost use Rattle.iol_mode.specs.Turns.{IsStartTurn, IsStartTried, IsOperateTurn, IsRise, IsCycle, IsEnd};
@@ -27,8 +29,8 @@ use std::marker::Model;
 
 /// A link in the mode `S`, which owns the wire. It is for our own devices.
 ///
-/// A clause sees the wire, and what is kept in the mode. On an honest wire both
-/// ends are level, outside `Down`: the device sleeps, or it comes from the state
+/// A clause sees the wire, and what is kept in the mode. On an honest wire whose device sees each
+/// pulse both ends are level, outside `Down`: the device sleeps, or it comes from the state
 /// before the message that is out by steps of its own and hearings of that message.
 #[derive(Drop)]
 pub struct Link<W: Wire, S: Mode> {
@@ -38,6 +40,8 @@ pub struct Link<W: Wire, S: Mode> {
 
 impl<W: Wire, S: Mode> Model for Link<W, S> {
     ghost use Rattle.std.specs.Prelude.{IsTrue};
+    ghost use Rattle.iol_mode.specs.declared.configuration.Devices.TheVariants.{Own};
+    ghost use Rattle.iol_mode.specs.Kinds.{IsHonestFor};
     ghost use Rattle.iol_mode.specs.Kept.{Kept, kept_code};
 
     ghost Value = { Kept W S };
@@ -47,7 +51,7 @@ impl<W: Wire, S: Mode> Model for Link<W, S> {
     ghost view = { λ link. record { wire = link.wire; state = link.state } };
 
     ghost invariant = { λ link. S.fits link.state
-        × (IsTrue (W.facts.honest link.wire)
+        × (IsHonestFor W.facts Own link.wire
         → S.stands link.state (W.facts.silence link.wire) (W.facts.far link.wire)) };
 }
 
@@ -62,6 +66,7 @@ pub enum Next<W: Wire> {
 }
 
 /// One exchange of the message that is out.
+#[tactic(auto, using(crate::proofs::Exchanging::saw_pulses))]
 fn exchanged<W: Wire>(state: &mut State, wire: &mut W) -> Attempt
     requires fits { StateFits state.old }
     requires sends { IsSending state.old }
@@ -72,9 +77,11 @@ fn exchanged<W: Wire>(state: &mut State, wire: &mut W) -> Attempt
         × (result ≡ attempted state.old (octets_in answer))
         × ExchangeGives state.old (octets_in answer) (outcome_with result state.new) }
     ensures honesty { W.facts.honest wire.new ≡ W.facts.honest wire.old }
+    ensures saw { IsHonestFor W.facts Own wire.new → IsHonestFor W.facts Own wire.old }
     ensures fits { StateFits state.new }
     ensures few { AreFew state.old }
 {
+    laws();
     let came = pass(state, wire);
     receive(state, &came)
 }
@@ -158,8 +165,8 @@ impl<W: Wire> Link<W, State> {
         ensures passes { Wakes W.facts self.old.wire result self.new.wire }
         ensures state { self.new.state ≡ state_of (waked Devices.Own (is_some result)) }
 
-        // on an honest wire
-        ensures stands { IsTrue (W.facts.honest self.old.wire)
+        // on an honest wire, where the device sees each pulse
+        ensures stands { IsHonestFor W.facts Own self.old.wire
             → OutcomeStands (waked Devices.Own (is_some result)) (W.facts.silence self.new.wire)
             (W.facts.far self.new.wire) }
     {
@@ -281,8 +288,8 @@ impl<W: Wire> Link<W, Down> {
             × Wakes W.facts self.wire answer (wire_of result)
             × (outcome_of result ≡ waked Devices.Own (is_some answer)) }
 
-        // on an honest wire
-        ensures stands { IsTrue (W.facts.honest self.wire)
+        // on an honest wire, where the device sees each pulse
+        ensures stands { IsHonestFor W.facts Own self.wire
             → OutcomeStands (outcome_of result) (W.facts.silence (wire_of result))
             (W.facts.far (wire_of result)) }
     {
@@ -304,7 +311,7 @@ impl<W: Wire> Link<W, Startup> {
     /// good reply to DeviceOperate the mode is OPERATE (profile). Down with a fault of
     /// the page, or with `Lost` at the third attempt in a row that had no good reply.
     pub fn turn(self) -> Next<W>
-        ensures { IsRise W.facts self.wire startup_shape
+        ensures { IsRise W.facts self.wire (is_behind self.state.step) startup_shape
             self.state.sent.message (startup_turned any_device self.state) (outcome_of result)
             (wire_of result) }
     {
@@ -326,7 +333,7 @@ impl<W: Wire> Link<W, Startup> {
     /// The layouts that the page asks for, once this start-up has checked it.
     pub fn told(&self) -> Option<&Layouts>
         ensures told { option_copied result ≡ told_by self.now.state.step }
-        ensures page { IsTrue (W.facts.honest self.now.wire)
+        ensures page { IsHonestFor W.facts Own self.now.wire
             → IfSome result (λ t. IsTold t.now (W.facts.far self.now.wire)) }
     {
         self.state.told()
@@ -339,7 +346,7 @@ impl<W: Wire> Link<W, Preoperate> {
     /// With the good reply to DeviceOperate the mode is OPERATE. Down with `Lost`
     /// at the third attempt in a row that had no good reply.
     pub fn turn(self) -> Next<W>
-        ensures { IsRise W.facts self.wire self.state.pre
+        ensures { IsRise W.facts self.wire true self.state.pre
             self.state.sent.message (preoperate_turned self.state) (outcome_of result)
             (wire_of result) }
     {
@@ -361,7 +368,7 @@ impl<W: Wire> Link<W, Preoperate> {
     /// The layouts that the page asks for.
     pub fn told(&self) -> Option<&Layouts>
         ensures told { option_copied result ≡ Some self.now.state.layouts }
-        ensures page { IsTrue (W.facts.honest self.now.wire)
+        ensures page { IsHonestFor W.facts Own self.now.wire
             → IfSome result (λ t. IsTold t.now (W.facts.far self.now.wire)) }
     {
         Some(&self.state.layouts)
@@ -406,7 +413,7 @@ impl<W: Wire> Link<W, Operate> {
     /// The layouts that the page asks for.
     pub fn told(&self) -> Option<&Layouts>
         ensures told { option_copied result ≡ Some self.now.state.layouts }
-        ensures page { IsTrue (W.facts.honest self.now.wire)
+        ensures page { IsHonestFor W.facts Own self.now.wire
             → IfSome result (λ t. IsTold t.now (W.facts.far self.now.wire)) }
     {
         Some(&self.state.layouts)

@@ -4,25 +4,26 @@ use Rattle.std.proofs.lemmas.Grind.{common_steps}
 use Rattle.iol_isdu.specs.declared.values.Request.{Request}
 use Rattle.iol_link.specs.WireFacts.{WireFacts}
 use Rattle.iol_book.specs.BookModel.{BookState}
-use Rattle.iol_steps.specs.declared.mode.Mode.{Mode}
 use Rattle.iol_steps.specs.declared.said.Said.{Said}
-use Rattle.iol_steps.specs.Step.{Reset, is_down, woke_up, book_said}
-use Rattle.iol_app.specs.StationState.{StationState, mode_of, IsTurn}
+use Rattle.iol_steps.specs.Step.{Reset, resets, book_said}
+use Rattle.iol_app.specs.StationState.{StationState, IsTurn}
 use Rattle.iol_app.specs.Asking.{asked_of, prepared}
 use Rattle.iol_port.specs.Steps.{book_through}
+use Rattle.iol_mode.specs.States.{is_reset}
 use Rattle.iol_mode.specs.Exchanges.{tries_in}
 use Rattle.iol_app.specs.declared.brought.Brought.{Brought}
 use Rattle.iol_app.specs.Brought.{brought_facts}
 
 module _ {W : Type 0} where
-  -- a wake had success where the mode says so
-  pub book_told : (old mid new : StationState W) (next : Option Request) (room woke : Bool)
-      (began ended : Mode) (said : Said) (b : BookState)
-      → mid ≡ prepared next old room → began ≡ mode_of mid.link → ended ≡ mode_of new.link
-      → woke ≡ (is_down began && not (is_down ended))
-      → book_through (cond woke (Reset ∷ []) [] ++ book_said said) b
-      ≡ book_through (woke_up (mode_of old.link) (mode_of new.link) ++ book_said said) b
-  book_told old mid new next room woke began ended said b begun from to is =
+  -- the device was reset where both stations say so
+  pub book_told : (old mid new : StationState W) (next : Option Request)
+      (room reset began ended : Bool) (said : Said) (b : BookState)
+      → mid ≡ prepared next old room → began ≡ is_reset mid.link.state
+      → ended ≡ is_reset new.link.state → reset ≡ (not began && ended)
+      → book_through (cond reset (Reset ∷ []) [] ++ book_said said) b
+      ≡ book_through (resets (is_reset old.link.state) (is_reset new.link.state)
+      ++ book_said said) b
+  book_told old mid new next room reset began ended said b begun from to is =
       grind (arith, common_steps)
 
 -- The exact turn of a port makes the call that the port asks for.

@@ -16,12 +16,16 @@ use Rattle.iol_far.specs.declared.carried.Carried.{Carried}
 use Rattle.iol_far.specs.Octets.{octets_in}
 use Rattle.iol_far.specs.Isdu.{IsduState, Handed, Answered, handed, fits, own}
 use Rattle.iol_far.specs.Far.{Far, hear}
-use Rattle.iol_far.specs.Local.{Carry, local, carried_by, has_room, IsWorkedOff}
+use Rattle.iol_far.specs.Local.{Carry, local, locals, carried_by, has_room, IsWorkedOff}
 use Rattle.iol_far.specs.Level.{Link, Quiet, Stands, IsBefore, link_of}
 use Rattle.iol_far.specs.declared.kind.HandsOver.TheVariants.{FirstRead}
-use Rattle.iol_far.specs.Laws.{IsSized, RepliesAreRead, InputStaysSized}
+use Rattle.iol_far.specs.Laws.{IsSized, RepliesAreRead, InputStaysSized, MuchStays}
 use Rattle.iol_mode.specs.States.{InOperate as OutOperate, operate_turned}
 use Rattle.iol_mode.specs.Stands.{operate_link, IsOperating, IsAccepted}
+use Rattle.iol_mode.specs.Kinds.{SeesPulses}
+use Rattle.iol_mode.specs.declared.configuration.Configuration.{Configuration}
+use Rattle.iol_mode.specs.declared.configuration.Devices.{Devices}
+use Rattle.iol_mode.specs.declared.configuration.Devices.TheVariants.{Own, Any}
 use Rattle.iol_steps.specs.declared.said.Said.{Said}
 use Rattle.iol_app.specs.declared.request.Current.{Current}
 use Rattle.iol_app.specs.declared.request.Progress.{Progress}
@@ -33,10 +37,11 @@ use Rattle.iol_app.specs.Due.{due_of, is_ready, may_follow}
 use Rattle.iol_app.specs.Messages.{Head, head_of, progress_head, head_for, progress_data, request_head, request_data}
 use Rattle.iol_app.specs.State.{SessionState, sending, sent, sent_by, absorbed, IsMessageFor, IsOutFor, IsTaken}
 use Rattle.iol_app.specs.StationState.{StationState, wire_of, IsSettled, IsTurn, IsLinkTurn, IsOperateTurn}
-use Rattle.iol_link.specs.Honest.{CleanExchange}
+use Rattle.iol_link.specs.Honest.{Passage, OutLost, far_after, HonestExchange, CleanExchange}
 use Rattle.iol_link.specs.WireFacts.{WireFacts}
 use Rattle.iol_port.specs.Clean.{ExchangesCleanly, IsQuiet, IsCalm, Stood}
 use Rattle.iol_port.proofs.CleanHearing.{HeardWell, heard_well}
+use Rattle.iol_port.proofs.TieLemmas.{turn_asks}
 
 -- What is due
 
@@ -144,6 +149,24 @@ work_same far ready (Some request) h = by_room (has_room far) h
     by_room true h = rw h.2 (same_carried far h.0 far.isdu)
     by_room false h = rw h (same_far far)
 
+-- An exchange leaves whether the far end misses pulses
+
+after_misses : MuchStays → (passage : Passage) (far : Far) (sent : List ℕ)
+    → (far_after passage far sent).misses_pulses ≡ far.misses_pulses
+after_misses much OutLost far sent = refl
+after_misses much _ far sent = much.misses_heard far sent
+
+exchange_misses : MuchStays → (far next : Far) (n m : ℕ) (sent : List ℕ) (answer : Option (List ℕ))
+    → HonestExchange far n sent answer next m → next.misses_pulses ≡ far.misses_pulses
+exchange_misses much far next n m sent answer x =
+    ap (λ (f : Far). f.misses_pulses) x.far_is
+    ∙ after_misses much x.passage (locals far x.steps) sent ∙ much.misses_kept far x.steps
+
+sees_on : (devices : Devices) (far next : Far) → next.misses_pulses ≡ far.misses_pulses
+    → SeesPulses devices far → SeesPulses devices next
+sees_on Own far next same sees = same ∙ sees
+sees_on Any far next same sees = tt
+
 -- One turn
 
 module _ {W : Type 0} (facts : WireFacts W) where
@@ -202,7 +225,7 @@ module _ {W : Type 0} (facts : WireFacts W) where
     pub said_is : IsSaid NextMessage old.session.limit reply.od.items (Some c) said
 
   module _ (cleanly : ExchangesCleanly facts) (read_back : RepliesAreRead)
-      (stays_sized : InputStaysSized) where
+      (stays_sized : InputStaysSized) (much : MuchStays) where
     pub exchanged : (layouts : Layouts) (link : Link) (old : StationState W) (wire : W)
         (room : Bool) (exchange : Exchange) (said : Said) (new : StationState W)
         → Stood facts layouts link old wire → due_of old.session room ≡ exchange
@@ -239,7 +262,7 @@ module _ {W : Type 0} (facts : WireFacts W) where
             (t.accepted stood.is_honest link stood.operating) in
             let sized : IsSized (hear x.ready o).far =
             stays_sized.hears x.ready o (same.sized
-            (t.exchange.passes stood.is_honest).regular.sized) in
+            (t.exchange.passes stood.is_honest.0).regular.sized) in
             let quiet : IsQuiet x.ready.events = subst IsQuiet (sym same.events) stood.quiet in
             let found = heard_well read_back layouts message link x.ready accepted channel
             (same.awake ∙ stood.awake) (same.kind ∙ stood.own)
@@ -261,7 +284,14 @@ module _ {W : Type 0} (facts : WireFacts W) where
               next = wire_of new.link;
               stood = record {
                 link_is = settled.link;
-                is_honest = subst IsTrue (sym t.exchange.both.honesty) stood.is_honest;
+                is_honest = (
+                  subst IsTrue (sym t.exchange.both.honesty) stood.is_honest.0,
+                  subst (λ (k : Configuration). SeesPulses k.devices (far (wire_of new.link)))
+                      (sym (turn_asks facts room old said new turn))
+                      (sees_on s.configuration.devices (far wire) (far (wire_of new.link))
+                      (exchange_misses much _ _ _ _ _ _ (t.exchange.passes stood.is_honest.0))
+                      stood.is_honest.1),
+                );
                 is_clean = done.1;
                 calm = subst IsCalm (sym settled.session)
                     (absorbed_calm exchange s reply stood.calm channel_is well.event);

@@ -357,7 +357,7 @@ module _ {W : Type 0} (facts : WireFacts W) where
         (new : StationState W) (turn : IsTurn facts room old said new) where
       takes : (c : Current) → Stood facts layouts operate_link old wire
           → old.session.current ≡ Some c → c.abort ≡ None → Turns old wire c said new
-      takes c stood is abort = turned facts cleanly laws.read_back laws.sized layouts
+      takes c stood is abort = turned facts cleanly laws.read_back laws.sized laws.much layouts
           operate_link old wire room c said new stood is abort turn
 
       -- another segment of the request
@@ -531,7 +531,7 @@ module _ {W : Type 0} (facts : WireFacts W) where
             text_some request in omega (arith, whole) in
             let is : old.session.current ≡ Some (sends request other 0) = current
             ∙ ap (λ (x : Current). Some x) (sends_is request other 0 none) in
-            turned facts cleanly laws.read_back laws.sized layouts link old wire room
+            turned facts cleanly laws.read_back laws.sized laws.much layouts link old wire room
             (sends request other 0) said new stood is refl turn
 
         -- it is cut in segments of the layout's size

@@ -1,6 +1,6 @@
 -- A port without the wire: what goes out, and what comes back, are pieces of a run of the abstract
 -- port.
-use Rattle.std.proofs.Common.{◌≡◌, ◌∷◌, ◌++◌, [], List, ℕ, Bool, true, false, cond, not, Option, Some, None, refl, ap, sym, ◌∙◌, subst, inl, inr, arith, append-nil}
+use Rattle.std.proofs.Common.{◌≡◌, ◌∷◌, ◌++◌, [], List, ℕ, Bool, true, false, cond, not, ◌&&◌, Option, Some, None, refl, ap, sym, ◌∙◌, subst, inl, inr, arith, append-nil}
 use Rattle.std.specs.Prelude.{IsTrue, IsSome}
 use Rattle.std.specs.List.{list_all, list_any}
 use Rattle.std.specs.Option.{option_map}
@@ -12,19 +12,18 @@ use Rattle.iol_book.specs.declared.entries.Ticket.{Ticket}
 use Rattle.iol_book.specs.BookModel.{BookState, BookValue, next_taken, took, denied}
 use Rattle.iol_mode.specs.declared.configuration.Devices.{Devices}
 use Rattle.iol_mode.specs.declared.states.State.{State}
-use Rattle.iol_mode.specs.States.{IsDown, waked, state_of as state_after}
+use Rattle.iol_mode.specs.States.{IsDown, is_reset}
 use Rattle.iol_mode.specs.Exchanges.{IsSending}
-use Rattle.iol_steps.specs.declared.mode.Mode.{Mode}
 use Rattle.iol_steps.specs.declared.mode.Mode.TheVariants.{Operate}
 use Rattle.iol_steps.specs.declared.said.Said.{Said}
 use Rattle.iol_steps.specs.declared.said.Said.TheVariants.{Idle}
-use Rattle.iol_steps.specs.Step.{Step, Take, Deny, Make, Reset, WireCall, Moment, is_clash_free, no_make, woke_up, book_said, reports_said}
+use Rattle.iol_steps.specs.Step.{Step, Take, Deny, Make, Reset, WireCall, Moment, is_clash_free, no_make, resets, book_said, reports_said}
 use Rattle.iol_steps.specs.Session.{MaySession, MaySessionAll, session_through}
 use Rattle.iol_event.specs.declared.event.Event.{Event}
 use Rattle.iol_steps.specs.Images.{MayImagesAll, images_through}
 use Rattle.iol_app.specs.State.{begun_in}
 use Rattle.iol_app.specs.StationState.{StationState, mode_in}
-use Rattle.iol_app.specs.Core.{Core, Ghost, Stands, TermsStay, BeginGives, IsAttempted, ordered, session_in, frozen_in, images_in, moment_of, begun_ghost, made_ghost, after_wake}
+use Rattle.iol_app.specs.Core.{Core, Ghost, Stands, TermsStay, BeginGives, IsAttempted, ordered, session_in, frozen_in, images_in, moment_of, begun_ghost, made_ghost}
 use Rattle.iol_app.specs.Pieces.{IsSent, SendSteps, WakeSteps, ReceiveSteps, Received}
 use Rattle.iol_app.specs.Seen.{BeginSteps, DenySteps, core_of, station_of}
 use Rattle.iol_port.specs.declared.counters.Counters.{Counters}
@@ -323,12 +322,14 @@ receives : (p next : Bare) (base : ℕ) (g : Ghost) (out : Pending) (far far' : 
     → Received (core_of p.station) g far n said (core_of next.station) far' n'
     → next.sent ≡ false
     → next.book.state ≡ book_through
-    (woke_up (mode_in p.station.link.state) (mode_in next.station.link.state)
+    (resets (is_reset p.station.link.state) (is_reset next.station.link.state)
     ++ book_said said) p.book.state → next.kept ≡ kept_through (reports_said said) p.kept
     → (b : PortState) × PieceOf (state_of (at_end far n) p c) Receive answered.Nothing b
     × StandsFor (at_end far' n') next b
 receives p next base g out far far' n n' said shows r free posts keeps =
     let x = r.given in
+    let began : Bool = is_reset p.station.link.state in
+    let ended : Bool = is_reset next.station.link.state in
     let c : Choice = not_yet base x.after in (
       state_of (at_end far' n') next c,
       (
@@ -337,7 +338,8 @@ receives p next base g out far far' n n' said shows r free posts keeps =
           out = out;
           was = refl;
           turn = record { call = x.call; steps = x.steps };
-          only = unsent_all 0 x.steps (clash_free-deny 0 x.steps _ _ said x.said_book) r.unmade;
+          only = unsent_all 0 x.steps (clash_free-deny 0 x.steps began ended said x.said_book)
+              r.unmade;
           calm = λ took. x.fresh (shows.out.1 took);
           all = record {
             fits = x.fits;
@@ -347,7 +349,7 @@ receives p next base g out far far' n n' said shows r free posts keeps =
           };
           work = record {
             may_book = MayBookAll-filter x.steps p.book.state
-                (rw x.said_book (may_book_said _ _ said p.book.state));
+                (rw x.said_book (may_book_said began ended said p.book.state));
             book = posts ∙ (rw (← x.said_book) (sym (book_through-filter x.steps p.book.state)));
             may_session = x.session.0;
             session = sym x.session.1;
@@ -376,7 +378,7 @@ pub taken_up : (p next : Bare) (far far' : Far) (n n' : ℕ) (said : Said) → p
     → Received (core_of p.station) g far n said (core_of next.station) far' n')
     → next.sent ≡ false
     → next.book.state ≡ book_through
-    (woke_up (mode_in p.station.link.state) (mode_in next.station.link.state)
+    (resets (is_reset p.station.link.state) (is_reset next.station.link.state)
     ++ book_said said) p.book.state → next.kept ≡ kept_through (reports_said said) p.kept
     → PieceDoes p far n Receive next far' n'
 taken_up p next far far' n n' said sent gives free posts keeps = λ a for_a.
@@ -403,39 +405,34 @@ taken_up p next far far' n n' said sent gives free posts keeps = λ a for_a.
           got.2,
         )
 
--- an exchange begins awake, so nothing woke up
-none_woke : (state : State) (ended : Mode) → IsSending state → woke_up (mode_in state) ended ≡ []
-none_woke state ended sends = grind (arith, common_steps)
+-- whether the device was reset, by both states
+pub reset_told : (reset began ended : Bool) (old new : State) → began ≡ is_reset old
+    → ended ≡ is_reset new → reset ≡ (not began && ended)
+    → cond reset (Reset ∷ []) [] ≡ resets (is_reset old) (is_reset new)
+reset_told reset began ended old new from to is = ap (λ (r : Bool). cond r (Reset ∷ []) [])
+    (is ∙ ap (λ (r : Bool). not r && ended) from ∙ ap (λ (r : Bool). not (is_reset old) && r) to)
 
 pub receive_does : (p next : Bare) (came : Option (List ℕ)) (said : Said) → p.sent ≡ true
-    → IsSending p.station.link.state
     → ReceiveSteps (core_of p.station) came said (core_of next.station) → next.sent ≡ false
-    → next.book.state ≡ book_through (book_said said) p.book.state
+    → next.book.state ≡ book_through
+    (resets (is_reset p.station.link.state) (is_reset next.station.link.state)
+    ++ book_said said) p.book.state
     → next.kept ≡ kept_through (reports_said said) p.kept → ReceiveDoes p came next
 unfolding ReceiveSteps ReceiveDoes
-receive_does p next came said sent sends steps free posts keeps = λ far far' n n' x.
+receive_does p next came said sent steps free posts keeps = λ far far' n n' x.
     taken_up p next far far' n n' said sent (λ g stands. steps g far far' n n' stands x) free
-    (posts ∙ ap (λ (l : List Step). book_through (l ++ book_said said) p.book.state)
-    (sym (none_woke p.station.link.state (mode_in next.station.link.state) sends))) keeps
+    posts keeps
 
-woken_steps : (state : State) (devices : Devices) (answered : Bool) → IsDown state
-    → woke_up (mode_in state) (mode_in (state_after (waked devices answered)))
-    ≡ cond answered (Reset ∷ []) []
-woken_steps state devices answered down = grind (arith, common_steps)
-
-pub wake_does : (p next : Bare) (answered : Bool) → p.sent ≡ true → IsDown p.station.link.state
-    → WakeSteps (core_of p.station) answered (core_of next.station)
-    → core_of next.station ≡ after_wake answered p.station.session → next.sent ≡ false
-    → next.book.state ≡ book_through (cond answered (Reset ∷ []) []) p.book.state
+pub wake_does : (p next : Bare) (answered : Bool) → p.sent ≡ true
+    → WakeSteps (core_of p.station) answered (core_of next.station) → next.sent ≡ false
+    → next.book.state ≡ book_through
+    (resets (is_reset p.station.link.state) (is_reset next.station.link.state)) p.book.state
     → next.kept ≡ p.kept → WakeDoes p answered next
 unfolding WakeSteps WakeDoes
-wake_does p next answered sent down steps core free posts keeps = λ far far' n x.
+wake_does p next answered sent steps free posts keeps = λ far far' n x.
     taken_up p next far far' n n Idle sent (λ g stands. steps g far far' n stands x) free
-    (posts ∙ ap (λ (l : List Step). book_through l p.book.state)
-    (sym (append-nil (woke_up (mode_in p.station.link.state) (mode_in next.station.link.state))
-    ∙ ap (λ (k : Core). woke_up (mode_in p.station.link.state) (mode_in k.state)) core
-    ∙ woken_steps p.station.link.state p.station.session.configuration.devices answered
-    down))) keeps
+    (posts ∙ ap (λ (l : List Step). book_through l p.book.state) (sym (append-nil
+    (resets (is_reset p.station.link.state) (is_reset next.station.link.state))))) keeps
 
 -- what goes out a second time changes nothing
 pub sent_same : (room : Bool) (old new : Core) → IsOut old.state → IsSent room old new → new ≡ old
@@ -512,8 +509,8 @@ module _ {W : Type 0} (facts : WireFacts W) (wire : W) where
   pub opens_over : (devices : Devices) (limits : Limits) (p : Bare) → CoreOpensFor devices limits p
       → OpensWell (opening_for facts devices limits wire)
       → StandsFor facts (parts_over wire p) (opened devices limits (far wire) (silence wire))
-  opens_over devices limits p opens (is_honest, quiet, for_it) =
-      over_wire p _ is_honest (opens (far wire) (silence wire) (refl, quiet, for_it))
+  opens_over devices limits p opens (is_honest, quiet, for_it, sees) =
+      over_wire p _ is_honest (opens (far wire) (silence wire) (refl, quiet, for_it, sees))
 
   pub call_over : (p next : Bare) (c : Call) (reply : Answered) → CoreDoes p c reply next
       → Does facts (parts_over wire p) c reply (parts_over wire next)

@@ -40,27 +40,27 @@ said_none : (said : Said) (b : BookState) (k : Ticket)
     → HasNoIsdu (book_through (book_said said) b) k → HasNoIsdu b k
 said_none said b k given = grind (arith, common_steps, posted_none)
 
-through_none : (woke : Bool) (said : Said) (b : BookState) (k : Ticket)
-    → HasNoIsdu (book_through (cond woke (Reset ∷ []) [] ++ book_said said) b) k → HasNoIsdu b k
-through_none woke said b k given = grind (arith, common_steps, said_none)
+through_none : (reset : Bool) (said : Said) (b : BookState) (k : Ticket)
+    → HasNoIsdu (book_through (cond reset (Reset ∷ []) [] ++ book_said said) b) k → HasNoIsdu b k
+through_none reset said b k given = grind (arith, common_steps, said_none)
 
 -- without a request that is taken it says nothing to the book
 quiet_said : (said : Said) (b : BookState) → Asks said None → book_through (book_said said) b ≡ b
 quiet_said said b given = grind (arith, common_steps)
 
-module _ {W : Type 0} (old next : Parts W) (mid : BookState) (woke : Bool) (said : Said)
+module _ {W : Type 0} (old next : Parts W) (mid : BookState) (reset : Bool) (said : Said)
     (asks : Asks said mid.standing.taken)
-    (book : next.book.state ≡ book_through (cond woke (Reset ∷ []) [] ++ book_said said) mid)
+    (book : next.book.state ≡ book_through (cond reset (Reset ∷ []) [] ++ book_said said) mid)
     (k : Ticket) (has : HasNoIsdu next.book.state k) where
   abbrev b : BookState
   b = old.book.state
 
   had : HasNoIsdu mid k
-  had = through_none woke said mid k (subst (λ (x : BookState). HasNoIsdu x k) book has)
+  had = through_none reset said mid k (subst (λ (x : BookState). HasNoIsdu x k) book has)
 
   -- this turn's denial
   denial : (t : Ticket) (q : Request) → next_taken b.standing ≡ Some (t, q)
-      → old.station.session.isdu ≡ Some false → woke ≡ false → mid ≡ denied b t
+      → old.station.session.isdu ≡ Some false → reset ≡ false → mid ≡ denied b t
       → IsDenied old next t
   denial t q head told asleep is =
       let first = next_is b.standing t q head in
@@ -77,7 +77,7 @@ module _ {W : Type 0} (old next : Parts W) (mid : BookState) (woke : Bool) (said
       }
 
   denied_one : (t : Ticket) (q : Request) → next_taken b.standing ≡ Some (t, q)
-      → old.station.session.isdu ≡ Some false → woke ≡ false → mid ≡ denied b t
+      → old.station.session.isdu ≡ Some false → reset ≡ false → mid ≡ denied b t
       → HasNoIsdu b k ⊎ IsDenied old next k
   denied_one t q head told asleep is = by (same_ticket t k) refl
     where
@@ -91,7 +91,7 @@ module _ {W : Type 0} (old next : Parts W) (mid : BookState) (woke : Bool) (said
 
   pub turn_denies : (ready : Bool)
       → mid ≡ taken_where ready (lacks_isdu old.station.session.isdu) (next_taken b.standing) b
-      → (ready ≡ true → woke ≡ false) → HasNoIsdu b k ⊎ IsDenied old next k
+      → (ready ≡ true → reset ≡ false) → HasNoIsdu b k ⊎ IsDenied old next k
   turn_denies ready mid_is asleep =
       by (next_taken b.standing) ready (lacks_isdu old.station.session.isdu) refl refl refl mid_is
     where

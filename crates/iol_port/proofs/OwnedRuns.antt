@@ -1,6 +1,6 @@
--- what is carried out in a run is each request once, and none that was cut off before a wake that
--- had success, or for good
-use Rattle.std.proofs.Common.{◌≡◌, ◌⊎◌, ◌∷◌, ◌++◌, [], List, ℕ, ◌+◌, ◌≤◌, Option, Some, None, append-nil, refl, sym, ◌∙◌, inl, inr, subst, arith}
+-- what is carried out in a run is each request once, and none that was cut off before a reset of
+-- the device, or for good
+use Rattle.std.proofs.Common.{◌≡◌, ◌⊎◌, ◌∷◌, ◌++◌, [], List, ℕ, ◌+◌, ◌≤◌, Option, Some, None, append-nil, refl, sym, ap, ◌∙◌, inl, inr, subst, arith}
 use Rattle.std.proofs.lemmas.Grind.{common_steps}
 use Rattle.std.specs.Map.{lookup, remove_entry}
 use Rattle.indexmap.specs.IndexMap.{insert_entry}
@@ -16,8 +16,10 @@ use Rattle.iol_book.specs.declared.entries.Outcome.{Outcome}
 use Rattle.iol_book.specs.declared.entries.Outcome.TheVariants as outcome
 use Rattle.iol_book.specs.Replay.{same_ticket, without, others_without}
 use Rattle.iol_book.specs.BookModel.{BookState, next_ticket}
-use Rattle.iol_steps.specs.declared.mode.Mode.TheVariants.{Down}
-use Rattle.iol_steps.specs.Step.{Step, Moment}
+use Rattle.iol_steps.specs.declared.mode.Mode.{Mode}
+use Rattle.iol_steps.specs.declared.mode.Mode.TheVariants.{Down, Startup, Preoperate, Operate}
+use Rattle.iol_mode.specs.declared.why.Why.{Why}
+use Rattle.iol_steps.specs.Step.{Step, Move, Moment, Terms}
 use Rattle.iol_steps.specs.Session.{Job, Session, MaySession, MaySessionAll, session_after, session_through, marked}
 use Rattle.iol_steps.specs.Kinds.{restart_steps}
 use Rattle.iol_port.specs.declared.call.Call.TheVariants as call
@@ -25,21 +27,31 @@ use Rattle.iol_port.specs.declared.call.Answered.{Answered}
 use Rattle.iol_port.specs.declared.call.Answered.TheVariants as answered
 use Rattle.iol_port.specs.Steps.{MayBook, MayBookAll, book_after, book_through, ticket_of}
 use Rattle.iol_port.specs.Run.{PortState, Piece, Whole, PieceOf, Pieces, opened, request_of}
-use Rattle.iol_port.specs.Owned.{Owned, IsOneOf, pairs_of, CarriesOut, IsCutOff, IsCutForGood, Happens, EachDoneHasItsPair, LateEnds, CutForGoodStaysOut}
-use Rattle.iol_port.proofs.CallsSound.{piece_leaves, told_outcome}
+use Rattle.iol_port.specs.Owned.{Owned, IsOneOf, pairs_of, CarriesOut, IsCutOff, IsCutForGood, Happens, EachDoneHasItsPair, IsBelow, LateEnds, CutForGoodStaysOut}
+use Rattle.iol_port.proofs.CallsSound.{Moves, piece_leaves, told_outcome}
 use Rattle.iol_port.proofs.Replaying.{steps_keep}
 use Rattle.iol_port.proofs.OwnedLists.{ahead_once, ahead_given, ahead_next, waiting_push, waiting_without, waiting_others, each_inserted, each_looked, each_removed, each_others, each_push, one_counts, apart_of, Tally, HasAnswer, OutcomeStands, outcome_then, marked_sent, tally_in, OwnsAll, GoesTo, still, goes_then, goes_step, waits_owns, same_sent, cut_owns, step_owns}
 use Rattle.iol_mode.specs.declared.configuration.Devices.{Devices}
 
--- Where the mode is down, it stays so until a wake has success
+-- Where the mode is below the reset, it stays so until the device holds nothing of before
 
-down_stays : (m : Moment) (step : Step) (s : Session) → s.mode ≡ Down → MaySession m step s
-    → ((session_after step s).late ≡ None) ⊎ ((session_after step s).mode ≡ Down)
-down_stays m step s given given2 = grind (arith, common_steps)
+moved_on : (m : Moment) (mode : Mode) (why : Option Why) (s : Session)
+    → IsBelow m.terms.devices s.mode → MaySession m (Move mode why) s
+    → (s.late ≡ None) ⊎ IsBelow m.terms.devices mode
+moved_on m Down why s below may = inr tt
+moved_on m Startup why s below may = grind (arith, common_steps)
+moved_on m Preoperate why s below may = inl may.1
+moved_on m Operate why s below may = inl may.1
 
-restart_down : (s : Session) (job : Option Job)
-    → (session_through (restart_steps (request_of job)) s).mode ≡ Down
-restart_down s job = grind (arith, common_steps)
+below_stays : (m : Moment) (step : Step) (s : Session) → IsBelow m.terms.devices s.mode
+    → MaySession m step s
+    → ((session_after step s).late ≡ None) ⊎ IsBelow m.terms.devices (session_after step s).mode
+below_stays m (Move mode why) s below may = moved_on m mode why s below may
+below_stays m step s below may = grind (arith, common_steps)
+
+restart_below : (devices : Devices) (s : Session) (job : Option Job)
+    → IsBelow devices (session_through (restart_steps (request_of job)) s).mode
+restart_below devices s job = grind (arith, common_steps)
 
 module _ (given : ℕ) (before : List Carried) (Happened : Piece → Answered → Type 0) where
   abbrev Asked : Ticket → Request → Type 0
@@ -55,27 +67,29 @@ module _ (given : ℕ) (before : List Carried) (Happened : Piece → Answered �
   abbrev tally_at : List Owned → Ticket → PortState → Tally
   tally_at owned u a = tally_in owned u a.book a.session
 
-  -- a wake that had success: from then on only what was to come by now is carried out
+  -- the device was reset: from then on only what was to come by now is carried out
   record GoesWoken (x : Tally) (b : BookState) (s : Session) : Type 0 where
     pub goes : GoesTo given before Asked x b s
     pub woken : (n : ℕ) → (tally_in goes.owned goes.ticket b s).late n +
         (tally_in goes.owned goes.ticket b s).coming n ≤ x.coming n
 
-  -- the mode is down, or there was one
-  abbrev MayWake : Tally → BookState → Session → Type 0
-  MayWake x b s = (GoesTo given before Asked x b s × (s.mode ≡ Down)) ⊎ GoesWoken x b s
+  -- the mode is below the reset, or there was one
+  abbrev MayWake : Devices → Tally → BookState → Session → Type 0
+  MayWake devices x b s = (GoesTo given before Asked x b s × IsBelow devices s.mode)
+      ⊎ GoesWoken x b s
 
   wake_step : (x : Tally) (m : Moment) (step : Step) (b : BookState) (s : Session)
-      → MayBook step b → MaySession m step s → MayWake x b s
-      → MayWake x (book_after step b) (session_after step s)
+      → MayBook step b → MaySession m step s → MayWake m.terms.devices x b s
+      → MayWake m.terms.devices x (book_after step b) (session_after step s)
   unfolding goes_then
-  wake_step x m step b s next may (inl (g, down)) = by (down_stays m step s down may)
+  wake_step x m step b s next may (inl (g, below)) = by (below_stays m step s below may)
     where
       one : GoesTo given before Asked x (book_after step b) (session_after step s)
       one = goes_step given before Asked x m step b s next may g
 
-      by : ((session_after step s).late ≡ None) ⊎ ((session_after step s).mode ≡ Down)
-          → MayWake x (book_after step b) (session_after step s)
+      by : ((session_after step s).late ≡ None)
+          ⊎ IsBelow m.terms.devices (session_after step s).mode
+          → MayWake m.terms.devices x (book_after step b) (session_after step s)
       by (inl sure) = inr (record {
         goes = one;
         woken = λ n. let none : (tally_in one.owned one.ticket (book_after step b)
@@ -96,13 +110,14 @@ module _ (given : ℕ) (before : List Carried) (Happened : Piece → Answered �
           w.goes.owns
 
   wake_owns : (m : Moment) (steps : List Step) (b : BookState) (s : Session)
-      (owned : List Owned) (u : Ticket) → s.mode ≡ Down
-      → ((session_through steps s).mode ≡ Down → ⊥)
+      (owned : List Owned) (u : Ticket) → IsBelow m.terms.devices s.mode
+      → (IsBelow m.terms.devices (session_through steps s).mode → ⊥)
       → MayBookAll steps b → MaySessionAll m steps s → OwnsAll given before Asked owned u b s
       → GoesWoken (tally_in owned u b s) (book_through steps b) (session_through steps s)
-  wake_owns m steps b s owned u down left next may owns =
-      elim (steps_keep (MayWake (tally_in owned u b s)) m (wake_step (tally_in owned u b s) m)
-      steps b s next may (inl (still given before Asked b s owned u owns, down))) [
+  wake_owns m steps b s owned u below left next may owns =
+      elim (steps_keep (MayWake m.terms.devices (tally_in owned u b s)) m
+      (wake_step (tally_in owned u b s) m)
+      steps b s next may (inl (still given before Asked b s owned u owns, below))) [
         | inl stayed ↦ absurd (left stayed.1)
         | inr w ↦ w
       ]
@@ -174,27 +189,39 @@ module _ (given : ℕ) (before : List Carried) (Happened : Piece → Answered �
       same : GoesPort (tally_at owned u a) a
       same = still given before Asked a.book a.session owned u owns
 
-  -- one that leads out of down had such a wake
+  -- one that leads on from below the reset had one
   piece_wakes : (a b : PortState) (c : Piece) (reply : Answered) (owned : List Owned)
-      (u : Ticket) → PieceOf a c reply b → a.session.mode ≡ Down → OwnsPort owned u a
-      → (b.session.mode ≡ Down → ⊥) → GoesWoken (tally_at owned u a) b.book b.session
-  piece_wakes a b c reply owned u is down owns = piece_leaves Woken a b c reply is (record {
-    stays = λ kept images left. absurd (left down);
-    expect = λ identity left. absurd (left down);
-    submit = λ q e r left. absurd (left down);
-    urgent = λ q e r left. absurd (left down);
-    collect = λ t out e left. absurd (left down);
-    withdraw = λ t e left. absurd (left down);
-    cancel = λ t e r free left. absurd (left down);
-    restart = λ left. absurd (left (restart_down a.session a.session.job));
-    archive = λ may left. absurd (left down);
-    moves = λ m steps b w. rw (w.book, w.session)
-        (λ left. wake_owns m steps a.book a.session owned u down left w.may_book w.may_session
-        owns);
+      (u : Ticket) → PieceOf a c reply b → IsBelow a.terms.devices a.session.mode
+      → OwnsPort owned u a → (IsBelow b.terms.devices b.session.mode → ⊥)
+      → GoesWoken (tally_at owned u a) b.book b.session
+  piece_wakes a b c reply owned u is below owns = piece_leaves Woken a b c reply is (record {
+    stays = λ kept images left. absurd (left below);
+    expect = λ identity left. absurd (left below);
+    submit = λ q e r left. absurd (left below);
+    urgent = λ q e r left. absurd (left below);
+    collect = λ t out e left. absurd (left below);
+    withdraw = λ t e left. absurd (left below);
+    cancel = λ t e r free left. absurd (left below);
+    restart = λ left. absurd (left (restart_below a.terms.devices a.session a.session.job));
+    archive = λ may left. absurd (left below);
+    moves = λ m steps b w left. by m steps b w left;
   })
     where
       Woken : PortState → Type 0
-      Woken p = (p.session.mode ≡ Down → ⊥) → GoesWoken (tally_at owned u a) p.book p.session
+      Woken p = (IsBelow p.terms.devices p.session.mode → ⊥)
+          → GoesWoken (tally_at owned u a) p.book p.session
+
+      by : (m : Moment) (steps : List Step) (p : PortState) → Moves m steps a p → Woken p
+      by m steps p w left =
+          let same : m.terms.devices ≡ a.terms.devices =
+          ap (λ (terms : Terms). terms.devices) w.at in
+          let there : p.terms.devices ≡ m.terms.devices =
+          ap (λ (terms : Terms). terms.devices) (w.terms ∙ sym w.at) in
+          rw (w.book, w.session) (wake_owns m steps a.book a.session owned u
+          (subst (λ (d : Devices). IsBelow d a.session.mode) (sym same) below)
+          (λ ends. left (subst (λ (d : Devices). IsBelow d p.session.mode) (sym there)
+          (subst (λ (s : Session). IsBelow m.terms.devices s.mode) (sym w.session) ends)))
+          w.may_book w.may_session owns)
 
   -- Whole runs
 
@@ -405,7 +432,7 @@ cut_for_good_stays_out devices limits far silence pieces more replies others a c
 
 pub late_ends : LateEnds
 unfolding run_then goes_then
-late_ends devices limits far silence pieces more piece replies others a b c run wakes rest =
+late_ends devices limits far silence pieces more piece replies others a b c run resets rest =
     stays_out devices limits far silence pieces (piece ∷ more) replies (answered.Nothing ∷ others)
     a c
     run (IsCutOff pieces replies a) b woken.goes.owned woken.goes.ticket more others all
@@ -427,7 +454,8 @@ late_ends devices limits far silence pieces more piece replies others a b c run 
         (tally_at limits.given far.carried Happened before_it.goes.owned before_it.goes.ticket
         a) b.book b.session
     woken = piece_wakes limits.given far.carried Happened a b piece answered.Nothing
-        before_it.goes.owned before_it.goes.ticket wakes.is wakes.down before_it.goes.owns wakes.up
+        before_it.goes.owned before_it.goes.ticket resets.is resets.below before_it.goes.owns
+        resets.up
 
     later : RunOwns limits.given far.carried Happened
         (tally_at limits.given far.carried Happened woken.goes.owned woken.goes.ticket b) more
@@ -440,4 +468,4 @@ late_ends devices limits far silence pieces more piece replies others a b c run 
         (tally_at limits.given far.carried Happened before_it.goes.owned before_it.goes.ticket
         a) (piece ∷ more) (answered.Nothing ∷ others) c
     all = run_then limits.given far.carried Happened a b c piece answered.Nothing more others
-        before_it.goes.owned before_it.goes.ticket wakes.is before_it.goes.owns woken.goes later
+        before_it.goes.owned before_it.goes.ticket resets.is before_it.goes.owns woken.goes later

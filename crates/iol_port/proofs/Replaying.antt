@@ -20,8 +20,9 @@ use Rattle.iol_book.specs.declared.entries.Outcome.TheVariants as outcome
 use Rattle.iol_book.specs.Takings.{ended, FitsTakings, FitsEnded}
 use Rattle.iol_book.specs.TakingLaws.{SubmitTakesNone, CollectTakesNone, WithdrawTakesNone, DenyTakesNone, TakeEndsNone, PostEndsTaken, FitsWithout, FitsWith, DoneFits, CutOffFits, TakenFits, ArchivedFits, UrgentTakesNone}
 use Rattle.iol_steps.specs.declared.mode.Mode.{Mode}
+use Rattle.iol_steps.specs.declared.mode.Mode.TheVariants.{Startup}
 use Rattle.iol_mode.specs.declared.why.Why.{Why}
-use Rattle.iol_steps.specs.Step.{Step, Take, Deny, Carry, Done, Unknown, LateCarry, Reset, Busy, Move, Moment}
+use Rattle.iol_steps.specs.Step.{Step, Take, Deny, Carry, Done, Unknown, LateCarry, Start, Reset, Busy, Move, Moment}
 use Rattle.iol_steps.specs.Session.{Job, Session, MaySession, MaySessionAll, session_after, session_through, carried_out, carried_late, unanswered, cut_for, busy_once_more, marked}
 use Rattle.iol_port.specs.Steps.{ticket_of, MayBook, MayBookAll, book_after, book_through}
 use Rattle.iol_port.specs.Sound.{pairs_from, written, FitsOpen, request_taken, Sound}
@@ -356,7 +357,7 @@ module _ (laws : BookLaws) where
             (sym (pairs_from-grown base s.carried q a sound.within)) grown);
       }
 
-  -- after a wake nothing is late
+  -- after a reset nothing is late
   settled : (job : Option Job) (late : Option Request) (journal : List Entry)
       (pairs : List (Request × Answer)) → ((job ≡ None) ⊎ (late ≡ None))
       → FitsOpen job late journal pairs → FitsOpen job None journal pairs
@@ -417,6 +418,8 @@ module _ (laws : BookLaws) where
   sound_after m Reset b s job base next may sound =
       sound_reset b (record s { job = job }) base sound
   sound_after m Busy b s job base next may sound = sound_busy b s base job sound
+  sound_after m Start b s job base next may sound =
+      sound_moved b (record s { job = job }) base Startup None sound
   sound_after m (Move mode why) b s job base next may sound =
       sound_moved b (record s { job = job }) base mode why sound
   sound_after m _ b s job base next may sound = sound

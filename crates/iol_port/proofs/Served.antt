@@ -454,7 +454,7 @@ module _ {W : Type 0} (facts : WireFacts W) where
         → Steady (far (wire_of p.station.link)).room p.station.session.configuration p
     steady_first ticket request p may = record {
       is_honest = subst (λ (l : AnyLink W). IsTrue (honest (wire_of l))) (sym may.link_is)
-          may.is_honest;
+          may.is_honest.0;
       room_is = refl;
       asks_is = refl;
     }

@@ -1,22 +1,22 @@
 -- the three pieces of a turn make one turn of the abstract port
-use Rattle.std.proofs.Common.{◌≡◌, ◌∷◌, ◌++◌, [], List, ℕ, Option, Some, None, filter, refl, ap, sym, ◌∙◌, subst, inl, inr, arith, false}
+use Rattle.std.proofs.Common.{◌≡◌, ◌∷◌, ◌++◌, [], List, ℕ, Bool, Option, Some, None, filter, refl, ap, sym, ◌∙◌, subst, inl, inr, arith, false}
 use Rattle.std.proofs.lemmas.Grind.{common_steps}
 use Rattle.std.specs.Option.{option_map}
 use Rattle.iol_isdu.specs.declared.values.Request.{Request}
 use Rattle.iol_isdu.specs.declared.values.Answer.{Answer}
 use Rattle.iol_book.specs.declared.entries.Ticket.{Ticket}
 use Rattle.iol_book.specs.BookModel.{BookState, next_taken, took, denied}
-use Rattle.iol_steps.specs.declared.mode.Mode.{Mode}
 use Rattle.iol_steps.specs.declared.mode.Mode.TheVariants.{Down}
 use Rattle.iol_steps.specs.declared.said.Said.{Said}
-use Rattle.iol_steps.specs.Step.{Step, Take, Deny, Moment, Terms, is_for_book, is_report, woke_up, book_said, reports_said}
+use Rattle.iol_steps.specs.Step.{Step, Take, Deny, Moment, Terms, is_for_book, is_report, resets, book_said, reports_said}
 use Rattle.iol_steps.specs.Session.{Session, MaySession, MaySessionAll, session_through}
 use Rattle.iol_steps.specs.Station.{job_of}
 use Rattle.iol_link.specs.WireFacts.{WireFacts}
 use Rattle.iol_mode.specs.declared.states.State.{State}
+use Rattle.iol_mode.specs.States.{is_reset}
 use Rattle.iol_app.specs.Requests.{request_in}
 use Rattle.iol_app.specs.State.{SessionState, begun_in}
-use Rattle.iol_app.specs.StationState.{StationState, StateFits as Joined, mode_in, mode_of}
+use Rattle.iol_app.specs.StationState.{StationState, StateFits as Joined, mode_in}
 use Rattle.iol_app.specs.Core.{Ghost, BeginGives, begun_ghost, moment_of}
 use Rattle.iol_app.specs.Seen.{StandsAt, TurnGives, TurnSteps, BeginSteps, DenySteps, core_of, far_of, silence_of, session_in}
 use Rattle.iol_port.specs.declared.call.Call.{Call}
@@ -61,26 +61,28 @@ module _ {W : Type 0} (facts : WireFacts W) (p next : Parts W) (base : ℕ) (g :
   after h = state_of facts next (record { base = base; ghost = h; pending = None })
 
   -- what the words of a turn leave in the book and in the kept events
-  pub record Settles (began : Mode) (start : BookState) : Type 0 where
+  pub record Settles (began : Bool) (start : BookState) : Type 0 where
     pub posts : next.book.state ≡ book_through
-        (woke_up began (mode_of next.station.link) ++ book_said said) start
+        (resets began (is_reset next.station.link.state) ++ book_said said) start
     pub keeps : next.kept ≡ kept_through (reports_said said) p.kept
 
-  book_steps : (start : BookState) (steps : List Step) (began : Mode) → Settles began start
-      → filter is_for_book steps ≡ woke_up began (mode_of next.station.link) ++ book_said said
+  book_steps : (start : BookState) (steps : List Step) (began : Bool) → Settles began start
+      → filter is_for_book steps
+      ≡ resets began (is_reset next.station.link.state) ++ book_said said
       → MayBookAll steps start × (next.book.state ≡ book_through steps start)
   book_steps start steps began settles said_book = (
-    MayBookAll-filter steps start (rw said_book (may_book_said _ _ said start)),
+    MayBookAll-filter steps start (rw said_book
+        (may_book_said began (is_reset next.station.link.state) said start)),
     settles.posts ∙ (rw (← said_book) (sym (book_through-filter steps start))),
   )
 
-  kept_steps : (steps : List Step) (began : Mode) (start : BookState) → Settles began start
+  kept_steps : (steps : List Step) (began : Bool) (start : BookState) → Settles began start
       → filter is_report steps ≡ reports_said said → next.kept ≡ kept_through steps p.kept
   kept_steps steps began start settles said_reports = settles.keeps
       ∙ (rw (← said_reports) (sym (kept_through-filter steps p.kept)))
 
   -- with no taking before it
-  idle_turn : Settles (mode_of p.station.link) p.book.state
+  idle_turn : Settles (is_reset p.station.link.state) p.book.state
       → (t : TurnGives facts p.station g said next.station) → TurnOf before (after t.given.after)
   idle_turn settles t =
       let x = t.given in
@@ -120,7 +122,7 @@ module _ {W : Type 0} (facts : WireFacts W) (p next : Parts W) (base : ℕ) (g :
       → let s : StationState W = record p.station { session = begun_in q p.station.session } in
       BeginGives (core_of p.station) (core_of s) g (far_of facts p.station)
       (silence_of facts p.station) q
-      → Settles (mode_of p.station.link) (took p.book.state (k, q))
+      → Settles (is_reset p.station.link.state) (took p.book.state (k, q))
       → (t : TurnGives facts s (begun_ghost g) said next.station)
       → TurnOf before (after t.given.after)
   taking_turn k q head begins settles t =
@@ -134,7 +136,8 @@ module _ {W : Type 0} (facts : WireFacts W) (p next : Parts W) (base : ℕ) (g :
           fits = x.fits;
           silence = x.silent;
           clash_free = rw (clash_free-take k.0 q x.steps (x.fresh refl)
-              (clash_free-deny k.0 x.steps _ _ said x.said_book)) x.clash_free;
+              (clash_free-deny k.0 x.steps (is_reset p.station.link.state)
+              (is_reset next.station.link.state) said x.said_book)) x.clash_free;
           terms = terms_of _ _ _ _ _ _ x.terms.0 x.terms.1 x.terms.2;
         },
         record {
@@ -169,7 +172,7 @@ module _ {W : Type 0} (facts : WireFacts W) (p next : Parts W) (base : ℕ) (g :
   denying_turn : (k : Ticket) → option_map (λ p. p.0) (next_taken p.book.state.standing)
       ≡ Some k → ((m : Moment) → m.terms.page ≡ g.page
       → MaySession m (Deny k.0) (session_in facts p.station g))
-      → Settles (mode_of p.station.link) (denied p.book.state k)
+      → Settles (is_reset p.station.link.state) (denied p.book.state k)
       → (t : TurnGives facts p.station g said next.station) → TurnOf before (after t.given.after)
   denying_turn k head may_deny settles t =
       let x = t.given in
@@ -179,7 +182,8 @@ module _ {W : Type 0} (facts : WireFacts W) (p next : Parts W) (base : ℕ) (g :
         record {
           fits = x.fits;
           silence = x.silent;
-          clash_free = rw (clash_free-deny k.0 x.steps _ _ said x.said_book) x.clash_free;
+          clash_free = rw (clash_free-deny k.0 x.steps (is_reset p.station.link.state)
+              (is_reset next.station.link.state) said x.said_book) x.clash_free;
           terms = terms_of _ _ _ _ _ _ x.terms.0 x.terms.1 x.terms.2;
         },
         record {
@@ -210,13 +214,13 @@ module _ {W : Type 0} (facts : WireFacts W) where
   abbrev Turned : StationState W → BookState → Parts W → Parts W → Said → Type 0
   Turned s b p next said = TurnSteps facts s said next.station
       × (next.book.state ≡ book_through
-      (woke_up (mode_of s.link) (mode_of next.station.link) ++ book_said said) b)
+      (resets (is_reset s.link.state) (is_reset next.station.link.state) ++ book_said said) b)
 
   pub turn_does : (p next : Parts W) (said : Said) (s : StationState W) (b : BookState)
       → p.sent ≡ false → next.sent ≡ false → BeginsNext p.station p.book.state s b
       → TurnSteps facts s said next.station
       → next.book.state ≡ book_through
-      (woke_up (mode_of s.link) (mode_of next.station.link) ++ book_said said) b
+      (resets (is_reset s.link.state) (is_reset next.station.link.state) ++ book_said said) b
       → next.kept ≡ kept_through (reports_said said) p.kept
       → Follows facts p call.Turn answered.Nothing next
   unfolding TurnSteps BeginSteps DenySteps

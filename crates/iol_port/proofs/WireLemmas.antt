@@ -3,10 +3,12 @@
 use Rattle.std.proofs.Common.{ap, Ok, Err, OnOk, OnErr, ◌<◌, ◌+◌, ◌∷◌, ◌++◌, [], List, ℕ, Result, false, ◌≡◌, ◌∙◌, sym, inl, inr, length, take, get_or, refl, subst, arith}
 use Rattle.std.proofs.lemmas.Grind.{common_steps}
 use Rattle.std.proofs.lemmas.List.{take_more}
-use Rattle.std.specs.Prelude.{◌⊎◌, IsTrue}
+use Rattle.std.specs.Prelude.{◌⊎◌}
 use Rattle.iol_far.specs.Far.{Far}
 use Rattle.iol_mode.specs.Next.{AnyLink}
+use Rattle.iol_mode.specs.Kinds.{IsHonestFor}
 use Rattle.iol_mode.specs.Stands.{StateStands}
+use Rattle.iol_mode.specs.declared.configuration.Devices.{Devices}
 use Rattle.iol_mode.specs.declared.states.State.{State}
 use Rattle.iol_steps.specs.declared.mode.Mode.TheVariants.{Down}
 use Rattle.iol_app.specs.Asking.{IsCall}
@@ -35,27 +37,33 @@ limits_on : (first b next : BookState) → KeepsLimits b next → KeepsLimits fi
     → KeepsLimits first next
 limits_on first b next now before = (now.0 ∙ before.0, now.1 ∙ before.1)
 
--- what each call but a turn leaves of the link: it stays, or it is down
+abbrev pub devices_of : {W : Type 0} → Parts W → Devices
+devices_of p = p.station.session.configuration.devices
+
+-- what each call but a turn leaves of the link: it stays, or it is down. The devices stay
 pub record Leaves (p next : Parts (Unit {0})) : Type 0 where
   pub sent : next.sent ≡ p.sent
   pub link : (next.station.link ≡ p.station.link) ⊎ (mode_of next.station.link ≡ Down)
+  pub devices : devices_of next ≡ devices_of p
 
 pub stays : {p next mid : Parts (Unit {0})} → next ≡ mid → mid.sent ≡ p.sent
-    → mid.station.link ≡ p.station.link → Leaves p next
-stays same sent link = record {
+    → mid.station.link ≡ p.station.link → devices_of mid ≡ devices_of p → Leaves p next
+stays same sent link devices = record {
   sent = ap (λ (q : Parts (Unit {0})). q.sent) same ∙ sent;
   link = inl (ap (λ (q : Parts (Unit {0})). q.station.link) same ∙ link);
+  devices = ap (λ (q : Parts (Unit {0})). devices_of q) same ∙ devices;
 }
 
 -- whether it was refused or not
 pub stays_by : {p next : Parts (Unit {0})} (mid : Parts (Unit {0}))
     (r : Result (Unit {0}) PortFault) → OnOk r (next ≡ mid) → OnErr r (next ≡ p)
-    → mid.sent ≡ p.sent → mid.station.link ≡ p.station.link → Leaves p next
-stays_by mid (Ok value) changed same sent link = stays changed sent link
-stays_by mid (Err why) changed same sent link = stays same refl refl
+    → mid.sent ≡ p.sent → mid.station.link ≡ p.station.link → devices_of mid ≡ devices_of p
+    → Leaves p next
+stays_by mid (Ok value) changed same sent link devices = stays changed sent link devices
+stays_by mid (Err why) changed same sent link devices = stays same refl refl refl
 
 module _ {W : Type 0} (facts : WireFacts W) where
-  open facts use {honest, far, silence}
+  open facts use {far, silence}
 
   abbrev Called : Parts W → Call → Answered → Parts W → Type 0
   Called p c reply next = CallGives facts p c reply next
@@ -102,8 +110,8 @@ module _ {W : Type 0} (facts : WireFacts W) where
   comes_more first old new asked one (calls, are) =
       (calls ++ asked ∷ [], calls_snoc first old new calls asked are one)
 
-  abbrev Stands : AnyLink W → Type 0
-  Stands link = IsTrue (honest link.wire)
+  abbrev Stands : Devices → AnyLink W → Type 0
+  Stands devices link = IsHonestFor facts devices link.wire
       → StateStands link.state (silence link.wire) (far link.wire)
 
   down_stands : (state : State) (n : ℕ) (f : Far) → mode_in state ≡ Down → StateStands state n f
@@ -131,13 +139,14 @@ module _ {W : Type 0} (facts : WireFacts W) where
         limits = limits_on (book.opened o.limits) p.book.state next.book.state
             (book_limits c reply p.book.state next.book.state does_over.book) is.limits;
         free = leaves.sent ∙ is.free;
-        stands = λ h. stands_on wire p next leaves.link (is.stands h);
+        stands = λ h. stands_on wire p next leaves.link
+            (is.stands (subst (λ (d : Devices). IsHonestFor facts d wire) leaves.devices h));
       }
 
   pub port_turned : (o : Opening W) (p next : Parts W) → IsPort facts o p
       → Does facts p call.Turn answered.Nothing next
       → IsCall facts (asks_of p) (wire_of p.station.link) (wire_of next.station.link)
-      → next.sent ≡ false → Stands next.station.link
+      → next.sent ≡ false → Stands (devices_of next) next.station.link
       → IsPort facts o next
   port_turned o p next is does one free stands = record {
     run = run_kept facts o p next call.Turn answered.Nothing is.run does;

@@ -28,6 +28,7 @@ use Rattle.iol_book.specs.BookModel.{BookState, next_taken, took, posted}
 use Rattle.iol_mode.specs.Next.{in_operate as InOperate}
 use Rattle.iol_mode.specs.declared.configuration.Devices.{Devices}
 use Rattle.iol_mode.specs.declared.configuration.Devices.TheVariants.{Any}
+use Rattle.iol_mode.specs.Kinds.{IsHonestFor}
 use Rattle.iol_app.specs.Due.{is_under_way, is_confirm_due, is_resting, is_ready}
 use Rattle.iol_app.specs.State.{SessionState}
 use Rattle.iol_app.specs.StationState.{StationState, wire_of}
@@ -105,14 +106,13 @@ IsLevelBetween {W} facts p =
 module _ {W : Type 0} (facts : WireFacts W) where
   open facts use {honest, far, clean}
 
-  -- in OPERATE over a clean wire, with no message out; the device is awake, of our own kind, in
-  -- that
-  -- link, has ISDU, as the port was told, and has no events
+  -- in OPERATE over a clean wire, honest to the station, with no message out; the device is awake,
+  -- of our own kind, in that link, has ISDU, as the port was told, and has no events
   pub record Stood (layouts : Layouts) (link : Link) (station : StationState W)
       (wire : W) : Type 0 where
     pub link_is : station.link
         ≡ InOperate (record { wire = wire; state = record { out = None; layouts = layouts } })
-    pub is_honest : IsTrue (honest wire)
+    pub is_honest : IsHonestFor facts station.session.configuration.devices wire
     pub is_clean : IsTrue (clean wire)
     pub calm : IsCalm station.session
     pub told : station.session.isdu ≡ Some true
@@ -158,17 +158,17 @@ module _ {W : Type 0} (facts : WireFacts W) where
     pub record_is : (far wire).carried ≡ base
     pub book_is : p.book.state ≡ book
 
-  -- From here a request takes an exact number of turns: the port is in OPERATE over a clean
-  -- wire, and its next turn would send IDLE 1, with room for events; both ends are level, the
-  -- device awake; it has ISDU, as the port was told, and no events, and its record has room;
-  -- the request is the next to be taken: no urgent one waits, or it is the first of them
+  -- From here a request takes an exact number of turns: the port is in OPERATE over a clean wire,
+  -- which is honest to it, and its next turn would send IDLE 1, with room for events; both ends are
+  -- level, the device awake; it has ISDU, as the port was told, and no events, and its record has
+  -- room; the request is the next to be taken: no urgent one waits, or it is the first of them
   -- REQ-13
   pub record MayStart (layouts : Layouts) (ticket : Ticket) (request : Request)
       (p : Parts W) : Type 0 where
     pub wire : W
     pub link_is : p.station.link
         ≡ InOperate (record { wire = wire; state = record { out = None; layouts = layouts } })
-    pub is_honest : IsTrue (honest wire)
+    pub is_honest : IsHonestFor facts p.station.session.configuration.devices wire
     pub is_clean : IsTrue (clean wire)
     pub ready : is_ready p.station.session true ≡ true
     pub link : Link

@@ -1,16 +1,17 @@
 -- A port without a wire: its parts over none, and what its calls are to whoever has the line.
-use Rattle.std.specs.Prelude.{◌≡◌, ℕ, Bool, true, false, cond, List, [], ◌∷◌, Option, ⊤}
+use Rattle.std.specs.Prelude.{◌≡◌, ℕ, Bool, true, false, cond, List, ◌++◌, Option, ⊤}
 use Rattle.iol_far.specs.Far.{Far}
 use Rattle.iol_link.specs.WireFacts.{WireFacts}
 use Rattle.iol_link.specs.Honest.{HonestWake, HonestExchange}
 use Rattle.iol_mode.specs.declared.states.State.{State}
 use Rattle.iol_mode.specs.declared.states.State.TheVariants.{Down as AtDown}
+use Rattle.iol_mode.specs.States.{is_reset}
 use Rattle.iol_mode.specs.Exchanges.{text_out}
 use Rattle.iol_mode.specs.declared.configuration.Devices.{Devices}
 use Rattle.iol_mode.specs.declared.configuration.Devices.TheVariants.{Own}
 use Rattle.iol_book.specs.declared.entries.Limits.{Limits}
 use Rattle.iol_steps.specs.declared.said.Said.{Said}
-use Rattle.iol_steps.specs.Step.{Reset, book_said, reports_said}
+use Rattle.iol_steps.specs.Step.{resets, book_said, reports_said}
 use Rattle.iol_app.specs.StationState.{StationState, IsSettledSaid}
 use Rattle.iol_app.specs.Core.{Core, after_exchange, after_wake, came_of}
 use Rattle.iol_app.specs.Brought.{brought_in, woken_by}
@@ -143,7 +144,8 @@ pub record SendGives (old new : Parts (Unit {0})) : Type 0 where
   pub counters : new.counters ≡ old.counters
 
 -- what came back is judged by what was sent and by what start-ups ask, and what that says goes
--- to the book and to the kept events; both are counted
+-- to the book and to the kept events; both are counted. A reset of the device ends what a request
+-- that was cut off may still do
 -- PORT-1, PORT-9, PORT-12
 pub record ReceiveGives (old : Parts (Unit {0})) (came : Option (List ℕ)) (new : Parts (Unit {0})) :
     Type 0 where
@@ -151,7 +153,11 @@ pub record ReceiveGives (old : Parts (Unit {0})) (came : Option (List ℕ)) (new
   pub core : core_of new.station
       ≡ after_exchange (came_of (core_of old.station) came) old.station.session
   pub said_is : IsSettledSaid (came_of (core_of old.station) came) old.station.session said
-  pub book : new.book.state ≡ book_through (book_said said) old.book.state
+  pub book : new.book.state
+      ≡ book_through
+      (resets (is_reset old.station.link.state) (is_reset new.station.link.state)
+      ++ book_said said)
+      old.book.state
   pub memory : KeepsMemory old new
   pub kept : new.kept ≡ kept_through (reports_said said) old.kept
   pub sent : new.sent ≡ false
@@ -159,12 +165,14 @@ pub record ReceiveGives (old : Parts (Unit {0})) (came : Option (List ℕ)) (new
       ≡ said_counted said (call_counted (brought_in old.station.link.state came) old.counters)
 
 -- a start-up begins where the wake was answered, which ends what a request that was cut off
--- may still do; else the link is still down
+-- may still do where that has reset the device; else the link is still down
 -- PORT-1, PORT-9, PORT-12
 pub record WakeGives (old : Parts (Unit {0})) (answered : Bool) (new : Parts (Unit {0})) :
     Type 0 where
   pub core : core_of new.station ≡ after_wake answered old.station.session
-  pub book : new.book.state ≡ book_through (cond answered (Reset ∷ []) []) old.book.state
+  pub book : new.book.state
+      ≡ book_through
+      (resets (is_reset old.station.link.state) (is_reset new.station.link.state)) old.book.state
   pub memory : KeepsMemory old new
   pub kept : new.kept ≡ old.kept
   pub sent : new.sent ≡ false

@@ -18,9 +18,10 @@ use Rattle.iol_book.specs.declared.entries.Outcome.TheVariants.{NoIsdu}
 use Rattle.iol_book.specs.Replay.{same_ticket}
 use Rattle.iol_book.specs.BookModel.{BookState, BookValue, MemoryGrows, memory_archived, RefusesFor, submit_refusal, submitted, submitted_urgent, next_ticket, next_taken, took, denied, waits, collect_answer, collected, withdraw_refusal, withdrawn, flight_refusal, may_archive, archived}
 use Rattle.iol_mode.specs.Exchanges.{tries_in}
+use Rattle.iol_mode.specs.States.{is_reset}
 use Rattle.iol_steps.specs.declared.mode.Mode.TheVariants.{Down}
 use Rattle.iol_steps.specs.declared.said.Said.{Said}
-use Rattle.iol_steps.specs.Step.{Image, woke_up, book_said, reports_said}
+use Rattle.iol_steps.specs.Step.{Image, resets, book_said, reports_said}
 use Rattle.iol_steps.specs.Kinds.{restart_steps}
 use Rattle.iol_app.specs.State as session
 use Rattle.iol_app.specs.Due.{is_ready}
@@ -225,7 +226,7 @@ module _ {W : Type 0} where
   module _ (facts : WireFacts W) where
     -- A turn: the next request is begun or denied; the station makes its own one, with room
     -- for events where at most 58 are kept, and what that says goes to the book and to the
-    -- kept events; a wake that had success ends what a request that was cut off may still do
+    -- kept events; a reset of the device ends what a request that was cut off may still do
     -- PORT-1, PORT-12
     pub record TurnGives (old new : Parts W) : Type 0 where
       pub said : Said
@@ -236,7 +237,8 @@ module _ {W : Type 0} where
           (has_room old.kept) (station_begun old) said new.station
       pub book : new.book.state
           ≡ book_through
-          (woke_up (mode_of old.station.link) (mode_of new.station.link) ++ book_said said)
+          (resets (is_reset old.station.link.state) (is_reset new.station.link.state)
+          ++ book_said said)
           (book_begun old)
       pub memory : KeepsMemory old new
       pub kept : new.kept ≡ kept_through (reports_said said) old.kept

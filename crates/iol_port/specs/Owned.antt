@@ -1,6 +1,6 @@
 -- What a client may conclude of a whole run: which requests the device carried out
 -- in it, each once.
-use Rattle.std.specs.Prelude.{◌≡◌, ◌⊎◌, ◌<◌, ℕ, false, List, [], ◌∷◌, ◌++◌, map, Some}
+use Rattle.std.specs.Prelude.{◌≡◌, ◌⊎◌, ◌<◌, ℕ, false, List, [], ◌∷◌, ◌++◌, map, Some, ⊤}
 use Rattle.std.specs.Map.{lookup}
 use Rattle.iol_isdu.specs.declared.values.Request.{Request}
 use Rattle.iol_isdu.specs.declared.values.Answer.{Answer}
@@ -12,12 +12,14 @@ use Rattle.iol_book.specs.declared.entries.Outcome.TheVariants.{Done, Unknown}
 use Rattle.iol_book.specs.declared.entries.Ticket.{Ticket}
 use Rattle.iol_book.specs.BookModel.{leaves_unsure}
 use Rattle.iol_book.specs.Replay.{same_ticket}
-use Rattle.iol_steps.specs.declared.mode.Mode.TheVariants.{Down}
+use Rattle.iol_steps.specs.declared.mode.Mode.{Mode}
+use Rattle.iol_steps.specs.declared.mode.Mode.TheVariants.{Down, Startup}
 use Rattle.iol_port.specs.declared.call.Call.TheVariants as call
 use Rattle.iol_port.specs.declared.call.Answered.{Answered}
 use Rattle.iol_port.specs.declared.call.Answered.TheVariants as answered
 use Rattle.iol_port.specs.Run.{PortState, Piece, Whole, PieceOf, Pieces, opened}
 use Rattle.iol_mode.specs.declared.configuration.Devices.{Devices}
+use Rattle.iol_mode.specs.declared.configuration.Devices.TheVariants.{Any}
 
 -- a request that the device carried out: the ticket under which it was submitted,
 -- itself, and the answer
@@ -102,11 +104,20 @@ CutForGoodStaysOut =
     (owned ++ later)
     × ((o : Owned) → IsOneOf o later → IsCutForGood pieces replies a o.ticket → ⊥)
 
--- a wake that had success, in a whole turn or as it is taken up: it leads out of down
-pub record Wakes (piece : Piece) (a b : PortState) : Type 0 where
+-- below the reset of the device: down, and at a port for any device STARTUP too, in which it has it
+-- leave its mode
+-- LINK-13
+abbrev pub IsBelow : Devices → Mode → Type 0
+IsBelow devices Down = ⊤
+IsBelow Any Startup = ⊤
+IsBelow devices mode = ⊥
+
+-- the device is reset behind it, in a whole turn or as what came is taken up: a wake that had
+-- success, which leads out of down; at a port for any device what leads out of STARTUP, and on
+pub record Resets (piece : Piece) (a b : PortState) : Type 0 where
   pub is : PieceOf a piece answered.Nothing b
-  pub down : a.session.mode ≡ Down
-  pub up : b.session.mode ≡ Down → ⊥
+  pub below : IsBelow a.terms.devices a.session.mode
+  pub up : IsBelow b.terms.devices b.session.mode → ⊥
 
 -- A run comes to `a`, by such a piece to `b`, and goes on to `c`: of what is carried
 -- out from `b` on, nothing was cut off before
@@ -116,7 +127,7 @@ LateEnds =
     (devices : Devices) (limits : Limits) (far : Far) (silence : ℕ) (pieces more : List Piece)
     (piece : Piece)
     (replies others : List Answered) (a b c : PortState)
-    → Pieces (opened devices limits far silence) pieces replies a → Wakes piece a b
+    → Pieces (opened devices limits far silence) pieces replies a → Resets piece a b
     → Pieces b more others c
     → (owned later : List Owned) × (b.session.carried ≡ far.carried ++ pairs_of owned)
     × CarriesOut limits.given far.carried (pieces ++ piece ∷ more)

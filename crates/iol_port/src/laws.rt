@@ -66,13 +66,14 @@ pub fn each_done_has_its_pair()
 {}
 
 /// A law of the definitions, over whole runs of a port that is opened: a request that
-/// was cut off is carried out once at most, and not after a wake that had success.
+/// was cut off is carried out once at most, and not after a wake that had success; at a port
+/// for any device, not after a start-up that led on, to PREOPERATE or OPERATE.
 ///
-/// The run has a turn, or the second piece of one, that leads out of down. Over the whole
-/// of it each request that the device carries out has a ticket of its own; and none that
-/// it carries out after that had been cut off before it. One that was cut off for another
-/// cause than a lost link or a restart, as a cancelled one, isn't carried out after that
-/// at all.
+/// The run has a turn, or the second piece of one, that leads out of down; at a port for any
+/// device one that leads out of STARTUP, and not back to down. Over the whole of it each request
+/// that the device carries out has a ticket of its own; and none that it carries out after that
+/// had been cut off before it. One that was cut off for another cause than a lost link or a
+/// restart, as a cancelled one, isn't carried out after that at all.
 ///
 /// Rule REQ-12.
 #[tactic(auto, using(crate::proofs::OwnedRuns::late_ends, crate::proofs::OwnedRuns::cut_for_good_stays_out))]

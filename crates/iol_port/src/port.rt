@@ -227,8 +227,9 @@ impl<W: Wire, A: Handle> Port<W, A> {
 
     /// Cuts off the request under way, if any, and leaves the link in down, without an image.
     ///
-    /// What waits goes on waiting. The device may still carry the request that was
-    /// cut off out, once, until a wake succeeds.
+    /// What waits goes on waiting. The device may still carry the request that was cut off out,
+    /// once, until it is reset: by a wake that succeeds; at a port for any device, once it has left
+    /// its mode.
     pub fn restart(&mut self)
         ensures does { Does W.facts self.old.parts call.Restart answered.Nothing self.new.parts }
         ensures gives { RestartGives self.old.parts self.new.parts }
@@ -347,8 +348,9 @@ impl<W: Wire, A: Handle> Port<W, A> {
     /// Hands the journal out and begins a new one, which is empty. Tickets go on.
     ///
     /// Refused, with nothing changed, by 28 where a ticket is outstanding, or where
-    /// a request was cut off by a lost link or a restart and no wake succeeded
-    /// since, as the device may still carry that request out.
+    /// a request was cut off by a lost link or a restart and the device wasn't reset
+    /// since, as it may still carry that request out. A wake that succeeds resets it; at
+    /// a port for any device it is reset once it has left its mode.
     pub fn archive(&mut self) -> Result<Vec<Entry, A>, PortFault>
         ensures does { Does W.facts self.old.parts call.Archive
             (reply_of (λ entries. answered.Archived (length entries.items)) result) self.new.parts }
@@ -554,8 +556,8 @@ impl<W: Wire, A: Handle> Port<W, A> {
     /// A law of each port, without code: at every moment the journal says where each
     /// ticket stands, and the wire is what the one at the opening became by wakes and
     /// exchanges, and by nothing else; its book has the limits of the opening; and the device's
-    /// record fits the journal, if the wire was honest and the device had been handed no request
-    /// when the port was opened.
+    /// record fits the journal, if when the port was opened the wire was honest, and the device was
+    /// one that the port is for, and had been handed no request.
     ///
     /// Rule PORT-2.
     pub fn keeps_record(&self)

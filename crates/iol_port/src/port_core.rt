@@ -3,6 +3,7 @@ ghost use Rattle.std.specs.Prelude.{◌≡◌, ◌≢◌, ◌<◌, ◌≤◌, No
 ghost use Rattle.std.specs.Option.{option_copied};
 ghost use Rattle.std.specs.Result.{result_map_both};
 ghost use Rattle.iol_far.specs.Octets.{octets_in};
+ghost use Rattle.iol_mode.specs.Kinds.{IsHonestFor};
 ghost use Rattle.iol_mode.specs.Stands.{StateStands};
 ghost use Rattle.iol_book.specs.declared.fault.BookFault.TheVariants.{OutOfMemory};
 ghost use Rattle.iol_book.specs.BookModel.{AreLimits, IsReplayed, submitted, submitted_urgent};
@@ -28,7 +29,7 @@ use crate::awaited::Awaited;
 use crate::call::Counting;
 use crate::counters::Counters;
 use crate::laws::{clean_laws, record_fits_journal};
-use crate::settle::{KEPT, ROOM, begin_next, by_book, by_output, lacks_isdu, settle, woke_up};
+use crate::settle::{KEPT, ROOM, begin_next, by_book, by_output, lacks_isdu, resets, settle};
 use arrayvec::ArrayVec;
 use iol_app::{Asked, Brought, Core, Status};
 use iol_book::{Book, Entry, Limits, Outcome, Ticket};
@@ -242,8 +243,9 @@ impl<A: Allocator + Copy> PortCore<A> {
 
     /// Cuts off the request under way, if any, and leaves the link in down, without an image.
     ///
-    /// What waits goes on waiting. The device may still carry the request that was
-    /// cut off out, once, until a wake succeeds.
+    /// What waits goes on waiting. The device may still carry the request that was cut off out,
+    /// once, until it is reset: by a wake that succeeds; at a port for any device, once it has left
+    /// its mode.
     ///
     /// What was sent has to be answered first; the answer may be that nothing came.
     ///
@@ -389,8 +391,9 @@ impl<A: Allocator + Copy> PortCore<A> {
     /// Hands the journal out and begins a new one, which is empty. Tickets go on.
     ///
     /// Refused, with nothing changed, by 28 where a ticket is outstanding, or where
-    /// a request was cut off by a lost link or a restart and no wake succeeded
-    /// since, as the device may still carry that request out.
+    /// a request was cut off by a lost link or a restart and the device wasn't reset
+    /// since, as it may still carry that request out. A wake that succeeds resets it; at
+    /// a port for any device it is reset once it has left its mode.
     ///
     /// Rule PORT-7.
     pub fn archive(&mut self) -> Result<Vec<Entry, A>, PortFault>
@@ -466,11 +469,13 @@ impl<A: Allocator + Copy> PortCore<A> {
         ensures gives { ReceiveGives self.old (octets_in came.now) self.new }
         ensures does { ReceiveDoes self.old (octets_in came.now) self.new }
     {
+        let began = self.core.is_reset();
         let mut said = Said::Idle;
         let brought = self.core.receive(came, &mut said);
         self.sent = false;
         self.counters.turned(brought, &said);
-        settle(&mut self.book, &mut self.kept, false, said);
+        let reset = resets(began, self.core.is_reset());
+        settle(&mut self.book, &mut self.kept, reset, said);
     }
 
     /// Takes what came of a wake-up request: the rate of the device that answered it, or that
@@ -482,10 +487,12 @@ impl<A: Allocator + Copy> PortCore<A> {
         ensures gives { WakeGives self.old (is_some rate) self.new }
         ensures does { WakeDoes self.old (is_some rate) self.new }
     {
+        let began = self.core.is_reset();
         self.core.receive_wake(rate);
         self.sent = false;
         self.counters.turned(Brought::of_wake(rate), &Said::Idle);
-        settle(&mut self.book, &mut self.kept, rate.is_some(), Said::Idle);
+        let reset = resets(began, self.core.is_reset());
+        settle(&mut self.book, &mut self.kept, reset, Said::Idle);
     }
 
     /// One turn over this wire, with no call between its pieces.
@@ -493,10 +500,12 @@ impl<A: Allocator + Copy> PortCore<A> {
     /// Rules PORT-1, PORT-12.
     pub(crate) fn turn<W: Wire>(&mut self, wire: &mut W)
         requires free { self.old.sent ≡ false }
-        requires stands { IsTrue (W.facts.honest wire.old) → StateStands
+        requires stands { IsHonestFor W.facts
+            self.old.station.session.configuration.devices wire.old → StateStands
             self.old.station.link.state (W.facts.silence wire.old) (W.facts.far wire.old) }
         ensures free { self.new.sent ≡ false }
-        ensures stands { IsTrue (W.facts.honest wire.new) → StateStands
+        ensures stands { IsHonestFor W.facts
+            self.new.station.session.configuration.devices wire.new → StateStands
             self.new.station.link.state (W.facts.silence wire.new) (W.facts.far wire.new) }
         ensures does { Does W.facts (parts_over wire.old self.old) call.Turn answered.Nothing
             (parts_over wire.new self.new) }
@@ -509,12 +518,12 @@ impl<A: Allocator + Copy> PortCore<A> {
         clean_laws();
         let room = self.has_room();
         begin_next(&mut self.core, &mut self.book, room);
-        let began = self.core.status().mode;
+        let began = self.core.is_reset();
         let mut said = Said::Idle;
         let brought = self.core.turn(wire, room, &mut said);
         self.counters.turned(brought, &said);
-        let woke = woke_up(began, self.core.status().mode);
-        settle(&mut self.book, &mut self.kept, woke, said);
+        let reset = resets(began, self.core.is_reset());
+        settle(&mut self.book, &mut self.kept, reset, said);
     }
 
     /// A law of each port, without code: at every moment the journal says where each ticket

@@ -11,7 +11,8 @@ ghost use Rattle.iol_app.specs.State.{begun_in};
 ghost use Rattle.iol_app.specs.StationState.{operates, mode_in};
 ghost use Rattle.iol_port.specs.Asks.{lacks_isdu, to_begin};
 ghost use Rattle.iol_port.specs.EveryWire.{taken_where};
-ghost use Rattle.iol_steps.specs.Step.{Reset, is_down as is_down_mode, book_said, reports_said};
+ghost use Rattle.iol_steps.specs.declared.mode.Mode.TheVariants as mode;
+ghost use Rattle.iol_steps.specs.Step.{Reset, book_said, reports_said};
 ghost use Rattle.iol_port.specs.Steps.{book_through, kept_through};
 ghost use Rattle.iol_port.specs.Replies.{by_book, by_output};
 ghost use Rattle.iol_port.specs.View.{BeginsNext, TakesNext, Asks, HasRoom};
@@ -21,7 +22,7 @@ use arrayvec::ArrayVec;
 use iol_app::{Core, OutputFault};
 use iol_book::{Book, BookFault, Outcome};
 use iol_event::{Event, EventList};
-use iol_steps::{Mode, Said};
+use iol_steps::Said;
 use std::alloc::Allocator;
 
 /// How many events a port keeps.
@@ -50,11 +51,13 @@ pub(crate) fn by_output(answer: Result<(), OutputFault>) -> Result<(), PortFault
     }
 }
 
-/// A wake succeeded where a turn led out of down.
-pub(crate) fn woke_up(began: Mode, ended: Mode) -> bool
-    ensures { result ≡ (is_down_mode began && not (is_down_mode ended)) }
+/// A turn in which the device came to be known to be reset: it was not before, and is behind it.
+///
+/// Rule LINK-13.
+pub(crate) fn resets(began: bool, ended: bool) -> bool
+    ensures { result ≡ (not began && ended) }
 {
-    matches!(began, Mode::Down) && !matches!(ended, Mode::Down)
+    !began && ended
 }
 
 /// Whether a start-up told that the device has no ISDU.
@@ -101,7 +104,7 @@ pub(crate) fn begin_next<A: Allocator + Copy>(core: &mut Core, book: &mut Book<A
 /// Rule REQ-2.
 #[inline(never)]
 fn take_next<A: Allocator + Copy>(core: &mut Core, book: &mut Book<A>)
-    requires operate { mode_in core.old.state ≡ Mode.Operate }
+    requires operate { mode_in core.old.state ≡ mode.Operate }
     requires free { core.old.session.current ≡ None }
     requires isdu { core.old.session.isdu ≢ Some false }
     requires waits { IsSome (next_taken book.old.state.standing) }
@@ -118,23 +121,24 @@ fn take_next<A: Allocator + Copy>(core: &mut Core, book: &mut Book<A>)
     core.begin(request);
 }
 
-/// What a turn says goes to the book and to the kept events.
+/// What a turn says goes to the book and to the kept events; in one that reset the device the
+/// book hears of that first.
 ///
 /// Rule PORT-1.
 pub(crate) fn settle<A: Allocator + Copy>(
     book: &mut Book<A>,
     kept: &mut ArrayVec<Event, KEPT>,
-    woke: bool,
+    reset: bool,
     said: Said,
 )
     requires asked { Asks said book.old.state.standing.taken }
     requires room { HasRoom said kept.old.items }
     ensures book { book.new.state
-        ≡ book_through (cond woke (Reset ∷ []) [] ++ book_said said) book.old.state }
+        ≡ book_through (cond reset (Reset ∷ []) [] ++ book_said said) book.old.state }
     ensures memory { book.new.memory ≡ book.old.memory }
     ensures kept { kept.new.items ≡ kept_through (reports_said said) kept.old.items }
 {
-    if woke {
+    if reset {
         book.reset();
     }
     match said {

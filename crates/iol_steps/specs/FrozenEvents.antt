@@ -1,7 +1,7 @@
 -- The events that the device has frozen: where each step is allowed, and what it does.
 use Rattle.std.specs.Prelude.{◌≡◌, ◌≤◌, Bool, true, false, List, [], ◌∷◌, length, Option, Some, None, IsSomeAnd, ⊤}
 use Rattle.iol_event.specs.declared.event.Event.{Event}
-use Rattle.iol_steps.specs.Step.{Step, Freeze, Report, Confirm, PowerLoss, Reset}
+use Rattle.iol_steps.specs.Step.{Step, Freeze, Report, Confirm, PowerLoss, Start, Reset}
 
 -- the frozen list, and whether it was reported since the last wake
 pub record Frozen : Type 0 where
@@ -26,6 +26,7 @@ frozen_after (Freeze events) f = Some (record { events = events; told = false })
 frozen_after (Report events) f = Some (record { events = events; told = true })
 frozen_after Confirm f = None
 frozen_after PowerLoss f = None
+frozen_after Start f = untold f
 frozen_after Reset f = untold f
 frozen_after step f = f
 

@@ -37,7 +37,9 @@ pub data Step : Type 0 where
   Unknown : Cause → Step
   -- the device carries out a request that was cut off
   LateCarry : Answer → Step
-  -- a wake-up request had success
+  -- at a port for any device a wake-up request was answered
+  Start : Step
+  -- the device was reset by a wake-up request, or it has left the mode that it was in
   Reset : Step
   -- the device freezes events; the master has read them; the device hears the confirm
   Freeze : List Event → Step
@@ -134,6 +136,7 @@ clash (Unknown cause) (Unknown other) = true
 clash (Report events) (Report others) = true
 clash Confirm Confirm = true
 clash Make Make = true
+clash Start Start = true
 clash Reset Reset = true
 clash Busy Busy = true
 clash Busy (Take ticket request) = true
@@ -177,10 +180,6 @@ abbrev pub reports_said : Said → List Step
 reports_said (Reported events) = Report events ∷ []
 reports_said said = []
 
-abbrev pub is_down : Mode → Bool
-is_down Down = true
-is_down mode = false
-
--- a wake had success in this turn
-abbrev pub woke_up : Mode → Mode → List Step
-woke_up began ended = cond (is_down began && not (is_down ended)) (Reset ∷ []) []
+-- the device wasn't known to be reset when a turn began, and is behind it
+abbrev pub resets : Bool → Bool → List Step
+resets began ended = cond (not began && ended) (Reset ∷ []) []

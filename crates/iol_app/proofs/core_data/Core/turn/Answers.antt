@@ -19,7 +19,9 @@ use Rattle.iol_app.specs.Seen.{station_of}
 use Rattle.iol_app.proofs.Ending.{settled_ends}
 use Rattle.iol_app.proofs.Reporting.{turn_reading}
 use Rattle.iol_app.proofs.Pieces.{receive_steps, wake_steps as core_wake_steps}
-use Rattle.iol_app.proofs.Stepping.{Exchanged, sent_down, sent_current, wake_steps, exchange_steps, exchange_is_turn, exchange_is_exact, sent_tries, wake_is_exact}
+use Rattle.iol_app.proofs.Stepping.{Exchanged, sent_down, sent_current, wake_steps, wake_stands, wake_is_turn, exchange_steps, exchange_stands, exchange_is_turn, exchange_is_exact, sent_tries, sent_devices, wake_is_exact}
+use Rattle.iol_mode.specs.declared.configuration.Configuration.{Configuration}
+use Rattle.iol_mode.specs.Kinds.{SeesPulses}
 use Rattle.iol_app.proofs.core_data.Core.turn.Given as given
 use Rattle.iol_app.proofs.core_data.Core.turn.Goals as goal
 
@@ -60,7 +62,12 @@ exchanged g c = record {
   few = c.exchange.ensures.passed.few;
   fits = c.exchange.ensures.passed.fits;
   stood = λ h. c.put_next.ensures.on (g.W.Wire.facts.far c.args.wire.now)
-      (g.W.Wire.facts.silence c.args.wire.now) (c.requires.stands h);
+      (g.W.Wire.facts.silence c.args.wire.now) (c.requires.stands (
+        h.0,
+        subst (λ (k : Configuration). SeesPulses k.devices (g.W.Wire.facts.far c.args.wire.now))
+            (sent_devices c.args.self.now c.put_next.new.self c.args.room
+            c.put_next.ensures.sent) h.1,
+      ));
   gives = c.exchange.ensures.passed.gives;
   is = c.exchange.ensures.passed.is;
   said_is = c.exchange.ensures.passed.said_is;
@@ -79,6 +86,13 @@ returns-then-put_next-clause-turn g c =
     c.exchange.new.said c.args.self.now c.put_next.new.self c.exchange.new.self (fitting g c)
     (joined g c)
     c.put_next.ensures.sent (is_out g c).0 c.requires.stands (exchanged g c)
+
+pub returns-then-put_next-clause-stands : goal.returns-then-put_next-clause-stands
+unfolding exchanged
+returns-then-put_next-clause-stands g c =
+    exchange_stands g.W.Wire.facts c.args.wire.now c.exchange.new.wire c.args.room
+    c.exchange.new.said c.page_and_room_stay.ensures.much c.put_next.new.self c.exchange.new.self
+    (exchanged g c) (is_out g c).0 c.exchange.ensures.passed.on
 
 pub returns-then-put_next-clause-request : goal.returns-then-put_next-clause-request
 returns-then-put_next-clause-request g c = grind (arith, common_steps, sent_current)
@@ -158,3 +172,31 @@ returns-else-put_next-clause-exact g c =
     same c.take_wake.ensures.core)
     c.wake-rate.ensures.wakes c.wake-rate.ensures.honesty c.wake-rate.ensures.quiet
     c.wake-rate.ensures.gives out.1 c.of_wake.ensures
+
+pub returns-else-put_next-clause-turn : goal.returns-else-put_next-clause-turn
+returns-else-put_next-clause-turn g c =
+    let mid : Core = c.put_next.new.self in
+    let out : IsOut false (asked_in c.args.self.now.state c.args.self.now.session c.args.room)
+    mid.state =
+    subst (λ (is : Bool). IsOut is (asked_in c.args.self.now.state c.args.self.now.session
+    c.args.room) mid.state) c.if-put_next.false c.put_next.ensures.out in
+    let same : mid ≡ c.args.self.now =
+    sent_down c.args.self.now mid c.args.room c.put_next.ensures.sent out.0 in
+    wake_is_turn g.W.Wire.facts c.args.wire.now c.wake-rate.new.self c.args.room c.args.said.now
+    c.args.self.now c.take_wake.new.self c.wake-rate.result
+    (subst (λ (k : Core). IsDown k.state) same out.0)
+    (subst (λ (k : Core). Joined k.state k.session) same c.take_wake.ensures.still)
+    c.requires.idle
+    (subst (λ (k : Core). WakeStands k.session.configuration.devices
+    (is_some c.wake-rate.result)) same c.take_wake.ensures.stands)
+    (subst (λ (k : Core). c.take_wake.new.self ≡ after_wake (is_some c.wake-rate.result) k.session)
+    same c.take_wake.ensures.core)
+    c.wake-rate.ensures.wakes c.wake-rate.ensures.honesty c.wake-rate.ensures.quiet
+    c.wake-rate.ensures.gives
+
+pub returns-else-put_next-clause-stands : goal.returns-else-put_next-clause-stands
+returns-else-put_next-clause-stands g c =
+    wake_stands g.W.Wire.facts c.args.wire.now c.wake-rate.new.self c.args.room c.args.said.now
+    c.page_and_room_stay.ensures.much c.put_next.new.self c.take_wake.new.self c.wake-rate.result
+    c.take_wake.ensures.stands c.take_wake.ensures.core c.wake-rate.ensures.wakes
+    c.wake-rate.ensures.honesty c.wake-rate.ensures.quiet

@@ -4,4 +4,4 @@ use Rattle.iol_port.proofs.port.Port.collect.Goals as goal
 
 pub invariant_of-self : goal.invariant_of-self
 invariant_of-self g c = call_kept g.W.Wire.facts c.self.invariant c.collect.ensures.does
-    (stays c.collect.ensures.gives.rest refl refl)
+    (stays c.collect.ensures.gives.rest refl refl refl)

@@ -4,4 +4,4 @@ use Rattle.iol_port.proofs.port.Port.set_cycle.Goals as goal
 
 pub invariant_of-self : goal.invariant_of-self
 invariant_of-self g c = call_kept g.W.Wire.facts c.self.invariant c.set_cycle.ensures.does
-    (stays c.set_cycle.ensures.gives.paces refl refl)
+    (stays c.set_cycle.ensures.gives.paces refl refl refl)

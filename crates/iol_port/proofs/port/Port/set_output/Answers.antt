@@ -6,4 +6,4 @@ pub invariant_of-self : goal.invariant_of-self
 invariant_of-self g c =
     let gives = c.set_output.ensures.gives in
     call_kept g.W.Wire.facts c.self.invariant c.set_output.ensures.does
-    (stays_by _ c.set_output.result gives.wanted gives.unchanged refl refl)
+    (stays_by _ c.set_output.result gives.wanted gives.unchanged refl refl refl)

@@ -1,13 +1,17 @@
 -- What comes back goes to the book and to the kept events, and is one piece of a run.
-use Rattle.std.proofs.Common.{◌≡◌, ◌∙◌, true, false, refl, ap, inl}
+use Rattle.std.proofs.Common.{◌≡◌, ◌∙◌, ◌++◌, List, true, false, refl, ap, inl}
 use Rattle.iol_far.specs.Octets.{octets_in}
 use Rattle.iol_app.specs.declared.brought.Brought.{Brought}
 use Rattle.iol_app.specs.Core.{Core, came_of}
+use Rattle.iol_mode.specs.States.{is_reset}
+use Rattle.iol_steps.specs.Step.{Step, resets, book_said}
 use Rattle.iol_port.specs.Counters.{call_counted, said_counted}
+use Rattle.iol_port.specs.Steps.{book_through}
 use Rattle.iol_port.specs.View.{Parts}
 use Rattle.iol_port.specs.CorePort.{awaited, bare}
-use Rattle.iol_port.proofs.CorePorts.{reply_out, receive_does}
+use Rattle.iol_port.proofs.CorePorts.{reply_out, receive_does, reset_told}
 use Rattle.iol_port.proofs.TieLemmas.{turn_tied, settled_limit}
+use Rattle.iol_port.proofs.port_core.PortCore.receive.Given as given
 use Rattle.iol_port.proofs.port_core.PortCore.receive.Goals as goal
 
 pub invariant_of-self : goal.invariant_of-self
@@ -20,13 +24,26 @@ invariant_of-self g c =
       counters = c.self.inside.counters;
     } in
     turn_tied p p.station (bare c.receive-brought.new.self) p.book.state c.settle.new.kept.items
-    c.settle.new.book false false c.receive-brought.new.said c.self.invariant (inl (refl, refl))
+    c.settle.new.book c.resets-reset.result false c.receive-brought.new.said c.self.invariant
+    (inl (refl, refl))
     (ap (λ (k : Core). k.session.limit) c.receive-brought.ensures.core
     ∙ settled_limit (came_of c.self.inside.core (octets_in c.args.came.now))
     c.self.inside.core.session)
     c.receive-brought.ensures.request c.receive-brought.ensures.reading
     (λ room. absurd (let k : false ≡ true = room in cc)) c.settle.ensures.book
     c.settle.ensures.kept
+
+-- the book heard of a reset where both cores say so
+book_is : (g : given.Over) (c : goal.After-settle g) → c.settle.new.book.state
+    ≡ book_through
+    (resets (is_reset c.self.inside.core.state) (is_reset c.receive-brought.new.self.state)
+    ++ book_said c.receive-brought.new.said) c.self.inside.book.state
+book_is g c = c.settle.ensures.book
+    ∙ ap (λ (l : List Step). book_through (l ++ book_said c.receive-brought.new.said)
+    c.self.inside.book.state)
+    (reset_told c.resets-reset.result c.is_reset-began.result c.is_reset.result
+    c.self.inside.core.state c.receive-brought.new.self.state c.is_reset-began.ensures
+    c.is_reset.ensures c.resets-reset.ensures)
 
 pub returns-clause-gives : goal.returns-clause-gives
 returns-clause-gives g c =
@@ -35,7 +52,7 @@ returns-clause-gives g c =
       said = c.receive-brought.new.said;
       core = c.receive-brought.ensures.core;
       said_is = c.receive-brought.ensures.said;
-      book = c.settle.ensures.book;
+      book = book_is g c;
       memory = c.settle.ensures.memory;
       kept = c.settle.ensures.kept;
       sent = refl;
@@ -56,5 +73,5 @@ returns-clause-does g c =
     } in
     let out = reply_out p c.self.invariant (ap awaited c.self.view_is ∙ c.requires) in
     rw (← c.self.view_is) (receive_does p _ (octets_in c.args.came.now)
-    c.receive-brought.new.said out.0 out.1 c.receive-brought.ensures.steps refl
-    c.settle.ensures.book c.settle.ensures.kept)
+    c.receive-brought.new.said out.0 c.receive-brought.ensures.steps refl (book_is g c)
+    c.settle.ensures.kept)

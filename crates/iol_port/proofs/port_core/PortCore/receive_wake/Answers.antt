@@ -1,14 +1,18 @@
 -- What a wake brought is one piece of a run.
-use Rattle.std.proofs.Common.{◌≡◌, ◌∙◌, Bool, true, false, List, [], refl, ap, inl, append-nil, cond, ◌∷◌}
+use Rattle.std.proofs.Common.{◌≡◌, ◌∙◌, true, false, List, [], refl, ap, inl, append-nil, cond, ◌∷◌}
 use Rattle.std.specs.Prelude.{is_some}
-use Rattle.iol_steps.specs.Step.{Step, Reset}
+use Rattle.iol_mode.specs.States.{is_reset}
+use Rattle.iol_steps.specs.Step.{Step, Reset, resets}
 use Rattle.iol_steps.specs.declared.said.Said.TheVariants.{Idle}
+use Rattle.iol_app.specs.declared.brought.Brought.{Brought}
 use Rattle.iol_app.specs.Core.{Core}
+use Rattle.iol_port.specs.Counters.{call_counted}
 use Rattle.iol_port.specs.Steps.{book_through}
 use Rattle.iol_port.specs.View.{Parts}
 use Rattle.iol_port.specs.CorePort.{awaited, bare}
-use Rattle.iol_port.proofs.CorePorts.{wake_out, wake_does}
+use Rattle.iol_port.proofs.CorePorts.{wake_out, wake_does, reset_told}
 use Rattle.iol_port.proofs.TieLemmas.{turn_tied, woken_limit}
+use Rattle.iol_port.proofs.port_core.PortCore.receive_wake.Given as given
 use Rattle.iol_port.proofs.port_core.PortCore.receive_wake.Goals as goal
 
 pub invariant_of-self : goal.invariant_of-self
@@ -21,12 +25,37 @@ invariant_of-self g c =
       counters = c.self.inside.counters;
     } in
     turn_tied p p.station (bare c.receive_wake.new.self) p.book.state c.settle.new.kept.items
-    c.settle.new.book c.is_some.result false Idle c.self.invariant (inl (refl, refl))
+    c.settle.new.book c.resets-reset.result false Idle c.self.invariant (inl (refl, refl))
     (ap (λ (k : Core). k.session.limit) c.receive_wake.ensures.core
     ∙ woken_limit (is_some c.args.rate) c.self.inside.core.session)
     c.receive_wake.ensures.request c.receive_wake.ensures.reading
     (λ room. absurd (let k : false ≡ true = room in cc)) c.settle.ensures.book
     c.settle.ensures.kept
+
+-- the book heard of a reset where both cores say so
+book_is : (g : given.Over) (c : goal.After-settle g) → c.settle.new.book.state
+    ≡ book_through
+    (resets (is_reset c.self.inside.core.state) (is_reset c.receive_wake.new.self.state))
+    c.self.inside.book.state
+book_is g c = c.settle.ensures.book
+    ∙ ap (λ (l : List Step). book_through l c.self.inside.book.state)
+    (append-nil (cond c.resets-reset.result (Reset ∷ []) [])
+    ∙ reset_told c.resets-reset.result c.is_reset-began.result c.is_reset.result
+    c.self.inside.core.state c.receive_wake.new.self.state c.is_reset-began.ensures
+    c.is_reset.ensures c.resets-reset.ensures)
+
+pub returns-clause-gives : goal.returns-clause-gives
+returns-clause-gives g c =
+    rw (← c.self.view_is)
+    (record {
+      core = c.receive_wake.ensures.core;
+      book = book_is g c;
+      memory = c.settle.ensures.memory;
+      kept = c.settle.ensures.kept;
+      sent = refl;
+      counters = c.turned.ensures
+          ∙ ap (λ (b : Brought). call_counted b c.self.inside.counters) c.of_wake.ensures;
+    })
 
 pub returns-clause-does : goal.returns-clause-does
 returns-clause-does g c =
@@ -38,11 +67,5 @@ returns-clause-does g c =
       counters = c.self.inside.counters;
     } in
     let out = wake_out p (ap awaited c.self.view_is ∙ c.requires) in
-    let book : c.settle.new.book.state
-    ≡ book_through (cond (is_some c.args.rate) (Reset ∷ []) []) p.book.state =
-    c.settle.ensures.book ∙ ap (λ (l : List Step). book_through l p.book.state)
-    (append-nil (cond c.is_some.result (Reset ∷ []) []))
-    ∙ ap (λ (w : Bool). book_through (cond w (Reset ∷ []) []) p.book.state)
-    c.is_some.ensures in
-    rw (← c.self.view_is) (wake_does p _ (is_some c.args.rate) out.0 out.1
-    c.receive_wake.ensures.steps c.receive_wake.ensures.core refl book c.settle.ensures.kept)
+    rw (← c.self.view_is) (wake_does p _ (is_some c.args.rate) out.0
+    c.receive_wake.ensures.steps refl (book_is g c) c.settle.ensures.kept)

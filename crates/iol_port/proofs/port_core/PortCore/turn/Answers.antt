@@ -1,10 +1,11 @@
 -- A turn of a port: what goes out, one call of the wire, and what is made of what came.
 use Rattle.std.proofs.Common.{◌≡◌, Bool, ◌&&◌, Option, false, ap, sym, ◌∙◌, cond, ◌∷◌, [], ◌++◌, arith}
 use Rattle.std.proofs.lemmas.Grind.{common_steps}
-use Rattle.iol_steps.specs.Step.{Reset, woke_up, book_said}
+use Rattle.iol_steps.specs.Step.{Reset, resets, book_said}
+use Rattle.iol_mode.specs.States.{is_reset}
 use Rattle.iol_app.specs.Core.{Core}
 use Rattle.iol_app.specs.Due.{is_ready}
-use Rattle.iol_app.specs.StationState.{StationState, mode_of, is_operating, operates}
+use Rattle.iol_app.specs.StationState.{StationState, is_operating, operates}
 use Rattle.iol_app.specs.Asking.{prepared}
 use Rattle.iol_app.specs.Seen.{station_of}
 use Rattle.iol_isdu.specs.declared.values.Request.{Request}
@@ -19,7 +20,7 @@ use Rattle.iol_port.proofs.CorePorts.{begins_over, takes_over}
 use Rattle.iol_port.proofs.Denying.{turn_denies}
 use Rattle.iol_port.proofs.TieLemmas.{begun_same, ends_ask, turn_tied, turn_limit}
 use Rattle.iol_port.proofs.TurnLemmas.{turn_does, turn_gives_none}
-use Rattle.iol_port.proofs.CleanTurns.{clean_turn, none_woke}
+use Rattle.iol_port.proofs.CleanTurns.{clean_turn, none_reset}
 use Rattle.iol_port.proofs.port_core.PortCore.turn.Given as given
 use Rattle.iol_port.proofs.port_core.PortCore.turn.Goals as goal
 
@@ -82,7 +83,7 @@ returns-clause-does g c =
           (mid g c) c.begin_next.new.book.state (free g c) (free g c) (begins g c)
           c.turn-brought.ensures.steps (cc) c.settle.ensures.kept;
       book = turn_gives_none _ _ _ _ _
-          (cond c.woke_up-woke.result (Reset ∷ []) [] ++ book_said c.turn-brought.new.said)
+          (cond c.resets-reset.result (Reset ∷ []) [] ++ book_said c.turn-brought.new.said)
           (begins g c) c.settle.ensures.book;
     })
 
@@ -91,13 +92,13 @@ returns-clause-clean g c =
     rw (← c.self.view_is)
     (clean_turn g.W.Wire.facts c.clean_laws.ensures g.met.W.Wire.clean_exchanges (before g c)
     (after g c)
-    (mid g c) c.begin_next.new.book.state _ c.woke_up-woke.result c.turn-brought.new.said
+    (mid g c) c.begin_next.new.book.state _ c.resets-reset.result c.turn-brought.new.said
     (begins g c)
     (takes_over c.args.wire.now c.has_room-room.result c.self.inside.core c.begin_next.new.core
     c.self.inside.book.state c.begin_next.new.book.state c.begin_next.ensures.takes)
     c.turn-brought.ensures.turn c.self.invariant.busy
-    (none_woke g.W.Wire.facts (mid g c).link _ _ c.woke_up-woke.result
-    c.status-began.ensures.mode c.woke_up-woke.ensures)
+    (none_reset g.W.Wire.facts (mid g c).link _ _ c.resets-reset.result
+    c.is_reset-began.ensures c.resets-reset.ensures)
     c.settle.ensures.book)
 
 pub returns-clause-gives : goal.returns-clause-gives
@@ -119,11 +120,11 @@ returns-clause-gives g c =
           c.turn-brought.ensures.exact;
       book = c.settle.ensures.book
           ∙ book_told p.station (mid g c) (after g c).station next c.has_room-room.result
-          c.woke_up-woke.result c.status-began.result.mode c.status.result.mode
+          c.resets-reset.result c.is_reset-began.result c.is_reset.result
           c.turn-brought.new.said c.begin_next.new.book.state
-          exact c.status-began.ensures.mode c.status.ensures.mode c.woke_up-woke.ensures
+          exact c.is_reset-began.ensures c.is_reset.ensures c.resets-reset.ensures
           ∙ ap (λ (b : BookState). book_through
-          (woke_up (mode_of p.station.link) (mode_of (after g c).station.link)
+          (resets (is_reset p.station.link.state) (is_reset (after g c).station.link.state)
           ++ book_said c.turn-brought.new.said) b)
           (c.begin_next.ensures.taken ∙ ap
           (λ (r : Bool). taken_where (operates p.station.link.state
@@ -133,14 +134,14 @@ returns-clause-gives g c =
       kept = c.settle.ensures.kept;
       counters = c.turned.ensures;
       denies = λ ticket has. turn_denies p (after g c)
-          c.begin_next.new.book.state c.woke_up-woke.result c.turn-brought.new.said
+          c.begin_next.new.book.state c.resets-reset.result c.turn-brought.new.said
           (ends_ask _ _ _ (begun_same _ _ _ _ c.begin_next.ensures.next c.self.invariant.same)
           c.turn-brought.ensures.ends)
           c.settle.ensures.book ticket has
           (is_operating p.station.link && is_ready p.station.session c.has_room-room.result)
           c.begin_next.ensures.taken
-          (λ ready. none_woke facts (mid g c).link _ _ c.woke_up-woke.result
-          c.status-began.ensures.mode c.woke_up-woke.ensures
+          (λ ready. none_reset facts (mid g c).link _ _ c.resets-reset.result
+          c.is_reset-began.ensures c.resets-reset.ensures
           (ap (λ (s : StationState g.row.W.Denot). is_operating s.link) exact
           ∙ (grind (arith, common_steps))));
     })

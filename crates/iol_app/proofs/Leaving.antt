@@ -1,0 +1,464 @@
+-- An exchange of a start-up whose device wasn't reset yet: DeviceStartup is out, or behind it the
+-- read of the page's first octet.
+use Rattle.std.proofs.Common.{◌≡◌, ◌≢◌, ℕ, ◌+◌, ◌≤◌, min, Bool, true, false, List, [], ◌∷◌, ◌++◌, length, slice_index, refl, sym, ◌∙◌, ap, subst, arith}
+use Rattle.std.proofs.lemmas.Grind.{common_steps}
+use Rattle.std.proofs.lemmas.Bool.Decides.{nat_tests}
+use Rattle.std.specs.Prelude.{Option, Some, None, IfSome, ◌==◌, if◌then◌else◌, ◌&&◌, nat_lt}
+use Rattle.iol_mseq.specs.Shape.{Shape, IsLayout, startup_shape}
+use Rattle.iol_mseq.specs.Texts.{master_text}
+use Rattle.iol_mseq.specs.Replies.{reply_in}
+use Rattle.iol_mseq.specs.declared.master.MasterMsg.{MasterMsg}
+use Rattle.iol_mseq.specs.declared.reply.Reply.{Reply}
+use Rattle.iol_event.specs.declared.event.Event.{Event}
+use Rattle.iol_far.specs.declared.mode.Mode.TheVariants.{Startup as FarStartup, Operate as FarOperate}
+use Rattle.iol_far.specs.Isdu.{IsduState, Empty}
+use Rattle.iol_far.specs.Codec.{message_in, octets_of}
+use Rattle.iol_far.specs.Far.{Far, WaitingCommand, layout_of, accepted, heard_as, worked, reply_to, output_of, is_mode}
+use Rattle.iol_far.specs.Local.{locals}
+use Rattle.iol_far.specs.Level.{Link}
+use Rattle.iol_far.specs.Linked.{TextsAreHeard, IsAt}
+use Rattle.iol_far.specs.Laws.{IsSized, confirms as octets_confirm}
+use Rattle.iol_far.specs.Orderly.{IsOrderly, IsToPage, OrderlyLaws}
+use Rattle.iol_link.specs.declared.handler.Attempt.TheVariants.{Again, Lost as WasLost}
+use Rattle.iol_link.specs.Attempts.{good_reply}
+use Rattle.iol_link.specs.Honest.{Passage, OutLost, BackLost, Clean, IsUnread, IsAnswer, HonestExchange, far_after, brought, silence_after}
+use Rattle.iol_mode.specs.declared.configuration.Devices.{Devices}
+use Rattle.iol_mode.specs.declared.configuration.Devices.TheVariants.{Own, Any}
+use Rattle.iol_mode.specs.declared.states.Startup.{Startup}
+use Rattle.iol_mode.specs.declared.states.Told.{Told}
+use Rattle.iol_mode.specs.declared.states.Step.{Step as PageStep}
+use Rattle.iol_mode.specs.declared.states.Step.TheVariants.{Reset as Leaves, First, Read, Ident, Leave, Cycle, Enter}
+use Rattle.iol_mode.specs.declared.states.State.TheVariants.{Down as AtDown, Startup as AtStartup}
+use Rattle.iol_mode.specs.declared.why.Why.TheVariants.{Lost}
+use Rattle.iol_mode.specs.Next.{read_by}
+use Rattle.iol_mode.specs.Stands.{startup_link, StepLevel, StartupStands, StateStands}
+use Rattle.iol_mode.specs.States.{Outcome, InStartup, OutcomeFits, StartupFits, StateFits, step_message, state_of, is_behind, begun, step_after, startup_by, startup_turned, lost}
+use Rattle.iol_mode.specs.Turns.{IsRisen}
+use Rattle.iol_mode.specs.Exchanges.{text_out, judged}
+use Rattle.iol_mode.specs.Messages.{unsent}
+use Rattle.iol_steps.specs.declared.mode.Mode.TheVariants.{Startup as ModeStartup, Down as ModeDown, Operate as ModeOperate}
+use Rattle.iol_steps.specs.declared.said.Said.TheVariants.{Idle}
+use Rattle.iol_steps.specs.Step.{Reset, Move as MoveTo, Exchanged, silence_by, resets}
+use Rattle.iol_steps.specs.Session.{MayReset}
+use Rattle.iol_steps.specs.FrozenEvents.{untold}
+use Rattle.iol_steps.specs.Bridge.{IsOpen}
+use Rattle.iol_steps.specs.Station.{frozen_of, images_of}
+use Rattle.iol_steps.specs.Station as steps
+use Rattle.iol_app.proofs.Given.{Laws, sees_kept, sized_locals}
+use Rattle.iol_app.proofs.Orderly.{orderly_locals, alike_sent}
+use Rattle.iol_app.proofs.Effects.{Effect, passed_effect, gives}
+use Rattle.iol_app.proofs.FirstOctet.{confirms_of}
+use Rattle.iol_app.proofs.StartMessages.{step_channel, page_confirms}
+use Rattle.iol_app.proofs.SmallFacts.{third_time}
+use Rattle.iol_app.proofs.Told.{told_exchange}
+use Rattle.iol_app.proofs.FrozenPart.{FrozenRuns}
+use Rattle.arrayvec.specs.ArrayVec.{ArrayVec}
+use Rattle.iol_app.specs.Requests.{request_in}
+use Rattle.iol_app.specs.State.{SessionState, left}
+use Rattle.iol_app.specs.StationState.{IsTold, told_in}
+use Rattle.iol_app.specs.Core.{Core, Ghost, Stands, CallGives, shown_in, settled_core}
+
+startup_valid : IsLayout startup_shape
+startup_valid = record { kind = refl; od = refl; pd_in = omega arith; pd_out = omega arith }
+
+none_rests : (awake : Bool) → false ≡ (awake && false)
+none_rests awake = grind (arith, common_steps)
+
+below : ModeStartup ≢ ModeOperate
+below e = absurd (cc)
+
+may_reset : (devices : Devices) → devices ≡ Any → MayReset devices ModeStartup (Exchanged true)
+may_reset Any e = (refl, refl)
+may_reset Own e = absurd (cc)
+
+untold_of : (f : List Event) (t : Bool) → untold (frozen_of f t) ≡ frozen_of f false
+untold_of f t = grind (arith, common_steps)
+
+no_output : (far : Far) → far.valid ≡ false → output_of far ≡ None
+no_output far e =
+    ap (λ (v : Bool). if v && nat_lt 0 (length far.out) then Some far.out else None) e
+
+is_valid_not : (v : Bool) → (v ≡ true → FarStartup ≡ FarOperate) → v ≡ false
+is_valid_not true h = absurd (let z : FarStartup ≡ FarOperate = h refl in cc)
+is_valid_not false h = refl
+
+-- nothing of the page is read yet
+read_none : (step : PageStep) → is_behind step ≡ false → read_by step ≡ None
+read_none Leaves b = refl
+read_none First b = refl
+read_none (Read octets) b = absurd (cc)
+read_none (Ident told pre) b = absurd (cc)
+read_none (Leave told pre) b = absurd (cc)
+read_none (Cycle told) b = absurd (cc)
+read_none (Enter told) b = absurd (cc)
+
+orderly_of : (step : PageStep) (o : List ℕ) (tries : ℕ) (far : Far) → is_behind step ≡ false
+    → StepLevel step o tries far → IsOrderly far
+orderly_of Leaves o tries far b level = level
+orderly_of First o tries far b level = level.0
+orderly_of (Read octets) o tries far b level = absurd (cc)
+orderly_of (Ident told pre) o tries far b level = absurd (cc)
+orderly_of (Leave told pre) o tries far b level = absurd (cc)
+orderly_of (Cycle told) o tries far b level = absurd (cc)
+orderly_of (Enter told) o tries far b level = absurd (cc)
+
+module _ (laws : Laws) (leaves : OrderlyLaws) (heard : TextsAreHeard) (s : Startup)
+    (t : SessionState) (g : Ghost) (far far' : Far) (n n' : ℕ) (came : Option (List ℕ))
+    (b : is_behind s.step ≡ false)
+    (stands : Stands (record { state = AtStartup s; session = t }) g far n)
+    (x : HonestExchange far n (text_out (AtStartup s)) came far' n') where
+  abbrev c : Core
+  c = record { state = AtStartup s; session = t }
+
+  abbrev message : MasterMsg
+  message = s.sent.message
+
+  abbrev o : List ℕ
+  o = master_text startup_shape message
+
+  abbrev there : Far
+  there = locals far x.steps
+
+  to_page : IsToPage o message
+  to_page = record {
+    heard = heard startup_shape message stands.fits.parts;
+    page = ap (λ (q : MasterMsg). q.mc.channel) stands.fits.message_is
+        ∙ step_channel s.step stands.fits.step;
+  }
+
+  orderly : IsOrderly far
+  orderly = orderly_of s.step o s.sent.tries far b stands.link.level
+
+  orderly_there : IsOrderly there
+  orderly_there = orderly_locals leaves far x.steps orderly
+
+  orderly_passed : (passage : Passage) → IsOrderly (far_after passage there o)
+  orderly_passed OutLost = orderly_there
+  orderly_passed other = leaves.hears there o message to_page orderly_there
+
+  unconfirmed : octets_confirm o ≡ false
+  unconfirmed = sym (confirms_of startup_shape o message to_page.heard)
+      ∙ page_confirms message to_page.page
+
+  abbrev passed : Far
+  passed = far_after x.passage there o
+
+  abbrev effect : Effect c g far passed
+  effect = passed_effect c g far laws (ap request_in stands.joined.0.0) stands.request.1 x.steps
+      x.passage o unconfirmed (leaves.holds there o message to_page)
+      (alike_sent leaves g.sent there o message to_page orderly_there)
+
+  told_is : effect.told ≡ false
+  unfolding passed_effect
+  told_is = (told_exchange laws.events o steps.Resting
+      (λ e. absurd (let z : false ≡ true = sym unconfirmed ∙ e in cc)) x.steps x.passage far
+      g.events.told ((λ a. tt), stands.events.1 ∙ none_rests far.awake)).1
+      ∙ sym (none_rests passed.awake)
+
+  -- Whether the silence went on
+
+  unread : (q : Option (List ℕ)) → IsUnread o q → good_reply startup_shape message q ≡ None
+  unfolding message_in
+  unread None h = refl
+  unread (Some answer) h = h startup_shape message startup_valid to_page.heard
+
+  -- what the far end answers there is a good reply
+  answers : (q : Option (Far × MasterMsg)) → accepted there o ≡ q → (reply : List ℕ)
+      → (heard_as there o q).reply ≡ Some reply
+      → good_reply startup_shape message (Some reply) ≡ None → ⊥
+  answers None e reply is bad = absurd (cc)
+  answers (Some (at, m)) e reply is bad =
+      let alike = leaves.alike there o message to_page orderly_there at m e in
+      let new : Far = worked at o m in
+      let reads : reply_in (layout_of new) m.mc.read (octets_of (reply_to new (layout_of new) m))
+      ≡ Some (reply_to new (layout_of new) m) = laws.reads new m
+      (subst IsSized (ap (λ (q : Option (Far × MasterMsg)). (heard_as there o q).far) e)
+      (laws.sized.hears there o (sized_locals laws x.steps far x.regular.sized))) in
+      let here : reply_in startup_shape message.mc.read reply
+      ≡ Some (reply_to new (layout_of new) m) =
+      ap (reply_in startup_shape message.mc.read)
+      (let z : Some reply ≡ Some (octets_of (reply_to new (layout_of new) m)) = sym is in cc)
+      ∙ ap (λ (l : Shape). reply_in l message.mc.read (octets_of (reply_to new (layout_of new) m)))
+      (sym alike.layout)
+      ∙ ap (λ (q : MasterMsg). reply_in (layout_of new) q.mc.read
+      (octets_of (reply_to new (layout_of new) m))) (sym alike.message_is) ∙ reads in
+      let k : None ≡ Some (reply_to new (layout_of new) m) = sym bad ∙ here in cc
+
+  missed : good_reply startup_shape message came ≡ None → n' ≡ min 3 (n + 1)
+  missed bad = by x.passage came x.answer_is x.silence_is bad
+    where
+      by : (passage : Passage) (q : Option (List ℕ)) → IsAnswer passage there o q
+          → n' ≡ silence_after n (brought passage there o)
+          → good_reply startup_shape message q ≡ None → n' ≡ min 3 (n + 1)
+      by OutLost q h is bad = is
+      by BackLost q h is bad = is
+      by Clean None h is bad = is ∙ ap (silence_after n) (sym h)
+      by Clean (Some reply) h is bad =
+          absurd (answers (accepted there o) refl reply (sym h) bad)
+
+  had : (r : Reply) → good_reply startup_shape message came ≡ Some r → n' ≡ 0
+  had r good = by x.passage came x.answer_is x.silence_is good
+    where
+      by : (passage : Passage) (q : Option (List ℕ)) → IsAnswer passage there o q
+          → n' ≡ silence_after n (brought passage there o)
+          → good_reply startup_shape message q ≡ Some r → n' ≡ 0
+      by OutLost q h is good = absurd (let k = sym (unread q h) ∙ good in cc)
+      by BackLost q h is good = absurd (let k = sym (unread q h) ∙ good in cc)
+      by Clean None h is good = absurd (cc)
+      by Clean (Some reply) h is good = is ∙ ap (silence_after n) (sym h)
+
+  -- The outcomes
+
+  abbrev Gives : Outcome → Type 0
+  Gives outcome = CallGives c g far n Idle (settled_core outcome t) passed n'
+
+  nothing : request_in t.current ≡ None
+  nothing = ap request_in stands.joined.0.0
+
+  no_image : t.image ≡ None
+  no_image = stands.shown.image below
+
+  abbrev kept : Ghost
+  kept = record g {
+    request = record g.request { hidden = effect.hidden };
+    events = record g.events { told = false };
+    fresh = false;
+  }
+
+  -- it goes on before the reset
+  goes : (answered : Bool) → n' ≡ silence_by (Exchanged answered) n → (next : Startup)
+      → is_behind next.step ≡ false → StartupStands next n' passed → StartupFits next
+      → Gives (InStartup next)
+  goes answered silence next before link fits =
+      subst (λ (q : Option Told). CallGives c g far n Idle
+      (record { state = AtStartup next; session = told_in q t }) passed n')
+      (sym (read_none next.step before))
+      (gives c g far passed effect n n' (Exchanged answered) []
+      (record { state = AtStartup next; session = t }) kept (record {
+        fits = tt;
+        silent = silence;
+        terms = (refl, refl, refl, refl);
+        busy = refl;
+        confirm = refl;
+        free = refl;
+        book = sym (ap (λ (was : Bool). resets was (is_behind next.step) ++ []) b
+            ∙ ap (λ (is : Bool). resets false is ++ []) before);
+        reports = refl;
+        session = (tt, refl);
+        frozen = subst (λ (q : Bool). FrozenRuns passed.events.frozen q [] passed.events.frozen
+            false) (sym told_is) (tt, refl);
+        images = (tt, refl);
+        below = below;
+        fresh = stands.fresh;
+        was_image = no_image;
+        image = no_image;
+        stands = record {
+          page = effect.page ∙ stands.page;
+          kind = effect.kind ∙ stands.kind;
+          for_it = stands.for_it;
+          sees = sees_kept t.configuration.devices far passed effect.misses stands.sees;
+          fits = fits;
+          link = link;
+          joined = (
+            stands.joined.0,
+            subst (λ (q : Option Told). IsTold q t) (sym (read_none next.step before)) tt,
+          );
+          calm = tt;
+          fresh = λ k. absurd (let z : false ≡ true = k in cc);
+          sent = stands.sent;
+          request = (
+            λ k. absurd (let z : false ≡ true = sym before ∙ k in cc),
+            effect.opens,
+            stands.request.2,
+            λ _. stands.request.3 b,
+          );
+          events = (stands.events.0, refl);
+          output = (
+            stands.output.0,
+            λ k. absurd (let z : false ≡ true = sym before ∙ k in cc),
+          );
+          shown = record {
+            image = λ e. no_image;
+            wanted = stands.shown.wanted;
+            lengths = stands.shown.lengths;
+            isdu = stands.shown.isdu;
+            present = stands.shown.present;
+            no_form = stands.shown.no_form;
+          };
+        };
+      }))
+
+  -- the link is lost
+  falls : 3 ≤ min 3 (n + 1) → n' ≡ min 3 (n + 1) → Gives lost
+  falls third silence =
+      gives c g far passed effect n n' (Exchanged false) (MoveTo ModeDown (Some Lost) ∷ [])
+      (record { state = AtDown (record { why = Some Lost }); session = left t }) kept (record {
+        fits = tt;
+        silent = silence;
+        terms = (refl, refl, refl, refl);
+        busy = refl;
+        confirm = refl;
+        free = refl;
+        book = sym (ap (λ (was : Bool). resets was false ++ []) b);
+        reports = refl;
+        session = (((third, tt), tt), rw nothing refl);
+        frozen = subst (λ (q : Bool). FrozenRuns passed.events.frozen q
+            (MoveTo ModeDown (Some Lost) ∷ []) passed.events.frozen false) (sym told_is)
+            ((tt, tt), refl);
+        images = ((tt, tt), rw no_image refl);
+        below = below;
+        fresh = stands.fresh;
+        was_image = no_image;
+        image = refl;
+        stands = record {
+          page = effect.page ∙ stands.page;
+          kind = effect.kind ∙ stands.kind;
+          for_it = stands.for_it;
+          sees = sees_kept t.configuration.devices far passed effect.misses stands.sees;
+          fits = tt;
+          link = tt;
+          joined = (refl, refl);
+          calm = tt;
+          fresh = λ k. absurd (let z : false ≡ true = k in cc);
+          sent = stands.sent;
+          request = effect.opens;
+          events = tt;
+          output = tt;
+          shown = record {
+            image = λ e. refl;
+            wanted = stands.shown.wanted;
+            lengths = stands.shown.lengths;
+            isdu = stands.shown.isdu;
+            present = stands.shown.present;
+            no_form = stands.shown.no_form;
+          };
+        };
+      })
+
+  abbrev reset : Ghost
+  reset = record g {
+    request = record g.request { hidden = record effect.hidden { late = None } };
+    events = record g.events { told = false };
+    fresh = false;
+  }
+
+  -- the page's first octet is read: the device holds nothing of before
+  reads : n' ≡ 0 → (octets : ArrayVec ℕ) → IsAt passed.page startup_link passed
+      → StateStands (state_of (begun (Read octets))) n' passed
+      → StateFits (state_of (begun (Read octets))) → Gives (begun (Read octets))
+  reads silence octets at link fits =
+      let orderly = orderly_passed x.passage in
+      let mode : passed.mode ≡ FarStartup = ap (λ (l : Link). l.mode) at.link_is in
+      let empty : passed.isdu ≡ Empty = orderly.startup mode in
+      let off : passed.valid ≡ false =
+      is_valid_not passed.valid (λ v. sym mode ∙ orderly.valid v) in
+      gives c g far passed effect n n' (Exchanged true) (Reset ∷ [])
+      (record { state = state_of (begun (Read octets)); session = t }) reset (record {
+        fits = tt;
+        silent = silence;
+        terms = (refl, refl, refl, refl);
+        busy = refl;
+        confirm = refl;
+        free = refl;
+        book = sym (ap (λ (was : Bool). resets was true ++ []) b);
+        reports = refl;
+        session = ((may_reset t.configuration.devices (stands.request.3 b), tt), rw nothing refl);
+        frozen = ((tt, tt), untold_of passed.events.frozen effect.told);
+        images = (
+          (tt, tt),
+          ap (λ (q : Option (List ℕ)).
+              record (images_of (shown_in t g.sent) passed) { output = q })
+              (sym (no_output passed off)),
+        );
+        below = below;
+        fresh = stands.fresh;
+        was_image = no_image;
+        image = no_image;
+        stands = record {
+          page = effect.page ∙ stands.page;
+          kind = effect.kind ∙ stands.kind;
+          for_it = stands.for_it;
+          sees = sees_kept t.configuration.devices far passed effect.misses stands.sees;
+          fits = fits;
+          link = link;
+          joined = (stands.joined.0, tt);
+          calm = tt;
+          fresh = λ k. absurd (let z : false ≡ true = k in cc);
+          sent = stands.sent;
+          request = (
+            λ _. refl,
+            subst (λ (q : IsduState). IsOpen q None reset.request.hidden) (sym empty) tt,
+            stands.request.2,
+            λ k. absurd (let z : true ≡ false = k in cc),
+          );
+          events = (stands.events.0, refl);
+          output = (
+            stands.output.0,
+            λ _. record {
+              untold = stands.output.0;
+              off = λ a. off;
+              waits = subst (λ (w : Option WaitingCommand). IfSome w
+                  (λ command. is_mode passed.mode command.into ≡ false))
+                  (sym (ap (λ (l : Link). l.waits) at.link_is)) tt;
+            },
+          );
+          shown = record {
+            image = λ e. no_image;
+            wanted = stands.shown.wanted;
+            lengths = stands.shown.lengths;
+            isdu = stands.shown.isdu;
+            present = stands.shown.present;
+            no_form = stands.shown.no_form;
+          };
+        };
+      })
+
+  -- What comes back
+
+  here : (outcome : Outcome) → StateStands (state_of outcome) n' far'
+      → StateStands (state_of outcome) n' passed
+  here outcome = subst (λ (f : Far). StateStands (state_of outcome) n' f) x.far_is
+
+  by_tries : (two : Bool) → (s.sent.tries == 2) ≡ two → n' ≡ min 3 (n + 1)
+      → let outcome : Outcome = startup_by t.configuration
+      (record { message = message; tries = if two then 0 else s.sent.tries + 1 }) s.step
+      (if two then WasLost else Again) in
+      IsRisen (is_behind s.step) outcome n' far far' → OutcomeFits outcome → Gives outcome
+  by_tries true two silence risen fits =
+      falls (third_time s.sent.tries n (grind (arith, nat_tests)) stands.link.tries) silence
+  by_tries false two silence risen fits = goes false silence
+      (record {
+        sent = record { message = message; tries = s.sent.tries + 1 };
+        step = s.step;
+      }) b (here (startup_by t.configuration
+      (record { message = message; tries = s.sent.tries + 1 }) s.step Again) risen.both.stands) fits
+
+  by_step : (step : PageStep) → is_behind step ≡ false → (r : Reply) → n' ≡ 0
+      → IsRisen (is_behind step) (step_after t.configuration step r) n' far far'
+      → OutcomeFits (step_after t.configuration step r) → Gives (step_after t.configuration step r)
+  by_step Leaves before r silence risen fits = goes true silence
+      (record { sent = unsent (step_message First); step = First }) refl
+      (here (begun First) risen.both.stands) fits
+  by_step First before r silence risen fits = reads silence
+      (record { items = slice_index r.od.items 0 ∷ [] })
+      (subst (λ (f : Far). IsAt f.page startup_link f) x.far_is (risen.both.met refl))
+      (here (begun (Read (record { items = slice_index r.od.items 0 ∷ [] })))
+      risen.both.stands) fits
+  by_step (Read octets) before r silence risen fits = absurd (cc)
+  by_step (Ident told pre) before r silence risen fits = absurd (cc)
+  by_step (Leave told pre) before r silence risen fits = absurd (cc)
+  by_step (Cycle told) before r silence risen fits = absurd (cc)
+  by_step (Enter told) before r silence risen fits = absurd (cc)
+
+  by_reply : (q : Option Reply) → good_reply startup_shape message came ≡ q
+      → let outcome : Outcome = startup_turned t.configuration s q in
+      IsRisen (is_behind s.step) outcome n' far far' → OutcomeFits outcome → Gives outcome
+  by_reply None bad risen fits = by_tries (s.sent.tries == 2) refl (missed bad) risen fits
+  by_reply (Some r) good risen fits = by_step s.step b r (had r good) risen fits
+
+  pub leaving_rises : let outcome : Outcome = judged t.configuration (AtStartup s) came in
+      IsRisen (is_behind s.step) outcome n' far far' → OutcomeFits outcome
+      → CallGives c g far n Idle (settled_core outcome t) far' n'
+  leaving_rises risen fits = subst (λ (f : Far). CallGives c g far n Idle
+      (settled_core (judged t.configuration (AtStartup s) came) t) f n') (sym x.far_is)
+      (by_reply (good_reply startup_shape message came) refl risen fits)
