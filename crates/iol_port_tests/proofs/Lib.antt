@@ -1,2 +1,3 @@
 mod FirstApp
 mod MeetLemmas
+mod MissedPulse

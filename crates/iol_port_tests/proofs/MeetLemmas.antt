@@ -1,5 +1,5 @@
 -- An exchange with a device that is there, on a line that loses, is an honest one.
-use Rattle.std.proofs.Common.{◌≡◌, refl, ◌∙◌, ap, Bool, true, false, List, [], ◌∷◌, ℕ, Option, Some, None, IsTrue}
+use Rattle.std.proofs.Common.{◌≡◌, inl, refl, ◌∙◌, ap, Bool, true, false, List, [], ◌∷◌, ℕ, Option, Some, None, IsTrue}
 use Rattle.std.specs.Prelude.{MatchBool}
 use Rattle.iol_isdu.specs.declared.values.Request.{Request}
 use Rattle.iol_isdu.specs.declared.values.Answer.{Answer}
@@ -29,12 +29,12 @@ module _ {P : Type 0} (gives : Gives P) (old : Far) (before : P) (worked : Far) 
   pub woken_is_honest : (new : Far) → new ≡ woken worked → HonestWake old true new
   woken_is_honest new woke =
       let made = own_steps gives (handed old.isdu) old before worked after work in
-      record {
+      inl (record {
         steps = made.0;
         wakes = true;
         far_is = woke ∙ ap woken made.1;
         answered_is = λ e. e;
-      }
+      })
 
   pub passed_is_honest : (sent : List ℕ) (answer : Option (List ℕ)) (new : Far) (silence : ℕ)
       → IsRegular old → new ≡ (hear worked sent).far → answer ≡ (hear worked sent).reply

@@ -5,9 +5,11 @@ ghost use Rattle.iol_device.specs.App.{Follows};
 ghost use Rattle.iol_sim.specs.Params.{AnsweredBy};
 ghost use Rattle.iol_sim.specs.Script.{AreThose};
 ghost use Rattle.iol_sim.specs.Sim.{devices_of};
+ghost use Rattle.iol_port_tests.specs.MissedPulse.{PulsesAreMissed};
 
 use iol_cell::Handle;
 use iol_device::App;
+use iol_far::texts_are_heard;
 use iol_port::Port;
 use iol_sim::{Params, Sim};
 use std::alloc::Allocator;
@@ -55,4 +57,15 @@ pub fn record_is_answered_by_the_first_params<B: Allocator + Copy, A: Handle>(
 {
     port.keeps_record();
     port.wire().record_is_answered_by_params();
+}
+
+/// A law of the definitions, without code: a lossy line may have a device that answers a wake whose
+/// pulse it missed, and then has the request still that it was handed before.
+///
+/// Rule WIRE-3.
+#[tactic(auto, using(crate::proofs::MissedPulse::pulses_are_missed))]
+pub fn pulses_are_missed()
+    ensures { PulsesAreMissed }
+{
+    texts_are_heard();
 }

@@ -4,7 +4,7 @@
 //!
 //! What a port answers to what goes in is in `tests/rows`. Beside the tests this crate has
 //! the laws of a port over a simulated wire that need both: whose application answered the
-//! record's requests.
+//! record's requests. And the law that a wake may be answered without a reset.
 //!
 //! A test makes a wire, and hands it to functions that are generic over it: what is asked of a port
 //! over a known wire takes the prover longer.
@@ -12,7 +12,9 @@
 
 mod laws;
 
-pub use laws::{first_app_follows_record, record_is_answered_by_the_first_params};
+pub use laws::{
+    first_app_follows_record, pulses_are_missed, record_is_answered_by_the_first_params,
+};
 
 #[cfg(test)]
 mod answers;
