@@ -1,6 +1,6 @@
 -- The layouts of a page.
 use Rattle.std.proofs.Common.{◌≡◌, ℕ, ◌≤◌, List, refl, arith}
-use Rattle.std.specs.Prelude.{IsTrue, IfOk, IfSome, Option, Some, None, unwrap_or, Result, Ok, Err}
+use Rattle.std.specs.Prelude.{IsTrue, IfOk, IfSome, Option, unwrap_or, Result, Ok, Err}
 use Rattle.std.proofs.lemmas.Grind.{common_steps}
 use Rattle.iol_mseq.specs.Shape.{Shape, IsLayout, is_size, startup_shape}
 use Rattle.iol_page.specs.Page.{layouts_of, IsPlain, IsAskedBy, PagesAskForLayouts}
@@ -19,8 +19,7 @@ startup_is = record { kind = refl; od = refl; pd_in = omega arith; pd_out = omeg
 
 -- the layout of PREOPERATE, STARTUP's where there is none, has no process data
 pre_plain : (pre : Option Shape) → IfSome pre IsPlain → IsPlain (unwrap_or pre startup_shape)
-pre_plain None h = record { valid = startup_is; pd_in = refl; pd_out = refl }
-pre_plain (Some pre) h = h
+pre_plain pre given = grind (arith, common_steps)
 
 by_mode : (page : List ℕ) (mode : Mode) (asked : Result Layouts PageFault)
     → IfOk asked (IsAskedBy page) → IsLayout (layout_by mode asked)

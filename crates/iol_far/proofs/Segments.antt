@@ -1,37 +1,21 @@
 -- What the segments of a request make of the ISDU state, from what they make of a text.
-use Rattle.std.proofs.Common.{◌≡◌, ℕ, ◌≤◌, Bool, true, false, ◌&&◌, [], length, refl, sym, ◌∙◌, ap, arith}
-use Rattle.std.specs.Prelude.{Some, IsTrue, nat_le}
+use Rattle.std.proofs.Common.{◌≡◌, ℕ, [], sym, ◌∙◌, ap, arith}
+use Rattle.std.specs.Prelude.{Some, IsTrue}
 use Rattle.std.proofs.lemmas.Bool.Decides.{nat_tests}
 use Rattle.std.proofs.lemmas.Grind.{common_steps}
 use Rattle.std.proofs.lemmas.List.{append-nil}
 use Rattle.iol_isdu.specs.declared.values.Request.{Request}
 use Rattle.iol_isdu.specs.declared.values.Answer.{Answer}
-use Rattle.iol_isdu.specs.declared.values.Answer.TheVariants.{Read, Written, Refused}
-use Rattle.iol_isdu.specs.Answers.{is_read, AnswersKind, answer_body}
+use Rattle.iol_isdu.specs.Answers.{is_read}
 use Rattle.iol_isdu.specs.Texts.{IsRequest, FitsAnswer, request_text}
 use Rattle.iol_isdu.specs.Parse.{request_of}
 use Rattle.iol_segment.specs.TextLaws.{TextLaws, joined}
-use Rattle.iol_far.specs.Isdu.{received_at, completed, is_kind, fits}
+use Rattle.iol_far.specs.Isdu.{received_at, completed, fits}
 use Rattle.iol_far.specs.SegmentLaws.{SegmentLaws}
-
-kind_fits : (read : Bool) (a : Answer) → is_kind read a ≡ true → AnswersKind read a
-kind_fits read (Read octets) e = e
-kind_fits true Written e = absurd (let k : false ≡ true = e in cc)
-kind_fits false Written e = refl
-kind_fits read (Refused error additional) e = tt
-
-both : (a b : Bool) → IsTrue (a && b) → (a ≡ true) × (b ≡ true)
-both a b given = grind (arith, common_steps)
 
 -- an answer that fits is one that the type holds
 answer_fits : (r : Request) (a : Answer) → IsTrue (fits r a) → FitsAnswer (is_read r) a
-answer_fits r a h =
-    let k = both (is_kind (is_read r) a) (nat_le (length (answer_body a)) 232) h in
-    record {
-      kind = kind_fits (is_read r) a k.0;
-      fits = (let e : nat_le (length (answer_body a)) 232 ≡ true = k.1 in
-          let m : length (answer_body a) ≤ 232 = grind (arith, nat_tests, common_steps) in m);
-    }
+answer_fits r a given = grind (arith, nat_tests, common_steps)
 
 found : (size : ℕ) → TextLaws size → (r : Request) → IsRequest r
     → request_of (request_text r) ≡ Some r

@@ -1,6 +1,6 @@
 -- What hearing a message leaves of a request at the far end, whatever its kind.
-use Rattle.std.proofs.Common.{◌≡◌, ◌⊎◌, inl, inr, ℕ, suc, ◌+◌, ◌*◌, ◌%◌, ◌<◌, ◌≤◌, Bool, true, false, ◌&&◌, List, length, refl, sym, ◌∙◌, ap, length-append, arith}
-use Rattle.std.specs.Prelude.{Option, Some, None, if◌then◌else◌, IsTrue, nat_lt}
+use Rattle.std.proofs.Common.{◌≡◌, ◌⊎◌, inl, inr, ℕ, suc, ◌*◌, ◌%◌, ◌<◌, ◌≤◌, List, length, refl, sym, ◌∙◌, ap, length-append, arith}
+use Rattle.std.specs.Prelude.{Option, Some, None, IsTrue}
 use Rattle.std.proofs.lemmas.Bool.Decides.{nat_tests}
 use Rattle.std.proofs.lemmas.Bool.{cases_lt}
 use Rattle.std.proofs.lemmas.Grind.{common_steps}
@@ -16,10 +16,8 @@ use Rattle.iol_far.specs.declared.carried.Carried.{Carried}
 use Rattle.iol_far.specs.declared.kind.HandsOver.{HandsOver}
 use Rattle.iol_far.specs.declared.kind.HandsOver.TheVariants.{FirstRead, LastSegment}
 use Rattle.iol_far.specs.declared.kind.Recalls.{Recalls}
-use Rattle.iol_far.specs.declared.kind.Recalls.TheVariants.{UntilLeft, UntilSent}
-use Rattle.iol_far.specs.Isdu.{IsduState, Empty, Receiving, Whole, Handed, Answered, received, received_at, isdu_written, isdu_read, recalled, handed_over, written_over, written_by, counted_by, has_segment, answer_text, fits}
-use Rattle.iol_far.specs.Far.{Far}
-use Rattle.iol_far.specs.Local.{carried_by, has_room}
+use Rattle.iol_far.specs.declared.kind.Recalls.TheVariants.{UntilSent}
+use Rattle.iol_far.specs.Isdu.{IsduState, Empty, Receiving, Whole, Handed, Answered, received, received_at, isdu_written, isdu_read, recalled, handed_over, written_over, written_by, counted_by, answer_text, fits}
 use Rattle.iol_far.specs.SegmentLaws.{SegmentLaws}
 use Rattle.iol_far.specs.Level.{grown_by, IsTaken, IsWritten, IsGrownOnce}
 
@@ -29,9 +27,12 @@ recalled_at : (k : Recalls) (size : ℕ) (z : Stage) (t : List ℕ) (l : Option 
     → recalled k size (received_at z t l) ≡ received_at z t l
 recalled_at k size z t l = grind (arith, common_steps)
 
-recalled_received : (k : Recalls) (size : ℕ) (t : List ℕ) (l : Option ℕ)
-    → recalled k size (received t l) ≡ received t l
-recalled_received k size t l = recalled_at k size (stage t) t l
+-- an answer of which a segment was sent: it stays, or it is forgotten with its last
+recalled_sent : (k : Recalls) (size : ℕ) (r : Request) (a : Answer) (i : ℕ)
+    → (recalled k size (Answered r a (Some i)) ≡ Answered r a (Some i))
+    ⊎ ((recalled k size (Answered r a (Some i)) ≡ Empty) × (k ≡ UntilSent)
+    × (length (answer_text r a) ≤ suc i * size))
+recalled_sent k size r a i = grind (arith, nat_tests, common_steps)
 
 -- Writes
 
@@ -48,130 +49,101 @@ again_at z t od c = grind (arith, nat_tests, common_steps)
 pub request_long : (size : ℕ) (r : Request) → 0 * size < length (request_text r)
 request_long size r = omega (arith, length-append (request_front r))
 
-module _ (h : HandsOver) (k : Recalls) (size : ℕ) (laws : SegmentLaws size) (base : List Carried)
-  where
-    -- the state once the segments up to the i-th were received
-    whole_written : (r : Request) (i : ℕ) (s : IsduState) (n : Option ℕ) (carried : List Carried)
-        → IsRequest r → i * size < length (request_text r)
-        → s ≡ handed_over (received (joined size (request_text r) i) (count_at i))
-        → n ≡ count_at i → carried ≡ base → IsWritten LastSegment size base r i s n carried
-    whole_written r i s n carried fits low e m same = split
-        (cases_lt (suc i * size) (length (request_text r)))
-      where
-        split : (suc i * size < length (request_text r)) ⊎ (length (request_text r) ≤ suc i * size)
-            → IsWritten LastSegment size base r i s n carried
-        split (inl more) =
-            let begun = laws.grows r i (count_at i) fits more in
-            (m, inl (more, e ∙ ap handed_over begun ∙ sym begun, same))
-        split (inr all) =
-            let whole : s ≡ Handed r = e ∙ ap handed_over
-            (laws.ends r i (count_at i) fits (low, all))
-            in (m, inr ((low, all), rw whole (refl, same)))
+module _ (k : Recalls) (size : ℕ) (laws : SegmentLaws size) (base : List Carried) where
+  -- the state once the segments up to the i-th were received
+  whole_written : (r : Request) (i : ℕ) (s : IsduState) (n : Option ℕ) (carried : List Carried)
+      → IsRequest r → i * size < length (request_text r)
+      → s ≡ handed_over (received (joined size (request_text r) i) (count_at i))
+      → n ≡ count_at i → carried ≡ base → IsWritten LastSegment size base r i s n carried
+  whole_written r i s n carried fits low e m same = split
+      (cases_lt (suc i * size) (length (request_text r)))
+    where
+      split : (suc i * size < length (request_text r)) ⊎ (length (request_text r) ≤ suc i * size)
+          → IsWritten LastSegment size base r i s n carried
+      split (inl more) =
+          let begun = laws.grows r i (count_at i) fits more in
+          (m, inl (more, e ∙ ap handed_over begun ∙ sym begun, same))
+      split (inr all) =
+          let whole : s ≡ Handed r = e ∙ ap handed_over
+          (laws.ends r i (count_at i) fits (low, all))
+          in (m, inr ((low, all), rw whole (refl, same)))
 
-    -- the first segment, at whatever state
-    pub begun : (r : Request) (s : IsduState) (n : Option ℕ) (carried : List Carried) → IsRequest r
-        → carried ≡ base
-        → IsWritten h size base r 0
-        (written_by h n s Start (segment size (request_text r) 0)) (counted_by h n Start) carried
-    begun r s n carried fits same =
-        rw (written_start h n s (segment size (request_text r) 0)) (by_kind h)
-      where
-        by_kind : (h : HandsOver) → IsWritten h size base r 0
-            (written_by h None Empty Start (segment size (request_text r) 0)) (counted_by h n Start)
-            carried
-        by_kind FirstRead = (refl, same)
-        by_kind LastSegment =
-            whole_written r 0 (written_by LastSegment None Empty Start
-            (segment size (request_text r) 0)) None carried fits (request_long size r) refl refl
-            same
+  -- the first segment, at whatever state
+  pub begun : (h : HandsOver) (r : Request) (s : IsduState) (n : Option ℕ)
+      (carried : List Carried) → IsRequest r → carried ≡ base
+      → IsWritten h size base r 0
+      (written_by h n s Start (segment size (request_text r) 0)) (counted_by h n Start) carried
+  begun FirstRead r s n carried fits same =
+      rw (written_start FirstRead n s (segment size (request_text r) 0)) (refl, same)
+  begun LastSegment r s n carried fits same =
+      rw (written_start LastSegment n s (segment size (request_text r) 0))
+      (whole_written r 0 (written_by LastSegment None Empty Start
+      (segment size (request_text r) 0)) None carried fits (request_long size r) refl refl same)
 
-    -- the next segment
-    wrote : (r : Request) (i : ℕ) → IsRequest r → suc i * size < length (request_text r) →
-        isdu_written (received (joined size (request_text r) i) (count_at i)) (Count (suc i % 16))
-        (segment size (request_text r) (suc i))
-        ≡ received (joined size (request_text r) (suc i)) (count_at (suc i))
-    wrote r i fits more = rw (laws.grows r i (count_at i) fits more) (counts i)
-      where
-        counts : (i : ℕ) → isdu_written (Receiving (joined size (request_text r) i) (count_at i))
-            (Count (suc i % 16)) (segment size (request_text r) (suc i))
-            ≡ received (joined size (request_text r) (suc i)) (count_at (suc i))
-        counts i = grind (arith, common_steps)
+  -- the next segment
+  wrote : (r : Request) (i : ℕ) → IsRequest r → suc i * size < length (request_text r) →
+      isdu_written (received (joined size (request_text r) i) (count_at i)) (Count (suc i % 16))
+      (segment size (request_text r) (suc i))
+      ≡ received (joined size (request_text r) (suc i)) (count_at (suc i))
+  wrote r i fits more = rw (laws.grows r i (count_at i) fits more)
+      (grind (arith, common_steps))
 
-    pub appended : (r : Request) (i : ℕ) (s : IsduState) (n : Option ℕ) (carried : List Carried)
-        → IsRequest r → suc i * size < length (request_text r)
-        → IsWritten h size base r i s n carried
-        → IsWritten h size base r (suc i)
-        (written_by h n (recalled k size s) (Count (suc i % 16))
-        (segment size (request_text r) (suc i))) (counted_by h n (Count (suc i % 16))) carried
-    appended r i s n carried fits more w = by_kind h w
-      where
-        state_is : s ≡ received (joined size (request_text r) i) (count_at i)
-            → recalled k size s ≡ received (joined size (request_text r) i) (count_at i)
-        state_is e = rw e
-            (recalled_received k size (joined size (request_text r) i) (count_at i))
+  recalled_still : (s : IsduState) (r : Request) (i : ℕ)
+      → s ≡ received (joined size (request_text r) i) (count_at i)
+      → recalled k size s ≡ received (joined size (request_text r) i) (count_at i)
+  recalled_still s r i e = rw e
+      (recalled_at k size (stage (joined size (request_text r) i))
+      (joined size (request_text r) i) (count_at i))
 
-        by_kind : (h : HandsOver) → IsWritten h size base r i s n carried
-            → IsWritten h size base r (suc i)
-            (written_by h n (recalled k size s) (Count (suc i % 16))
-            (segment size (request_text r) (suc i))) (counted_by h n (Count (suc i % 16))) carried
-        by_kind FirstRead w = rw (state_is w.0) (wrote r i fits more, w.1)
-        by_kind LastSegment (m, inl w) =
-            whole_written r (suc i) (written_over n (recalled k size s) (Count (suc i % 16))
-            (segment size (request_text r) (suc i))) (Some (suc i % 16)) carried fits more
-            (rw (state_is w.1, laws.grows r i (count_at i) fits more)
-            (ap handed_over (rw (laws.grows r i (count_at i) fits more) at (wrote r i fits more))))
-            refl w.2
-        by_kind LastSegment (m, inr w) = absurd (omega (arith, w.0.1, more))
+  pub appended : (h : HandsOver) (r : Request) (i : ℕ) (s : IsduState) (n : Option ℕ)
+      (carried : List Carried) → IsRequest r → suc i * size < length (request_text r)
+      → IsWritten h size base r i s n carried
+      → IsWritten h size base r (suc i)
+      (written_by h n (recalled k size s) (Count (suc i % 16))
+      (segment size (request_text r) (suc i))) (counted_by h n (Count (suc i % 16))) carried
+  appended FirstRead r i s n carried fits more w =
+      rw (recalled_still s r i w.0) (wrote r i fits more, w.1)
+  appended LastSegment r i s n carried fits more (m, inl w) =
+      whole_written r (suc i) (written_over n (recalled k size s) (Count (suc i % 16))
+      (segment size (request_text r) (suc i))) (Some (suc i % 16)) carried fits more
+      (rw (recalled_still s r i w.1, laws.grows r i (count_at i) fits more)
+      (ap handed_over (rw (laws.grows r i (count_at i) fits more) at (wrote r i fits more))))
+      refl w.2
+  appended LastSegment r i s n carried fits more (m, inr w) =
+      absurd (omega (arith, w.0.1, more))
 
-    -- and the same again
-    pub kept : (r : Request) (i : ℕ) (s : IsduState) (n : Option ℕ) (carried : List Carried)
-        → IsRequest r → IsWritten h size base r (suc i) s n carried
-        → IsWritten h size base r (suc i)
-        (written_by h n (recalled k size s) (Count (suc i % 16))
-        (segment size (request_text r) (suc i))) (counted_by h n (Count (suc i % 16))) carried
-    kept r i s n carried fits w = by_kind h w
-      where
-        by_kind : (h : HandsOver) → IsWritten h size base r (suc i) s n carried
-            → IsWritten h size base r (suc i)
-            (written_by h n (recalled k size s) (Count (suc i % 16))
-            (segment size (request_text r) (suc i))) (counted_by h n (Count (suc i % 16))) carried
-        by_kind FirstRead w =
-            rw (
-              w.0,
-              recalled_received k size (joined size (request_text r) (suc i))
-                  (count_at (suc i)),
-            ) (
-              again_at (stage (joined size (request_text r) (suc i)))
-                  (joined size (request_text r) (suc i)) (segment size (request_text r) (suc i))
-                  (suc i % 16),
-              w.1,
-            )
-        by_kind LastSegment (m, inl w) =
-            rw (
-              w.1,
-              recalled_received k size (joined size (request_text r) (suc i))
-                  (count_at (suc i)),
-            )
-            (refl, inl (w.0, over (laws.grows r (suc i) (count_at (suc i)) fits w.0), w.2))
-          where
-            over : received (joined size (request_text r) (suc i)) (count_at (suc i))
-                ≡ Receiving (joined size (request_text r) (suc i)) (count_at (suc i))
-                → written_over n (received (joined size (request_text r) (suc i))
-                (count_at (suc i)))
-                (Count (suc i % 16)) (segment size (request_text r) (suc i))
-                ≡ received (joined size (request_text r) (suc i)) (count_at (suc i))
-            over e = rw e (grind (arith, nat_tests, common_steps))
-        by_kind LastSegment (m, inr w) = rw m (refl, inr (w.0, taken s w.1))
-          where
-            taken : (s : IsduState) → IsTaken base r s carried
-                → IsTaken base r (written_over (Some (suc i % 16)) (recalled k size s)
-                (Count (suc i % 16)) (segment size (request_text r) (suc i))) carried
-            taken (Handed q) t = grind (arith, nat_tests, common_steps)
-            taken (Answered q a None) t = grind (arith, nat_tests, common_steps)
-            taken (Answered q a (Some j)) t = absurd t
-            taken Empty t = absurd t
-            taken (Receiving x l) t = absurd t
-            taken (Whole q l) t = absurd t
+  -- and the same again
+  pub kept : (h : HandsOver) (r : Request) (i : ℕ) (s : IsduState) (n : Option ℕ)
+      (carried : List Carried) → IsRequest r → IsWritten h size base r (suc i) s n carried
+      → IsWritten h size base r (suc i)
+      (written_by h n (recalled k size s) (Count (suc i % 16))
+      (segment size (request_text r) (suc i))) (counted_by h n (Count (suc i % 16))) carried
+  kept FirstRead r i s n carried fits w =
+      rw (recalled_still s r (suc i) w.0) (
+        again_at (stage (joined size (request_text r) (suc i)))
+            (joined size (request_text r) (suc i)) (segment size (request_text r) (suc i))
+            (suc i % 16),
+        w.1,
+      )
+  kept LastSegment r i s n carried fits (m, inl w) =
+      rw (recalled_still s r (suc i) w.1)
+      (refl, inl (w.0, over (laws.grows r (suc i) (count_at (suc i)) fits w.0), w.2))
+    where
+      over : received (joined size (request_text r) (suc i)) (count_at (suc i))
+          ≡ Receiving (joined size (request_text r) (suc i)) (count_at (suc i))
+          → written_over n (received (joined size (request_text r) (suc i))
+          (count_at (suc i)))
+          (Count (suc i % 16)) (segment size (request_text r) (suc i))
+          ≡ received (joined size (request_text r) (suc i)) (count_at (suc i))
+      over e = rw e (grind (arith, nat_tests, common_steps))
+  kept LastSegment r i s n carried fits (m, inr w) = rw m (refl, inr (w.0, taken s w.1))
+    where
+      taken : (s : IsduState) → IsTaken base r s carried
+          → IsTaken base r (written_over (Some (suc i % 16)) (recalled k size s)
+          (Count (suc i % 16)) (segment size (request_text r) (suc i))) carried
+      taken (Handed q) t = grind (arith, nat_tests, common_steps)
+      taken (Answered q a None) t = grind (arith, nat_tests, common_steps)
+      taken s t = absurd t
 
 -- Reads
 
@@ -214,19 +186,12 @@ module _ (k : Recalls) (size : ℕ) (laws : SegmentLaws size) (base : List Carri
   pub asked_taken : (r : Request) (missed : List Carried → Type 0) (s : IsduState)
       (carried : List Carried) → IsTaken base r s carried
       → Found base r missed (isdu_read size (recalled k size s) Start) carried
-  asked_taken r missed s carried t = by_state s t
-    where
-      by_state : (s : IsduState) → IsTaken base r s carried
-          → Found base r missed (isdu_read size (recalled k size s) Start) carried
-      by_state (Handed q) t =
-          busy (let e : q ≡ r = t.0 in grind (arith, common_steps, e)) t.1
-      by_state (Answered q a None) t =
-          let e : q ≡ r = t.0 in
-          first a (rw e at t.1) (grind (arith, common_steps, e)) t.2
-      by_state (Answered q a (Some j)) t = absurd t
-      by_state Empty t = absurd t
-      by_state (Receiving x l) t = absurd t
-      by_state (Whole q l) t = absurd t
+  asked_taken r missed (Handed q) carried t =
+      busy (let e : q ≡ r = t.0 in grind (arith, common_steps, e)) t.1
+  asked_taken r missed (Answered q a None) carried t =
+      let e : q ≡ r = t.0 in
+      first a (rw e at t.1) (grind (arith, common_steps, e)) t.2
+  asked_taken r missed s carried t = absurd t
 
   -- nothing is read of what holds nothing
   pub asked_empty : isdu_read size (recalled k size Empty) Start ≡ Empty
@@ -248,67 +213,24 @@ module _ (k : Recalls) (size : ℕ) (laws : SegmentLaws size) (base : List Carri
   asked_written LastSegment r i missed s n carried fits last (m, inr w) =
       asked_taken r missed s carried w.1
 
-  -- the answer was sent from its beginning: it comes again, or it is forgotten
-  asked_first : (r : Request) (a : Answer)
-      → (isdu_read size (recalled k size (Answered r a (Some 0))) Start ≡ Answered r a (Some 0))
-      ⊎ ((isdu_read size (recalled k size (Answered r a (Some 0))) Start ≡ Empty)
-      × (k ≡ UntilSent))
-  asked_first r a = by_kind k
-    where
-      by_kind : (k : Recalls)
-          → (isdu_read size (recalled k size (Answered r a (Some 0))) Start
-          ≡ Answered r a (Some 0))
-          ⊎ ((isdu_read size (recalled k size (Answered r a (Some 0))) Start ≡ Empty)
-          × (k ≡ UntilSent))
-      by_kind UntilLeft = inl refl
-      by_kind UntilSent =
-          elim (has_segment size (answer_text r a) 1) as
-          (λ b. (isdu_read size (if b then Answered r a (Some 0) else Empty) Start
-          ≡ Answered r a (Some 0))
-          ⊎ ((isdu_read size (if b then Answered r a (Some 0) else Empty) Start ≡ Empty)
-          × (◌≡◌ {A = Recalls} UntilSent UntilSent)))
-          [ true ↦ inl refl | false ↦ inr (refl, refl) ]
-
   -- a START read once more
   pub asked_again : (r : Request) (missed : List Carried → Type 0) (s : IsduState)
       (carried : List Carried) → (k ≡ UntilSent → IsGrownOnce base r carried → missed carried)
       → Finds base r missed s carried
       → Found base r missed (isdu_read size (recalled k size s) Start) carried
   asked_again r missed s carried forgets (taken t) = asked_taken r missed s carried t
-  asked_again r missed s carried forgets (begins a f e g) = rw e (split (asked_first r a))
-    where
-      split : (isdu_read size (recalled k size (Answered r a (Some 0))) Start
-          ≡ Answered r a (Some 0))
-          ⊎ ((isdu_read size (recalled k size (Answered r a (Some 0))) Start ≡ Empty)
-          × (k ≡ UntilSent))
-          → Found base r missed (isdu_read size (recalled k size (Answered r a (Some 0))) Start)
-          carried
-      split (inl same) = first a f same g
-      split (inr gone) = none gone.0 (forgets gone.1 (inr (a, g)))
+  asked_again r missed s carried forgets (begins a f e g) = elim (recalled_sent k size r a 0) [
+    | inl same ↦ first a f (rw (e, same) refl) g
+    | inr gone ↦ none (rw (e, gone.0) refl) (forgets gone.1 (inr (a, g)))
+  ]
   asked_again r missed s carried forgets (nothing e m) = none (rw e asked_empty) m
 
   -- The answer's next segment
 
-  recalled_open : (r : Request) (a : Answer) (i : ℕ) → suc i * size < length (answer_text r a)
-      → recalled k size (Answered r a (Some i)) ≡ Answered r a (Some i)
-  recalled_open r a i more =
-      let e : nat_lt ((i + 1) * size) (length (answer_text r a)) ≡ true =
-      grind (arith, nat_tests) in by_kind k e
-    where
-      by_kind : (k : Recalls) → nat_lt ((i + 1) * size) (length (answer_text r a)) ≡ true
-          → recalled k size (Answered r a (Some i)) ≡ Answered r a (Some i)
-      by_kind UntilLeft e = refl
-      by_kind UntilSent e = rw e refl
-
-  next_sent : (q : Request) (a : Answer) (i : ℕ) → suc i * size < length (answer_text q a) →
-      isdu_read size (Answered q a (Some i)) (Count (suc i % 16)) ≡ Answered q a (Some (suc i))
-  next_sent q a i more = let e : suc i % 16 ≡ i % 16
-      → ⊥ = (λ (k : suc i % 16 ≡ i % 16). omega arith) in grind (arith, nat_tests, common_steps, e)
-
   pub fetched : (r : Request) (a : Answer) (i : ℕ) → suc i * size < length (answer_text r a)
       → isdu_read size (recalled k size (Answered r a (Some i))) (Count (suc i % 16))
       ≡ Answered r a (Some (suc i))
-  fetched r a i more = rw (recalled_open r a i more) (next_sent r a i more)
+  fetched r a i given = grind (arith, nat_tests, common_steps)
 
   -- and once more
   sent_again : (r : Request) (a : Answer) (i : ℕ)
@@ -323,56 +245,16 @@ module _ (k : Recalls) (size : ℕ) (laws : SegmentLaws size) (base : List Carri
       → IsFetched k size base r i t s carried
       → IsFetched k size base r i t (isdu_read size (recalled k size s) (Count (suc i % 16)))
       carried
-  fetched_again r i t s carried (a, f, g, e, more, inl sent) =
-      (a, f, g, e, more, rw sent (by_kind k))
-    where
-      split : (b : Bool) → nat_lt ((suc i + 1) * size) (length (answer_text r a)) ≡ b
-          → (isdu_read size (if b then Answered r a (Some (suc i)) else Empty)
-          (Count (suc i % 16)) ≡ Answered r a (Some (suc i)))
-          ⊎ ((isdu_read size (if b then Answered r a (Some (suc i)) else Empty)
-          (Count (suc i % 16)) ≡ Empty) × (◌≡◌ {A = Recalls} UntilSent UntilSent)
-          × IsLast size (answer_text r a) (suc i))
-      split true d = inl (sent_again r a i)
-      split false d =
-          inr (
-            refl,
-            refl,
-            (
-              more,
-              (let z : length (answer_text r a) ≤ suc (suc i) * size =
-                  grind (arith, nat_tests) in z),
-            ),
-          )
-
-      by_kind : (k : Recalls)
-          → (isdu_read size (recalled k size (Answered r a (Some (suc i)))) (Count (suc i % 16))
-          ≡ Answered r a (Some (suc i)))
-          ⊎ ((isdu_read size (recalled k size (Answered r a (Some (suc i)))) (Count (suc i % 16))
-          ≡ Empty) × (k ≡ UntilSent) × IsLast size (answer_text r a) (suc i))
-      by_kind UntilLeft = inl (sent_again r a i)
-      by_kind UntilSent = split (nat_lt ((suc i + 1) * size) (length (answer_text r a))) refl
+  fetched_again r i t s carried (a, f, g, e, more, inl sent) = (
+    a,
+    f,
+    g,
+    e,
+    more,
+    rw sent (elim (recalled_sent k size r a (suc i)) [
+      | inl same ↦ inl (rw same (sent_again r a i))
+      | inr gone ↦ inr (rw gone.0 refl, gone.1, (more, gone.2))
+    ]),
+  )
   fetched_again r i t s carried (a, f, g, e, more, inr gone) =
       (a, f, g, e, more, inr (rw gone.0 (fetch_empty (suc i % 16)), gone.1, gone.2))
-
--- The application's answer
-
--- what stays where a request that is handed over is answered stays at each answer
-pub carries : (Holds : IsduState → List Carried → Type 0)
-    → ((q : Request) (a : Answer) (carried : List Carried) → IsTrue (fits q a)
-    → Holds (Handed q) carried → Holds (Answered q a None) (grown_by carried q a))
-    → (far : Far) (a : Answer) (s : IsduState) → far.isdu ≡ s → Holds s far.carried
-    → Holds (carried_by s far a).isdu (carried_by s far a).carried
-carries Holds done far a Empty e h = rw e h
-carries Holds done far a (Receiving t l) e h = rw e h
-carries Holds done far a (Whole q l) e h = rw e h
-carries Holds done far a (Answered q b l) e h = rw e h
-carries Holds done far a (Handed q) e h = split (has_room far && fits q a) refl
-  where
-    split : (b : Bool) → (has_room far && fits q a) ≡ b
-        → Holds (if b then record far
-        { isdu = Answered q a None; carried = grown_by far.carried q a } else far).isdu
-        (if b then record far { isdu = Answered q a None; carried = grown_by far.carried q a }
-        else far).carried
-    split true k = done q a far.carried
-        (let z : fits q a ≡ true = grind (arith, nat_tests, common_steps) in z) h
-    split false k = rw e h
