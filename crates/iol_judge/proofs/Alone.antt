@@ -1,9 +1,10 @@
 -- What the far end does by itself, and at a wake-up, leaves of what a state says.
 use Rattle.std.proofs.Common.{◌≡◌, ℕ, Bool, true, false, List, [], ◌∷◌, refl, sym, ◌∙◌, subst, ◌⊎◌, inl, inr}
+use Rattle.std.proofs.lemmas.Bool.{cond_both}
 use Rattle.std.specs.Prelude.{Option, Some, None, IfSome, if◌then◌else◌, ◌&&◌}
 use Rattle.iol_isdu.specs.declared.values.Answer.{Answer}
 use Rattle.iol_far.specs.declared.kind.Kind.{Kind}
-use Rattle.iol_far.specs.Isdu.{IsduState, Empty, Receiving, Whole, Handed, Answered, fits}
+use Rattle.iol_far.specs.Isdu.{IsduState, Handed, Answered, fits}
 use Rattle.iol_far.specs.Far.{Far, layout_of}
 use Rattle.iol_far.specs.Level.{link_of, grown_by}
 use Rattle.iol_far.specs.Local.{LocalStep, Carry, Raise, Input, NoInput, Power, local, locals, carried_by, has_room, is_input, woken}
@@ -11,9 +12,10 @@ use Rattle.iol_judge.specs.declared.events.Shown.{Shown}
 use Rattle.iol_judge.specs.declared.events.Shown.TheVariants.{Fresh}
 use Rattle.iol_judge.specs.declared.transfer.Transfer.{Transfer}
 use Rattle.iol_judge.specs.declared.transfer.Transfer.TheVariants.{Quiet}
+use Rattle.iol_judge.specs.Events.{shown_after}
 use Rattle.iol_judge.specs.Family.{has_kind}
 use Rattle.iol_judge.specs.UnderWay.{HasUnderWay, IsUnderWay}
-use Rattle.iol_judge.specs.State.{State, woken_state, powered_state}
+use Rattle.iol_judge.specs.State.{State, startup_state, woken_state, powered_state}
 use Rattle.iol_judge.specs.Admitted.{Admits, AdmitsOne, Agrees, AreShown}
 use Rattle.iol_judge.proofs.Shown.{raised_shown, released_shown, none_shown}
 use Rattle.iol_judge.proofs.Covering.{handed_answers}
@@ -30,8 +32,8 @@ pub record Alike (far new : Far) : Type 0 where
   pub isdu : (known : Transfer) → HasUnderWay far (if far.awake then known else Quiet)
       → HasUnderWay new (if new.awake then known else Quiet)
 
-itself : (far : Far) → Alike far far
-itself far =
+with_input : (far : Far) (input : Option (List ℕ)) → Alike far (record far { input = input })
+with_input far input =
     record {
       kind = refl;
       link = refl;
@@ -41,9 +43,8 @@ itself far =
       isdu = λ known h. h;
     }
 
-alike_if : (b : Bool) (far x y : Far) → Alike far x → Alike far y → Alike far (if b then x else y)
-alike_if true far x y l r = l
-alike_if false far x y l r = r
+itself : (far : Far) → Alike far far
+itself far = with_input far far.input
 
 carried_alike : (state : IsduState) (far : Far) (answer : Answer) → far.isdu ≡ state
     → Alike far (carried_by state far answer)
@@ -68,10 +69,7 @@ carried_alike (Handed request) far answer is =
     }
     split true false e = itself far
     split false fit e = itself far
-carried_alike Empty far answer is = itself far
-carried_alike (Receiving text last) far answer is = itself far
-carried_alike (Whole request last) far answer is = itself far
-carried_alike (Answered request a last) far answer is = itself far
+carried_alike state far answer is = itself far
 
 local_alike : (far : Far) (step : LocalStep) → Alike far (local far step)
 local_alike far (Carry answer) = carried_alike far.isdu far answer refl
@@ -84,25 +82,9 @@ local_alike far (Raise event) = record {
   isdu = λ known h. h;
 }
 local_alike far (Input image) =
-    alike_if (is_input far image) far (record far { input = Some image }) far
-    (record {
-      kind = refl;
-      link = refl;
-      cycle = refl;
-      page = refl;
-      events = λ known s. s;
-      isdu = λ known h. h;
-    })
-    (itself far)
-local_alike far NoInput =
-    record {
-      kind = refl;
-      link = refl;
-      cycle = refl;
-      page = refl;
-      events = λ known s. s;
-      isdu = λ known h. h;
-    }
+    cond_both (is_input far image) (record far { input = Some image }) far (Alike far)
+    (λ e. with_input far (Some image)) (λ e. itself far)
+local_alike far NoInput = with_input far None
 local_alike far Power = record {
   kind = refl;
   link = refl;
@@ -157,29 +139,23 @@ pub agrees_alike : (seen : List (Option ℕ)) (far new : Far) → Alike far new 
     → Agrees seen new.page
 agrees_alike seen far new same h = subst (λ (page : List ℕ). Agrees seen page) (sym same.page) h
 
+woken_as : (state : State) (far : Far) → Admits state far → (shown : Shown)
+    → AreShown shown far.events
+    → Admits (startup_state state.kinds state.cycle (shown_after shown false)) (woken far)
+woken_as state far h shown s =
+    record {
+      kind = h.kind;
+      link = refl;
+      cycle = h.cycle;
+      events = released_shown shown far.events s;
+      isdu = refl;
+    }
+
 pub woken_admits : (state : State) (far : Far) → Admits state far
     → AdmitsOne (woken_state state ∷ powered_state state ∷ []) (woken far)
-woken_admits state far h = split far.awake refl
+woken_admits state far h = split far.awake h.events
   where
-    split : (b : Bool) → far.awake ≡ b
+    split : (b : Bool) → AreShown (if b then state.events else Fresh) far.events
         → Admits (woken_state state) (woken far) ⊎ (Admits (powered_state state) (woken far) ⊎ ⊥)
-    split true e =
-        let s : AreShown state.events far.events =
-        subst (λ (b : Bool). AreShown (if b then state.events else Fresh) far.events) e h.events in
-        inl (record {
-          kind = h.kind;
-          link = refl;
-          cycle = h.cycle;
-          events = released_shown state.events far.events s;
-          isdu = refl;
-        })
-    split false e =
-        let s : AreShown Fresh far.events =
-        subst (λ (b : Bool). AreShown (if b then state.events else Fresh) far.events) e h.events in
-        inr (inl (record {
-          kind = h.kind;
-          link = refl;
-          cycle = h.cycle;
-          events = released_shown Fresh far.events s;
-          isdu = refl;
-        }))
+    split true s = inl (woken_as state far h state.events s)
+    split false s = inr (inl (woken_as state far h Fresh s))

@@ -1,5 +1,6 @@
 -- What a state stands for is told apart by kinds where a message tells them apart.
-use Rattle.std.proofs.Common.{◌≡◌, inl, inr, ℕ, Bool, true, false, List, [], ◌∷◌, ◌++◌, map, refl, sym, subst}
+use Rattle.std.proofs.Common.{◌≡◌, ◌⊎◌, inl, inr, ℕ, Bool, true, List, [], ◌∷◌, ◌++◌, map, refl, sym, subst}
+use Rattle.std.proofs.lemmas.Bool.{cond_both}
 use Rattle.std.specs.Prelude.{if◌then◌else◌, slice_index}
 use Rattle.iol_octets.specs.Control.{control_of}
 use Rattle.iol_far.specs.declared.kind.Kind.{Kind}
@@ -58,6 +59,15 @@ later_one : {S : Type 0} (Q : S → Type 0) (xs ys : List S) → One Q ys → On
 later_one Q [] ys h = h
 later_one Q (x ∷ xs) ys h = inr (later_one Q xs ys h)
 
+of_four : {S : Type 0} (Q : S → Type 0) (a b c d : List S)
+    → One Q a ⊎ (One Q b ⊎ (One Q c ⊎ One Q d)) → One Q (a ++ b ++ c ++ d)
+of_four Q a b c d (inl h) =
+    first_one Q (a ++ b ++ c) d (first_one Q (a ++ b) c (first_one Q a b h))
+of_four Q a b c d (inr (inl h)) =
+    first_one Q (a ++ b ++ c) d (first_one Q (a ++ b) c (later_one Q a b h))
+of_four Q a b c d (inr (inr (inl h))) = first_one Q (a ++ b ++ c) d (later_one Q (a ++ b) c h)
+of_four Q a b c d (inr (inr (inr h))) = later_one Q (a ++ b ++ c) d h
+
 module _ (far : Far) (sent : List ℕ) (texts : AllTexts) (awake : far.awake ≡ true)
     (state : State) (admits : Admits state far) where
   -- of its own kind
@@ -81,63 +91,38 @@ module _ (far : Far) (sent : List ℕ) (texts : AllTexts) (awake : far.awake ≡
 
   kind_parts : (kind : Kind) → far.kind ≡ kind → One (IsPart far sent) (parts_of state kind)
   kind_parts kind is =
-      split (has_kind state.kinds kind)
-      (subst (λ (k : Kind). has_kind state.kinds k ≡ true) is admits.kind)
-    where
-      split : (b : Bool) → b ≡ true → One (IsPart far sent)
-          (if b then map (state_of state kind) (apart state.transfer) else [])
-      split true e = its_parts kind is (apart state.transfer)
-          (apart_under_way far.kind.hands_over far.counted (layout_of far).od (texts far)
-          state.transfer far.isdu
-          (subst (λ (b : Bool). HasUnderWay far (if b then state.transfer else Quiet)) awake
-          admits.isdu))
-      split false e = absurd (cc)
+      let has = subst (λ (k : Kind). has_kind state.kinds k ≡ true) is admits.kind in
+      subst (λ (b : Bool). One (IsPart far sent)
+      (if b then map (state_of state kind) (apart state.transfer) else [])) (sym has)
+      (its_parts kind is (apart state.transfer)
+      (apart_under_way far.kind.hands_over far.counted (layout_of far).od (texts far)
+      state.transfer far.isdu
+      (subst (λ (b : Bool). HasUnderWay far (if b then state.transfer else Quiet)) awake
+      admits.isdu)))
+
+  abbrev Of : HandsOver → Recalls → Type 0
+  Of hands_over recalls = One (IsPart far sent) (parts_of state (kind_of hands_over recalls))
+
+  among : Of FirstRead UntilLeft ⊎ (Of FirstRead UntilSent
+      ⊎ (Of LastSegment UntilLeft ⊎ Of LastSegment UntilSent))
+      → One (IsPart far sent) (all_parts state)
+  among h = of_four (IsPart far sent)
+      (parts_of state (kind_of FirstRead UntilLeft)) (parts_of state (kind_of FirstRead UntilSent))
+      (parts_of state (kind_of LastSegment UntilLeft))
+      (parts_of state (kind_of LastSegment UntilSent)) h
 
   of_all : (hands_over : HandsOver) (recalls : Recalls) → far.kind ≡ kind_of hands_over recalls
       → One (IsPart far sent) (all_parts state)
-  of_all FirstRead UntilLeft is =
-      first_one (IsPart far sent)
-      (parts_of state (kind_of FirstRead UntilLeft) ++ parts_of state (kind_of FirstRead UntilSent)
-      ++ parts_of state (kind_of LastSegment UntilLeft))
-      (parts_of state (kind_of LastSegment UntilSent))
-      (first_one (IsPart far sent)
-      (parts_of state (kind_of FirstRead UntilLeft) ++ parts_of state (kind_of FirstRead UntilSent))
-      (parts_of state (kind_of LastSegment UntilLeft))
-      (first_one (IsPart far sent) (parts_of state (kind_of FirstRead UntilLeft))
-      (parts_of state (kind_of FirstRead UntilSent))
-      (kind_parts (kind_of FirstRead UntilLeft) is)))
-  of_all FirstRead UntilSent is =
-      first_one (IsPart far sent)
-      (parts_of state (kind_of FirstRead UntilLeft) ++ parts_of state (kind_of FirstRead UntilSent)
-      ++ parts_of state (kind_of LastSegment UntilLeft))
-      (parts_of state (kind_of LastSegment UntilSent))
-      (first_one (IsPart far sent)
-      (parts_of state (kind_of FirstRead UntilLeft) ++ parts_of state (kind_of FirstRead UntilSent))
-      (parts_of state (kind_of LastSegment UntilLeft))
-      (later_one (IsPart far sent) (parts_of state (kind_of FirstRead UntilLeft))
-      (parts_of state (kind_of FirstRead UntilSent))
-      (kind_parts (kind_of FirstRead UntilSent) is)))
+  of_all FirstRead UntilLeft is = among (inl (kind_parts (kind_of FirstRead UntilLeft) is))
+  of_all FirstRead UntilSent is = among (inr (inl (kind_parts (kind_of FirstRead UntilSent) is)))
   of_all LastSegment UntilLeft is =
-      first_one (IsPart far sent)
-      (parts_of state (kind_of FirstRead UntilLeft) ++ parts_of state (kind_of FirstRead UntilSent)
-      ++ parts_of state (kind_of LastSegment UntilLeft))
-      (parts_of state (kind_of LastSegment UntilSent))
-      (later_one (IsPart far sent)
-      (parts_of state (kind_of FirstRead UntilLeft) ++ parts_of state (kind_of FirstRead UntilSent))
-      (parts_of state (kind_of LastSegment UntilLeft))
-      (kind_parts (kind_of LastSegment UntilLeft) is))
+      among (inr (inr (inl (kind_parts (kind_of LastSegment UntilLeft) is))))
   of_all LastSegment UntilSent is =
-      later_one (IsPart far sent)
-      (parts_of state (kind_of FirstRead UntilLeft) ++ parts_of state (kind_of FirstRead UntilSent)
-      ++ parts_of state (kind_of LastSegment UntilLeft))
-      (parts_of state (kind_of LastSegment UntilSent))
-      (kind_parts (kind_of LastSegment UntilSent) is)
+      among (inr (inr (inr (kind_parts (kind_of LastSegment UntilSent) is))))
 
   -- the device is one of those that a part stands for
   pub parts_admit : One (IsPart far sent) (parts state sent)
-  parts_admit = split (tells_apart state (control_of (slice_index sent 0))) refl
-    where
-      split : (b : Bool) → tells_apart state (control_of (slice_index sent 0)) ≡ b
-          → One (IsPart far sent) (if b then all_parts state else state ∷ [])
-      split true e = of_all far.kind.hands_over far.kind.recalls refl
-      split false e = inl (admits, inr e)
+  parts_admit =
+      cond_both (tells_apart state (control_of (slice_index sent 0))) (all_parts state)
+      (state ∷ []) (One (IsPart far sent))
+      (λ e. of_all far.kind.hands_over far.kind.recalls refl) (λ e. inl (admits, inr e))

@@ -1,6 +1,7 @@
 -- What an answer begins with is no fault of it.
 use Rattle.std.proofs.Common.{◌≡◌, ℕ, zero, suc, ◌/◌, ◌%◌, ◌<◌, ◌≤◌, Bool, true, false, List, [], ◌∷◌, length, take, refl, ◌∙◌, ap, subst, arith, Result, Ok, Err}
 use Rattle.std.specs.Prelude.{Option, Some, None, not, ◌&&◌, ◌==◌, nat_le, if◌then◌else◌, slice_index}
+use Rattle.std.proofs.lemmas.Bool.{and_from, and_parts}
 use Rattle.std.proofs.lemmas.Bool.Decides.{nat_tests}
 use Rattle.std.proofs.lemmas.List.{take_all}
 use Rattle.iol_isdu.specs.declared.fault.IsduFault.{IsduFault}
@@ -25,10 +26,6 @@ is_accepted : (b : Bool) (fault : IsduFault) (rest : Option IsduFault)
 is_accepted true fault rest e = refl
 is_accepted false fault rest e = absurd (cc)
 
-both : (a b : Bool) → a ≡ true → b ≡ true → (a && b) ≡ true
-both true b e f = f
-both false b e f = e
-
 -- a whole text
 pub answered : (read : Bool) (text : List ℕ) → total_at text ≡ Ok (length text)
     → answer_fault read text ≡ None
@@ -45,7 +42,7 @@ answered read text holds accepted =
     let service : answer_accepts (slice_index text 0 / 16) (length (text_at text)) ≡ true =
     is_accepted (answer_accepts (slice_index text 0 / 16) (length (text_at text))) BadService
     (if not (xor_of (text_at text) == 0) then Some BadChkpdu else None) further.1 in
-    both (answer_accepts (slice_index text 0 / 16) (length text))
+    and_from (answer_accepts (slice_index text 0 / 16) (length text))
     (same_read read (answers_read (slice_index text 0 / 16)))
     (subst (λ (l : List ℕ). answer_accepts (slice_index text 0 / 16) (length l) ≡ true) whole
     service)
@@ -59,15 +56,10 @@ long_accepted service total long e = grind (arith, nat_tests)
 long_answered : (read : Bool) (service total : ℕ) → 17 ≤ total
     → is_answered_by read service total ≡ true → is_answered_by read service 17 ≡ true
 long_answered read service total long e =
-    split (answer_accepts service total) refl (same_read read (answers_read service)) refl e
-  where
-    split : (a : Bool) → answer_accepts service total ≡ a → (b : Bool)
-        → same_read read (answers_read service) ≡ b → (a && b) ≡ true
-        → (answer_accepts service 17 && same_read read (answers_read service)) ≡ true
-    split true f true g h = both (answer_accepts service 17)
-        (same_read read (answers_read service)) (long_accepted service total long f) g
-    split true f false g h = absurd (cc)
-    split false f b g h = absurd (cc)
+    let parts = and_parts (answer_accepts service total) (same_read read (answers_read service)) e
+    in
+    and_from (answer_accepts service 17) (same_read read (answers_read service))
+    (long_accepted service total long parts.0) parts.1
 
 -- its first octet alone
 first_answered : (read : Bool) (a b n : ℕ) (none long fits : Bool) → (fits ≡ true → 17 ≤ b)
@@ -76,15 +68,14 @@ first_answered : (read : Bool) (a b n : ℕ) (none long fits : Bool) → (fits �
     → is_answered_by read (a / 16) n ≡ true
     → is_answered_by read (a / 16) (total_begun (if none then Err BadIsduLength else
     (if long then Err Truncated else Ok (a % 16)))) ≡ true
-first_answered read a b n true long fits least e h = absurd (cc)
 first_answered read a b n false true true least e h =
     let same : b ≡ n = cc in
     let low = least refl in
     long_answered read (a / 16) n (omega (arith, same, low)) h
-first_answered read a b n false true false least e h = absurd (cc)
 first_answered read a b n false false fits least e h =
     let same : n ≡ a % 16 = cc in
     subst (λ k. is_answered_by read (a / 16) k ≡ true) same h
+first_answered read a b n none long fits least e h = absurd (cc)
 
 least_long : (b : ℕ) → (nat_le 17 b && nat_le b 238) ≡ true → 17 ≤ b
 least_long b e = grind (arith, nat_tests)

@@ -1,11 +1,12 @@
 -- What a state makes of octets is what the device makes of them that it stands for.
 use Rattle.std.proofs.Common.{◌≡◌, ◌⊎◌, inl, inr, ℕ, Bool, true, false, List, refl, sym, ◌∙◌, ap, subst}
+use Rattle.std.proofs.lemmas.Bool.{cond_both}
 use Rattle.std.specs.Prelude.{Option, Some, None, IfSome, is_some, Result, Ok, Err, slice_index, if◌then◌else◌, ◌==◌, bytes_eq}
 use Rattle.iol_octets.specs.Control.{control_of}
 use Rattle.iol_octets.specs.declared.control.Mc.{Mc}
 use Rattle.iol_octets.specs.declared.flow_control.Flow.{Flow}
 use Rattle.iol_octets.specs.declared.control.Channel.{Channel}
-use Rattle.iol_octets.specs.declared.control.Channel.TheVariants.{Process, Page, Diagnosis, Isdu}
+use Rattle.iol_octets.specs.declared.control.Channel.TheVariants.{Page, Isdu}
 use Rattle.iol_mseq.specs.Shape.{Shape}
 use Rattle.iol_mseq.specs.Master.{master_fault, message_of}
 use Rattle.iol_mseq.specs.declared.master.MasterMsg.{MasterMsg}
@@ -36,20 +37,8 @@ use Rattle.iol_judge.proofs.Sending.{AllTexts, AreTexts}
 use Rattle.iol_judge.proofs.Transferring.{transfer_worked}
 use Rattle.iol_judge.proofs.Alike.{alike_after}
 
--- the device as it accepts the octets, if it does
-pub record Accepting (far there : Far) (octets : List ℕ) : Type 0 where
-  pub link : link_of there ≡ taken (link_of far) octets
-  pub page : there.page ≡ far.page
-  pub kind : there.kind ≡ far.kind
-  pub cycle : there.cycle_time ≡ far.cycle_time
-  pub events : there.events ≡ far.events
-  pub isdu : (transfer : Transfer) → HasUnderWay far transfer
-      → HasUnderWay there (transfer_in far.waits octets transfer)
-  pub hears : far.awake ≡ true
-  pub awake : there.awake ≡ true
-  pub accepts : accepted far octets ≡ accepted_now there octets
-
-record AcceptingBy (waits : Option WaitingCommand) (far there : Far) (octets : List ℕ) : Type 0
+-- the device as it accepts the octets, if it does, by the command that waits
+pub record AcceptingBy (waits : Option WaitingCommand) (far there : Far) (octets : List ℕ) : Type 0
   where
     pub link : link_of there ≡ taken_by waits (link_of far) octets
     pub page : there.page ≡ far.page
@@ -60,6 +49,13 @@ record AcceptingBy (waits : Option WaitingCommand) (far there : Far) (octets : L
         → HasUnderWay there (transfer_in waits octets transfer)
     pub awake : there.awake ≡ far.awake
     pub accepts : accepted_by waits far octets ≡ accepted_now there octets
+
+-- of one that hears them
+pub record Accepting (far there : Far) (octets : List ℕ) : Type 0 where
+  pub by : AcceptingBy far.waits far there octets
+  pub hears : far.awake ≡ true
+  pub awake : there.awake ≡ true
+  pub accepts : accepted far octets ≡ accepted_now there octets
 
 accepting_by : (waits : Option WaitingCommand) (far : Far) (octets : List ℕ)
     → (there : Far) × AcceptingBy waits far there octets
@@ -119,12 +115,7 @@ accepting far octets awake =
     let found = accepting_by far.waits far octets in (
       found.0,
       record {
-        link = found.1.link;
-        page = found.1.page;
-        kind = found.1.kind;
-        cycle = found.1.cycle;
-        events = found.1.events;
-        isdu = found.1.isdu;
+        by = found.1;
         hears = awake;
         awake = found.1.awake ∙ awake;
         accepts = ap (λ (b : Bool). if b then accepted_by far.waits far octets else None) awake
@@ -149,10 +140,7 @@ cycle_admits old known Page false address octet h = split (address == 1)
         (λ o. (if b then octet else old) ≡ o)
     split true = refl
     split false = h
-cycle_admits old known Page true address octet h = h
-cycle_admits old known Process read address octet h = h
-cycle_admits old known Diagnosis read address octet h = h
-cycle_admits old known Isdu read address octet h = h
+cycle_admits old known channel read address octet h = h
 
 -- the link once the message was worked
 worked_link : (there : Far) (link : Link) (octets : List ℕ) (asked : Option Mode)
@@ -188,21 +176,17 @@ control_is layout octets message h = split (is_some (master_fault layout octets)
 -- a transfer that is dropped tells no kinds apart
 quiet_alike : (channel : Channel) (read : Bool) (flow : Flow)
     → is_apart Quiet channel read flow ≡ false
-quiet_alike Process read flow = refl
-quiet_alike Page read flow = refl
-quiet_alike Diagnosis read flow = refl
 quiet_alike Isdu read flow = refl
+quiet_alike channel read flow = refl
 
 in_alike : (waits : Option WaitingCommand) (octets : List ℕ) (transfer : Transfer)
     (channel : Channel) (read : Bool) (flow : Flow) → is_apart transfer channel read flow ≡ false
     → is_apart (transfer_in waits octets transfer) channel read flow ≡ false
 in_alike None octets transfer channel read flow e = e
 in_alike (Some command) octets transfer channel read flow e =
-    split (bytes_eq octets command.octets)
-  where
-    split : (b : Bool) → is_apart (if b then transfer else Quiet) channel read flow ≡ false
-    split true = e
-    split false = quiet_alike channel read flow
+    cond_both (bytes_eq octets command.octets) transfer Quiet
+    (λ (t : Transfer). is_apart t channel read flow ≡ false)
+    (λ same. e) (λ other. quiet_alike channel read flow)
 
 module _ (known : Result Layouts Open) (page : List ℕ) (knows : Knows known page) (there : Far)
     (link : Link) (state : State) (octets : List ℕ) (there_page : there.page ≡ page)
@@ -219,18 +203,17 @@ module _ (known : Result Layouts Open) (page : List ℕ) (knows : Knows known pa
       (events_after there.events confirm)) (sym awake)
       (worked_shown state.events there.events confirm shown)
 
+  -- what is known of its transfer once a device of a kind worked the message
+  abbrev moved_by : Kind → ℕ → MasterMsg → Transfer
+  moved_by by size message = transfer_after by (isdu_known known) size
+      (transfer_in state.link.waits octets state.transfer) message.mc.channel message.mc.read
+      (flow_of message.mc.address) message.od.items
+
   -- its transfer moves as that of a device of this kind does
   moves_alike : (size : ℕ) (message : MasterMsg) → message.mc ≡ control_of (slice_index octets 0)
-      → transfer_after there.kind (isdu_known known) size
-      (transfer_in state.link.waits octets state.transfer) message.mc.channel message.mc.read
-      (flow_of message.mc.address) message.od.items
-      ≡ transfer_after (kind_in state.kinds) (isdu_known known) size
-      (transfer_in state.link.waits octets state.transfer) message.mc.channel message.mc.read
-      (flow_of message.mc.address) message.od.items
+      → moved_by there.kind size message ≡ moved_by (kind_in state.kinds) size message
   moves_alike size message mc = elim moves [
-    | inl is ↦ ap (λ (k : Kind). transfer_after k (isdu_known known) size
-        (transfer_in state.link.waits octets state.transfer) message.mc.channel message.mc.read
-        (flow_of message.mc.address) message.od.items) (sym is)
+    | inl is ↦ ap (λ (k : Kind). moved_by k size message) (sym is)
     | inr same ↦ alike_after there.kind (kind_in state.kinds) (isdu_known known) size
         (transfer_in state.link.waits octets state.transfer) message.mc.channel message.mc.read
         (flow_of message.mc.address) message.od.items
@@ -265,8 +248,6 @@ module _ (known : Result Layouts Open) (page : List ℕ) (knows : Knows known pa
       → (found : Option Taken) → taken_asked known link state octets layout message asked ≡ Ok found
       → Fits there octets (Some message) found
   unfolding Fits
-  fits_asked layout message (Err why) mc e l found h = absurd (cc)
-  fits_asked layout message (Ok asked) mc e l None h = absurd (cc)
   fits_asked layout message (Ok asked) mc e l (Some found) h =
       let is : ◌≡◌ {A = Taken} (record {
         kept = state_after known link state octets layout message asked;
@@ -296,6 +277,7 @@ module _ (known : Result Layouts Open) (page : List ℕ) (knows : Knows known pa
       ) in
       subst (λ (t : Taken). (t.message ≡ message) × (t.layout ≡ layout_of there) × Admits t.kept
       (worked there octets message)) is all
+  fits_asked layout message asked mc e l found h = absurd (cc)
 
   fits_message : (layout : Shape) (message : Option MasterMsg)
       → message_in layout octets ≡ message → layout ≡ layout_of there
@@ -320,6 +302,19 @@ module _ (known : Result Layouts Open) (page : List ℕ) (knows : Knows known pa
       subst (λ (s : Shape). Fits there octets (message_in s octets) found) l
       (fits_message layout (message_in layout octets) refl l found h)
 
+-- the events of a device that is awake
+pub shown_awake : (state : State) (far : Far) → far.awake ≡ true → Admits state far
+    → AreShown state.events far.events
+shown_awake state far awake admits =
+    subst (λ (b : Bool). AreShown (if b then state.events else Fresh) far.events) awake
+    admits.events
+
+-- and its transfer
+pub under_way_awake : (state : State) (far : Far) → far.awake ≡ true → Admits state far
+    → HasUnderWay far state.transfer
+under_way_awake state far awake admits =
+    subst (λ (b : Bool). HasUnderWay far (if b then state.transfer else Quiet)) awake admits.isdu
+
 -- a state that stands for the device makes of the octets what it makes of them
 pub state_fits : (known : Result Layouts Open) (far there : Far) (octets : List ℕ) (state : State)
     (found : Option Taken) → AllTexts → Knows known far.page → Accepting far there octets
@@ -327,23 +322,21 @@ pub state_fits : (known : Result Layouts Open) (far there : Far) (octets : List 
     → take.taken_by known state octets ≡ Ok found
     → Fits there octets (message_in (layout_of there) octets) found
 state_fits known far there octets state found texts knows accepting admits moves h =
-    let shown : AreShown state.events far.events =
-    subst (λ (b : Bool). AreShown (if b then state.events else Fresh) far.events) accepting.hears
-    admits.events in
-    let before : HasUnderWay far state.transfer =
-    subst (λ (b : Bool). HasUnderWay far (if b then state.transfer else Quiet)) accepting.hears
-    admits.isdu in
+    let shown = shown_awake state far accepting.hears admits in
+    let before = under_way_awake state far accepting.hears admits in
     let at : link_of there ≡ taken state.link octets =
-    accepting.link ∙ ap (λ (l : Link). taken l octets) admits.link in
+    accepting.by.link ∙ ap (λ (l : Link). taken l octets) admits.link in
     fits_layout known far.page knows there (taken state.link octets) state octets
-    accepting.page
-    at (let P : ℕ → Type 0 = λ c. IfSome state.cycle (λ o. c ≡ o) in subst P (sym accepting.cycle)
+    accepting.by.page
+    at (let P : ℕ → Type 0 = λ c. IfSome state.cycle (λ o. c ≡ o) in
+    subst P (sym accepting.by.cycle)
     admits.cycle)
-    accepting.awake (subst (λ (m : Events). AreShown state.events m) (sym accepting.events) shown)
+    accepting.awake (subst (λ (m : Events). AreShown state.events m) (sym accepting.by.events)
+    shown)
     (subst (λ (l : Link). HasUnderWay there
     (transfer_in l.waits octets state.transfer)) admits.link
-    (accepting.isdu state.transfer before))
-    (texts there) (subst (λ (k : Kind). has_kind state.kinds k ≡ true) (sym accepting.kind)
+    (accepting.by.isdu state.transfer before))
+    (texts there) (subst (λ (k : Kind). has_kind state.kinds k ≡ true) (sym accepting.by.kind)
     admits.kind)
-    (subst (λ (k : Kind). Moves state k octets) (sym accepting.kind) moves)
+    (subst (λ (k : Kind). Moves state k octets) (sym accepting.by.kind) moves)
     (mode_layout known (taken state.link octets).mode) refl found h

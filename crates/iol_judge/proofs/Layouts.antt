@@ -54,10 +54,7 @@ known_by page layouts (Some c) (Some r) (Some i) (Some o) tc tr ti to h =
     ∙ ap layouts_of (four_same (slice_index page 1) (slice_index page 2) (slice_index page 3)
     (slice_index page 4) c r i o tc tr ti to)
     ∙ asked_ok (layouts_of (with_four c r i o)) layouts h
-known_by page layouts (Some c) (Some r) (Some i) None tc tr ti to h = absurd (cc)
-known_by page layouts (Some c) (Some r) None o tc tr ti to h = absurd (cc)
-known_by page layouts (Some c) None i o tc tr ti to h = absurd (cc)
-known_by page layouts None r i o tc tr ti to h = absurd (cc)
+known_by page layouts c r i o tc tr ti to h = absurd (cc)
 
 seen_layouts : (seen : List (Option ℕ)) (page : List ℕ) (layouts : Layouts) → Agrees seen page
     → layouts_seen seen ≡ Ok layouts → layouts_of page ≡ Ok layouts
@@ -76,15 +73,11 @@ layout_known page layouts asks mode layout h =
     split : (mode : Mode) → mode_layout (Ok layouts) mode ≡ Ok layout → layout_by mode (Ok layouts)
         ≡ layout
     split Startup h = cc
-    split Preoperate h = cc
-    split Operate h = cc
+    split mode h = cc
 
 mode_found : (page : List ℕ) (layouts : Layouts) → IsAskedBy page layouts
     → (asked found : Option Mode) → mode_known (Ok layouts) asked ≡ Ok found
     → known_mode page asked ≡ found
-mode_found page layouts asks None found h = cc
-mode_found page layouts asks (Some Startup) found h = cc
-mode_found page layouts asks (Some Operate) found h = cc
 mode_found page layouts asks (Some Preoperate) found h = split (is_old page) (is_some layouts.pre)
     asks.old h
   where
@@ -96,6 +89,7 @@ mode_found page layouts asks (Some Preoperate) found h = split (is_old page) (is
     split true false e h = cc
     split false true e h = cc
     split false false e h = absurd (cc)
+mode_found page layouts asks asked found h = cc
 
 knows_ok : (page : List ℕ) (layouts : Layouts) → layouts_of page ≡ Ok layouts
     → IsAskedBy page layouts → Knows (Ok layouts) page
@@ -113,15 +107,13 @@ knows_none page why = record { layout = layouts; mode = modes; isdu = tt }
     layouts : (mode : Mode) (layout : Shape) → mode_layout (Err why) mode ≡ Ok layout
         → layout_by mode (layouts_of page) ≡ layout
     layouts Startup layout h = cc
-    layouts Preoperate layout h = absurd (cc)
-    layouts Operate layout h = absurd (cc)
+    layouts mode layout h = absurd (cc)
 
     modes : (asked found : Option Mode) → mode_known (Err why) asked ≡ Ok found
         → known_mode page asked ≡ found
-    modes None found h = cc
-    modes (Some Startup) found h = cc
     modes (Some Preoperate) found h = absurd (cc)
     modes (Some Operate) found h = absurd (cc)
+    modes asked found h = cc
 
 pub knows : PagesAskForLayouts → (seen : List (Option ℕ)) (page : List ℕ) → Agrees seen page
     → Knows (layouts_seen seen) page

@@ -43,8 +43,7 @@ module _ (sent reply : List ℕ) (unread : IsUnread sent (Some reply)) where
             pd_out =
                 leb-true o 32 f;
           })
-      split true false e f h = absurd (cc)
-      split false b e f h = absurd (cc)
+      split a b e f h = absurd (cc)
 
   either : (a b : Bool) → (a ≡ true → ⊥) → (b ≡ true → ⊥) → (a || b) ≡ true → ⊥
   either true b f g h = f refl

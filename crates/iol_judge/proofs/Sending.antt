@@ -1,9 +1,9 @@
 -- Which segments of an answer were sent, once a device worked a read.
-use Rattle.std.proofs.Common.{◌≡◌, inl, inr, ℕ, zero, suc, ◌+◌, ◌*◌, ◌%◌, ◌<◌, ◌≤◌, Bool, true, false, List, length, refl, sym, ◌∙◌, ap, subst, arith, eqb-true, ⊎_elim, Result, Ok, Err}
+use Rattle.std.proofs.Common.{◌≡◌, inl, inr, ℕ, zero, suc, ◌+◌, ◌*◌, ◌%◌, ◌<◌, ◌≤◌, Bool, true, false, List, [], ◌∷◌, length, refl, sym, ◌∙◌, ap, subst, arith, eqb-true, ⊎_elim, Result, Ok, Err}
 use Rattle.std.proofs.lemmas.Bool.{cases_lt, lt-ltb, le-ltb, ltb-true, ltb-false}
 use Rattle.std.proofs.lemmas.Bool.Decides.{nat_tests}
 use Rattle.std.proofs.Math.Nat.{mul-le-mul_right}
-use Rattle.std.specs.Prelude.{Option, Some, None, ◌&&◌, ◌==◌, nat_lt, IsTrue, if◌then◌else◌}
+use Rattle.std.specs.Prelude.{Option, Some, ◌&&◌, ◌==◌, nat_lt, IsTrue, if◌then◌else◌, slice_index}
 use Rattle.iol_octets.specs.declared.flow_control.Flow.{Flow}
 use Rattle.iol_octets.specs.declared.flow_control.Flow.TheVariants.{Start, Count}
 use Rattle.iol_isdu.specs.declared.fault.IsduFault.{IsduFault}
@@ -14,7 +14,7 @@ use Rattle.iol_isdu.specs.Frame.{total_at}
 use Rattle.iol_segment.specs.Cut.{SegmentsHaveSize}
 use Rattle.iol_segment.specs.Join.{Open, Complete, stage}
 use Rattle.iol_segment.specs.TextLaws.{TextLaws, HoldsLength, joined}
-use Rattle.iol_far.specs.Isdu.{IsduState, Empty, Receiving, Whole, Handed, Answered, answer_text, fits, has_segment, isdu_read, recalled}
+use Rattle.iol_far.specs.Isdu.{IsduState, Empty, Answered, answer_text, fits, has_segment, isdu_read, recalled}
 use Rattle.iol_far.specs.declared.kind.HandsOver.{HandsOver}
 use Rattle.iol_far.specs.declared.kind.Recalls.{Recalls}
 use Rattle.iol_far.specs.declared.kind.Recalls.TheVariants.{UntilLeft, UntilSent}
@@ -56,12 +56,16 @@ texts_of modes texts requests sized device =
       fitting = (requests (layout_of device).od some).fitting;
     }
 
+-- a text whose first octet is as an answer's has octets
+pub has_octets : (text : List ℕ) → 2 ≤ slice_index text 0 → 0 < length text
+has_octets [] h = absurd (omega (arith, h))
+has_octets (x ∷ text) h = omega arith
+
 -- the COUNT behind another
 counted_up : (sent : ℕ) → ((sent % 16 + 1) % 16) ≡ ((sent + 1) % 16)
 counted_up sent = grind (arith, nat_tests)
 
-above_zero : (size : ℕ) → 1 ≤ size → (sent at : ℕ) → at ≡ sent * size
-    → nat_lt 0 at ≡ nat_lt 0 sent
+above_zero : (size : ℕ) → 1 ≤ size → (sent at : ℕ) → at ≡ sent * size → nat_lt 0 at ≡ nat_lt 0 sent
 above_zero size some zero at e =
     let none : at ≡ 0 = omega (arith, e) in ap (λ n. nat_lt 0 n) none
 above_zero size some (suc sent) at e =
@@ -95,16 +99,18 @@ same_by size some a b h = ⊎_elim below past (cases_lt a b)
 module _ (size : ℕ) (law : AreTexts size) (request : Request) (answer : Answer) (had : Had)
     (sent : ℕ) (read : is_read request ≡ had.read) (fit : IsTrue (fits request answer))
     (are : AreHad size had (answer_text request answer) sent) where
-  holds : HoldsLength (answer_text request answer)
+  abbrev its_text : List ℕ
+  its_text = answer_text request answer
+
+  holds : HoldsLength its_text
   holds = law.texts.answers (is_read request) answer (law.fitting request answer fit)
 
   length_had : length had.text.items ≡ are.many * size
   length_had = ap (λ (l : List ℕ). length l) are.octets
-      ∙ length_first law.sized size (answer_text request answer) are.many
+      ∙ length_first law.sized size its_text are.many
 
   -- the next segment, where there is one
-  next_had : (count : ℕ) → count ≡ (sent + 1) % 16
-      → (sent + 1) * size < length (answer_text request answer)
+  next_had : (count : ℕ) → count ≡ (sent + 1) % 16 → (sent + 1) * size < length its_text
       → IsAnswered size (record had { at = had.at + size; count = count })
       (Answered request answer (Some (sent + 1)))
   next_had count e within =
@@ -126,64 +132,55 @@ module _ (size : ℕ) (law : AreTexts size) (request : Request) (answer : Answer
   counts = let count = are.count in ap (λ c. (c + 1) % 16) count ∙ counted_up sent
 
   -- all up to the one sent last were had
-  joined_had : suc sent ≡ are.many
-      → had.text.items ≡ joined size (answer_text request answer) sent
-  joined_had same = subst (λ n. had.text.items ≡ first_ones size (answer_text request answer) n)
-      (sym same) are.octets
+  joined_had : suc sent ≡ are.many → had.text.items ≡ joined size its_text sent
+  joined_had same = subst (λ n. had.text.items ≡ first_ones size its_text n) (sym same) are.octets
 
   -- there is a next segment where the octets had are no whole text
   open_within : suc sent ≡ are.many → is_open (stage had.text.items) ≡ true
-      → (sent + 1) * size < length (answer_text request answer)
-  open_within same e = ⊎_elim fits whole
-      (cases_lt ((sent + 1) * size) (length (answer_text request answer)))
+      → (sent + 1) * size < length its_text
+  open_within same e = ⊎_elim fits whole (cases_lt ((sent + 1) * size) (length its_text))
     where
-      fits : (sent + 1) * size < length (answer_text request answer)
-          → (sent + 1) * size < length (answer_text request answer)
+      fits : (sent + 1) * size < length its_text → (sent + 1) * size < length its_text
       fits lt = lt
 
-      whole : length (answer_text request answer) ≤ (sent + 1) * size
-          → (sent + 1) * size < length (answer_text request answer)
+      whole : length its_text ≤ (sent + 1) * size → (sent + 1) * size < length its_text
       whole le =
           let begins = are.within in
-          let most : length (answer_text request answer) ≤ suc sent * size = omega (arith, le) in
-          let ended : stage had.text.items ≡ Complete (answer_text request answer) =
-          ap stage (joined_had same)
-          ∙ law.texts.ends (answer_text request answer) sent holds (begins, most) in
+          let most : length its_text ≤ suc sent * size = omega (arith, le) in
+          let ended : stage had.text.items ≡ Complete its_text = ap stage (joined_had same)
+          ∙ law.texts.ends its_text sent holds (begins, most) in
           absurd (let no : false ≡ true = sym (ap is_open ended) ∙ e in cc)
 
   -- and none where they are
   closed_within : suc sent ≡ are.many → is_open (stage had.text.items) ≡ false
-      → nat_lt ((sent + 1) * size) (length (answer_text request answer)) ≡ false
-  closed_within same e = ⊎_elim fits whole
-      (cases_lt ((sent + 1) * size) (length (answer_text request answer)))
+      → nat_lt ((sent + 1) * size) (length its_text) ≡ false
+  closed_within same e = ⊎_elim fits whole (cases_lt ((sent + 1) * size) (length its_text))
     where
-      whole : length (answer_text request answer) ≤ (sent + 1) * size
-          → nat_lt ((sent + 1) * size) (length (answer_text request answer)) ≡ false
-      whole le = le-ltb ((sent + 1) * size) (length (answer_text request answer)) le
+      whole : length its_text ≤ (sent + 1) * size
+          → nat_lt ((sent + 1) * size) (length its_text) ≡ false
+      whole le = le-ltb ((sent + 1) * size) (length its_text) le
 
-      fits : (sent + 1) * size < length (answer_text request answer)
-          → nat_lt ((sent + 1) * size) (length (answer_text request answer)) ≡ false
+      fits : (sent + 1) * size < length its_text
+          → nat_lt ((sent + 1) * size) (length its_text) ≡ false
       fits lt =
-          let before : suc sent * size < length (answer_text request answer) =
-          omega (arith, lt) in
+          let before : suc sent * size < length its_text = omega (arith, lt) in
           let grows : stage had.text.items ≡ Open =
-          ap stage (joined_had same) ∙ law.texts.grows (answer_text request answer) sent holds
-          before in
+          ap stage (joined_had same) ∙ law.texts.grows its_text sent holds before in
           absurd (let no : true ≡ false = sym (ap is_open grows) ∙ e in cc)
 
   -- whether there is a next segment is as the octets had say
   Says : Further → Type 0
-  Says GoesOn = (sent + 1) * size < length (answer_text request answer)
+  Says GoesOn = (sent + 1) * size < length its_text
   Says MayEnd = Unit {0}
-  Says Ends = length (answer_text request answer) ≤ (sent + 1) * size
+  Says Ends = length its_text ≤ (sent + 1) * size
 
   missed_says : (total : Result ℕ IsduFault) → total_at had.text.items ≡ total
       → Says (missed_further had.read total (had.at + size))
   unfolding Says
   missed_says (Ok total) t = split (nat_lt (had.at + size) total) refl
     where
-      long : total ≡ length (answer_text request answer)
-      long = total_of_first size (answer_text request answer) are.many total holds are.begins
+      long : total ≡ length its_text
+      long = total_of_first size its_text are.many total holds are.begins
           (sym (ap total_at are.octets) ∙ t)
 
       split : (b : Bool) → nat_lt (had.at + size) total ≡ b → Says (if b then GoesOn else Ends)
@@ -205,16 +202,15 @@ module _ (size : ℕ) (law : AreTexts size) (request : Request) (answer : Answer
           → Says (if a then GoesOn else if b then MayEnd else Ends)
       split true c a b =
           let at = are.at in
-          let least = (total-bounds (answer_text request answer)
-          (length (answer_text request answer)) holds).0 in
+          let least = (total-bounds its_text (length its_text) holds).0 in
           let short = ltb-true (had.at + size) SHORTEST a in
           omega (arith, at, least, short)
       split false true a b = tt
       split false false a b =
           let at = are.at in
-          let most : length (answer_text request answer) ≤ longest_answer had.read =
-          subst (λ (r : Bool). length (answer_text request answer) ≤ longest_answer r) read
-          (most_octets (is_read request) (answer_text request answer) holds
+          let most : length its_text ≤ longest_answer had.read =
+          subst (λ (r : Bool). length its_text ≤ longest_answer r) read
+          (most_octets (is_read request) its_text holds
           (law.texts.accepted (is_read request) answer (law.fitting request answer fit))) in
           let more = ltb-false (had.at + size) (longest_answer had.read) b in
           omega (arith, at, most, more)
@@ -261,53 +257,67 @@ module _ (size : ℕ) (law : AreTexts size) (request : Request) (answer : Answer
           let same : suc sent ≡ are.many =
           equal (ltb-false (had.at + size) (length had.text.items) b)
           (ltb-false (length had.text.items) (had.at + size) p) in
-          let closed = ltb-false ((sent + 1) * size) (length (answer_text request answer))
-          (closed_within same o) in
+          let closed = ltb-false ((sent + 1) * size) (length its_text) (closed_within same o) in
           omega (arith, closed)
 
   module _ (hands_over : HandsOver) (counted : Option ℕ) where
+    abbrev its_state : IsduState
+    its_state = Answered request answer (Some sent)
+
+    -- with the next segment sent, where it is asked for and there is one
+    abbrev next_if : Bool → IsduState
+    next_if asked = if (asked && has_segment size its_text (sent + 1))
+        then Answered request answer (Some (sent + 1)) else Empty
+
+    abbrev had_next : ℕ → Had
+    had_next count = record had { at = had.at + size; count = count }
+
+    -- what holds behind a read under COUNT, of the segment sent last or of the next
+    abbrev Goes : Recalls → ℕ → Bool → Bool → Type 0
+    Goes recalls count was next = IsUnderWay hands_over counted size
+        (if was then sent_again recalls size had had else
+        if next then while_further (further had (had.at + size)) (had_next count) else known.Quiet)
+        (isdu_read size (recalled recalls size its_state) (Count count))
+
     -- so this is held, where it holds while there is one
     goes_on : (kept : Had) (state : IsduState)
-        → ((sent + 1) * size < length (answer_text request answer) → IsAnswered size kept state)
+        → ((sent + 1) * size < length its_text → IsAnswered size kept state)
         → IsUnderWay hands_over counted size (while_further (further had (had.at + size)) kept)
-        (if has_segment size (answer_text request answer) (sent + 1) then state else Empty)
+        (if has_segment size its_text (sent + 1) then state else Empty)
     unfolding Says
     goes_on kept state holds = split (further had (had.at + size)) further_says
-        (has_segment size (answer_text request answer) (sent + 1)) refl
+        (has_segment size its_text (sent + 1)) refl
       where
         split : (f : Further) → Says f → (b : Bool)
-            → nat_lt ((sent + 1) * size) (length (answer_text request answer)) ≡ b
-            → IsUnderWay hands_over counted size (while_further f kept)
-            (if b then state else Empty)
+            → nat_lt ((sent + 1) * size) (length its_text) ≡ b
+            → IsUnderWay hands_over counted size (while_further f kept) (if b then state else Empty)
         split GoesOn more true e = holds more
         split GoesOn more false e =
-            let none = ltb-false ((sent + 1) * size) (length (answer_text request answer)) e in
+            let none = ltb-false ((sent + 1) * size) (length its_text) e in
             absurd (omega (arith, more, none))
-        split MayEnd more true e =
-            inl (holds (ltb-true ((sent + 1) * size) (length (answer_text request answer)) e))
+        split MayEnd more true e = inl (holds (ltb-true ((sent + 1) * size) (length its_text) e))
         split MayEnd more false e = inr refl
         split Ends more true e =
-            let some = ltb-true ((sent + 1) * size) (length (answer_text request answer)) e in
+            let some = ltb-true ((sent + 1) * size) (length its_text) e in
             absurd (omega (arith, more, some))
         split Ends more false e = refl
 
     -- a segment is sent again
     again_goes : (recalls : Recalls) (again : Had) (number : ℕ)
         → IsAnswered size again (Answered request answer (Some number))
-        → (next : IsduState → IsduState)
-        → next (Answered request answer (Some sent)) ≡ Answered request answer (Some number)
+        → (next : IsduState → IsduState) → next its_state ≡ Answered request answer (Some number)
         → next Empty ≡ Empty
         → IsUnderWay hands_over counted size (sent_again recalls size had again)
-        (next (recalled recalls size (Answered request answer (Some sent))))
+        (next (recalled recalls size its_state))
     again_goes UntilLeft again number holds next e f =
         subst (λ (s : IsduState). IsAnswered size again s) (sym e) holds
     again_goes UntilSent again number holds next e f =
         subst (λ (s : IsduState). IsUnderWay hands_over counted size
         (while_further (further had (had.at + size)) again) s)
-        (sym (split (has_segment size (answer_text request answer) (sent + 1))))
+        (sym (split (has_segment size its_text (sent + 1))))
         (goes_on again (Answered request answer (Some number)) (λ more. holds))
       where
-        split : (b : Bool) → next (if b then Answered request answer (Some sent) else Empty)
+        split : (b : Bool) → next (if b then its_state else Empty)
             ≡ (if b then Answered request answer (Some number) else Empty)
         split true = e
         split false = f
@@ -315,7 +325,7 @@ module _ (size : ℕ) (law : AreTexts size) (request : Request) (answer : Answer
     -- a read under START
     start_goes : (recalls : Recalls)
         → IsUnderWay hands_over counted size (first_again recalls size had)
-        (isdu_read size (recalled recalls size (Answered request answer (Some sent))) Start)
+        (isdu_read size (recalled recalls size its_state) Start)
     start_goes recalls =
         let within = are.within in
         again_goes recalls (record had { at = 0; count = 0 }) 0 (
@@ -330,57 +340,42 @@ module _ (size : ℕ) (law : AreTexts size) (request : Request) (answer : Answer
             at = omega arith;
             count = refl;
           },
-        )
-        (λ (s : IsduState). isdu_read size s Start) refl refl
+        ) (λ (s : IsduState). isdu_read size s Start) refl refl
 
     -- a read under COUNT of another segment than that sent last
     left_read : (count : ℕ) (a b : Bool)
-        → (nat_lt 0 sent && count == sent % 16) ≡ a → (count == (sent + 1) % 16) ≡ b
-        → a ≡ false
-        → isdu_read size (Answered request answer (Some sent)) (Count count)
-        ≡ (if (b && has_segment size (answer_text request answer) (sent + 1))
-        then Answered request answer (Some (sent + 1)) else Empty)
-    left_read count a b p q none =
-        ap (λ (x : Bool). if x then Answered request answer (Some sent) else
-        if ((count == (sent + 1) % 16)
-        && has_segment size (answer_text request answer) (sent + 1))
-        then Answered request answer (Some (sent + 1)) else Empty) (p ∙ none)
-        ∙ ap (λ (x : Bool). if (x && has_segment size (answer_text request answer) (sent + 1))
-        then Answered request answer (Some (sent + 1)) else Empty) q
+        → (nat_lt 0 sent && count == sent % 16) ≡ a → (count == (sent + 1) % 16) ≡ b → a ≡ false
+        → isdu_read size its_state (Count count) ≡ next_if b
+    left_read count a b p q none = ap (λ (x : Bool). if x then its_state else
+        next_if (count == (sent + 1) % 16)) (p ∙ none) ∙ ap (λ (x : Bool). next_if x) q
 
     sent_read : (recalls : Recalls) (count : ℕ) (a b : Bool)
-        → (nat_lt 0 sent && count == sent % 16) ≡ a → (count == (sent + 1) % 16) ≡ b
-        → a ≡ false
-        → isdu_read size (recalled recalls size (Answered request answer (Some sent)))
-        (Count count)
-        ≡ (if (b && has_segment size (answer_text request answer) (sent + 1))
-        then Answered request answer (Some (sent + 1)) else Empty)
+        → (nat_lt 0 sent && count == sent % 16) ≡ a → (count == (sent + 1) % 16) ≡ b → a ≡ false
+        → isdu_read size (recalled recalls size its_state) (Count count) ≡ next_if b
     sent_read UntilLeft count a b p q none = left_read count a b p q none
-    sent_read UntilSent count a b p q none =
-        split (has_segment size (answer_text request answer) (sent + 1)) refl
+    sent_read UntilSent count a b p q none = split (has_segment size its_text (sent + 1)) refl
       where
         ended : (x : Bool) → Empty
             ≡ (if (x && false) then Answered request answer (Some (sent + 1)) else Empty)
         ended true = refl
         ended false = refl
 
-        split : (h : Bool) → has_segment size (answer_text request answer) (sent + 1) ≡ h
-            → isdu_read size (if h then Answered request answer (Some sent) else Empty)
-            (Count count)
-            ≡ (if (b && h) then Answered request answer (Some (sent + 1)) else Empty)
-        split true e =
-            left_read count a b p q none
-            ∙ ap (λ (x : Bool). if (b && x)
+        split : (h : Bool) → has_segment size its_text (sent + 1) ≡ h
+            → isdu_read size (if h then its_state else Empty)
+            (Count count) ≡ (if (b && h) then Answered request answer (Some (sent + 1)) else Empty)
+        split true e = left_read count a b p q none ∙ ap (λ (x : Bool). if (b && x)
             then Answered request answer (Some (sent + 1)) else Empty) e
         split false e = ended b
 
     -- a read under COUNT
     pub count_goes : (recalls : Recalls) (count : ℕ)
         → IsUnderWay hands_over counted size (answered_read recalls size had count)
-        (isdu_read size (recalled recalls size (Answered request answer (Some sent)))
-        (Count count))
+        (isdu_read size (recalled recalls size its_state) (Count count))
     count_goes recalls count =
-        rw_same (nat_lt 0 sent && count == sent % 16) (count == (sent + 1) % 16) refl refl
+        subst (λ (x : Bool). Goes recalls count x (is_next had count)) (sym was)
+        (subst (λ (x : Bool). Goes recalls count (nat_lt 0 sent && count == sent % 16) x)
+        (sym next) (going (nat_lt 0 sent && count == sent % 16) (count == (sent + 1) % 16)
+        refl refl))
       where
         was : was_sent had count ≡ (nat_lt 0 sent && count == sent % 16)
         was = ap (λ c. nat_lt 0 had.at && count == c) are.count
@@ -390,49 +385,16 @@ module _ (size : ℕ) (law : AreTexts size) (request : Request) (answer : Answer
         next = ap (λ c. count == c) counts
 
         going : (a b : Bool) → (nat_lt 0 sent && count == sent % 16) ≡ a
-            → (count == (sent + 1) % 16) ≡ b
-            → IsUnderWay hands_over counted size (if a then sent_again recalls size had had else
-            if b then while_further (further had (had.at + size))
-            (record had { at = had.at + size; count = count }) else known.Quiet)
-            (isdu_read size (recalled recalls size (Answered request answer (Some sent)))
-            (Count count))
+            → (count == (sent + 1) % 16) ≡ b → Goes recalls count a b
         going true b p q = again_goes recalls had sent (read, fit, are)
             (λ (s : IsduState). isdu_read size s (Count count))
-            (ap (λ (x : Bool). if x then Answered request answer (Some sent) else
-            if ((count == (sent + 1) % 16)
-            && has_segment size (answer_text request answer) (sent + 1))
-            then Answered request answer (Some (sent + 1)) else Empty) p)
-            refl
-        going false true p q =
-            subst (λ (s : IsduState). IsUnderWay hands_over counted size
-            (while_further (further had (had.at + size))
-            (record had { at = had.at + size; count = count })) s)
+            (ap (λ (x : Bool). if x then its_state else next_if (count == (sent + 1) % 16)) p) refl
+        going false true p q = subst (λ (s : IsduState). IsUnderWay hands_over counted size
+            (while_further (further had (had.at + size)) (had_next count)) s)
             (sym (sent_read recalls count false true p q refl))
-            (goes_on (record had { at = had.at + size; count = count })
-            (Answered request answer (Some (sent + 1)))
+            (goes_on (had_next count) (Answered request answer (Some (sent + 1)))
             (λ more. next_had count (eqb-true count ((sent + 1) % 16) q) more))
         going false false p q = sent_read recalls count false false p q refl
-
-        rw_same : (a b : Bool) → (nat_lt 0 sent && count == sent % 16) ≡ a
-            → (count == (sent + 1) % 16) ≡ b
-            → IsUnderWay hands_over counted size (answered_read recalls size had count)
-            (isdu_read size (recalled recalls size (Answered request answer (Some sent)))
-            (Count count))
-        rw_same a b p q =
-            let left : was_sent had count ≡ a = was ∙ p in
-            let right : is_next had count ≡ b = next ∙ q in
-            subst (λ (x : Bool). IsUnderWay hands_over counted size
-            (if x then sent_again recalls size had had else
-            if is_next had count then while_further (further had (had.at + size))
-            (record had { at = had.at + size; count = count }) else known.Quiet)
-            (isdu_read size (recalled recalls size (Answered request answer (Some sent)))
-            (Count count))) (sym left)
-            (subst (λ (y : Bool). IsUnderWay hands_over counted size
-            (if a then sent_again recalls size had had else
-            if y then while_further (further had (had.at + size))
-            (record had { at = had.at + size; count = count }) else known.Quiet)
-            (isdu_read size (recalled recalls size (Answered request answer (Some sent)))
-            (Count count))) (sym right) (going a b p q))
 
 module _ (hands_over : HandsOver) (counted : Option ℕ) (recalls : Recalls) (size : ℕ)
     (law : AreTexts size) where
@@ -441,41 +403,26 @@ module _ (hands_over : HandsOver) (counted : Option ℕ) (recalls : Recalls) (si
       (isdu_read size (recalled recalls size state) Start)
   answered_start had (Answered request answer (Some sent)) h =
       start_goes size law request answer had sent h.0 h.1 h.2 hands_over counted recalls
-  answered_start had (Answered request answer None) h = absurd h
-  answered_start had (Handed request) h = absurd h
-  answered_start had Empty h = absurd h
-  answered_start had (Receiving text a) h = absurd h
-  answered_start had (Whole request a) h = absurd h
+  answered_start had state h = absurd h
 
   pub answered_count : (had : Had) (state : IsduState) (count : ℕ) → IsAnswered size had state
       → IsUnderWay hands_over counted size (answered_read recalls size had count)
       (isdu_read size (recalled recalls size state) (Count count))
   answered_count had (Answered request answer (Some sent)) count h =
       count_goes size law request answer had sent h.0 h.1 h.2 hands_over counted recalls count
-  answered_count had (Answered request answer None) count h = absurd h
-  answered_count had Empty count h = absurd h
-  answered_count had (Receiving text last) count h = absurd h
-  answered_count had (Whole request last) count h = absurd h
-  answered_count had (Handed request) count h = absurd h
+  answered_count had state count h = absurd h
 
   -- or the answer had ended before
   pub still_goes : (transfer : Transfer) (state : IsduState)
       → IsUnderWay hands_over counted size transfer state
       → IsUnderWay hands_over counted size (or_ended transfer) state
   still_goes (known.Answered had) state h = inl h
-  still_goes known.Quiet state h = h
-  still_goes (known.Receiving text last) state h = h
-  still_goes (known.Whole read last) state h = h
-  still_goes (known.Handed read last) state h = h
-  still_goes (known.Asked read last) state h = h
-  still_goes (known.Perhaps had) state h = h
-  still_goes known.Free state h = h
+  still_goes transfer state h = h
 
   further_ended : (f : Further) (had : Had)
       → IsUnderWay hands_over counted size (or_ended (while_further f had)) Empty
-  further_ended GoesOn had = inr refl
-  further_ended MayEnd had = inr refl
   further_ended Ends had = refl
+  further_ended f had = inr refl
 
   pub again_ended : (by : Recalls) (had again : Had)
       → IsUnderWay hands_over counted size (or_ended (sent_again by size had again)) Empty
@@ -502,8 +449,7 @@ module _ (hands_over : HandsOver) (counted : Option ℕ) (recalls : Recalls) (si
 
   pub quiet_read : (flow : Flow) (state : IsduState) → state ≡ Empty
       → isdu_read size (recalled recalls size state) flow ≡ isdu_read size Empty flow
-  quiet_read flow state e =
-      ap (λ (s : IsduState). isdu_read size (recalled recalls size s) flow) e
+  quiet_read flow state e = ap (λ (s : IsduState). isdu_read size (recalled recalls size s) flow) e
       ∙ ap (λ (s : IsduState). isdu_read size s flow) (recalled_empty recalls)
 
   -- what a device knows that has sent nothing of an answer, stays
@@ -514,13 +460,8 @@ module _ (hands_over : HandsOver) (counted : Option ℕ) (recalls : Recalls) (si
   unsent_recalled : (by : Recalls) (state : IsduState) → Unsent state
       → recalled by size state ≡ state
   unfolding Unsent
-  unsent_recalled UntilLeft state u = refl
-  unsent_recalled UntilSent Empty u = refl
-  unsent_recalled UntilSent (Receiving text last) u = refl
-  unsent_recalled UntilSent (Whole request last) u = refl
-  unsent_recalled UntilSent (Handed request) u = refl
-  unsent_recalled UntilSent (Answered request answer None) u = refl
   unsent_recalled UntilSent (Answered request answer (Some sent)) u = absurd u
+  unsent_recalled by state u = refl
 
   pub unsent_read : (transfer : Transfer) (flow : Flow) (state : IsduState) → Unsent state
       → IsUnderWay hands_over counted size transfer (isdu_read size state flow)

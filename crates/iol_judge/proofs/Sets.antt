@@ -1,9 +1,7 @@
 -- A set of states, none of which another one covers.
-use Rattle.std.proofs.Common.{◌≡◌, ◌≤◌, ℕ, Bool, true, false, List, [], ◌∷◌, ◌++◌, length, refl, sym, ◌∙◌, ap, subst, arith, ◌⊎◌, inl, inr}
-use Rattle.std.proofs.lemmas.Grind.{common_steps}
+use Rattle.std.proofs.Common.{◌≡◌, ◌≤◌, Bool, true, false, List, [], ◌∷◌, ◌++◌, length, refl, sym, ◌∙◌, ap, subst, ◌⊎◌, inl, inr}
+use Rattle.std.proofs.lemmas.Bool.{and_parts, or_cases, or_left, or_right}
 use Rattle.std.specs.Prelude.{Option, Some, None, Ok, Err, if◌then◌else◌, not, ◌&&◌, ◌||◌, ◌==◌, bytes_eq}
-use Rattle.std.specs.List.{list_any}
-use Rattle.std.proofs.lemmas.Slice.Eq.{bytes_eq-Decides}
 use Rattle.iol_far.specs.declared.kind.HandsOver.{HandsOver}
 use Rattle.iol_far.specs.declared.kind.HandsOver.TheVariants.{FirstRead, LastSegment}
 use Rattle.iol_far.specs.declared.kind.Recalls.{Recalls}
@@ -25,55 +23,37 @@ use Rattle.iol_judge.specs.Transfers.{covers_transfer}
 use Rattle.iol_judge.specs.State.{State, are_alike, covers, covers_alike, same_waiting}
 use Rattle.iol_judge.specs.Judged.{added, added_whole, has_state, uncovered, united}
 use Rattle.iol_judge.specs.Admitted.{Admits, AdmitsOne, AreShown}
-use Rattle.iol_judge.proofs.Shown.{both, known_in_keeps, covers_shown}
-use Rattle.iol_judge.proofs.Covering.{covers_under_way}
+use Rattle.iol_judge.proofs.Shown.{known_in_keeps, covers_shown}
+use Rattle.iol_judge.proofs.Covering.{bytes_same, covers_under_way}
 
 same_mode : (a b : Mode) → is_mode a b ≡ true → a ≡ b
 same_mode Startup Startup h = refl
-same_mode Startup Preoperate h = absurd (cc)
-same_mode Startup Operate h = absurd (cc)
-same_mode Preoperate Startup h = absurd (cc)
 same_mode Preoperate Preoperate h = refl
-same_mode Preoperate Operate h = absurd (cc)
-same_mode Operate Startup h = absurd (cc)
-same_mode Operate Preoperate h = absurd (cc)
 same_mode Operate Operate h = refl
-
-bytes_same : (a b : List ℕ) → bytes_eq a b ≡ true → a ≡ b
-bytes_same a b same = grind (arith, common_steps, bytes_eq-Decides a b)
-
-same_commands : (m n : Mode) (x y : List ℕ) → m ≡ n → x ≡ y
-    → ◌≡◌ {A = WaitingCommand} (record { into = m; octets = x }) (record { into = n; octets = y })
-same_commands m n x y e f =
-    ap (λ (k : Mode). record { into = k; octets = x }) e
-    ∙ ap (λ (o : List ℕ). record { into = n; octets = o }) f
-
-same_links : (m n : Mode) (v w : Option WaitingCommand) → m ≡ n → v ≡ w
-    → ◌≡◌ {A = Link} (record { mode = m; waits = v }) (record { mode = n; waits = w })
-same_links m n v w e f =
-    ap (λ (k : Mode). record { mode = k; waits = v }) e
-    ∙ ap (λ (k : Option WaitingCommand). record { mode = n; waits = k }) f
+same_mode a b h = absurd (cc)
 
 waiting_same : (a b : Option WaitingCommand) → same_waiting a b ≡ true → a ≡ b
 waiting_same None None h = refl
-waiting_same None (Some b) h = absurd (cc)
-waiting_same (Some a) None h = absurd (cc)
 waiting_same (Some a) (Some b) h =
-    let parts = both (is_mode a.into b.into) (bytes_eq a.octets b.octets) h in
+    let parts = and_parts (is_mode a.into b.into) (bytes_eq a.octets b.octets) h in
     let into : a.into ≡ b.into = same_mode a.into b.into parts.0 in
     let octets : a.octets ≡ b.octets = bytes_same a.octets b.octets parts.1 in
-    ap Some (same_commands a.into b.into a.octets b.octets into octets)
+    let same : ◌≡◌ {A = WaitingCommand} (record { into = a.into; octets = a.octets })
+    (record { into = b.into; octets = b.octets }) = cc in
+    ap Some same
+waiting_same a b h = absurd (cc)
 
 -- a kind of the first is one of the second
 within_has : (a b : Kinds) (hands_over : HandsOver) (recalls : Recalls)
     → kinds_within a b ≡ true → has_by a hands_over recalls ≡ true
     → has_by b hands_over recalls ≡ true
 within_has a b hands_over recalls h e =
-    let whole = both (((not a.first_left || b.first_left) && (not a.first_sent || b.first_sent))
+    let whole = and_parts (((not a.first_left || b.first_left)
+    && (not a.first_sent || b.first_sent))
     && (not a.last_left || b.last_left)) (not a.last_sent || b.last_sent) h in
-    let all = both ((not a.first_left || b.first_left) && (not a.first_sent || b.first_sent))
+    let all = and_parts ((not a.first_left || b.first_left) && (not a.first_sent || b.first_sent))
     (not a.last_left || b.last_left) whole.0 in
-    let first = both (not a.first_left || b.first_left) (not a.first_sent || b.first_sent)
+    let first = and_parts (not a.first_left || b.first_left) (not a.first_sent || b.first_sent)
     all.0 in
     split hands_over recalls first.0 first.1 all.1 whole.1 e
   where
@@ -91,27 +71,19 @@ within_has a b hands_over recalls h e =
     split LastSegment UntilSent p q r s e = implied a.last_sent b.last_sent s e
 
 -- with those of another set, it has what it had
-or_true : (x y : Bool) → x ≡ true → (x || y) ≡ true
-or_true true y e = refl
-or_true false y e = absurd (cc)
-
-or_other : (x y : Bool) → y ≡ true → (x || y) ≡ true
-or_other true y e = refl
-or_other false y e = e
-
 pub both_has : (a b : Kinds) (hands_over : HandsOver) (recalls : Recalls)
     → has_by a hands_over recalls ≡ true → has_by (both_kinds a b) hands_over recalls ≡ true
-both_has a b FirstRead UntilLeft e = or_true a.first_left b.first_left e
-both_has a b FirstRead UntilSent e = or_true a.first_sent b.first_sent e
-both_has a b LastSegment UntilLeft e = or_true a.last_left b.last_left e
-both_has a b LastSegment UntilSent e = or_true a.last_sent b.last_sent e
+both_has a b FirstRead UntilLeft e = or_left a.first_left b.first_left e
+both_has a b FirstRead UntilSent e = or_left a.first_sent b.first_sent e
+both_has a b LastSegment UntilLeft e = or_left a.last_left b.last_left e
+both_has a b LastSegment UntilSent e = or_left a.last_sent b.last_sent e
 
 pub other_has : (a b : Kinds) (hands_over : HandsOver) (recalls : Recalls)
     → has_by b hands_over recalls ≡ true → has_by (both_kinds a b) hands_over recalls ≡ true
-other_has a b FirstRead UntilLeft e = or_other a.first_left b.first_left e
-other_has a b FirstRead UntilSent e = or_other a.first_sent b.first_sent e
-other_has a b LastSegment UntilLeft e = or_other a.last_left b.last_left e
-other_has a b LastSegment UntilSent e = or_other a.last_sent b.last_sent e
+other_has a b FirstRead UntilLeft e = or_right a.first_left b.first_left e
+other_has a b FirstRead UntilSent e = or_right a.first_sent b.first_sent e
+other_has a b LastSegment UntilLeft e = or_right a.last_left b.last_left e
+other_has a b LastSegment UntilSent e = or_right a.last_sent b.last_sent e
 
 -- segments have octets, in whatever layout
 abbrev pub Filled : Far → Type 0
@@ -120,18 +92,18 @@ Filled far = 1 ≤ (layout_of far).od
 alike_admits : (a b : State) (far : Far) → Filled far → covers_alike a b ≡ true
     → has_kind a.kinds far.kind ≡ true → Admits b far → Admits a far
 alike_admits a b far some h kind s =
-    let whole = both (((is_mode a.link.mode b.link.mode && is_known_in a.cycle b.cycle)
+    let whole = and_parts (((is_mode a.link.mode b.link.mode && is_known_in a.cycle b.cycle)
     && same_waiting a.link.waits b.link.waits) && covers_events a.events b.events)
     (covers_transfer a.transfer b.transfer) h in
-    let all = both ((is_mode a.link.mode b.link.mode && is_known_in a.cycle b.cycle)
+    let all = and_parts ((is_mode a.link.mode b.link.mode && is_known_in a.cycle b.cycle)
     && same_waiting a.link.waits b.link.waits) (covers_events a.events b.events) whole.0 in
-    let outer = both (is_mode a.link.mode b.link.mode && is_known_in a.cycle b.cycle)
+    let outer = and_parts (is_mode a.link.mode b.link.mode && is_known_in a.cycle b.cycle)
     (same_waiting a.link.waits b.link.waits) all.0 in
-    let inner = both (is_mode a.link.mode b.link.mode) (is_known_in a.cycle b.cycle) outer.0 in
+    let inner = and_parts (is_mode a.link.mode b.link.mode) (is_known_in a.cycle b.cycle) outer.0 in
     let mode : a.link.mode ≡ b.link.mode = same_mode a.link.mode b.link.mode inner.0 in
     let waits : a.link.waits ≡ b.link.waits = waiting_same a.link.waits b.link.waits outer.1 in
-    let link : a.link ≡ b.link =
-    same_links a.link.mode b.link.mode a.link.waits b.link.waits mode waits in
+    let link : ◌≡◌ {A = Link} (record { mode = a.link.mode; waits = a.link.waits })
+    (record { mode = b.link.mode; waits = b.link.waits }) = cc in
     record {
       kind = kind;
       link = s.link ∙ sym link;
@@ -156,7 +128,7 @@ alike_admits a b far some h kind s =
 covers_admits : (a b : State) (far : Far) → Filled far → covers a b ≡ true → Admits b far
     → Admits a far
 covers_admits a b far some h s =
-    let parts = both (kinds_within b.kinds a.kinds) (covers_alike a b) h in
+    let parts = and_parts (kinds_within b.kinds a.kinds) (covers_alike a b) h in
     alike_admits a b far some parts.1
     (within_has b.kinds a.kinds far.kind.hands_over far.kind.recalls parts.0 s.kind) s
 
@@ -165,14 +137,10 @@ has_admits : (states : List State) (state : State) (far : Far) → Filled far
     → Admits state far → AdmitsOne states far
 has_admits [] state far some h admits = absurd (cc)
 has_admits (x ∷ states) state far some h admits =
-    split (covers x state) refl h (λ rest. has_admits states state far some rest admits)
-  where
-    split : (b : Bool) → covers x state ≡ b
-        → (b || list_any (λ other. covers other state) states) ≡ true
-        → (list_any (λ other. covers other state) states ≡ true → AdmitsOne states far)
-        → Admits x far ⊎ AdmitsOne states far
-    split true e h rest = inl (covers_admits x state far some e admits)
-    split false e h rest = inr (rest h)
+    elim (or_cases (covers x state) (has_state states state) h) [
+      | inl e ↦ inl (covers_admits x state far some e admits)
+      | inr rest ↦ inr (has_admits states state far some rest admits)
+    ]
 
 -- the one at the end
 last_admits : (states : List State) (state : State) (far : Far) → Admits state far
@@ -216,10 +184,11 @@ united_admits (x ∷ states) state far h = united_admits states
     }
     split false = h
 
--- what was admitted still is
-whole_keeps : (states : List State) (state : State) (next : List State) (far : Far) → Filled far
-    → added_whole states state ≡ Ok next → AdmitsOne states far → AdmitsOne next far
-whole_keeps states state next far some h admits =
+-- where the new one took its place
+whole_next : (states : List State) (state : State) (next : List State) (far : Far)
+    → added_whole states state ≡ Ok next
+    → AdmitsOne (uncovered states state ++ state ∷ []) far → AdmitsOne next far
+whole_next states state next far h admits =
     split (length (uncovered states state) == MAX_STATES) h
   where
     split : (c : Bool) → (if c then Err TooManyStates else Ok
@@ -228,42 +197,33 @@ whole_keeps states state next far some h admits =
     split true h = absurd (cc)
     split false h =
         let e : (uncovered states state ++ state ∷ []) ≡ next = cc in
-        subst (λ (s : List State). AdmitsOne s far) e (front_admits states state far some admits)
+        subst (λ (s : List State). AdmitsOne s far) e admits
 
--- and so is what the state admits that is added
-whole_admits : (states : List State) (state : State) (next : List State) (far : Far)
-    → added_whole states state ≡ Ok next → Admits state far → AdmitsOne next far
-whole_admits states state next far h admits =
-    split (length (uncovered states state) == MAX_STATES) h
-  where
-    split : (c : Bool) → (if c then Err TooManyStates else Ok
-        (uncovered states state ++ state ∷ [])) ≡ Ok next
-        → AdmitsOne next far
-    split true h = absurd (cc)
-    split false h =
-        let e : (uncovered states state ++ state ∷ []) ≡ next = cc in
-        subst (λ (s : List State). AdmitsOne s far) e
-        (last_admits (uncovered states state) state far admits)
-
-pub added_keeps : (states : List State) (state : State) (next : List State) (far : Far)
-    → Filled far → added states state ≡ Ok next → AdmitsOne states far → AdmitsOne next far
-added_keeps states state next far some h admits = split (has_state states state) h
-  where
-    split : (b : Bool) → (if b then Ok states else added_whole states (united states state))
-        ≡ Ok next → AdmitsOne next far
-    split true h = let e : states ≡ next = cc in subst (λ (s : List State). AdmitsOne s far) e
-        admits
-    split false h = whole_keeps states (united states state) next far some h admits
-
-pub added_admits : (states : List State) (state : State) (next : List State) (far : Far)
-    → Filled far → added states state ≡ Ok next → Admits state far → AdmitsOne next far
-added_admits states state next far some h admits = split (has_state states state) refl h
+added_next : (states : List State) (state : State) (next : List State) (far : Far)
+    → added states state ≡ Ok next
+    → (has_state states state ≡ true → AdmitsOne states far)
+    → AdmitsOne (uncovered states (united states state) ++ united states state ∷ []) far
+    → AdmitsOne next far
+added_next states state next far h old new = split (has_state states state) refl h
   where
     split : (b : Bool) → has_state states state ≡ b
         → (if b then Ok states else added_whole states (united states state)) ≡ Ok next
         → AdmitsOne next far
     split true has h = let e : states ≡ next = cc in
-        subst (λ (s : List State). AdmitsOne s far) e
-        (has_admits states state far some has admits)
-    split false has h = whole_admits states (united states state) next far h
-        (united_admits states state far admits)
+        subst (λ (s : List State). AdmitsOne s far) e (old has)
+    split false has h = whole_next states (united states state) next far h new
+
+-- what was admitted still is
+pub added_keeps : (states : List State) (state : State) (next : List State) (far : Far)
+    → Filled far → added states state ≡ Ok next → AdmitsOne states far → AdmitsOne next far
+added_keeps states state next far some h admits =
+    added_next states state next far h (λ has. admits)
+    (front_admits states (united states state) far some admits)
+
+-- and so is what the state admits that is added
+pub added_admits : (states : List State) (state : State) (next : List State) (far : Far)
+    → Filled far → added states state ≡ Ok next → Admits state far → AdmitsOne next far
+added_admits states state next far some h admits =
+    added_next states state next far h (λ has. has_admits states state far some has admits)
+    (last_admits (uncovered states (united states state)) (united states state) far
+    (united_admits states state far admits))

@@ -1,5 +1,6 @@
 -- What is known of a device's events holds through all that it does, and explains what it shows.
 use Rattle.std.proofs.Common.{◌≡◌, ℕ, zero, suc, ◌+◌, ◌-◌, ◌/◌, ◌%◌, ◌^◌, ◌<◌, ◌≤◌, max, Bool, true, false, List, [], ◌∷◌, ◌++◌, length, take, drop, replicate, get_or, set, refl, sym, ◌∙◌, ap, subst, arith, eq-eqb, eqb-true, leb-true, le-leb, lt-ltb, ltb-true, ltb-false}
+use Rattle.std.proofs.lemmas.Bool.{and_from, and_parts, cond_both, or_right}
 use Rattle.std.specs.Prelude.{Option, Some, None, IfSome, not, ◌&&◌, ◌||◌, ◌==◌, nat_le, nat_lt, if◌then◌else◌, slice_get, slice_index_or}
 use Rattle.std.specs.Cmp.Lexicographic.{pointwise}
 use Rattle.iol_event.specs.declared.event.Event.{Event}
@@ -13,33 +14,20 @@ use Rattle.iol_judge.specs.Octets.{is_known_in, is_other}
 use Rattle.iol_judge.specs.Events.{covers_events, covers_places, shown_after, flag_fault, flag_told, marked, status_fault, place_known, fills, places_fault, no_places, places_of, events_fault, marks_told, octet_told, places_told, events_told}
 use Rattle.iol_judge.specs.Admitted.{IsReleased, AreIn, AreShown}
 
-pub both : (a b : Bool) → (a && b) ≡ true → (a ≡ true) × (b ≡ true)
-both true true h = (refl, refl)
-both true false h = absurd (cc)
-both false b h = absurd (cc)
-
-both_true : (a b : Bool) → a ≡ true → b ≡ true → (a && b) ≡ true
-both_true true true e f = refl
-both_true true false e f = absurd (cc)
-both_true false b e f = absurd (cc)
-
-or_true : (a b : Bool) → b ≡ true → (a || b) ≡ true
-or_true true b e = refl
-or_true false b e = e
+abbrev events_of : List Event → List Event → Bool → Events
+events_of frozen waiting held = record { frozen = frozen; waiting = waiting; held = held }
 
 -- By itself
 
 waiting_released : (f w x : List Event) (h : Bool) → (is_empty f && not h) ≡ false
-    → IsReleased (record { frozen = f; waiting = w; held = h })
-    → IsReleased (record { frozen = f; waiting = x; held = h })
+    → IsReleased (events_of f w h) → IsReleased (events_of f x h)
 waiting_released [] w x false e s = absurd (cc)
 waiting_released [] w x true e s = absurd (let no : true ≡ false = s.free in cc)
 waiting_released (event ∷ f) w x h e s =
     record { free = s.free; waits = λ n. absurd (let no : (event ∷ f) ≡ [] = n in cc) }
 
 waiting_shown : (shown : Shown) (f w x : List Event) (h : Bool) → (is_empty f && not h) ≡ false
-    → AreShown shown (record { frozen = f; waiting = w; held = h })
-    → AreShown shown (record { frozen = f; waiting = x; held = h })
+    → AreShown shown (events_of f w h) → AreShown shown (events_of f x h)
 waiting_shown Held f w x h e s = s
 waiting_shown Any f w x h e s = waiting_released f w x h e s
 waiting_shown Fresh f w x h e s = (waiting_released f w x h e s.0, s.1)
@@ -51,16 +39,15 @@ first_released event w =
     record { free = refl; waits = λ n. absurd (let no : (event ∷ []) ≡ [] = n in cc) }
 
 frozen_shown : (shown : Shown) (f w : List Event) (h : Bool) (event : Event)
-    → (is_empty f && not h) ≡ true → AreShown shown (record { frozen = f; waiting = w; held = h })
+    → (is_empty f && not h) ≡ true → AreShown shown (events_of f w h)
     → AreShown shown (record { frozen = event ∷ []; waiting = w; held = h })
-frozen_shown shown (x ∷ f) w h event e s = absurd (cc)
-frozen_shown shown [] w true event e s = absurd (cc)
 frozen_shown Held [] w false event e s = absurd (let no : false ≡ true = s.0 in cc)
 frozen_shown Any [] w false event e s = first_released event w
 frozen_shown Fresh [] w false event e s =
     let one : 1 ≤ 1 = omega arith in (first_released event w, one)
 frozen_shown (Filled places) [] w false event e s =
     absurd (let no : 1 ≤ 0 = s.1 in omega (arith, no))
+frozen_shown shown f w h event e s = absurd (cc)
 
 pub raised_shown : (shown : Shown) (memory : Events) (event : Event) → AreShown shown memory
     → AreShown shown (raised memory event)
@@ -90,36 +77,30 @@ held_none (Filled places) memory s e = absurd (let no : true ≡ false = sym e �
 
 confirmed_shown : (shown : Shown) (memory : Events) → AreShown shown memory
     → AreShown Held (confirmed memory)
-confirmed_shown shown memory s = split memory.held refl
-  where
-    split : (b : Bool) → memory.held ≡ b → AreShown Held
-        (if b then memory else record { frozen = []; waiting = memory.waiting; held = true })
-    split true e = (e, held_none shown memory s e)
-    split false e = (refl, refl)
+confirmed_shown shown memory s = cond_both memory.held memory
+    (record { frozen = []; waiting = memory.waiting; held = true }) (AreShown Held)
+    (λ e. (e, held_none shown memory s e)) (λ e. (refl, refl))
 
 taken_none : (w : List Event) → take 6 w ≡ [] → drop 6 w ≡ []
 taken_none [] e = refl
 taken_none (x ∷ w) e = absurd (let no : (x ∷ take 5 w) ≡ [] = e in cc)
 
-pub released_free : (f w : List Event) (h : Bool)
-    → IsReleased (released (record { frozen = f; waiting = w; held = h }))
+pub released_free : (f w : List Event) (h : Bool) → IsReleased (released (events_of f w h))
 released_free [] w h = record { free = refl; waits = taken_none w }
 released_free (x ∷ f) w h =
     record { free = refl; waits = λ n. absurd (let no : (x ∷ f) ≡ [] = n in cc) }
 
-fresh_released : (f w : List Event) (h : Bool)
-    → IsReleased (record { frozen = f; waiting = w; held = h }) → length f ≤ 1
-    → length (released (record { frozen = f; waiting = w; held = h })).frozen ≤ 1
+fresh_released : (f w : List Event) (h : Bool) → IsReleased (events_of f w h) → length f ≤ 1
+    → length (released (events_of f w h)).frozen ≤ 1
 fresh_released [] w h s few =
     let none : w ≡ [] = s.waits refl in
     let no : 0 ≤ 1 = omega arith in
     subst (λ (x : List Event). length (take 6 x) ≤ 1) (sym none) no
 fresh_released (x ∷ f) w h s few = few
 
-filled_released : (places : Places) (f w : List Event) (h : Bool) → 1 ≤ length f
-    → AreIn places f
-    → (1 ≤ length (released (record { frozen = f; waiting = w; held = h })).frozen)
-    × AreIn places (released (record { frozen = f; waiting = w; held = h })).frozen
+filled_released : (places : Places) (f w : List Event) (h : Bool) → 1 ≤ length f → AreIn places f
+    → (1 ≤ length (released (events_of f w h)).frozen)
+    × AreIn places (released (events_of f w h)).frozen
 filled_released places [] w h some s = absurd (let no : 1 ≤ 0 = some in omega (arith, no))
 filled_released places (x ∷ f) w h some s = (some, s)
 
@@ -151,18 +132,17 @@ known_in_keeps (Some a) None P h s = absurd (cc)
 known_in_all : (a b : List (Option ℕ)) (k : ℕ) (P : ℕ → Type 0) → pointwise is_known_in a b ≡ true
     → IfSome (slice_index_or b k None) P → IfSome (slice_index_or a k None) P
 known_in_all [] [] k P h p = p
-known_in_all [] (y ∷ b) k P h p = absurd (cc)
-known_in_all (x ∷ a) [] k P h p = absurd (cc)
 known_in_all (x ∷ a) (y ∷ b) zero P h p =
-    known_in_keeps x y P (both (is_known_in x y) (pointwise is_known_in a b) h).0 p
+    known_in_keeps x y P (and_parts (is_known_in x y) (pointwise is_known_in a b) h).0 p
 known_in_all (x ∷ a) (y ∷ b) (suc k) P h p =
-    known_in_all a b k P (both (is_known_in x y) (pointwise is_known_in a b) h).1 p
+    known_in_all a b k P (and_parts (is_known_in x y) (pointwise is_known_in a b) h).1 p
+known_in_all a b k P h p = absurd (cc)
 
 covers_in : (a b : Places) (f : List Event) → covers_places a b ≡ true → AreIn b f → AreIn a f
 covers_in a b f h s =
-    let outer = both (nat_le a.least b.least && nat_le b.most a.most)
+    let outer = and_parts (nat_le a.least b.least && nat_le b.most a.most)
     (pointwise is_known_in a.octets b.octets) h in
-    let inner = both (nat_le a.least b.least) (nat_le b.most a.most) outer.0 in
+    let inner = and_parts (nat_le a.least b.least) (nat_le b.most a.most) outer.0 in
     let least : a.least ≤ b.least = leb-true a.least b.least inner.0 in
     let most : b.most ≤ a.most = leb-true b.most a.most inner.1 in
     let more : b.least ≤ length f = s.least in
@@ -193,24 +173,18 @@ some_not_empty (x ∷ f) some = refl
 pub flag_fits : (shown : Shown) (memory : Events) → AreShown shown memory
     → flag_fault shown (not (is_empty memory.frozen)) ≡ None
 flag_fits Held memory s = ap (λ (f : List Event). flag_fault Held (not (is_empty f))) s.1
-flag_fits Any memory s = split (is_empty memory.frozen)
-  where
-    split : (b : Bool) → flag_fault Any (not b) ≡ None
-    split true = refl
-    split false = refl
-flag_fits Fresh memory s = split (is_empty memory.frozen)
-  where
-    split : (b : Bool) → flag_fault Fresh (not b) ≡ None
-    split true = refl
-    split false = refl
 flag_fits (Filled places) memory s =
     ap (λ (b : Bool). flag_fault (Filled places) (not b)) (some_not_empty memory.frozen s.1)
+flag_fits shown memory s =
+    elim (is_empty memory.frozen) as (λ (b : Bool). flag_fault shown (not b) ≡ None) [
+      | true ↦ refl
+      | false ↦ refl
+    ]
 
 -- of nothing each thing can be said
 pub nothing_known : (n k : ℕ) (P : ℕ → Type 0) → IfSome (get_or (replicate n None) k None) P
-nothing_known zero k P = tt
-nothing_known (suc n) zero P = tt
 nothing_known (suc n) (suc k) P = nothing_known n k P
+nothing_known n k P = tt
 
 unread_in : (least most : ℕ) (f : List Event) → least ≤ length f → length f ≤ most
     → AreIn (record { least = least; most = most; octets = replicate 18 None }) f
@@ -220,30 +194,25 @@ unread_in least most f more fewer = record {
   octets = λ k. nothing_known 18 k (λ octet. event_octet f (suc k) ≡ octet);
 }
 
-first_in : (most : ℕ) (x : Event) (f : List Event) → length (x ∷ f) ≤ most
-    → (1 ≤ length (x ∷ f))
+first_in : (most : ℕ) (x : Event) (f : List Event) → length (x ∷ f) ≤ most → (1 ≤ length (x ∷ f))
     × AreIn (record { least = 1; most = most; octets = replicate 18 None }) (x ∷ f)
 first_in most x f fewer =
     let some : 1 ≤ suc (length f) = omega arith in
     (some, unread_in 1 most (x ∷ f) some fewer)
 
 flagged_by : (shown : Shown) (f w : List Event) (h : Bool) → length f ≤ 6
-    → AreShown shown (record { frozen = f; waiting = w; held = h })
-    → AreShown (flag_told shown (not (is_empty f))) (record { frozen = f; waiting = w; held = h })
-flagged_by Held [] w h six s = s
-flagged_by Held (x ∷ f) w h six s = s
+    → AreShown shown (events_of f w h)
+    → AreShown (flag_told shown (not (is_empty f))) (events_of f w h)
 flagged_by Any [] w h six s = (s, let no : 0 ≤ 1 = omega arith in no)
 flagged_by Any (x ∷ f) w h six s = let is = first_in 6 x f six in (s, is.0, is.1)
-flagged_by Fresh [] w h six s = s
 flagged_by Fresh (x ∷ f) w h six s = let is = first_in 1 x f s.1 in (s.0, is.0, is.1)
+flagged_by Held [] w h six s = s
 flagged_by (Filled places) [] w h six s = s
-flagged_by (Filled places) (x ∷ f) w h six s = s
+flagged_by shown f w h six s = s
 
 pub flagged_shown : (shown : Shown) (memory : Events) → length memory.frozen ≤ 6
-    → AreShown shown memory
-    → AreShown (flag_told shown (not (is_empty memory.frozen))) memory
-flagged_shown shown memory six s =
-    flagged_by shown memory.frozen memory.waiting memory.held six s
+    → AreShown shown memory → AreShown (flag_told shown (not (is_empty memory.frozen))) memory
+flagged_shown shown memory six s = flagged_by shown memory.frozen memory.waiting memory.held six s
 
 -- The octets of the diagnosis channel
 
@@ -252,16 +221,13 @@ none_in = let no : 0 ≤ 0 = omega arith in unread_in 0 0 [] no no
 
 -- once the flag was had, the places are the device's
 places_in : (shown : Shown) (f w : List Event) (h : Bool) → length f ≤ 6
-    → AreShown shown (record { frozen = f; waiting = w; held = h })
-    → AreIn (places_of (flag_told shown (not (is_empty f)))) f
-places_in Held [] w h six s = none_in
+    → AreShown shown (events_of f w h) → AreIn (places_of (flag_told shown (not (is_empty f)))) f
 places_in Held (x ∷ f) w h six s = absurd (let no : (x ∷ f) ≡ [] = s.1 in cc)
-places_in Any [] w h six s = none_in
 places_in Any (x ∷ f) w h six s = (first_in 6 x f six).1
-places_in Fresh [] w h six s = none_in
 places_in Fresh (x ∷ f) w h six s = (first_in 1 x f s.1).1
 places_in (Filled places) [] w h six s = s.2
 places_in (Filled places) (x ∷ f) w h six s = s.2
+places_in shown f w h six s = none_in
 
 marks_length : (n : ℕ) → n ≤ 6 → marked (128 + (2 ^ n - 1)) ≡ Some n
 marks_length zero h = refl
@@ -288,10 +254,9 @@ filled_or f i part most fewer = split (nat_lt i (length f)) refl
         → (place_octet (slice_get f i) part == 0 || nat_lt i most) ≡ true
     split true e =
         let within : i < length f = ltb-true i (length f) e in
-        or_true (place_octet (slice_get f i) part == 0) (nat_lt i most)
+        or_right (place_octet (slice_get f i) part == 0) (nat_lt i most)
         (lt-ltb i most (omega (arith, within, fewer)))
-    split false e =
-        ap (λ (event : Option Event). place_octet event part == 0 || nat_lt i most)
+    split false e = ap (λ (event : Option Event). place_octet event part == 0 || nat_lt i most)
         (get_none f i (ltb-false i (length f) e))
 
 filled_below : (f : List Event) (i part : ℕ) → (place_octet (slice_get f i) part == 0) ≡ false
@@ -329,15 +294,13 @@ set_agrees (x ∷ seen) page (suc place) octet agrees e (suc k) =
 module _ (f : List Event) (address : ℕ) where
   is_status : (address == 0) ≡ true → event_octet f address ≡ status_code f
   unfolding event_octet
-  is_status e =
-      ap (λ (b : Bool). if b then status_code f else
+  is_status e = ap (λ (b : Bool). if b then status_code f else
       place_octet (slice_get f ((address - 1) / 3)) ((address - 1) % 3)) e
 
   is_place : (address == 0) ≡ false
       → event_octet f address ≡ place_octet (slice_get f ((address - 1) / 3)) ((address - 1) % 3)
   unfolding event_octet
-  is_place e =
-      ap (λ (b : Bool). if b then status_code f else
+  is_place e = ap (λ (b : Bool). if b then status_code f else
       place_octet (slice_get f ((address - 1) / 3)) ((address - 1) % 3)) e
 
   module _ (places : Places) (six : length f ≤ 6) (s : AreIn places f) where
@@ -359,10 +322,8 @@ module _ (f : List Event) (address : ℕ) where
 
     filled_there : (address == 0) ≡ false
         → (event_octet f address == 0 || nat_lt ((address - 1) / 3) places.most) ≡ true
-    filled_there e =
-        subst (λ (o : ℕ). (o == 0 || nat_lt ((address - 1) / 3) places.most) ≡ true)
-        (sym (is_place e))
-        (filled_or f ((address - 1) / 3) ((address - 1) % 3) places.most s.most)
+    filled_there e = subst (λ (o : ℕ). (o == 0 || nat_lt ((address - 1) / 3) places.most) ≡ true)
+        (sym (is_place e)) (filled_or f ((address - 1) / 3) ((address - 1) % 3) places.most s.most)
 
     pub octet_fits : places_fault places address (event_octet f address) ≡ None
     octet_fits = split (address == 0) refl
@@ -370,14 +331,12 @@ module _ (f : List Event) (address : ℕ) where
         split : (b : Bool) → (address == 0) ≡ b
             → (if b then status_fault places (marked (event_octet f address)) else
             if fills places address (event_octet f address) then None else Some EventOctet) ≡ None
-        split true e =
-            ap (λ (m : Option ℕ). status_fault places m) (marks e)
+        split true e = ap (λ (m : Option ℕ). status_fault places m) (marks e)
             ∙ ap (λ (b : Bool). if b then None else Some StatusCode)
-            (both_true (nat_le places.least (length f)) (nat_le (length f) places.most)
+            (and_from (nat_le places.least (length f)) (nat_le (length f) places.most)
             (le-leb places.least (length f) s.least) (le-leb (length f) places.most s.most))
-        split false e =
-            ap (λ (b : Bool). if b then None else Some EventOctet)
-            (both_true (event_octet f address == 0 || nat_lt ((address - 1) / 3) places.most)
+        split false e = ap (λ (b : Bool). if b then None else Some EventOctet)
+            (and_from (event_octet f address == 0 || nat_lt ((address - 1) / 3) places.most)
             (not (is_other (place_known places.octets address) (event_octet f address)))
             (filled_there e) (ap not (known_there e)))
 
@@ -432,8 +391,6 @@ events_fit shown memory six s address =
 pub told_shown : (shown : Shown) (memory : Events) → length memory.frozen ≤ 6
     → AreShown shown memory → (address : ℕ)
     → AreShown (events_told shown address (event_octet memory.frozen address)) memory
-told_shown Held memory six s address = s
-told_shown Any memory six s address = s
-told_shown Fresh memory six s address = s
 told_shown (Filled places) memory six s address =
     (s.0, s.1, told_in memory.frozen address places six s.2)
+told_shown shown memory six s address = s

@@ -20,18 +20,17 @@ first_total : (a b n t : ℕ) (none long fits : Bool) → (if none then Err BadI
     (if long then (if fits then Ok b else Err BadIsduLength) else Ok (a % 16))) ≡ Ok n
     → (if none then Err BadIsduLength else (if long then Err Truncated else Ok (a % 16))) ≡ Ok t
     → t ≡ n
-first_total a b n t true long fits e f = absurd (cc)
-first_total a b n t false true fits e f = absurd (cc)
 first_total a b n t false false fits e f = cc
+first_total a b n t none long fits e f = absurd (cc)
 
 front_total : (text : List ℕ) (k n t : ℕ) → total_at text ≡ Ok n → total_at (take k text) ≡ Ok t
     → t ≡ n
 front_total [] k n t e f = absurd (cc)
 front_total (a ∷ text) zero n t e f = absurd (cc)
-front_total (a ∷ []) (suc zero) n t e f = cc
-front_total (a ∷ []) (suc (suc k)) n t e f = cc
 front_total (a ∷ b ∷ text) (suc zero) n t e f =
     first_total a b n t (a % 16 == 0) (a % 16 == 1) (nat_le 17 b && nat_le b 238) e f
+front_total (a ∷ []) (suc zero) n t e f = cc
+front_total (a ∷ []) (suc (suc k)) n t e f = cc
 front_total (a ∷ b ∷ text) (suc (suc k)) n t e f = cc
 
 same_total : (a b : ℕ) → ◌≡◌ {A = Result ℕ IsduFault} (Ok a) (Ok b) → a ≡ b

@@ -7,13 +7,11 @@ use Rattle.iol_judge.specs.State.{State}
 use Rattle.iol_judge.specs.Judged.{each_in_turn}
 use Rattle.iol_judge.specs.Admitted.{Admits, AdmitsOne}
 
--- what a step keeps, all keep
-pub each_keeps : {S A : Type 0} (step : A → S → Result A Open) (P : A → Type 0)
-    → ((n : A) (item : S) (m : A) → step n item ≡ Ok m → P n → P m)
-    → (items : List S) (next out : A) → each_in_turn step next items ≡ Ok out → P next → P out
-each_keeps {S = S} {A = A} step P keeps [] next out h p = let e : next ≡ out = cc in subst P e p
-each_keeps {S = S} {A = A} step P keeps (item ∷ items) next out h p =
-    split (step next item) refl h (λ more q rest. each_keeps step P keeps items more out rest q)
+-- the first step is taken, and then the others
+stepped : {S A : Type 0} (step : A → S → Result A Open) (item : S) (items : List S) (next out : A)
+    → each_in_turn step next (item ∷ items) ≡ Ok out
+    → (more : A) × (step next item ≡ Ok more) × (each_in_turn step more items ≡ Ok out)
+stepped {A = A} step item items next out h = split (step next item) refl h
   where
     split : (r : Result A Open) → step next item ≡ r
         → ◌≡◌ {A = Result A Open} (elim r [
@@ -21,9 +19,18 @@ each_keeps {S = S} {A = A} step P keeps (item ∷ items) next out h p =
           | Err why ↦ Err
               why
         ]) (Ok out)
-        → ((more : A) → P more → each_in_turn step more items ≡ Ok out → P out) → P out
-    split (Ok more) e h go = go more (keeps next item more e p) h
-    split (Err why) e h go = absurd (cc)
+        → (more : A) × (step next item ≡ Ok more) × (each_in_turn step more items ≡ Ok out)
+    split (Ok more) e h = (more, e, h)
+    split (Err why) e h = absurd (cc)
+
+-- what a step keeps, all keep
+pub each_keeps : {S A : Type 0} (step : A → S → Result A Open) (P : A → Type 0)
+    → ((n : A) (item : S) (m : A) → step n item ≡ Ok m → P n → P m)
+    → (items : List S) (next out : A) → each_in_turn step next items ≡ Ok out → P next → P out
+each_keeps step P keeps [] next out h p = let e : next ≡ out = cc in subst P e p
+each_keeps step P keeps (item ∷ items) next out h p =
+    let s = stepped step item items next out h in
+    each_keeps step P keeps items s.0 out s.2 (keeps next item s.0 s.1 p)
 
 -- what the step of one of the items gains, is so in the end
 abbrev pub One : {S : Type 0} → (S → Type 0) → List S → Type 0
@@ -35,24 +42,13 @@ pub each_gains : {S A : Type 0} (step : A → S → Result A Open) (Q : S → Ty
     → ((n : A) (item : S) (m : A) → step n item ≡ Ok m → Q item → P m)
     → (items : List S) (next out : A) → each_in_turn step next items ≡ Ok out
     → One Q items → P out
-each_gains {S = S} {A = A} step Q P keeps gains [] next out h has = absurd has
-each_gains {S = S} {A = A} step Q P keeps gains (item ∷ items) next out h has =
-    split (step next item) refl h
-    (λ more rest there. each_gains step Q P keeps gains items more out rest there)
-  where
-    split : (r : Result A Open) → step next item ≡ r
-        → ◌≡◌ {A = Result A Open} (elim r [
-          | Ok more ↦ each_in_turn step more items
-          | Err why ↦ Err
-              why
-        ]) (Ok out)
-        → ((more : A) → each_in_turn step more items ≡ Ok out → One Q items → P out)
-        → P out
-    split (Ok more) e h go = elim has [
-      | inl here ↦ each_keeps step P keeps items more out h (gains next item more e here)
-      | inr there ↦ go more h there
-    ]
-    split (Err why) e h go = absurd (cc)
+each_gains step Q P keeps gains [] next out h has = absurd has
+each_gains step Q P keeps gains (item ∷ items) next out h (inl here) =
+    let s = stepped step item items next out h in
+    each_keeps step P keeps items s.0 out s.2 (gains next item s.0 s.1 here)
+each_gains step Q P keeps gains (item ∷ items) next out h (inr there) =
+    let s = stepped step item items next out h in
+    each_gains step Q P keeps gains items s.0 out s.2 there
 
 one_admits : (states : List State) (far : Far) → AdmitsOne states far
     → One (λ (s : State). Admits s far) states

@@ -117,15 +117,7 @@ fn lose_apart(kept: &Kept, layouts: &Known, sent: &[u8], next: &mut States) -> R
     ensures { result_with result next.new.items
         ≡ all_lost_parts layouts.now sent.now next.old.items (all_parts kept.now) }
 {
-    lose_parts(&kept.parts(), layouts, sent, next)
-}
-
-/// By each of the parts.
-fn lose_parts(parts: &[Kept], layouts: &Known, sent: &[u8], next: &mut States) -> Result<(), Open>
-    ensures { result_with result next.new.items
-        ≡ all_lost_parts layouts.now sent.now next.old.items parts.now }
-{
-    for part in parts {
+    for part in kept.parts().as_slice() {
         lose_part(part, layouts, sent, next)?;
     }
     Ok(())
@@ -236,23 +228,7 @@ fn reply_apart(
         ≡ all_replied_parts layouts.now odd seen.now sent.now octets.now next.old
         (all_parts kept.now) }
 {
-    reply_parts(&kept.parts(), layouts, odd, seen, sent, octets, next)
-}
-
-/// Of each of the parts.
-fn reply_parts(
-    parts: &[Kept],
-    layouts: &Known,
-    odd: Odd,
-    seen: &Seen,
-    sent: &[u8],
-    octets: &[u8],
-    next: &mut Next,
-) -> Result<(), Open>
-    ensures { result_with result next.new
-        ≡ all_replied_parts layouts.now odd seen.now sent.now octets.now next.old parts.now }
-{
-    for part in parts {
+    for part in kept.parts().as_slice() {
         reply_part(part, layouts, odd, seen, sent, octets, next)?;
     }
     Ok(())
