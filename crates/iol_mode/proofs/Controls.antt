@@ -1,6 +1,6 @@
 -- The control octets of the page's messages, and the parts of these messages.
 use Rattle.std.proofs.Common.{◌≡◌, ℕ, ◌+◌, ◌-◌, ◌/◌, ◌%◌, ◌≤◌, Bool, true, false, List, ◌∷◌, length, replicate, refl, sym, ap, ◌∙◌, arith}
-use Rattle.std.specs.Prelude.{if◌then◌else◌, IsTrue}
+use Rattle.std.specs.Prelude.{if◌then◌else◌, IsTrue, nat_le}
 use Rattle.std.proofs.Math.Bridge.{le_prop}
 use Rattle.std.proofs.lemmas.Bool.Decides.{nat_tests}
 use Rattle.std.proofs.lemmas.Grind.{common_steps}
@@ -19,23 +19,19 @@ pub record PageParts (read : Bool) (address : ℕ) (mc : Mc) : Type 0 where
   pub channel_is : mc.channel ≡ Page
   pub address_is : mc.address ≡ address
 
+octet_parts : (read : Bool) (octet address : ℕ) → nat_le 128 octet ≡ read → octet / 32 % 4 ≡ 1
+    → octet % 32 ≡ address → PageParts read address (control_of octet)
+unfolding control_of
+octet_parts read octet address read_is code address_is =
+    record { read_is = read_is; channel_is = ap channel_of code; address_is = address_is }
+
 pub page_parts : (read : Bool) (address : ℕ) → address ≤ 31
     → PageParts read address (page_control read address)
-unfolding control_of
 page_parts true address h =
-    let code : (0xA0 + address) / 32 % 4 ≡ 1 = omega arith in
-    record {
-      read_is = grind (arith, nat_tests);
-      channel_is = ap channel_of code;
-      address_is = omega arith;
-    }
+    octet_parts true (0xA0 + address) address (grind (arith, nat_tests)) (omega arith) (omega arith)
 page_parts false address h =
-    let code : (0x20 + address) / 32 % 4 ≡ 1 = omega arith in
-    record {
-      read_is = grind (arith, nat_tests);
-      channel_is = ap channel_of code;
-      address_is = omega arith;
-    }
+    octet_parts false (0x20 + address) address (grind (arith, nat_tests)) (omega arith)
+    (omega arith)
 
 pub write_channel : (layout : Shape) (address octet : ℕ) → address ≤ 31
     → (page_write layout address octet).mc.channel ≡ Page
