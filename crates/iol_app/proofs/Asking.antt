@@ -1,13 +1,12 @@
 -- A request is begun, and an abort is let wait, in OPERATE.
 use Rattle.std.proofs.lemmas.Grind.{common_steps}
 use Rattle.std.proofs.Common.{arith, ◌≡◌, inl, ℕ, suc, Bool, true, false, List, refl, sym, ap, ◌∙◌, subst}
-use Rattle.std.specs.Prelude.{Option, Some, None, IfSome, IsTrue, if◌then◌else◌}
+use Rattle.std.specs.Prelude.{Option, Some, None, IfSome, IsSome, IsTrue}
 use Rattle.iol_mseq.specs.declared.master.MasterMsg.{MasterMsg}
 use Rattle.iol_page.specs.Page.{knows_isdu}
 use Rattle.iol_page.specs.declared.page.Layouts.{Layouts}
 use Rattle.iol_isdu.specs.declared.values.Request.{Request}
 use Rattle.iol_isdu.specs.declared.values.Cause.{Cause}
-use Rattle.iol_segment.specs.Cut.{Cutting, pair}
 use Rattle.iol_far.specs.Isdu.{IsduState, handed}
 use Rattle.iol_far.specs.Far.{Far}
 use Rattle.iol_mseq.specs.Shape.{Shape}
@@ -20,7 +19,7 @@ use Rattle.iol_mode.specs.Next.{message_out}
 use Rattle.iol_steps.specs.Session.{MaySession}
 use Rattle.iol_steps.specs.Step.{Image, Moment, Deny}
 use Rattle.iol_steps.specs.Bridge.{Hidden, IsOpen}
-use Rattle.iol_steps.specs.Station.{Reading}
+use Rattle.iol_steps.specs.Station.{Reading, AnswerFits}
 use Rattle.iol_steps.specs.Exchange.{MayAbort}
 use Rattle.iol_app.specs.declared.event_work.Reading as app
 use Rattle.iol_app.specs.declared.request.Current.{Current}
@@ -29,24 +28,19 @@ use Rattle.iol_app.specs.declared.session.Exchange.TheVariants.{Request as NextM
 use Rattle.iol_app.specs.Due.{may_follow}
 use Rattle.iol_mode.specs.declared.configuration.Devices.{Devices}
 use Rattle.iol_app.specs.Messages.{head_for, data_for}
-use Rattle.iol_app.specs.Requests.{text_of, sending, begun, aborted, waiting, is_over, Suits}
+use Rattle.iol_app.specs.Requests.{request_in, begun, aborted, waiting, is_over, Suits}
 use Rattle.iol_app.specs.Moves.{progress_of, move_for}
-use Rattle.iol_app.specs.Ends.{BusyAt, AbortAt, OperateLink}
+use Rattle.iol_app.specs.Ends.{BusySeen, AbortAt, OperateLink}
 use Rattle.iol_app.specs.State.{SessionState, IsOutBy, OutSuits, od_size}
+use Rattle.iol_app.proofs.Moving.{resting_idle, sent_busy}
+use Rattle.iol_app.proofs.Shown.{shown_as}
 use Rattle.iol_app.specs.Core.{Ghost, Stands, BeginGives, Work, work_of, progress_in, vain_by, vain_in, AgainBy, OutBy, LevelOut, operate_core, begun_ghost, asking_ghost, session_in, reading_in}
-
-begun_busy : (devices : Devices) (cutter : Cutting Request) (b : Bool) → BusyAt devices
-    (sending (if b then Some (pair cutter.size (text_of cutter) cutter.given) else None)) 0
-begun_busy devices cutter b = grind (arith, common_steps)
 
 -- where one may follow, the progress stays as it is
 begun_progress : (devices : Devices) (clear : Bool) (size : ℕ) (request : Request)
     → may_follow devices clear ≡ true → progress_of devices clear (Some (begun size request))
     ≡ progress_of devices clear None
 begun_progress devices clear size request follows = grind (arith, common_steps)
-
-resting_idle : (devices : Devices) (clear : Bool) → IsIdle (progress_of devices clear None)
-resting_idle devices clear = grind (arith, common_steps)
 
 pub waiting_at : (devices : Devices) (limit busy : ℕ) (asked : Bool) (cause : Cause)
     (abort : Option Cause) → AbortAt devices limit abort busy asked
@@ -75,34 +69,7 @@ begun_same devices e current once suits = grind (arith, common_steps)
 
 aborted_same : (devices : Devices) (cause : Cause) (current : Current) (e : Exchange)
     → SameFor devices (Some current) (Some (aborted cause current)) e
-aborted_same devices cause current e = record {
-  move = moved e;
-  head = λ r. headed e r;
-  data_out = λ size. sent e size;
-  vain = λ tries. vain devices e tries;
-  again = λ tries. again devices e tries;
-  goes_on = λ k h. h;
-}
-  where
-    moved : (x : Exchange)
-        → move_for x (Some current) ≡ move_for x (Some (aborted cause current))
-    moved x = grind (arith, common_steps)
-
-    headed : (x : Exchange) (r : app.Reading)
-        → head_for x r (Some current) ≡ head_for x r (Some (aborted cause current))
-    headed x r = grind (arith, common_steps)
-
-    sent : (x : Exchange) (size : ℕ)
-        → data_for x size (Some current) ≡ data_for x size (Some (aborted cause current))
-    sent x size = grind (arith, common_steps)
-
-    vain : (d : Devices) (x : Exchange) (tries : ℕ) → vain_by d x (Some current) tries
-        ≡ vain_by d x (Some (aborted cause current)) tries
-    vain d x tries = grind (arith, common_steps)
-
-    again : (d : Devices) (x : Exchange) (tries : ℕ) → AgainBy d x tries current
-        → AgainBy d x tries (aborted cause current)
-    again d x tries h = grind (arith, common_steps)
+aborted_same devices cause current e = grind (arith, common_steps)
 
 -- so that the message out stays the session's, and both ends level
 module _ (t : SessionState) (old new : Option Current)
@@ -118,8 +85,6 @@ module _ (t : SessionState) (old new : Option Current)
       → OutBy layouts out e (at e old) R page kind link sent
       → OutBy layouts out e (at e new) R page kind link sent
   out_same layouts None None R page kind link sent same h = noted h
-  out_same layouts None (Some x) R page kind link sent same h = absurd h
-  out_same layouts (Some out) None R page kind link sent same h = absurd h
   out_same layouts (Some out) (Some x) R page kind link sent same h =
       let is = same x refl in
       let o : List ℕ = master_text layouts.run out.message in
@@ -140,6 +105,7 @@ module _ (t : SessionState) (old new : Option Current)
         carries = h.carries;
         tells = h.tells;
       }
+  out_same layouts out e R page kind link sent same h = absurd h
 
   vain_same : (e : Option Exchange) (tries : ℕ)
       → ((x : Exchange) → e ≡ Some x → SameFor t.configuration.devices old new x)
@@ -171,6 +137,53 @@ module _ (t : SessionState) (old new : Option Current)
       }
   joined_same e m same h = absurd h
 
+  -- both ends stand with it
+  stands_same : (s : Operate) (g : Ghost) (far : Far) (n : ℕ) (hidden : Hidden) (busy : ℕ)
+      (asked fresh : Bool) → Stands (operate_core s t old) g far n
+      → ((x : Exchange) → t.exchange ≡ Some x → SameFor t.configuration.devices old new x)
+      → (IsTrue fresh
+      → IsIdle (progress_of t.configuration.devices t.clear new) × (handed far.isdu ≡ None))
+      → hidden.late ≡ None → IsOpen far.isdu (request_in new) hidden
+      → AnswerFits g.request.base (request_in new) hidden far.carried
+      → BusySeen t.configuration.devices t.limit new busy asked
+      → (IsSome (request_in new) → IsTrue (knows_isdu g.page))
+      → Stands (operate_core s t new) (record g {
+        request = record g.request { hidden = hidden; busy = busy; asked = asked };
+        fresh = fresh;
+      }) far n
+  stands_same s g far n hidden busy asked fresh h same idle late opens answer seen known = record {
+    page = h.page;
+    kind = h.kind;
+    for_it = h.for_it;
+    sees = h.sees;
+    fits = h.fits;
+    link = h.link;
+    joined = record {
+      told = h.joined.told;
+      out_for = joined_same t.exchange (message_out s.out) same h.joined.out_for;
+    };
+    calm = h.calm;
+    fresh = idle;
+    sent = h.sent;
+    request = record {
+      late = late;
+      opens = opens;
+      link = h.request.link;
+      linked = subst (λ (p : Progress). OperateLink s.layouts p h.request.link) progress
+          h.request.linked;
+      level = level_same g s.layouts.run h.request.link t.exchange s.out far same
+          h.request.level;
+      out = out_same s.layouts s.out t.exchange (reading_in t.events g.events) g.page g.kind
+          h.request.link g.sent same h.request.out;
+      answer = answer;
+      busy = seen;
+      known = known;
+    };
+    events = h.events;
+    output = h.output;
+    shown = shown_as h.shown h.shown.image refl h.shown.present h.shown.no_form;
+  }
+
 -- Begun
 
 opened : (state : IsduState) (h : Hidden) (r : Request) → IsOpen state None h → h.late ≡ None
@@ -197,51 +210,14 @@ begin_gives s t g far n request h suits known follows =
     (begun (od_size t.layout) request) refl
     (subst (λ (e : Option Exchange). OutSuits e None) k suits) in
     record {
-      stands = record {
-        page = h.page;
-        kind = h.kind;
-        for_it = h.for_it;
-        sees = h.sees;
-        fits = h.fits;
-        link = h.link;
-        joined = record {
-          told = h.joined.told;
-          out_for = joined_same t None next (sym stays) (λ k. refl) t.exchange
-              (message_out s.out) same h.joined.out_for;
-        };
-        calm = h.calm;
-        fresh = λ k. (subst IsIdle (sym stays) (resting_idle devices t.clear), opens.1);
-        sent = h.sent;
-        request = record {
-          late = refl;
-          opens = opens.0;
-          link = h.request.link;
-          linked = subst (λ (p : Progress). OperateLink s.layouts p h.request.link) (sym stays)
-              h.request.linked;
-          level = level_same t None next (sym stays) (λ k. refl) g s.layouts.run h.request.link
-              t.exchange s.out far same h.request.level;
-          out = out_same t None next (sym stays) (λ k. refl) s.layouts s.out t.exchange
-              (reading_in t.events g.events) g.page g.kind h.request.link g.sent same
-              h.request.out;
-          answer = inl (refl, h.request.answer);
-          busy = (
-            begun_busy devices (record { source = request; size = od_size t.layout; given = 0 })
-                _,
+      stands = stands_same t None next (sym stays) (λ k. refl) s g far n
+          (record { answer = None; late = None }) 0 false true h same
+          (λ k. (subst IsIdle (sym stays) (resting_idle devices t.clear), opens.1)) refl opens.0
+          (inl (refl, h.request.answer)) (
+            sent_busy devices (record { source = request; size = od_size t.layout; given = 0 })
+                _ 0 refl,
             tt,
-          );
-          known = λ k. has;
-        };
-        events = h.events;
-        output = h.output;
-        shown = record {
-          image = h.shown.image;
-          wanted = h.shown.wanted;
-          lengths = h.shown.lengths;
-          isdu = h.shown.isdu;
-          present = h.shown.present;
-          no_form = h.shown.no_form;
-        };
-      };
+          ) (λ k. has);
       may = λ moment ticket page. (ap knows_isdu page ∙ has, refl, h.request.late, refl);
       is = λ ticket. ap (λ (l : Option Request). record
           (session_in (operate_core s t next) (begun_ghost g) far) { late = l }) h.request.late;
@@ -267,47 +243,7 @@ pub aborts_by : (cause : Cause) (asks : Bool) (s : Operate) (t : SessionState)
     → AbortAt t.configuration.devices t.limit (waiting current.abort cause) g.request.busy asks
     → Stands (operate_core s t (Some (aborted cause current))) (asking_ghost asks g) far n
 aborts_by cause asks s t current g far n h may =
-    let devices = t.configuration.devices in
-    let same : (x : Exchange) → t.exchange ≡ Some x
-    → SameFor devices (Some current) (Some (aborted cause current)) x = λ x k.
-    aborted_same devices cause current x in
-    record {
-      page = h.page;
-      kind = h.kind;
-      for_it = h.for_it;
-      sees = h.sees;
-      fits = h.fits;
-      link = h.link;
-      joined = record {
-        told = h.joined.told;
-        out_for = joined_same t (Some current) (Some (aborted cause current)) refl (λ k. k)
-            t.exchange (message_out s.out) same h.joined.out_for;
-      };
-      calm = h.calm;
-      fresh = h.fresh;
-      sent = h.sent;
-      request = record {
-        late = h.request.late;
-        opens = h.request.opens;
-        link = h.request.link;
-        linked = h.request.linked;
-        level = level_same t (Some current) (Some (aborted cause current)) refl (λ k. k) g
-            s.layouts.run h.request.link t.exchange s.out far same h.request.level;
-        out = out_same t (Some current) (Some (aborted cause current)) refl (λ k. k) s.layouts
-            s.out t.exchange (reading_in t.events g.events) g.page g.kind h.request.link g.sent
-            same h.request.out;
-        answer = h.request.answer;
-        busy = (h.request.busy.0, may);
-        known = h.request.known;
-      };
-      events = h.events;
-      output = h.output;
-      shown = record {
-        image = h.shown.image;
-        wanted = h.shown.wanted;
-        lengths = h.shown.lengths;
-        isdu = h.shown.isdu;
-        present = h.shown.present;
-        no_form = h.shown.no_form;
-      };
-    }
+    stands_same t (Some current) (Some (aborted cause current)) refl (λ k. k) s g far n
+    g.request.hidden g.request.busy asks g.fresh h
+    (λ x k. aborted_same t.configuration.devices cause current x) h.fresh h.request.late
+    h.request.opens h.request.answer (h.request.busy.0, may) h.request.known

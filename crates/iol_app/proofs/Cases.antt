@@ -13,11 +13,12 @@ use Rattle.iol_isdu.specs.declared.values.Request.{Request}
 use Rattle.iol_isdu.specs.declared.values.Answer.{Answer}
 use Rattle.iol_isdu.specs.declared.values.Cause.{Cause}
 use Rattle.iol_isdu.specs.declared.values.Cause.TheVariants.{BusyTooLong, Protocol}
-use Rattle.iol_segment.specs.Cut.{Cutting, pair, last_given}
+use Rattle.iol_segment.specs.Cut.{Cutting, last_given}
 use Rattle.iol_segment.specs.Join.{Joining, Stage, Taken, stage, staged, taken as taken_by}
 use Rattle.iol_segment.specs.TextLaws.{joined as joined_octets}
 use Rattle.iol_far.specs.declared.carried.Carried.{Carried}
 use Rattle.iol_far.specs.Codec.{flow_of}
+use Rattle.iol_far.specs.Far.{Far}
 use Rattle.iol_far.specs.Isdu.{answer_text, isdu_data}
 use Rattle.iol_far.specs.declared.kind.Recalls.{Recalls}
 use Rattle.iol_far.specs.declared.kind.Recalls.TheVariants.{UntilSent}
@@ -49,19 +50,13 @@ use Rattle.iol_app.specs.Moves.{move_for, before_last, progress_of, segment_move
 use Rattle.iol_app.specs.Ends.{BusyAt, AbortAt}
 use Rattle.iol_app.specs.EventReading.{reader_of, list_read}
 use Rattle.iol_app.specs.State.{IsTaken, clear_after, od_size}
-use Rattle.iol_app.proofs.Moving.{sent_follows, busy_follows, asked_after, unsent_idle}
+use Rattle.iol_app.proofs.Moving.{sent_busy, sent_follows, busy_follows, asked_after, resting_idle, unsent_idle}
 use Rattle.iol_app.proofs.Joining.{taken_next}
 use Rattle.iol_app.proofs.Sessions.{text_some}
 use Rattle.iol_app.proofs.StartExchange.{resting_quiet}
 use Rattle.iol_app.specs.Core.{vain_by, AgainBy, reading_in, moment_of, seen_in, core_out}
 use Rattle.iol_app.proofs.Had.{Good, Replied, Reads, Comes, keeps, rests, took, goes_on, tied, before, settled, reached, text, od_is, told_now, there, told, h}
 use Rattle.iol_app.proofs.ReadingOn.{Took}
-
--- a request's segment was written: busy replies are counted from here
-sent_busy : (devices : Devices) (cutter : Cutting Request) (b : Bool) (busy : ℕ) → busy ≡ 0
-    → BusyAt devices (sending (if b then Some (pair cutter.size (text_of cutter) cutter.given) else
-    None)) busy
-sent_busy devices cutter b busy e = grind (arith, common_steps)
 
 first_idle : (devices : Devices) (source : Request) (given : ℕ)
     → segment_move source given ≡ Leave → IsIdle (before_last devices source given)
@@ -72,10 +67,6 @@ busy_waits : (devices : Devices) (limit busy : ℕ) (cancels : Bool) (abort : Op
     → AbortAt devices limit
     (if one_more counted == limit then waiting abort BusyTooLong else abort) (busy + 1) cancels
 busy_waits devices limit busy cancels abort counted e k = grind (arith, common_steps)
-
--- with none under way
-resting_idle : (devices : Devices) (clear : Bool) → IsIdle (progress_of devices clear None)
-resting_idle devices clear = grind (arith, common_steps)
 
 asks_none : (size : ℕ) (p : Progress) (channel : Channel) (read : Bool) (flow : Flow)
     (sent : List ℕ) → IsIdle p → IsMove size Ask p channel read flow sent → ⊥
@@ -117,8 +108,7 @@ vain_again Own current tries any low again = absurd (let z : Path Devices Own An
 
 vain_once : (devices : Devices) (current : Current) (tries : ℕ) → devices ≡ Any
     → current.again ≡ false → vain_by devices NextMessage (Some current) tries ≡ 0
-vain_once Any current tries any once = rw once refl
-vain_once Own current tries any once = absurd (let z : Path Devices Own Any = any in cc)
+vain_once devices current tries any once = grind (arith, common_steps)
 
 and_both : (x y : Bool) → (x && y) ≡ true → (x ≡ true) × (y ≡ true)
 and_both x y e = grind (arith, common_steps)
@@ -170,9 +160,7 @@ none_refused size had cutter abort joining od k h e =
 trusts_any : (devices : Devices) (vain : ℕ) (text od : List ℕ)
     → may_be_none (trusted devices) vain text od ≡ true
     → (devices ≡ Any) × (k : ℕ) × (vain ≡ suc k)
-trusts_any Own vain text od e = absurd (let z : false ≡ true = e in cc)
-trusts_any Any zero text od e = absurd (let z : false ≡ true = e in cc)
-trusts_any Any (suc k) text od e = (refl, k, refl)
+trusts_any devices vain text od e = grind (arith, common_steps)
 
 not_zero : (octet : ℕ) → (octet == 1) ≡ true → (octet == 0) ≡ false
 not_zero octet e = grind (arith, nat_tests)
@@ -198,6 +186,13 @@ module _ (names : TextNamesAnswer) (taken : AnswersAreTakenUp)
 
   abbrev trust : Recalls
   trust = trusted devices
+
+  -- the far end behind it, and how both ends are level
+  abbrev far' : Far
+  far' = there laws readers turn
+
+  abbrev LevelAt : List Carried → Progress → Type 0
+  LevelAt base p = IsBefore g.page g.kind layouts.run.od base operate_link p far'
 
   abbrev For : Exchange → Option Current → Type 0
   For e current = Replied laws readers turn e current
@@ -274,27 +269,24 @@ module _ (names : TextNamesAnswer) (taken : AnswersAreTakenUp)
       let progress = progress_of devices t.clear (Some current) in
       let reads = keeps laws readers turn NextMessage (Some current) a refl refl in
       let base = g.request.base in
-      let there' = there laws readers turn in
       let h' = h laws readers turn NextMessage (Some current) a in
       let move : IsMove layouts.run.od Ask progress w.message.mc.channel w.message.mc.read
       (flow_of w.message.mc.address) w.message.od.items =
       subst (λ (m : Move). IsMove layouts.run.od m progress w.message.mc.channel
       w.message.mc.read (flow_of w.message.mc.address) w.message.od.items) asks
       a.stands.request.out.goes.move in
-      let level : IsBefore g.page g.kind layouts.run.od base operate_link (IsBusy source) there' =
-      subst (λ (m : Move). IsBefore g.page g.kind layouts.run.od (base_after m base there'.carried)
-      operate_link (IsBusy source) there') asks
-      (subst (λ (p : Progress). IsBefore g.page g.kind layouts.run.od
-      (base_after (move_at current.cutter current.progress) base there'.carried) operate_link p
-      there') follows (before laws readers turn NextMessage (Some current) a)) in
+      let level : LevelAt base (IsBusy source) =
+      subst (λ (m : Move). LevelAt (base_after m base far'.carried) (IsBusy source)) asks
+      (subst (LevelAt (base_after (move_at current.cutter current.progress) base far'.carried))
+      follows (before laws readers turn NextMessage (Some current) a)) in
       let answer = (tied laws readers turn NextMessage (Some current) a).1 in
-      let sends : od ≡ isdu_data layouts.run.od there'.isdu =
+      let sends : od ≡ isdu_data layouts.run.od far'.isdu =
       od_is laws readers turn NextMessage (Some current) a
       ∙ asks_data layouts.run.od progress w.message.mc.channel w.message.mc.read
-      (flow_of w.message.mc.address) w.message.od.items w.message.mc.address there' move in
-      let none : h'.answer ≡ None = busy_unanswered base source h' there'.carried answer
-      (busy_base g.kind.hands_over layouts.run.od base source there'.isdu there'.counted
-      there'.carried level.stands
+      (flow_of w.message.mc.address) w.message.od.items w.message.mc.address far' move in
+      let none : h'.answer ≡ None = busy_unanswered base source h' far'.carried answer
+      (busy_base g.kind.hands_over layouts.run.od base source far'.isdu far'.counted
+      far'.carried level.stands
       (subst (λ (d : List ℕ). (slice_index d 0 == 1) ≡ true) sends is)) in
       record {
         reads = reads;
@@ -303,7 +295,7 @@ module _ (names : TextNamesAnswer) (taken : AnswersAreTakenUp)
         brings = record {
           session = busy_session (moment_of (core_out layouts w t NextMessage (Some current)) g n
               (Exchanged true)) (seen_in (core_out layouts w t NextMessage (Some current)) g) h'
-              there'.carried source refl none;
+              far'.carried source refl none;
           frozen = ((tt, (tt, tt)), reads.same refl);
           images = ((tt, ((refl, refl), tt)), refl);
           book = rw says refl;
@@ -316,8 +308,7 @@ module _ (names : TextNamesAnswer) (taken : AnswersAreTakenUp)
               (a.stands.fresh k).0 move);
           once = refl;
           base = base;
-          level = subst (λ (p : Progress). IsBefore g.page g.kind layouts.run.od base operate_link
-              p there') (sym (busy_follows devices current.cutter counted)) level;
+          level = subst (LevelAt base) (sym (busy_follows devices current.cutter counted)) level;
           answer = answer;
           busy_is = (
             omega (arith, count),
@@ -338,20 +329,19 @@ module _ (names : TextNamesAnswer) (taken : AnswersAreTakenUp)
   answered current a i octets x asks had names_it says =
       let source = current.cutter.source in
       let reads = keeps laws readers turn NextMessage (Some current) a refl refl in
-      let there' = there laws readers turn in
       let h' = h laws readers turn NextMessage (Some current) a in
       let level = before laws readers turn NextMessage (Some current) a in
       let stands : FarStands g.kind.hands_over layouts.run.od g.request.base
-      (IsHad source i octets) there'.isdu there'.counted there'.carried =
+      (IsHad source i octets) far'.isdu far'.counted far'.carried =
       subst (λ (q : Progress). FarStands g.kind.hands_over layouts.run.od g.request.base q
-      there'.isdu there'.counted there'.carried) had
+      far'.isdu far'.counted far'.carried) had
       (subst (λ (c : List Carried). FarStands g.kind.hands_over layouts.run.od c
-      (After current) there'.isdu there'.counted there'.carried)
-      (answers_base (move_at current.cutter current.progress) g.request.base there'.carried asks)
+      (After current) far'.isdu far'.counted far'.carried)
+      (answers_base (move_at current.cutter current.progress) g.request.base far'.carried asks)
       level.stands) in
       let answer : h'.answer ≡ Some x =
-      had_answer g.kind.hands_over layouts.run.od g.request.base source i octets there'.isdu
-      there'.counted there'.carried h' x stands
+      had_answer g.kind.hands_over layouts.run.od g.request.base source i octets far'.isdu
+      far'.counted far'.carried h' x stands
       (tied laws readers turn NextMessage (Some current) a).1 names_it in
       record {
         reads = reads;
@@ -360,7 +350,7 @@ module _ (names : TextNamesAnswer) (taken : AnswersAreTakenUp)
         brings = record {
           session = answered_session (moment_of (core_out layouts w t NextMessage (Some current)) g
               n (Exchanged true)) (seen_in (core_out layouts w t NextMessage (Some current)) g) h'
-              there'.carried source x refl answer;
+              far'.carried source x refl answer;
           frozen = ((tt, (tt, tt)), reads.same refl);
           images = ((tt, ((refl, refl), tt)), refl);
           book = rw says refl;
@@ -369,9 +359,8 @@ module _ (names : TextNamesAnswer) (taken : AnswersAreTakenUp)
               (master_text layouts.run w.message) (Done x ∷ ShowImage ∷ []) refl refl refl;
           calm = λ k. refl;
           once = refl;
-          base = there'.carried;
-          level = subst (λ (q : Progress). IsBefore g.page g.kind layouts.run.od there'.carried
-              operate_link q there') (sym (resting_quiet devices false refl))
+          base = far'.carried;
+          level = subst (LevelAt far'.carried) (sym (resting_quiet devices false refl))
               (settled laws readers turn NextMessage (Some current) a (IsHad source i octets) tt
               had);
           answer = refl;
@@ -427,6 +416,13 @@ module _ (names : TextNamesAnswer) (taken : AnswersAreTakenUp)
   abbrev Had_as : (current : Current) → For NextMessage (Some current) → Outcome → Type 0
   Had_as current a outcome = Had_by NextMessage (Some current) a (going outcome)
 
+  -- by the outcome that it is
+  comes_to : (current : Current) (a : For NextMessage (Some current)) (outcome new : Outcome)
+      → outcome ≡ new → (Said_of current new → Had_as current a new) → Said_of current outcome
+      → Had_as current a outcome
+  comes_to current a outcome new is comes says =
+      subst (Had_as current a) (sym is) (comes (subst (Said_of current) is says))
+
   start_read : (cutter : Cutting Request) (counted : ℕ) (again : Bool) (abort : Option Cause)
       (a : For NextMessage (at cutter (Asking counted) again abort))
       → Said_of (cursor cutter (Asking counted) again abort)
@@ -451,12 +447,11 @@ module _ (names : TextNamesAnswer) (taken : AnswersAreTakenUp)
       none f z Own is = had f (ap (λ (d : Devices). level_asked (trusted d) cutter.source od) is
           ∙ rw (f, z) refl)
       none f z Any is =
-          let outcome : asked cutter abort counted t.limit od ≡ GoesOn (refused cutter abort) =
-          rw (f, z) refl in
-          subst (Had_as current a) (sym outcome)
+          comes_to current a (asked cutter abort counted t.limit od)
+          (GoesOn (refused cutter abort)) (rw (f, z) refl)
           (refuses current a is (λ k. let q : Path Move Ask Leave = k in cc)
           (follows ∙ ap (λ (d : Devices). level_asked (trusted d) cutter.source od) is
-          ∙ rw (f, z) refl) (subst (Said_of current) outcome says))
+          ∙ rw (f, z) refl)) says
 
       by_nothing : (slice_index od 0 == 1) ≡ false → (b : Bool) → (slice_index od 0 == 0) ≡ b
           → Had_as current a (asked cutter abort counted t.limit od)
@@ -466,11 +461,9 @@ module _ (names : TextNamesAnswer) (taken : AnswersAreTakenUp)
       by_first : (b : Bool) → (slice_index od 0 == 1) ≡ b
           → Had_as current a (asked cutter abort counted t.limit od)
       by_first true b =
-          let outcome : asked cutter abort counted t.limit od
-          ≡ GoesOn (waited cutter abort (one_more counted) t.limit) = rw b refl in
-          subst (Had_as current a) (sym outcome)
-          (busy current a counted refl a.stands.request.busy.0 (follows ∙ rw b refl) b
-          (subst (Said_of current) outcome says))
+          comes_to current a (asked cutter abort counted t.limit od)
+          (GoesOn (waited cutter abort (one_more counted) t.limit)) (rw b refl)
+          (busy current a counted refl a.stands.request.busy.0 (follows ∙ rw b refl) b) says
       by_first false f = by_nothing f (slice_index od 0 == 0) refl
 
   -- the question whether the device has the one segment
@@ -492,30 +485,28 @@ module _ (names : TextNamesAnswer) (taken : AnswersAreTakenUp)
       anew : (slice_index od 0 == 1) ≡ false → (slice_index od 0 == 0) ≡ true → again ≡ false
           → Had_as current a (doubted again cutter abort t.limit od)
       anew f z once =
-          let outcome : doubted again cutter abort t.limit od ≡ GoesOn (sent_anew cutter abort) =
-          rw (z, once) refl in
           let is : After current ≡ progress_of devices false (Some (sent_anew cutter abort)) =
           rw (f, z, vain_once devices current w.tries any.0 once)
           (sym (ap (λ (d : Devices). progress_of d false (Some (sent_anew cutter abort))) any.0
           ∙ anew_clear false cutter abort a.valid.current.progress.0)) in
-          subst (Had_as current a) (sym outcome)
+          comes_to current a (doubted again cutter abort t.limit od)
+          (GoesOn (sent_anew cutter abort)) (rw (z, once) refl)
           (goes_on laws readers turn NextMessage (Some current) a
           (keeps laws readers turn NextMessage (Some current) a refl refl)
           (Some (sent_anew cutter abort)) refl
           (λ k. absurd (let q : Path Move Ask Leave = k in cc)) (inl is) (
             anew_busy devices cutter g.request.busy any.1 a.valid.current.progress.0,
             a.stands.request.busy.1,
-          ) refl refl (subst (Said_of current) outcome says))
+          ) refl refl) says
 
       unsure : (slice_index od 0 == 1) ≡ false → (slice_index od 0 == 0) ≡ true → again ≡ true
           → Had_as current a (doubted again cutter abort t.limit od)
       unsure f z twice =
-          let outcome : doubted again cutter abort t.limit od ≡ GoesOn (refused cutter abort) =
-          rw (twice, z, f) refl in
           let k = vain_again devices current w.tries any.0 a.stands.request.out.again twice in
-          subst (Had_as current a) (sym outcome)
+          comes_to current a (doubted again cutter abort t.limit od)
+          (GoesOn (refused cutter abort)) (rw (twice, z, f) refl)
           (refuses current a any.0 (λ k. let q : Path Move Ask Leave = k in cc)
-          (rw (f, z, k.1) refl) (subst (Said_of current) outcome says))
+          (rw (f, z, k.1) refl)) says
 
       by_again : (slice_index od 0 == 1) ≡ false → (slice_index od 0 == 0) ≡ true → (b : Bool)
           → again ≡ b → Had_as current a (doubted again cutter abort t.limit od)
@@ -531,11 +522,9 @@ module _ (names : TextNamesAnswer) (taken : AnswersAreTakenUp)
           → Had_as current a (doubted again cutter abort t.limit od)
       by_first true b =
           let z : (slice_index od 0 == 0) ≡ false = not_zero (slice_index od 0) b in
-          let outcome : doubted again cutter abort t.limit od
-          ≡ GoesOn (waited cutter abort (one_more 0) t.limit) = rw (z, b) refl in
-          subst (Had_as current a) (sym outcome)
-          (busy current a 0 refl none_counted (rw b refl) b
-          (subst (Said_of current) outcome says))
+          comes_to current a (doubted again cutter abort t.limit od)
+          (GoesOn (waited cutter abort (one_more 0) t.limit)) (rw (z, b) refl)
+          (busy current a 0 refl none_counted (rw b refl) b) says
       by_first false f = by_nothing f (slice_index od 0 == 0) refl
 
   -- a COUNT read
@@ -585,15 +574,13 @@ module _ (names : TextNamesAnswer) (taken : AnswersAreTakenUp)
           let none_any : may_be_none UntilSent (suc k) joining.text od ≡ true =
           sym (ap (λ (d : Devices). may_be_none (trusted d) vain joining.text od) any
           ∙ ap (λ (v : ℕ). may_be_none UntilSent v joining.text od) is) ∙ none in
-          let outcome : received again cutter abort joining (last + 1) od
-          ≡ GoesOn (refused cutter abort) =
-          ap (λ (b : Bool). received b cutter abort joining (last + 1) od) twice
-          ∙ none_refused cutter.size last cutter abort joining od k joins none_any in
-          subst (Had_as current a) (sym outcome)
+          comes_to current a (received again cutter abort joining (last + 1) od)
+          (GoesOn (refused cutter abort))
+          (ap (λ (b : Bool). received b cutter abort joining (last + 1) od) twice
+          ∙ none_refused cutter.size last cutter abort joining od k joins none_any)
           (refuses current a any (λ k. let q : Path Move Next Leave = k in cc)
           (ap (λ (b : Bool). if b then Unsure cutter.source
-          else IsHad cutter.source (suc last) (joining.text ++ od)) none)
-          (subst (Said_of current) outcome says))
+          else IsHad cutter.source (suc last) (joining.text ++ od)) none)) says
 
       by_again : (devices ≡ Any) → (k : ℕ) → vain ≡ suc k
           → may_be_none trust vain joining.text od ≡ true → (b : Bool) → again ≡ b
@@ -617,7 +604,6 @@ module _ (names : TextNamesAnswer) (taken : AnswersAreTakenUp)
   aborted current cause a waits says =
       let source = current.cutter.source in
       let reads = keeps laws readers turn Abort (Some current) a refl refl in
-      let there' = there laws readers turn in
       let h' = h laws readers turn Abort (Some current) a in
       record {
         reads = reads;
@@ -626,7 +612,7 @@ module _ (names : TextNamesAnswer) (taken : AnswersAreTakenUp)
         brings = record {
           session = aborted_session (moment_of (core_out layouts w t Abort (Some current)) g n
               (Exchanged true)) (seen_in (core_out layouts w t Abort (Some current)) g) h'
-              there'.carried source cause refl
+              far'.carried source cause refl
               (subst (λ (c : Option Cause). AbortAt devices t.limit c g.request.busy
               g.request.asked) waits a.stands.request.busy.1);
           frozen = ((tt, (tt, tt)), reads.same refl);
@@ -637,7 +623,7 @@ module _ (names : TextNamesAnswer) (taken : AnswersAreTakenUp)
               (master_text layouts.run w.message) (Unknown cause ∷ ShowImage ∷ []) refl refl refl;
           calm = λ k. refl;
           once = refl;
-          base = there'.carried;
+          base = far'.carried;
           level = reached laws readers turn Abort (Some current) a None
               (inr (refl, resting_idle devices true));
           answer = refl;
@@ -687,11 +673,10 @@ module _ (names : TextNamesAnswer) (taken : AnswersAreTakenUp)
   -- the last octet of the events: the list is the frozen one
   reported : (current : Option Current) (a : For ReadEvent current)
       (k : Took (taken_octet (reader_of t.events.reading) (slice_index od 0)) r.event
-      (there laws readers turn).events) (l : List Event)
+      far'.events) (l : List Event)
       → list_read ReadEvent od t.events.reading ≡ Some l → said ≡ Reported l
       → Had_by ReadEvent current a current
   reported current a k l is says =
-      let there' = there laws readers turn in
       let whole = k.whole l is in
       let untold : told laws readers turn ≡ false =
       told_now laws readers turn ReadEvent current a
@@ -734,7 +719,7 @@ module _ (names : TextNamesAnswer) (taken : AnswersAreTakenUp)
   events_message current a list is says = by_list list is says
     where
       k : Took (taken_octet (reader_of t.events.reading) (slice_index od 0)) r.event
-          (there laws readers turn).events
+          far'.events
       k = took laws readers turn ReadEvent current a a.stands.joined.out_for.head
           (a.stands.request.out.reads refl)
 
@@ -742,7 +727,7 @@ module _ (names : TextNamesAnswer) (taken : AnswersAreTakenUp)
           → MatchOption list (said ≡ quiet_said (request_in current)) (λ l. said ≡ Reported l)
           → Had_by ReadEvent current a current
       by_list None is says =
-          let same = ap (frozen_of (there laws readers turn).events.frozen)
+          let same = ap (frozen_of far'.events.frozen)
           (told_now laws readers turn ReadEvent current a
           ∙ undue (reading_in t.events g.events) (a.stands.request.out.reads refl)
           ∙ sym (k.more is)) in

@@ -6,11 +6,11 @@ use Rattle.std.specs.List.{list_all}
 use Rattle.iol_mseq.specs.declared.master.MasterMsg.{MasterMsg}
 use Rattle.iol_isdu.specs.declared.values.Request.{Request}
 use Rattle.iol_isdu.specs.declared.values.Answer.{Answer}
-use Rattle.iol_event.specs.Memory.{Events, is_empty, freezes_at_once}
+use Rattle.iol_event.specs.Memory.{Events, is_empty}
 use Rattle.iol_link.specs.Honest.{Passage, OutLost}
 use Rattle.iol_far.specs.Isdu.{IsduState, Handed, fits}
 use Rattle.iol_far.specs.Far.{Far, accepted, worked, output_of}
-use Rattle.iol_far.specs.Local.{LocalStep, local, locals, has_room, is_input, Carry as OwnCarry, Raise as OwnRaise, Input as OwnInput}
+use Rattle.iol_far.specs.Local.{LocalStep, local, locals, has_room, Carry as OwnCarry}
 use Rattle.iol_steps.specs.Step.{Step, Carry, LateCarry, Freeze, Confirm, Make, OutputOn, OutputOff, Input, PowerLoss, Busy, Image, clash, is_clash_free, is_for_book, is_report, no_make}
 use Rattle.iol_steps.specs.Bridge.{Hidden, carry_step, carry_steps, own_step, own_steps, hidden_carried, hidden_carry, hidden_after, hidden_through, release_steps, event_steps, output_steps, confirms_by, heard_steps_as, passed_steps, exchange_steps, woken_steps, wake_steps}
 
@@ -72,13 +72,7 @@ carry_apart a (y ∷ ys) h = grind (arith, common_steps, carry_apart a ys)
 own_apart : (x : Step) (ys : List Step) → is_own x ≡ true → no_busy ys ≡ true
     → list_all (λ other. not (clash x other)) ys ≡ true
 own_apart (Carry a) ys own h = carry_apart a ys h
-own_apart (LateCarry a) ys own h = plain_apart (LateCarry a) (λ y. refl) ys
-own_apart (Freeze e) ys own h = plain_apart (Freeze e) (λ y. refl) ys
-own_apart (Input i) ys own h = plain_apart (Input i) (λ y. refl) ys
-own_apart PowerLoss ys own h = plain_apart PowerLoss (λ y. refl) ys
-own_apart OutputOn ys own h = plain_apart OutputOn (λ y. refl) ys
-own_apart OutputOff ys own h = plain_apart OutputOff (λ y. refl) ys
-own_apart _ ys own h = absurd (let z : false ≡ true = own in cc)
+own_apart other ys own h = plain_apart other (λ y. grind (arith, common_steps)) ys
 
 own_no_busy : (x : Step) (ys : List Step) → is_own x ≡ true → no_busy ys ≡ true
     → no_busy (x ∷ ys) ≡ true
@@ -116,23 +110,12 @@ pub record Before (xs ys : List Step) : Type 0 where
   pub reports : filter is_report (xs ++ ys) ≡ filter is_report ys
 
 before_none : (ys : List Step) → IsTrue (is_clash_free ys) → Before [] ys
-before_none ys free = record {
-  busy = λ h. h;
-  make = λ h. h;
-  free = free;
-  book = refl;
-  reports = refl;
-}
+before_none ys free = grind (arith, common_steps)
 
 before_own : (x : Step) (xs ys : List Step) → is_own x ≡ true
     → list_all (λ other. not (clash x other)) (xs ++ ys) ≡ true → Before xs ys → Before (x ∷ xs) ys
-before_own x xs ys own apart h = record {
-  busy = λ k. own_no_busy x (xs ++ ys) own (h.busy k);
-  make = λ k. own_no_make x (xs ++ ys) own (h.make k);
-  free = rw apart h.free;
-  book = (own_unbooked x (xs ++ ys) own).0 ∙ h.book;
-  reports = (own_unbooked x (xs ++ ys) own).1 ∙ h.reports;
-}
+before_own x xs ys own apart h =
+    grind (arith, common_steps, own_no_busy, own_no_make, own_unbooked)
 
 before_calm : (x : Step) (xs ys : List Step) → is_own x ≡ true
     → ((y : Step) → clash x y ≡ false) → Before xs ys → Before (x ∷ xs) ys
@@ -268,13 +251,7 @@ calm_step : (r : Request) (far : Far) (step : LocalStep) (h : Hidden)
     → ((b : Answer) → (hidden_after (Some r) far step h).answer ≡ Some b → ⊥)
     → AllCalm (own_step (Some r) far step)
 calm_step r far (OwnCarry a) h n = calm_carry r far.isdu far a h n
-calm_step r far (OwnRaise e) h n =
-    elim (freezes_at_once far.events) as (λ b. AllCalm (if b then Freeze (e ∷ []) ∷ [] else []))
-    [ true ↦ (refl, (λ y. refl), tt) | false ↦ tt ]
-calm_step r far (OwnInput image) h n =
-    elim (is_input far image) as (λ b. AllCalm (if b then Input (Some image) ∷ [] else []))
-    [ true ↦ (refl, (λ y. refl), tt) | false ↦ tt ]
-calm_step r far other h n = (refl, (λ y. refl), tt)
+calm_step r far other h n = grind (arith, common_steps)
 
 pub own_calm : (r : Request) (steps : List LocalStep) (far : Far) (h : Hidden)
     → (hidden_through (Some r) far steps h).answer ≡ None → AllCalm (own_steps (Some r) far steps)

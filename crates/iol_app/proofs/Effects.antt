@@ -1,32 +1,68 @@
 -- What the far end does in one call of a port outside OPERATE, and what the port makes of it.
-use Rattle.std.proofs.Common.{◌≡◌, ◌≢◌, ◌⊎◌, inl, inr, ℕ, Bool, true, false, List, [], ◌++◌, filter, sym, ◌∙◌, subst}
-use Rattle.std.specs.Prelude.{Option, None, IsTrue}
+use Rattle.std.proofs.Common.{◌≡◌, ◌≢◌, ◌⊎◌, ℕ, Bool, true, false, ◌&&◌, List, [], ◌∷◌, ◌++◌, filter, refl, sym, ◌∙◌, subst, arith}
+use Rattle.std.proofs.lemmas.Grind.{common_steps}
+use Rattle.std.specs.Prelude.{Option, Some, None, IsTrue}
 use Rattle.iol_isdu.specs.declared.values.Request.{Request}
+use Rattle.iol_event.specs.declared.event.Event.{Event}
 use Rattle.iol_far.specs.Isdu.{IsduState, Empty}
 use Rattle.iol_far.specs.Far.{Far, hear}
 use Rattle.iol_far.specs.Local.{LocalStep, locals}
 use Rattle.iol_far.specs.Laws.{confirms as octets_confirm}
-use Rattle.iol_link.specs.Honest.{Passage, OutLost, far_after}
-use Rattle.iol_mode.specs.States.{is_reset}
-use Rattle.iol_steps.specs.declared.mode.Mode.TheVariants.{Operate as ModeOperate}
+use Rattle.iol_link.specs.Honest.{Passage, far_after}
+use Rattle.iol_mode.specs.declared.configuration.Configuration.{Configuration}
+use Rattle.iol_mode.specs.declared.states.State.{State}
+use Rattle.iol_mode.specs.declared.why.Why.{Why}
+use Rattle.iol_mode.specs.Kinds.{IsFor, SeesPulses}
+use Rattle.iol_mode.specs.Stands.{StateStands}
+use Rattle.iol_mode.specs.States.{InDown, StateFits, is_reset}
+use Rattle.iol_steps.specs.declared.mode.Mode.TheVariants.{Down as ModeDown, Operate as ModeOperate}
 use Rattle.iol_steps.specs.declared.said.Said.TheVariants.{Idle}
-use Rattle.iol_steps.specs.Step.{Step, WireCall, Moment, silence_by, CallFits, is_clash_free, is_for_book, is_report, resets}
-use Rattle.iol_steps.specs.Bridge.{Hidden, IsOpen, hidden_through, wake_steps, told_wake, exchange_steps, told_exchanged}
-use Rattle.iol_steps.specs.Station.{images_of}
-use Rattle.iol_app.proofs.Given.{Laws, page_locals, page_after, kind_after, misses_passed}
-use Rattle.iol_app.proofs.OwnSession.{SessionRuns, session_runs-append, wake_session, exchange_session, own_open, woken_if}
-use Rattle.iol_app.proofs.FrozenPart.{FrozenRuns, frozen_runs-append, wake_frozen, exchange_frozen}
+use Rattle.iol_steps.specs.Step.{Step, Move as MoveTo, WireCall, Moment, silence_by, CallFits, is_clash_free, is_for_book, is_report, resets}
+use Rattle.iol_steps.specs.Bridge.{Hidden, IsOpen, hidden_through, told_through, wake_steps, told_wake, exchange_steps, told_exchanged}
+use Rattle.iol_steps.specs.Session.{MayMove}
+use Rattle.iol_steps.specs.FrozenEvents.{untold}
+use Rattle.iol_steps.specs.Station.{Resting, frozen_of, images_of}
+use Rattle.iol_app.proofs.Given.{Laws, page_locals, page_after, kind_after, sees_kept, misses_passed}
+use Rattle.iol_app.proofs.OwnSession.{SessionRuns, session_runs-append, wake_session, exchange_session, own_open, woken_if, woken_as}
+use Rattle.iol_app.proofs.FrozenPart.{FrozenRuns, ConfirmsTold, frozen_runs-append, wake_frozen, exchange_frozen}
 use Rattle.iol_app.proofs.ImagesPart.{ImagesRuns, OutputsSent, images_runs-append, wake_images, exchange_images}
 use Rattle.iol_app.proofs.Clash.{Before, no_busy, no_confirm, wake_before, exchange_before}
 use Rattle.iol_app.specs.Requests.{request_in}
-use Rattle.iol_app.specs.StationState.{mode_in}
-use Rattle.iol_app.specs.Core.{Core, Ghost, Stands, CallGives, TermsStay, moment_of, seen_in, shown_in, images_in}
+use Rattle.iol_app.proofs.Told.{told_exchange}
+use Rattle.iol_app.proofs.Shown.{shown_as}
+use Rattle.iol_app.specs.Ends.{SentSeen}
+use Rattle.iol_app.specs.StationState.{StateFits as Joined, mode_in}
+use Rattle.iol_app.specs.Core.{Core, Ghost, Stands, CallGives, Work, work_of, RequestStands, EventsStand, OutputStands, CalmAt, FreshAt, ShownStands, moment_of, seen_in, shown_in, images_in, settled_core}
 
-pub open_same : (request : Option Request) (h : Hidden) (old new : IsduState)
-    → (new ≡ old) ⊎ (new ≡ Empty) → IsOpen old request h → IsOpen new request h
-open_same request h old new (inl e) opens = subst (λ (s : IsduState). IsOpen s request h) (sym e)
-    opens
-open_same request h old new (inr e) opens = subst (λ (s : IsduState). IsOpen s request h) (sym e) tt
+-- outside OPERATE no request was begun just now
+stale : (state : State) (w : Work) (far : Far) → mode_in state ≢ ModeOperate → FreshAt state w far
+    → ⊥
+stale state w far below h = grind (arith, common_steps)
+
+no_reset : (was : Bool) → [] ≡ resets was false ++ []
+no_reset was = grind (arith, common_steps)
+
+none_rests : (awake : Bool) → false ≡ (awake && false)
+none_rests awake = grind (arith, common_steps)
+
+-- a start takes back what was told
+pub untold_of : (f : List Event) (t : Bool) → untold (frozen_of f t) ≡ frozen_of f false
+untold_of f t = grind (arith, common_steps)
+
+open_same : (h : Hidden) (old new : IsduState) → (new ≡ old) ⊎ (new ≡ Empty) → IsOpen old None h
+    → IsOpen new None h
+open_same h old new same opens = grind (arith, common_steps)
+
+pub unconfirming : (o : List ℕ) (far : Far) (t : Bool) → octets_confirm o ≡ false
+    → ConfirmsTold o far t
+unconfirming o far t unconfirmed w e = absurd (let z : false ≡ true = sym unconfirmed ∙ e in cc)
+
+-- octets that hand nothing over leave nothing under way
+pub opens_passed : (h : Hidden) (far : Far) (own : List LocalStep) (passage : Passage) (o : List ℕ)
+    → ((hear (locals far own) o).far.isdu ≡ (locals far own).isdu)
+    ⊎ ((hear (locals far own) o).far.isdu ≡ Empty) → IsOpen far.isdu None h
+    → IsOpen (far_after passage (locals far own) o).isdu None (hidden_through None far own h)
+opens_passed h far own passage o holds opens = grind (arith, common_steps, own_open, open_same)
 
 module _ (c : Core) (g : Ghost) (far : Far) where
   -- the far end's part, with no request under way
@@ -57,7 +93,13 @@ module _ (c : Core) (g : Ghost) (far : Far) where
     abbrev hidden_there : Hidden
     hidden_there = hidden_through None far own g.request.hidden
 
-    pub misses_there : there.misses_pulses ≡ far.misses_pulses
+    page_there : there.page ≡ far.page
+    page_there = page_locals laws own far
+
+    kind_there : there.kind ≡ far.kind
+    kind_there = laws.much.kind_kept far own
+
+    misses_there : there.misses_pulses ≡ far.misses_pulses
     misses_there = laws.much.misses_kept far own
 
     -- a wake that it sees, or nothing of it
@@ -71,33 +113,28 @@ module _ (c : Core) (g : Ghost) (far : Far) where
       frozen = wake_frozen far own wakes g.events.told;
       images = λ m. wake_images m (shown_in c.session g.sent) far own wakes;
       before = λ ys busy confirm calm. wake_before far own wakes ys busy calm;
-      opens = opens_woken wakes;
-      page = page_woken wakes;
-      kind = kind_woken wakes;
-      misses = misses_woken wakes;
+      opens = woken_as (λ (f : Far). IsOpen f.isdu None hidden_there) wakes there tt
+          (own_open None g.request.hidden own far opens);
+      page = woken_as (λ (f : Far). f.page ≡ far.page) wakes there page_there page_there;
+      kind = woken_as (λ (f : Far). f.kind ≡ far.kind) wakes there kind_there kind_there;
+      misses = woken_as (λ (f : Far). f.misses_pulses ≡ far.misses_pulses) wakes there
+          misses_there misses_there;
     }
-      where
-        opens_woken : (wakes : Bool) → IsOpen (woken_if wakes there).isdu None hidden_there
-        opens_woken true = tt
-        opens_woken false = own_open None g.request.hidden own far opens
 
-        page_woken : (wakes : Bool) → (woken_if wakes there).page ≡ far.page
-        page_woken true = page_locals laws own far
-        page_woken false = page_locals laws own far
+    -- where nothing was told, octets that confirm nothing leave it so
+    pub untold_after : (passage : Passage) (o : List ℕ) → octets_confirm o ≡ false
+        → g.events.told ≡ false → told_exchanged far own passage o g.events.told ≡ false
+    untold_after passage o unconfirmed untold =
+        (told_exchange laws.events o Resting
+        (λ e. absurd (let z : false ≡ true = sym unconfirmed ∙ e in cc)) own passage far
+        g.events.told ((λ a. tt), untold ∙ none_rests far.awake)).1
+        ∙ sym (none_rests (far_after passage there o).awake)
 
-        kind_woken : (wakes : Bool) → (woken_if wakes there).kind ≡ far.kind
-        kind_woken true = laws.much.kind_kept far own
-        kind_woken false = laws.much.kind_kept far own
-
-        misses_woken : (wakes : Bool) → (woken_if wakes there).misses_pulses ≡ far.misses_pulses
-        misses_woken true = misses_there
-        misses_woken false = misses_there
-
-    -- octets that confirm nothing and hand nothing over
-    unfoldable pub passed_effect : (passage : Passage) (o : List ℕ) → octets_confirm o ≡ false
-        → (((hear there o).far.isdu ≡ there.isdu) ⊎ ((hear there o).far.isdu ≡ Empty))
+    -- octets that confirm nothing
+    abbrev pub passed_effect : (passage : Passage) (o : List ℕ) → octets_confirm o ≡ false
+        → IsOpen (far_after passage there o).isdu None hidden_there
         → OutputsSent g.sent there o → Effect (far_after passage there o)
-    passed_effect passage o unconfirmed holds sent = record {
+    passed_effect passage o unconfirmed still_open sent = record {
       steps = exchange_steps None far own passage o;
       hidden = hidden_there;
       told = told_exchanged far own passage o g.events.told;
@@ -106,75 +143,147 @@ module _ (c : Core) (g : Ghost) (far : Far) where
           (hidden_through r far own g.request.hidden) (far_after passage there o).carried) free
           (exchange_session m (seen_in c g) g.request.hidden far own passage o opens_seen);
       frozen = exchange_frozen None far own passage o g.events.told
-          (λ w e. absurd (let z : false ≡ true = sym unconfirmed ∙ e in cc));
+          (unconfirming o there (told_through far own g.events.told) unconfirmed);
       images = λ m. exchange_images m None (shown_in c.session g.sent) far own passage o sent;
       before = λ ys busy confirm calm.
           exchange_before None far own passage o ys busy confirm calm;
-      opens = opens_passed passage;
+      opens = still_open;
       page = page_after laws passage there o ∙ page_locals laws own far;
       kind = kind_after laws passage there o ∙ laws.much.kind_kept far own;
-      misses = misses_passed laws passage own far o;
+      misses = misses_passed laws.much passage own far o;
     }
-      where
-        opens_passed : (passage : Passage)
-            → IsOpen (far_after passage there o).isdu None hidden_there
-        opens_passed OutLost = own_open None g.request.hidden own far opens
-        opens_passed other = open_same None hidden_there there.isdu (hear there o).far.isdu holds
-            (own_open None g.request.hidden own far opens)
 
-  -- what the port makes of it
-  module _ (far' : Far) (effect : Effect far') (n n' : ℕ) where
-    pub record Ends (call : WireCall) (ys : List Step) (next : Core) (after : Ghost) :
-        Type 0 where
-      pub fits : CallFits (mode_in c.state) call
-      pub silent : n' ≡ silence_by call n
-      pub terms : TermsStay c next g after
-      pub busy : no_busy ys ≡ true
-      pub confirm : no_confirm ys ≡ true
-      pub free : IsTrue (is_clash_free ys)
+    abbrev pub untold_effect : (passage : Passage) (o : List ℕ) → octets_confirm o ≡ false
+        → IsOpen (far_after passage there o).isdu None hidden_there
+        → OutputsSent g.sent there o → g.events.told ≡ false → Effect (far_after passage there o)
+    untold_effect passage o unconfirmed still_open sent untold =
+        let e = passed_effect passage o unconfirmed still_open sent in
+        record e {
+          told = false;
+          frozen = subst (λ (t : Bool). FrozenRuns far.events.frozen g.events.told
+              (exchange_steps None far own passage o) (far_after passage there o).events.frozen t)
+              (untold_after passage o unconfirmed untold) e.frozen;
+        }
+
+  -- what the port makes of it, outside OPERATE
+  module _ (far' : Far) (effect : Effect far') (n n' : ℕ) (stands : Stands c g far n)
+      (below : mode_in c.state ≢ ModeOperate) where
+    -- with this of its hidden part, and of whether the frozen list is told
+    abbrev pub ended : Hidden → Bool → Ghost
+    ended hidden told = record g {
+      request = record g.request { hidden = hidden; base = far'.carried };
+      events = record g.events { told = told };
+      fresh = false;
+    }
+
+    -- how the new mode and the session stand
+    pub record Left (next : Core) (hidden : Hidden) (told : Bool) : Type 0 where
+      pub request : RequestStands next.state (work_of next.session) next.session.events
+          (ended hidden told) far'
+      pub events : EventsStand next.state next.session.exchange next.session.events
+          (ended hidden told).events far'
+      pub output : OutputStands next.state next.session.exchange next.session.output.told g.sent
+          far'
+      pub quiet : CalmAt next.state n'
+
+    -- what an outcome has to bring
+    pub record Ends (call : WireCall) (ys : List Step) (next : Core) (hidden : Hidden)
+        (told : Bool) : Type 0 where
+      pub limit : next.session.limit ≡ c.session.limit
+      pub configuration : next.session.configuration ≡ c.session.configuration
+      pub plain : (no_busy ys ≡ true) × (no_confirm ys ≡ true) × IsTrue (is_clash_free ys)
+          × (filter is_report ys ≡ [])
       pub book : filter is_for_book ys ≡ resets (is_reset c.state) (is_reset next.state) ++ []
-      pub reports : filter is_report ys ≡ []
       pub session : SessionRuns (moment_of c g n call) (seen_in c g) effect.hidden far'.carried ys
-          (seen_in next after) after.request.hidden far'.carried
-      pub frozen : FrozenRuns far'.events.frozen effect.told ys far'.events.frozen
-          after.events.told
+          (seen_in next (ended hidden told)) hidden far'.carried
+      pub frozen : FrozenRuns far'.events.frozen effect.told ys far'.events.frozen told
       pub images : ImagesRuns (moment_of c g n call) (images_of (shown_in c.session g.sent) far')
-          ys (images_in next after far')
-      pub below : mode_in c.state ≢ ModeOperate
-      pub fresh : IsTrue g.fresh → ⊥
-      pub was_image : c.session.image ≡ None
+          ys (images_of (shown_in next.session g.sent) far')
       pub image : next.session.image ≡ None
-      pub stands : Stands next after far' n'
+      pub left : Left next hidden told
+      pub sent : SentSeen next.session.layout next.session.output.carried.items g.sent
+      pub shown : ShownStands next g.page
 
-    pub gives : (call : WireCall) (ys : List Step) (next : Core) (after : Ghost)
-        → Ends call ys next after → CallGives c g far n Idle next far' n'
-    gives call ys next after e =
+    -- the steps of both, one after the other
+    pub gives : (call : WireCall) (ys : List Step) (next : Core) (hidden : Hidden) (told : Bool)
+        → Ends call ys next hidden told → CallFits (mode_in c.state) call
+        → n' ≡ silence_by call n → StateFits next.state → StateStands next.state n' far'
+        → Joined next.state next.session → CallGives c g far n Idle next far' n'
+    gives call ys next hidden told e fits_call silence fits link joined =
         let m = moment_of c g n call in
-        let before = effect.before ys e.busy e.confirm e.free in
-        let i' = images_of (shown_in c.session g.sent) far' in
+        let before = effect.before ys e.plain.0 e.plain.1 e.plain.2 in
+        let after : Ghost = ended hidden told in
+        let was : c.session.image ≡ None = stands.shown.image below in
         record {
           call = call;
           steps = effect.steps ++ ys;
           after = after;
-          fits = e.fits;
-          silent = e.silent;
-          terms = e.terms;
+          fits = fits_call;
+          silent = silence;
+          terms = (e.limit, refl, e.configuration, refl);
           clash_free = before.free;
-          fresh = λ k. absurd (e.fresh k);
+          fresh = λ k. absurd (stale c.state (work_of c.session) far below (stands.fresh k));
           said_book = before.book ∙ e.book;
-          said_reports = before.reports ∙ e.reports;
+          said_reports = before.reports ∙ e.plain.3;
           session = session_runs-append m (seen_in c g) (seen_in c g) (seen_in next after)
-              g.request.hidden effect.hidden after.request.hidden far.carried far'.carried
+              g.request.hidden effect.hidden hidden far.carried far'.carried
               far'.carried effect.steps ys (effect.session m) e.session;
           frozen = frozen_runs-append far.events.frozen far'.events.frozen far'.events.frozen
-              g.events.told effect.told after.events.told effect.steps ys effect.frozen e.frozen;
-          images = images_runs-append m (images_in c g far) i' (images_in next after far')
+              g.events.told effect.told told effect.steps ys effect.frozen e.frozen;
+          images = images_runs-append m (images_in c g far)
+              (images_of (shown_in c.session g.sent) far') (images_in next after far')
               effect.steps ys (effect.images m) e.images;
           image_is_last = (
-            (λ k. absurd (e.below k.0)),
+            (λ k. absurd (below k.0)),
             (λ k. e.image),
-            (λ k f. e.image ∙ sym e.was_image),
+            (λ k f. e.image ∙ sym was),
           );
-          output_is_wanted = λ k. absurd (e.below k.0);
-          stands = e.stands;
+          output_is_wanted = λ k. absurd (below k.0);
+          stands = record {
+            page = effect.page ∙ stands.page;
+            kind = effect.kind ∙ stands.kind;
+            for_it = subst (λ (k : Configuration). IsFor k.devices g.kind) (sym e.configuration)
+                stands.for_it;
+            sees = subst (λ (k : Configuration). SeesPulses k.devices far') (sym e.configuration)
+                (sees_kept c.session.configuration.devices far far' effect.misses stands.sees);
+            fits = fits;
+            link = link;
+            joined = joined;
+            calm = e.left.quiet;
+            fresh = λ k. absurd (let z : false ≡ true = k in cc);
+            sent = e.sent;
+            request = e.left.request;
+            events = e.left.events;
+            output = e.left.output;
+            shown = e.shown;
+          };
         }
+
+    -- it goes down, for a cause
+    pub falls : (call : WireCall) (why : Why) → request_in c.session.current ≡ None
+        → MayMove (moment_of c g n call) (mode_in c.state) ModeDown (Some why)
+        → Ends call (MoveTo ModeDown (Some why) ∷ [])
+        (settled_core (InDown (record { why = Some why })) c.session) effect.hidden effect.told
+    falls call why free may = record {
+      limit = refl;
+      configuration = refl;
+      plain = (refl, refl, refl, refl);
+      book = no_reset (is_reset c.state);
+      session = (((may, tt), tt), rw free refl);
+      frozen = ((tt, tt), refl);
+      images = ((tt, tt), rw (stands.shown.image below) refl);
+      image = refl;
+      left = record { request = effect.opens; events = tt; output = tt; quiet = tt };
+      sent = stands.sent;
+      shown = shown_as stands.shown (λ e. refl) refl stands.shown.present stands.shown.no_form;
+    }
+
+    pub loses : (call : WireCall) (why : Why) → request_in c.session.current ≡ None
+        → MayMove (moment_of c g n call) (mode_in c.state) ModeDown (Some why)
+        → CallFits (mode_in c.state) call → n' ≡ silence_by call n
+        → CallGives c g far n Idle (settled_core (InDown (record { why = Some why })) c.session)
+        far' n'
+    loses call why free may fits_call silence =
+        gives call (MoveTo ModeDown (Some why) ∷ [])
+        (settled_core (InDown (record { why = Some why })) c.session) effect.hidden effect.told
+        (falls call why free may) fits_call silence tt tt (refl, refl)

@@ -1,5 +1,5 @@
 -- The reading of events goes with the far end's frozen list.
-use Rattle.std.proofs.Common.{◌≡◌, ℕ, Bool, true, false, not, List, [], ◌∷◌, sym, subst, arith}
+use Rattle.std.proofs.Common.{◌≡◌, ℕ, Bool, true, false, not, List, sym, subst, arith}
 use Rattle.std.specs.Prelude.{Option, Some, None, if◌then◌else◌}
 use Rattle.iol_mseq.specs.declared.master.MasterMsg.{MasterMsg}
 use Rattle.iol_isdu.specs.declared.values.Answer.{Answer}
@@ -13,6 +13,7 @@ use Rattle.iol_far.specs.Laws.{confirms as octets_confirm}
 use Rattle.iol_steps.specs.Bridge.{confirms_by}
 use Rattle.iol_steps.specs.Station.{Reading, is_due, wants_octet, EventsFit}
 use Rattle.iol_steps.specs.Exchange.{reading_kept}
+use Rattle.iol_app.proofs.Given.{by_locals}
 use Rattle.iol_app.proofs.Accepted.{by_accepted}
 use Rattle.iol_app.proofs.FirstOctet.{confirms_of}
 use Rattle.std.proofs.lemmas.Grind.{common_steps}
@@ -38,8 +39,7 @@ module _ (laws : ReaderLaws) where
 
   pub memory_locals : (steps : List LocalStep) (far : Far) → IsEventMemory far.events
       → IsEventMemory (locals far steps).events
-  memory_locals [] far h = h
-  memory_locals (step ∷ steps) far h = memory_locals steps (local far step) (memory_step far step h)
+  memory_locals = by_locals (λ far. IsEventMemory far.events) memory_step
 
   memory_worked : (m : Events) (c : Bool) → IsEventMemory m → IsEventMemory (events_after m c)
   memory_worked m true h = laws.memory.confirm m h

@@ -12,7 +12,6 @@ use Rattle.iol_far.specs.Far.{Far, output_of}
 use Rattle.iol_far.specs.Local.{LocalStep, locals}
 use Rattle.iol_mseq.specs.Master.{HasMasterParts}
 use Rattle.iol_mseq.specs.declared.master.MasterMsg.{MasterMsg}
-use Rattle.iol_far.specs.declared.kind.Kind.{Kind}
 use Rattle.iol_far.specs.Linked.{TextsAreHeard}
 use Rattle.iol_far.specs.Level.{Progress, IsLevel, taken}
 use Rattle.iol_far.specs.Laws.{confirms as octets_confirm}
@@ -41,6 +40,7 @@ use Rattle.iol_app.proofs.KindsSession.{lost_session, lost_opens}
 use Rattle.iol_app.proofs.Told.{told_locals, told_exchange, confirms_told}
 use Rattle.iol_app.proofs.FirstOctet.{confirms_of}
 use Rattle.iol_app.proofs.Missed.{quiet_book}
+use Rattle.iol_app.proofs.Shown.{shown_as}
 use Rattle.iol_app.specs.declared.request.Current.{Current}
 use Rattle.iol_app.specs.declared.session.Exchange.{Exchange}
 use Rattle.iol_app.specs.Requests.{request_in}
@@ -54,7 +54,7 @@ use Rattle.iol_app.proofs.Sessions.{question_parts}
 use Rattle.iol_app.proofs.Doubts.{missed_request_by}
 use Rattle.iol_app.proofs.Missing.{Stays, sent_again, asked_for, busy_missed}
 use Rattle.iol_app.proofs.Telling.{told_layout}
-use Rattle.iol_app.specs.Core.{Core, Ghost, Stands, ReceiveGives, work_of, vain_by, after_missed, OperateRequest, RequestStands, EventsStand, OutputStands, CalmAt, ShownStands, core_out, reading_in, ordered_by, moment_of, seen_in, shown_in, images_in, settled_core}
+use Rattle.iol_app.specs.Core.{Core, Ghost, OfRequest, OfEvents, Stands, ReceiveGives, work_of, vain_by, after_missed, OperateRequest, RequestStands, EventsStand, OutputStands, CalmAt, ShownStands, core_out, reading_in, ordered_by, moment_of, seen_in, shown_in, images_in, settled_core}
 use Rattle.iol_mode.specs.Kinds.{IsFor, SeesPulses}
 use Rattle.iol_mode.specs.declared.configuration.Configuration.{Configuration}
 
@@ -161,46 +161,49 @@ module _ (laws : Laws) (layouts : Layouts) (w : Sending) (t : SessionState) (g :
 
     module _ (far' : Far) (n' : ℕ) (far_is : far' ≡ passed) (said : Said)
         (p : Passes layouts w t g far steps passage e current) where
+      abbrev pub ended : OfRequest → OfEvents → Ghost
+      ended of_request of_events =
+          record g { request = of_request; events = of_events; fresh = false }
+
       -- what an outcome has to bring
-      pub record Ends (call : WireCall) (next : Core) (after : Ghost) (ys : List Step) : Type 0
+      pub record Ends (call : WireCall) (next : Core) (of_request : OfRequest)
+          (of_events : OfEvents)
+          (ys : List Step) : Type 0
         where
           pub limit : next.session.limit ≡ t.limit
-          pub page : after.page ≡ g.page
-          pub kind : after.kind ≡ g.kind
           pub configuration : next.session.configuration ≡ t.configuration
           pub session : SessionRuns (moment_of c g n call) (seen_in c g) h passed.carried ys
-              (seen_in next after) after.request.hidden passed.carried
-          pub frozen : FrozenRuns passed.events.frozen told ys passed.events.frozen
-              after.events.told
+              (seen_in next (ended of_request of_events)) of_request.hidden passed.carried
+          pub frozen : FrozenRuns passed.events.frozen told ys passed.events.frozen of_events.told
           pub images : ImagesRuns (moment_of c g n call) (images_of (shown_in t g.sent) passed) ys
-              (images_in next after passed)
+              (images_in next (ended of_request of_events) passed)
           pub apart : Before xs ys
           pub calm : IsTrue g.fresh → no_clash ys
-          pub spent : after.fresh ≡ false
           pub once : no_make ys ≡ true
           pub book : filter is_for_book ys ≡ book_said said
           pub reports : filter is_report ys ≡ reports_said said
           pub last : ImageIsLast (moment_of c g n call) (mode_in next.state) (images_in c g far)
-              (images_in next after passed)
+              (images_in next (ended of_request of_events) passed)
           pub wanted : silence_by call n ≡ 0
               → output_of passed ≡ ordered_by (told_by (output_for e) t.output.told)
               w.message.out.items
           pub request_is : RequestStands next.state (work_of next.session) next.session.events
-              after passed
+              (ended of_request of_events) passed
           pub events : EventsStand next.state next.session.exchange next.session.events
-              after.events passed
+              of_events passed
           pub output : OutputStands next.state next.session.exchange next.session.output.told
-              after.sent passed
-          pub sent : SentSeen next.session.layout next.session.output.carried.items after.sent
+              g.sent passed
+          pub sent : SentSeen next.session.layout next.session.output.carried.items g.sent
           pub shown : ShownStands next g.page
 
-      pub gives : (call : WireCall) (next : Core) (after : Ghost) (ys : List Step)
-          → Ends call next after ys → CallFits ModeOperate call → n' ≡ silence_by call n
-          → StateStands next.state n' far' → StateFits next.state
+      pub gives : (call : WireCall) (next : Core) (of_request : OfRequest) (of_events : OfEvents)
+          (ys : List Step) → Ends call next of_request of_events ys → CallFits ModeOperate call
+          → n' ≡ silence_by call n → StateStands next.state n' far' → StateFits next.state
           → Joined next.state next.session → CalmAt next.state n'
           → ReceiveGives c g far n said next far' n'
-      gives call next after ys b fits silent link state_fits joined calm =
+      gives call next of_request of_events ys b fits silent link state_fits joined calm =
           let m = moment_of c g n call in
+          let after : Ghost = ended of_request of_events in
           subst (λ (f : Far). ReceiveGives c g far n said next f n') (sym far_is) (record {
             unmade = b.apart.make b.once;
             given = record {
@@ -209,7 +212,7 @@ module _ (laws : Laws) (layouts : Layouts) (w : Sending) (t : SessionState) (g :
               after = after;
               fits = fits;
               silent = silent;
-              terms = (b.limit, b.page, b.configuration, b.kind);
+              terms = (b.limit, refl, b.configuration, refl);
               clash_free = b.apart.free;
               fresh = λ k. fresh_turn request far steps passage o ys (stands.fresh k).1 (b.calm k);
               said_book = b.apart.book ∙ b.book;
@@ -232,36 +235,34 @@ module _ (laws : Laws) (layouts : Layouts) (w : Sending) (t : SessionState) (g :
               image_is_last = b.last;
               output_is_wanted = λ k. b.wanted k.2;
               stands = record {
-                page = page' ∙ sym b.page;
-                kind = kind' ∙ sym b.kind;
-                for_it = subst (λ (k : Configuration). IsFor k.devices after.kind)
-                    (sym b.configuration) (subst (λ (q : Kind). IsFor t.configuration.devices q)
-                    (sym b.kind) stands.for_it);
+                page = page';
+                kind = kind';
+                for_it = subst (λ (k : Configuration). IsFor k.devices g.kind)
+                    (sym b.configuration) stands.for_it;
                 sees = subst (λ (k : Configuration). SeesPulses k.devices passed)
                     (sym b.configuration) (sees_kept t.configuration.devices far passed
-                    (misses_passed laws passage steps far o) stands.sees);
+                    (misses_passed laws.much passage steps far o) stands.sees);
                 fits = state_fits;
                 link = subst (λ (f : Far). StateStands next.state n' f) far_is link;
                 joined = joined;
                 calm = calm;
-                fresh = λ k. absurd (let z : false ≡ true = sym b.spent ∙ k in cc);
+                fresh = λ k. absurd (let z : false ≡ true = k in cc);
                 sent = b.sent;
                 request = b.request_is;
                 events = b.events;
                 output = b.output;
-                shown = subst (λ (q : List ℕ). ShownStands next q) (sym b.page) b.shown;
+                shown = b.shown;
               };
             };
           })
 
       -- No good reply
 
-      abbrev away : Ghost
-      away = record g {
-        request = record g.request { hidden = h };
-        events = record g.events { told = told };
-        fresh = false;
-      }
+      abbrev unheard : OfRequest
+      unheard = record g.request { hidden = h }
+
+      abbrev away : OfEvents
+      away = record g.events { told = told }
 
       -- what is left of it: the message out stays so, or a question goes out in its place
       abbrev pub again : Sending
@@ -304,7 +305,7 @@ module _ (laws : Laws) (layouts : Layouts) (w : Sending) (t : SessionState) (g :
 
         abbrev Requests : Sending → Type 0
         Requests out = OperateRequest (record { out = Some out; layouts = layouts })
-            (work_of missed_core.session) R away passed
+            (work_of missed_core.session) R (ended unheard away) passed
 
         request_out : (m : MasterMsg) → AgainStays m
             → Requests (record { message = m; tries = w.tries + 1 })
@@ -332,11 +333,9 @@ module _ (laws : Laws) (layouts : Layouts) (w : Sending) (t : SessionState) (g :
             t.clear t.limit carried at some_od parts carries passed t.configuration.devices e
             current stands.for_it valid.current sized is up.out up.linked level')
 
-        pub misses : said ≡ quiet_said request → Ends (Exchanged false) missed_core away []
+        pub misses : said ≡ quiet_said request → Ends (Exchanged false) missed_core unheard away []
         misses says = record {
           limit = refl;
-          page = refl;
-          kind = refl;
           configuration = refl;
           session = (
             tt,
@@ -347,7 +346,6 @@ module _ (laws : Laws) (layouts : Layouts) (w : Sending) (t : SessionState) (g :
           images = (tt, refl);
           apart = exchange_before request far steps passage o [] refl refl refl;
           calm = λ k. refl;
-          spent = refl;
           once = refl;
           book = rw says (sym (quiet_book request).0);
           reports = rw says (sym (quiet_book request).1);
@@ -357,28 +355,18 @@ module _ (laws : Laws) (layouts : Layouts) (w : Sending) (t : SessionState) (g :
           events = subst (λ (b : Bool). EventsTold R b passed told) confirms told';
           output = p.outputs;
           sent = stands.sent;
-          shown = record {
-            image = λ k. absurd (k refl);
-            wanted = stands.shown.wanted;
-            lengths = stands.shown.lengths;
-            isdu = stands.shown.isdu;
-            present = stands.shown.present;
-            no_form = stands.shown.no_form;
-          };
+          shown = shown_as stands.shown (λ k. absurd (k refl)) refl stands.shown.present
+              stands.shown.no_form;
         }
 
       pub loses : said ≡ lost_said request → 3 ≤ min 3 (n + 1)
           → Ends (Exchanged false) (settled_core (InDown (record { why = Some Lost }))
-          c.session) (record away {
-            request =
-                record g.request { hidden = hidden_lost request h };
-          }) (lost_steps request)
+          c.session) (record g.request { hidden = hidden_lost request h }) away
+          (lost_steps request)
       loses says third =
           let f = fit request in
           record {
             limit = refl;
-            page = refl;
-            kind = refl;
             configuration = refl;
             session = lost_session (moment_of c g n (Exchanged false)) (seen_in c g) h
                 passed.carried (λ k. absurd (let z : ModeOperate ≡ ModeDown = k in cc)) third;
@@ -386,7 +374,6 @@ module _ (laws : Laws) (layouts : Layouts) (w : Sending) (t : SessionState) (g :
             images = f.2;
             apart = f.0;
             calm = λ k. f.5;
-            spent = refl;
             once = f.6;
             book = rw says f.3;
             reports = rw says f.4;
@@ -400,14 +387,8 @@ module _ (laws : Laws) (layouts : Layouts) (w : Sending) (t : SessionState) (g :
             events = tt;
             output = tt;
             sent = stands.sent;
-            shown = record {
-              image = λ k. refl;
-              wanted = stands.shown.wanted;
-              lengths = stands.shown.lengths;
-              isdu = stands.shown.isdu;
-              present = stands.shown.present;
-              no_form = stands.shown.no_form;
-            };
+            shown = shown_as stands.shown (λ k. refl) refl stands.shown.present
+                stands.shown.no_form;
           }
         where
           fit : (r : Option Request) → Before (exchange_steps request far steps passage o)

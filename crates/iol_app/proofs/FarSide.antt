@@ -208,20 +208,7 @@ module _ (laws : Laws) (going : Goes) (sending : IsGoing going) where
 
     -- without a good reply there is silence
     pub silent : good_reply run message answer ≡ None → silence ≡ min 3 (n + 1)
-    silent none = h.silence_is ∙ by_passage h.passage h.answer_is
-      where
-        by_reply : (r : Option (List ℕ)) → (hear (locals from h.steps) o).reply ≡ r → answer ≡ r
-            → silence_after n r ≡ min 3 (n + 1)
-        by_reply None e a = refl
-        by_reply (Some reply) e a =
-            let z : Path (Option Reply) None
-            (Some (reply_to (hear (locals from h.steps) o).far run message)) = sym none
-            ∙ ap (good_reply run message) a ∙ reads_reply reply e in absurd (cc)
-
-        by_passage : (p : Passage) → IsAnswer p (locals from h.steps) o answer
-            → silence_after n (brought p (locals from h.steps) o) ≡ min 3 (n + 1)
-        by_passage Clean a = by_reply (hear (locals from h.steps) o).reply refl a
-        by_passage other a = refl
+    silent none = grind (arith, common_steps, reads_reply)
 
     -- a good reply is the far end's, unaltered
     pub record IsReplied (reply : Reply) : Type 0 where

@@ -9,7 +9,6 @@ use Rattle.iol_far.specs.Local.{LocalStep, local, locals}
 use Rattle.iol_far.specs.Level.{Progress, Link, IsLevel}
 use Rattle.iol_far.specs.declared.kind.Kind.{Kind}
 use Rattle.iol_mode.specs.declared.configuration.Devices.{Devices}
-use Rattle.iol_mode.specs.declared.configuration.Devices.TheVariants.{Own, Any}
 use Rattle.iol_mode.specs.Kinds.{SeesPulses}
 use Rattle.iol_far.specs.Laws.{IsSized, RepliesAreRead, InputStaysSized, MuchStays, LevelLaws, LevelStays, EventLaws, ModesHaveLayouts}
 
@@ -37,33 +36,36 @@ all_laws level much reads sized events layouts =
 -- its device sees each pulse still
 pub sees_kept : (devices : Devices) (far far' : Far) → far'.misses_pulses ≡ far.misses_pulses
     → SeesPulses devices far → SeesPulses devices far'
-sees_kept Own far far' same h = same ∙ h
-sees_kept Any far far' same h = tt
+sees_kept devices far far' same h = grind (arith, common_steps)
+
+-- what each of its own steps keeps
+pub by_locals : (P : Far → Type 0) → ((far : Far) (step : LocalStep) → P far → P (local far step))
+    → (steps : List LocalStep) (far : Far) → P far → P (locals far steps)
+by_locals P keeps [] far h = h
+by_locals P keeps (step ∷ steps) far h = by_locals P keeps steps (local far step) (keeps far step h)
+
+-- whether its device sees pulses stays over an exchange
+pub misses_passed : MuchStays → (passage : Passage) (steps : List LocalStep) (far : Far)
+    (o : List ℕ) → (far_after passage (locals far steps) o).misses_pulses ≡ far.misses_pulses
+misses_passed much OutLost steps far o = much.misses_kept far steps
+misses_passed much other steps far o = much.misses_heard (locals far steps) o
+    ∙ much.misses_kept far steps
 
 module _ (laws : Laws) where
-  pub misses_passed : (passage : Passage) (steps : List LocalStep) (far : Far) (o : List ℕ)
-      → (far_after passage (locals far steps) o).misses_pulses ≡ far.misses_pulses
-  misses_passed OutLost steps far o = laws.much.misses_kept far steps
-  misses_passed other steps far o = laws.much.misses_heard (locals far steps) o
-      ∙ laws.much.misses_kept far steps
-
   pub page_locals : (steps : List LocalStep) (far : Far) → (locals far steps).page ≡ far.page
-  page_locals [] far = refl
-  page_locals (step ∷ steps) far = page_locals steps (local far step) ∙ laws.much.page_kept far step
+  page_locals steps far = by_locals (λ f. f.page ≡ far.page)
+      (λ f step e. laws.much.page_kept f step ∙ e) steps far refl
 
   pub page_after : (passage : Passage) (far : Far) (o : List ℕ)
       → (far_after passage far o).page ≡ far.page
   page_after passage far o = grind (arith, common_steps)
 
   pub sized_locals : (steps : List LocalStep) (far : Far) → IsSized far → IsSized (locals far steps)
-  sized_locals [] far h = h
-  sized_locals (step ∷ steps) far h =
-      sized_locals steps (local far step) (laws.sized.steps far step h)
+  sized_locals = by_locals IsSized laws.sized.steps
 
   pub kind_after : (passage : Passage) (far : Far) (o : List ℕ)
       → (far_after passage far o).kind ≡ far.kind
-  kind_after OutLost far o = refl
-  kind_after other far o = laws.much.kind_heard far o
+  kind_after passage far o = grind (arith, common_steps)
 
   module _ (page : List ℕ) (kind : Kind) (size : ℕ) (has : 1 ≤ size) (base : List Carried)
       (link : Link) (p : Progress) (o : List ℕ) where
@@ -73,9 +75,8 @@ module _ (laws : Laws) where
     pub level_locals : (most : ℕ) (steps : List LocalStep) (far : Far)
         → IsLevel page kind size base link p o most far
         → IsLevel page kind size base link p o most (locals far steps)
-    level_locals most [] far h = h
-    level_locals most (step ∷ steps) far h =
-        level_locals most steps (local far step) (stays.steps most far step h)
+    level_locals most =
+        by_locals (IsLevel page kind size base link p o most) (stays.steps most)
 
     pub level_after : (most : ℕ) (passage : Passage) (far : Far)
         → IsLevel page kind size base link p o most far

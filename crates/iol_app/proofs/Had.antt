@@ -25,7 +25,7 @@ use Rattle.iol_segment.specs.TextLaws.{joined}
 use Rattle.iol_link.specs.Attempts.{Sending}
 use Rattle.iol_link.specs.Honest.{Clean}
 use Rattle.iol_mode.specs.Stands.{StateStands, operate_link, IsAccepted}
-use Rattle.iol_mode.specs.States.{InOperate, StateFits, state_of}
+use Rattle.iol_mode.specs.States.{Outcome, InOperate, StateFits, state_of}
 use Rattle.iol_steps.specs.declared.mode.Mode.TheVariants.{Operate as ModeOperate}
 use Rattle.iol_steps.specs.declared.said.Said.{Said}
 use Rattle.iol_steps.specs.Step.{Step, ShowImage, Exchanged, Moment, is_for_book, is_report, book_said, reports_said, Image, no_make}
@@ -180,18 +180,21 @@ module _ (laws : Laws) (readers : ReaderLaws) (turn : Good) where
         w.message.mc.channel w.message.mc.address else [])
     od_is = ap (λ (q : Reply). q.od.items) a.reply_is
 
-    pub before : IsBefore g.page g.kind layouts.run.od
-        (base_after what g.request.base there.carried) operate_link
-        (after trust vain progress what od) there
+    -- both ends are level behind it
+    abbrev pub LevelBy : List Carried → Progress → Type 0
+    LevelBy base p = IsBefore g.page g.kind layouts.run.od base operate_link p there
+
+    -- the record that a request begins with from now on
+    abbrev pub base_now : List Carried
+    base_now = base_after what g.request.base there.carried
+
+    pub before : LevelBy base_now (after trust vain progress what od)
     before =
-        subst (λ (q : Progress). IsBefore g.page g.kind layouts.run.od
-        (base_after what g.request.base there.carried) operate_link q there)
-        (sym (ap (after trust vain progress what) od_is
+        subst (LevelBy base_now) (sym (ap (after trust vain progress what) od_is
         ∙ data_after trust vain layouts.run.od what progress w.message.mc.channel
         w.message.mc.read (flow_of w.message.mc.address) w.message.od.items
         w.message.mc.address there up.out.goes.move))
-        (subst (λ (l : Link). IsBefore g.page g.kind layouts.run.od
-        (base_after what g.request.base there.carried) l
+        (subst (λ (l : Link). IsBefore g.page g.kind layouts.run.od base_now l
         (after trust vain progress what (isdu_data layouts.run.od there.isdu)) there)
         next_link a.says.before)
 
@@ -200,12 +203,9 @@ module _ (laws : Laws) (readers : ReaderLaws) (turn : Good) where
 
     -- a request that is over leaves none under way, with the record as it is
     pub settled : (p : Progress) → IsSettled p → after trust vain progress what od ≡ p
-        → IsBefore g.page g.kind layouts.run.od there.carried operate_link Quiet there
-    settled p over is =
-        (laws.level layouts.run.od some_od).settles g.page g.kind
-        (base_after what g.request.base there.carried) operate_link p there over
-        (subst (λ (q : Progress). IsBefore g.page g.kind layouts.run.od
-        (base_after what g.request.base there.carried) operate_link q there) is before)
+        → LevelBy there.carried Quiet
+    settled p over is = (laws.level layouts.run.od some_od).settles g.page g.kind base_now
+        operate_link p there over (subst (LevelBy base_now) is before)
 
     -- how far both ends have come: as the reply says, or none of a request is under way
     abbrev pub Reaches : Option Current → Type 0
@@ -213,24 +213,18 @@ module _ (laws : Laws) (readers : ReaderLaws) (turn : Good) where
         ⊎ ((what ≡ Leave) × IsIdle (progress_of devices clear next))
 
     pub reached : (next : Option Current) → Reaches next
-        → IsBefore g.page g.kind layouts.run.od (base_after what g.request.base there.carried)
-        operate_link (progress_of devices clear next) there
-    reached next (inl is) =
-        subst (λ (q : Progress). IsBefore g.page g.kind layouts.run.od
-        (base_after what g.request.base there.carried) operate_link q there) is before
+        → LevelBy base_now (progress_of devices clear next)
+    reached next (inl is) = subst (LevelBy base_now) is before
     reached next (inr (leaves, idle)) = by_progress (progress_of devices clear next) idle
       where
         left : after trust vain progress what od ≡ Clear
         left = left_clear trust vain progress what od leaves
 
-        by_progress : (p : Progress) → IsIdle p → IsBefore g.page g.kind layouts.run.od
-            (base_after what g.request.base there.carried) operate_link p there
-        by_progress Quiet idle =
-            subst (λ (c : List Carried). IsBefore g.page g.kind layouts.run.od c operate_link
-            Quiet there) (ap (λ (m : Move). base_after m g.request.base there.carried)
-            (sym leaves)) (settled Clear tt left)
-        by_progress Clear idle = subst (λ (q : Progress). IsBefore g.page g.kind layouts.run.od
-            (base_after what g.request.base there.carried) operate_link q there) left before
+        by_progress : (p : Progress) → IsIdle p → LevelBy base_now p
+        by_progress Quiet idle = subst (λ (c : List Carried). LevelBy c Quiet)
+            (ap (λ (m : Move). base_after m g.request.base there.carried) (sym leaves))
+            (settled Clear tt left)
+        by_progress Clear idle = subst (LevelBy base_now) left before
         by_progress p idle = absurd idle
 
     pub tied : IsTied g.request.base request h there.carried
@@ -247,10 +241,10 @@ module _ (laws : Laws) (readers : ReaderLaws) (turn : Good) where
         × (i * layouts.run.od < length (answer_text q answer))
     text k q i octets is =
         had_text g.kind.hands_over trust vain layouts.run.od
-        (base_after what g.request.base there.carried) q i octets
+        base_now q i octets
         there.isdu there.counted there.carried
         (subst (λ (p : Progress). FarStands g.kind.hands_over layouts.run.od
-        (base_after what g.request.base there.carried) p there.isdu there.counted there.carried) is
+        base_now p there.isdu there.counted there.carried) is
         before.stands)
         what progress w.message.mc.channel w.message.mc.read
         (flow_of w.message.mc.address) w.message.od.items od k up.out.goes.move
@@ -274,16 +268,19 @@ module _ (laws : Laws) (readers : ReaderLaws) (turn : Good) where
     fit_now = subst (λ (b : Bool). EventsFit R b there.events) confirms_by
         ((told' laws layouts w t g far n steps Clean e current a.stands).0 a.says.before.awake)
 
+    abbrev reading_then : Event × List Event → Reading
+    reading_then due = reading_at (read_on e od t.events.reading) r.event due
+
     -- what it makes of the reading
     pub record Reads : Type 0 where
       pub due : Event × List Event
-      pub fit : EventsFit (reading_at (read_on e od t.events.reading) r.event due) false
+      pub fit : EventsFit (reading_then due) false
           there.events
       pub form : is_refused (read_on e od t.events.reading) ≡ false
       pub same : list_read e od t.events.reading ≡ None
           → frozen_of there.events.frozen told
           ≡ frozen_of there.events.frozen
-          (is_due (reading_at (read_on e od t.events.reading) r.event due))
+          (is_due (reading_then due))
 
     pub keeps : confirms_events e ≡ false → read_on e od t.events.reading ≡ t.events.reading → Reads
     keeps other kept =
@@ -293,7 +290,7 @@ module _ (laws : Laws) (readers : ReaderLaws) (turn : Good) where
         kept_fits R r.event there.events event_is held
         (subst (λ (b : Bool). EventsFit R b there.events) other fit_now) in
         let is : reading_kept R r.event
-        ≡ reading_at (read_on e od t.events.reading) r.event g.events.due =
+        ≡ reading_then g.events.due =
         kept_at t.events.reading t.events.flag r.event g.events.due a.stands.shown.no_form
         ∙ ap (λ (x : app.Reading). reading_at x r.event g.events.due) (sym kept) in
         record {
@@ -336,7 +333,7 @@ module _ (laws : Laws) (readers : ReaderLaws) (turn : Good) where
           form = ap is_refused rest;
           same = λ k. ap (λ (l : List Event). frozen_of l told) none
               ∙ sym (ap (λ (l : List Event). frozen_of l
-              (is_due (reading_at (read_on e od t.events.reading) r.event g.events.due))) none);
+              (is_due (reading_then g.events.due))) none);
         }
       where
         unflagged : (event : Bool) → event ≡ false
@@ -393,8 +390,7 @@ module _ (laws : Laws) (readers : ReaderLaws) (turn : Good) where
       pub session : SessionRuns m (seen_in c g) h there.carried (brought_steps kind request)
           (record (seen_in c g) { request = request_in next; busy = busy }) h there.carried
       pub frozen : FrozenRuns there.events.frozen told (brought_steps kind request)
-          there.events.frozen (is_due (reading_at (read_on e od t.events.reading) r.event
-          reads.due))
+          there.events.frozen (is_due (reading_then reads.due))
       pub images : ImagesRuns m (images_of (shown_in t g.sent) there)
           (brought_steps kind request) (images_of
           (record (shown_in t g.sent) { image = there.input }) there)
@@ -404,44 +400,31 @@ module _ (laws : Laws) (readers : ReaderLaws) (turn : Good) where
       pub calm : IsTrue g.fresh → no_clash (brought_steps kind request)
       pub once : no_make (brought_steps kind request) ≡ true
       pub base : List Carried
-      pub level : IsBefore g.page g.kind layouts.run.od base operate_link
-          (progress_of devices clear next) there
+      pub level : LevelBy base (progress_of devices clear next)
       pub answer : AnswerFits base (request_in next) h there.carried
       pub busy_is : BusySeen devices t.limit next busy g.request.asked
       pub sure : IfSome next (λ c. c.again ≡ false)
       pub known : IsSome (request_in next) → IsSome request
 
+    abbrev outcome : Outcome
+    outcome = InOperate (record { out = None; layouts = layouts }) (Some r)
+
     pub had : (reads : Reads) (kind : Brought) (busy : ℕ)
         → Brings reads kind (current_after e t.limit od current) busy
-        → StateStands (state_of (InOperate (record { out = None; layouts = layouts }) (Some r)))
-        n' far' → StateFits (state_of
-        (InOperate (record { out = None; layouts = layouts }) (Some r)))
-        → Joined (state_of (InOperate (record { out = None; layouts = layouts }) (Some r)))
-        (absorbed e r c.session)
-        → ReceiveGives c g far n said (settled_core
-        (InOperate (record { out = None; layouts = layouts }) (Some r)) c.session) far' n'
+        → StateStands (state_of outcome) n' far' → StateFits (state_of outcome)
+        → Joined (state_of outcome) (absorbed e r c.session)
+        → ReceiveGives c g far n said (settled_core outcome c.session) far' n'
     had reads kind busy b link fits joined =
         gives laws layouts w t g far n steps Clean e current a.stands far' n' a.far_is said
-        a.passes (Exchanged true) (settled_core
-        (InOperate (record { out = None; layouts = layouts }) (Some r)) c.session)
-        (record g {
-          request = record {
-            hidden = h;
-            busy = busy;
-            asked = g.request.asked;
-            base = b.base;
-          };
-          events = record {
-            told = is_due (reading_at (read_on e od t.events.reading) r.event reads.due);
-            due = reads.due;
-          };
-          fresh = false;
+        a.passes (Exchanged true) (settled_core outcome c.session)
+        (record { hidden = h; busy = busy; asked = g.request.asked; base = b.base })
+        (record {
+          told = is_due (reading_then reads.due);
+          due = reads.due;
         })
         (brought_steps kind request)
         (record {
           limit = refl;
-          page = refl;
-          kind = refl;
           configuration = refl;
           session = b.session;
           frozen = b.frozen;
@@ -456,7 +439,6 @@ module _ (laws : Laws) (readers : ReaderLaws) (turn : Good) where
               b.images);
           apart = b.apart;
           calm = b.calm;
-          spent = refl;
           once = b.once;
           book = b.book;
           reports = b.reports;
@@ -480,8 +462,8 @@ module _ (laws : Laws) (readers : ReaderLaws) (turn : Good) where
           events = (
             (λ k. reads.fit),
             ap
-                (λ (q : Bool). q && is_due (reading_at (read_on e od t.events.reading) r.event
-                reads.due)) (sym a.says.before.awake),
+                (λ (q : Bool). q && is_due (reading_then reads.due))
+                (sym a.says.before.awake),
           );
           output = (
             a.passes.outputs.0,
@@ -537,10 +519,10 @@ module _ (laws : Laws) (readers : ReaderLaws) (turn : Good) where
         apart = exchange_before request far steps Clean o (ShowImage ∷ []) refl refl refl;
         calm = λ k. refl;
         once = refl;
-        base = base_after what g.request.base there.carried;
+        base = base_now;
         level = reached next is;
         answer = subst (λ (q : Option Request). AnswerFits
-            (base_after what g.request.base there.carried) q h there.carried) (sym same)
+            base_now q h there.carried) (sym same)
             (answer_after what g.request.base there.carried request h
             (λ k. quiet_base (leaves k)) tied.1);
         busy_is = busy;

@@ -1,17 +1,17 @@
 -- The images: own steps, what is heard, and a wake are allowed there, and leave the far end's
 -- input and output.
 use Rattle.std.proofs.lemmas.Grind.{common_steps}
-use Rattle.std.proofs.Common.{arith, ◌≡◌, ℕ, Bool, true, false, List, [], ◌∷◌, ◌++◌, refl, sym, ◌∙◌, ap, subst}
-use Rattle.std.specs.Prelude.{Option, Some, None, if◌then◌else◌, IfSome}
+use Rattle.std.proofs.Common.{arith, ◌≡◌, ℕ, Bool, List, [], ◌∷◌, ◌++◌, refl, sym, ◌∙◌, ap, subst}
+use Rattle.std.specs.Prelude.{Option, Some, None, IfSome}
 use Rattle.iol_mseq.specs.declared.master.MasterMsg.{MasterMsg}
 use Rattle.iol_isdu.specs.declared.values.Request.{Request}
 use Rattle.iol_isdu.specs.declared.values.Answer.{Answer}
-use Rattle.iol_event.specs.Memory.{Events, freezes_at_once}
+use Rattle.iol_event.specs.Memory.{Events}
 use Rattle.iol_link.specs.Honest.{Passage, OutLost, far_after}
 use Rattle.iol_far.specs.Isdu.{IsduState, fits}
 use Rattle.iol_far.specs.Far.{Far, accepted, moved, hear, heard_as, worked, output_of}
-use Rattle.iol_far.specs.Local.{LocalStep, local, locals, carried_by, is_input, Carry as OwnCarry, Raise as OwnRaise, Input as OwnInput}
-use Rattle.iol_steps.specs.Step.{Step, Freeze, Input, Image, Moment}
+use Rattle.iol_far.specs.Local.{LocalStep, local, locals, carried_by}
+use Rattle.iol_steps.specs.Step.{Step, Image, Moment}
 use Rattle.iol_steps.specs.Images.{Images, images_through, MayImagesAll}
 use Rattle.iol_steps.specs.Bridge.{carry_steps, own_step, own_steps, release_steps, worked_steps, heard_steps_as, heard_steps, passed_steps, exchange_steps, woken_steps, wake_steps}
 use Rattle.iol_steps.specs.Station.{Shown, images_of}
@@ -49,17 +49,7 @@ carry_images m request s far a state = grind (arith, common_steps)
 own_images_step : (m : Moment) (request : Option Request) (s : Shown) (far : Far)
     (step : LocalStep) → ImagesRuns m (images_of s far) (own_step request far step)
     (images_of s (local far step))
-own_images_step m request s far (OwnCarry a) = carry_images m request s far a far.isdu
-own_images_step m request s far (OwnRaise e) =
-    elim (freezes_at_once far.events) as
-    (λ b. ImagesRuns m (images_of s far) (if b then Freeze (e ∷ []) ∷ [] else [])
-    (images_of s far)) [ true ↦ ((tt, tt), refl) | false ↦ (tt, refl) ]
-own_images_step m request s far (OwnInput image) =
-    elim (is_input far image)
-    as (λ b. ImagesRuns m (images_of s far) (if b then Input (Some image) ∷ [] else [])
-    (images_of s (if b then record far { input = Some image } else far)))
-    [ true ↦ ((tt, tt), refl) | false ↦ (tt, refl) ]
-own_images_step m request s far other = ((tt, tt), refl)
+own_images_step m request s far step = grind (arith, common_steps, carry_images)
 
 pub own_images : (m : Moment) (request : Option Request) (s : Shown) (steps : List LocalStep)
     (far : Far) → ImagesRuns m (images_of s far) (own_steps request far steps)

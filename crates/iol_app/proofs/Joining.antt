@@ -49,16 +49,7 @@ StaysCurrent cutter (HasText text) = Unit {0}
 
 module _ (current : Current) (h : IsCurrent current) where
   pub refused_stays : StaysCurrent current.cutter (GoesOn (refused current.cutter current.abort))
-  refused_stays = (
-    record {
-      request = h.request;
-      some = h.some;
-      most = h.most;
-      progress = refl;
-    },
-    refl,
-    refl,
-  )
+  refused_stays = grind (arith, common_steps)
 
   finished_stays : (text : List ℕ) (fault : Option IsduFault)
       → StaysCurrent current.cutter (finished current.cutter current.abort text fault)

@@ -1,5 +1,5 @@
 -- The session's part of an exchange, kind by kind.
-use Rattle.std.proofs.Common.{◌≡◌, ℕ, zero, suc, ◌+◌, ◌≤◌, Bool, true, false, List, refl, arith}
+use Rattle.std.proofs.Common.{◌≡◌, ℕ, ◌+◌, ◌≤◌, Bool, true, List, refl, arith}
 use Rattle.std.proofs.lemmas.Grind.{common_steps}
 use Rattle.std.specs.Prelude.{Option, Some, None, ◌==◌, IsTrue, slice_index, replicate}
 use Rattle.iol_isdu.specs.declared.values.Request.{Request}
@@ -8,7 +8,7 @@ use Rattle.iol_isdu.specs.declared.values.Cause.{Cause}
 use Rattle.iol_segment.specs.TextLaws.{joined}
 use Rattle.iol_far.specs.declared.carried.Carried.{Carried}
 use Rattle.iol_far.specs.declared.kind.HandsOver.{HandsOver}
-use Rattle.iol_far.specs.Isdu.{IsduState, Empty, Receiving as IsReceiving, Whole, Handed, Answered, fits, answer_text, isdu_data}
+use Rattle.iol_far.specs.Isdu.{IsduState, fits, answer_text, isdu_data}
 use Rattle.iol_far.specs.Level.{Busy as IsBusy, Had as IsHad, Stands as FarStands}
 use Rattle.iol_steps.specs.declared.mode.Mode.{Mode}
 use Rattle.iol_steps.specs.declared.mode.Mode.TheVariants.{Down}
@@ -76,20 +76,13 @@ lost_opens state request h opens = grind (arith, common_steps)
 -- What a good reply says of the answer
 
 not_one : (size : ℕ) → (slice_index (replicate size 0) 0 == 1) ≡ true → ⊥
-not_one zero e = absurd (let z : false ≡ true = e in cc)
-not_one (suc size) e = absurd (let z : false ≡ true = e in cc)
+not_one size e = grind (arith, common_steps)
 
 pub busy_base : (hands_over : HandsOver) (size : ℕ) (base : List Carried) (r : Request)
     (s : IsduState) (counted : Option ℕ) (c : List Carried)
     → FarStands hands_over size base (IsBusy r) s counted c
     → (slice_index (isdu_data size s) 0 == 1) ≡ true → c ≡ base
-busy_base hands_over size base r (Handed q) counted c h e = h.1
-busy_base hands_over size base r (Answered q a None) counted c h e =
-    absurd (not_one size e)
-busy_base hands_over size base r (Answered q a (Some i)) counted c h e = absurd h
-busy_base hands_over size base r Empty counted c h e = absurd h
-busy_base hands_over size base r (IsReceiving text last) counted c h e = absurd h
-busy_base hands_over size base r (Whole q last) counted c h e = absurd h
+busy_base hands_over size base r s counted c h e = grind (arith, common_steps, not_one)
 
 pub busy_unanswered : (base : List Carried) (r : Request) (h : Hidden) (c : List Carried)
     → AnswerFits base (Some r) h c → c ≡ base → h.answer ≡ None

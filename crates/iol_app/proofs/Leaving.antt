@@ -1,15 +1,14 @@
 -- An exchange of a start-up whose device wasn't reset yet: DeviceStartup is out, or behind it the
 -- read of the page's first octet.
-use Rattle.std.proofs.Common.{◌≡◌, ◌≢◌, ℕ, ◌+◌, ◌≤◌, min, Bool, true, false, List, [], ◌∷◌, ◌++◌, length, slice_index, refl, sym, ◌∙◌, ap, subst, arith}
+use Rattle.std.proofs.Common.{◌≡◌, ◌≢◌, ℕ, ◌+◌, min, Bool, true, false, List, [], ◌∷◌, ◌++◌, slice_index, refl, sym, ◌∙◌, ap, subst, arith}
 use Rattle.std.proofs.lemmas.Grind.{common_steps}
 use Rattle.std.proofs.lemmas.Bool.Decides.{nat_tests}
-use Rattle.std.specs.Prelude.{Option, Some, None, IfSome, ◌==◌, if◌then◌else◌, ◌&&◌, nat_lt}
+use Rattle.std.specs.Prelude.{Option, Some, None, IfSome, ◌==◌, if◌then◌else◌}
 use Rattle.iol_mseq.specs.Shape.{Shape, IsLayout, startup_shape}
 use Rattle.iol_mseq.specs.Texts.{master_text}
 use Rattle.iol_mseq.specs.Replies.{reply_in}
 use Rattle.iol_mseq.specs.declared.master.MasterMsg.{MasterMsg}
 use Rattle.iol_mseq.specs.declared.reply.Reply.{Reply}
-use Rattle.iol_event.specs.declared.event.Event.{Event}
 use Rattle.iol_far.specs.declared.mode.Mode.TheVariants.{Startup as FarStartup, Operate as FarOperate}
 use Rattle.iol_far.specs.Isdu.{IsduState, Empty}
 use Rattle.iol_far.specs.Codec.{message_in, octets_of}
@@ -21,86 +20,62 @@ use Rattle.iol_far.specs.Laws.{IsSized, confirms as octets_confirm}
 use Rattle.iol_far.specs.Orderly.{IsOrderly, IsToPage, OrderlyLaws}
 use Rattle.iol_link.specs.declared.handler.Attempt.TheVariants.{Again, Lost as WasLost}
 use Rattle.iol_link.specs.Attempts.{good_reply}
-use Rattle.iol_link.specs.Honest.{Passage, OutLost, BackLost, Clean, IsUnread, IsAnswer, HonestExchange, far_after, brought, silence_after}
+use Rattle.iol_link.specs.Honest.{Passage, OutLost, IsUnread, HonestExchange, far_after}
 use Rattle.iol_mode.specs.declared.configuration.Devices.{Devices}
-use Rattle.iol_mode.specs.declared.configuration.Devices.TheVariants.{Own, Any}
+use Rattle.iol_mode.specs.declared.configuration.Devices.TheVariants.{Any}
 use Rattle.iol_mode.specs.declared.states.Startup.{Startup}
 use Rattle.iol_mode.specs.declared.states.Told.{Told}
 use Rattle.iol_mode.specs.declared.states.Step.{Step as PageStep}
-use Rattle.iol_mode.specs.declared.states.Step.TheVariants.{Reset as Leaves, First, Read, Ident, Leave, Cycle, Enter}
-use Rattle.iol_mode.specs.declared.states.State.TheVariants.{Down as AtDown, Startup as AtStartup}
+use Rattle.iol_mode.specs.declared.states.Step.TheVariants.{Reset as Leaves, First, Read}
+use Rattle.iol_mode.specs.declared.states.State.TheVariants.{Startup as AtStartup}
 use Rattle.iol_mode.specs.declared.why.Why.TheVariants.{Lost}
 use Rattle.iol_mode.specs.Next.{read_by}
 use Rattle.iol_mode.specs.Stands.{startup_link, StepLevel, StartupStands, StateStands}
-use Rattle.iol_mode.specs.States.{Outcome, InStartup, OutcomeFits, StartupFits, StateFits, step_message, state_of, is_behind, begun, step_after, startup_by, startup_turned, lost}
+use Rattle.iol_mode.specs.States.{Outcome, InStartup, OutcomeFits, StartupFits, StateFits, step_message, state_of, is_behind, begun, step_after, startup_by, startup_turned}
 use Rattle.iol_mode.specs.Turns.{IsRisen}
 use Rattle.iol_mode.specs.Exchanges.{text_out, judged}
 use Rattle.iol_mode.specs.Messages.{unsent}
-use Rattle.iol_steps.specs.declared.mode.Mode.TheVariants.{Startup as ModeStartup, Down as ModeDown, Operate as ModeOperate}
+use Rattle.iol_steps.specs.declared.mode.Mode.TheVariants.{Startup as ModeStartup, Operate as ModeOperate}
 use Rattle.iol_steps.specs.declared.said.Said.TheVariants.{Idle}
-use Rattle.iol_steps.specs.Step.{Reset, Move as MoveTo, Exchanged, silence_by, resets}
+use Rattle.iol_steps.specs.Step.{Step, Reset, Exchanged, silence_by, resets}
 use Rattle.iol_steps.specs.Session.{MayReset}
-use Rattle.iol_steps.specs.FrozenEvents.{untold}
-use Rattle.iol_steps.specs.Bridge.{IsOpen}
-use Rattle.iol_steps.specs.Station.{frozen_of, images_of}
-use Rattle.iol_steps.specs.Station as steps
-use Rattle.iol_app.proofs.Given.{Laws, sees_kept, sized_locals}
+use Rattle.iol_steps.specs.Bridge.{Hidden, IsOpen}
+use Rattle.iol_steps.specs.Station.{images_of}
+use Rattle.iol_app.proofs.Given.{Laws, sized_locals}
 use Rattle.iol_app.proofs.Orderly.{orderly_locals, alike_sent}
-use Rattle.iol_app.proofs.Effects.{Effect, passed_effect, gives}
+use Rattle.iol_app.proofs.Effects.{Effect, Ends, untold_effect, opens_passed, untold_of, gives, loses}
+use Rattle.iol_app.proofs.Shown.{shown_as}
 use Rattle.iol_app.proofs.FirstOctet.{confirms_of}
 use Rattle.iol_app.proofs.StartMessages.{step_channel, page_confirms}
 use Rattle.iol_app.proofs.SmallFacts.{third_time}
-use Rattle.iol_app.proofs.Told.{told_exchange}
-use Rattle.iol_app.proofs.FrozenPart.{FrozenRuns}
 use Rattle.arrayvec.specs.ArrayVec.{ArrayVec}
 use Rattle.iol_app.specs.Requests.{request_in}
-use Rattle.iol_app.specs.State.{SessionState, left}
+use Rattle.iol_app.specs.State.{SessionState}
 use Rattle.iol_app.specs.StationState.{IsTold, told_in}
 use Rattle.iol_app.specs.Core.{Core, Ghost, Stands, CallGives, shown_in, settled_core}
 
 startup_valid : IsLayout startup_shape
 startup_valid = record { kind = refl; od = refl; pd_in = omega arith; pd_out = omega arith }
 
-none_rests : (awake : Bool) → false ≡ (awake && false)
-none_rests awake = grind (arith, common_steps)
-
 below : ModeStartup ≢ ModeOperate
 below e = absurd (cc)
 
 may_reset : (devices : Devices) → devices ≡ Any → MayReset devices ModeStartup (Exchanged true)
-may_reset Any e = (refl, refl)
-may_reset Own e = absurd (cc)
-
-untold_of : (f : List Event) (t : Bool) → untold (frozen_of f t) ≡ frozen_of f false
-untold_of f t = grind (arith, common_steps)
+may_reset devices e = grind (arith, common_steps)
 
 no_output : (far : Far) → far.valid ≡ false → output_of far ≡ None
-no_output far e =
-    ap (λ (v : Bool). if v && nat_lt 0 (length far.out) then Some far.out else None) e
+no_output far e = grind (arith, common_steps)
 
 is_valid_not : (v : Bool) → (v ≡ true → FarStartup ≡ FarOperate) → v ≡ false
-is_valid_not true h = absurd (let z : FarStartup ≡ FarOperate = h refl in cc)
-is_valid_not false h = refl
+is_valid_not v h = grind (arith, common_steps)
 
 -- nothing of the page is read yet
 read_none : (step : PageStep) → is_behind step ≡ false → read_by step ≡ None
-read_none Leaves b = refl
-read_none First b = refl
-read_none (Read octets) b = absurd (cc)
-read_none (Ident told pre) b = absurd (cc)
-read_none (Leave told pre) b = absurd (cc)
-read_none (Cycle told) b = absurd (cc)
-read_none (Enter told) b = absurd (cc)
+read_none step b = grind (arith, common_steps)
 
 orderly_of : (step : PageStep) (o : List ℕ) (tries : ℕ) (far : Far) → is_behind step ≡ false
     → StepLevel step o tries far → IsOrderly far
-orderly_of Leaves o tries far b level = level
-orderly_of First o tries far b level = level.0
-orderly_of (Read octets) o tries far b level = absurd (cc)
-orderly_of (Ident told pre) o tries far b level = absurd (cc)
-orderly_of (Leave told pre) o tries far b level = absurd (cc)
-orderly_of (Cycle told) o tries far b level = absurd (cc)
-orderly_of (Enter told) o tries far b level = absurd (cc)
+orderly_of step o tries far b level = grind (arith, common_steps)
 
 module _ (laws : Laws) (leaves : OrderlyLaws) (heard : TextsAreHeard) (s : Startup)
     (t : SessionState) (g : Ghost) (far far' : Far) (n n' : ℕ) (came : Option (List ℕ))
@@ -144,16 +119,10 @@ module _ (laws : Laws) (leaves : OrderlyLaws) (heard : TextsAreHeard) (s : Start
   passed = far_after x.passage there o
 
   abbrev effect : Effect c g far passed
-  effect = passed_effect c g far laws (ap request_in stands.joined.0.0) stands.request.1 x.steps
-      x.passage o unconfirmed (leaves.holds there o message to_page)
-      (alike_sent leaves g.sent there o message to_page orderly_there)
-
-  told_is : effect.told ≡ false
-  unfolding passed_effect
-  told_is = (told_exchange laws.events o steps.Resting
-      (λ e. absurd (let z : false ≡ true = sym unconfirmed ∙ e in cc)) x.steps x.passage far
-      g.events.told ((λ a. tt), stands.events.1 ∙ none_rests far.awake)).1
-      ∙ sym (none_rests passed.awake)
+  effect = untold_effect c g far laws (ap request_in stands.joined.0.0) stands.request.1 x.steps
+      x.passage o unconfirmed (opens_passed g.request.hidden far x.steps x.passage o
+      (leaves.holds there o message to_page) stands.request.1)
+      (alike_sent leaves g.sent there o message to_page orderly_there) stands.events.1
 
   -- Whether the silence went on
 
@@ -185,27 +154,10 @@ module _ (laws : Laws) (leaves : OrderlyLaws) (heard : TextsAreHeard) (s : Start
       let k : None ≡ Some (reply_to new (layout_of new) m) = sym bad ∙ here in cc
 
   missed : good_reply startup_shape message came ≡ None → n' ≡ min 3 (n + 1)
-  missed bad = by x.passage came x.answer_is x.silence_is bad
-    where
-      by : (passage : Passage) (q : Option (List ℕ)) → IsAnswer passage there o q
-          → n' ≡ silence_after n (brought passage there o)
-          → good_reply startup_shape message q ≡ None → n' ≡ min 3 (n + 1)
-      by OutLost q h is bad = is
-      by BackLost q h is bad = is
-      by Clean None h is bad = is ∙ ap (silence_after n) (sym h)
-      by Clean (Some reply) h is bad =
-          absurd (answers (accepted there o) refl reply (sym h) bad)
+  missed bad = grind (arith, common_steps, answers)
 
   had : (r : Reply) → good_reply startup_shape message came ≡ Some r → n' ≡ 0
-  had r good = by x.passage came x.answer_is x.silence_is good
-    where
-      by : (passage : Passage) (q : Option (List ℕ)) → IsAnswer passage there o q
-          → n' ≡ silence_after n (brought passage there o)
-          → good_reply startup_shape message q ≡ Some r → n' ≡ 0
-      by OutLost q h is good = absurd (let k = sym (unread q h) ∙ good in cc)
-      by BackLost q h is good = absurd (let k = sym (unread q h) ∙ good in cc)
-      by Clean None h is good = absurd (cc)
-      by Clean (Some reply) h is good = is ∙ ap (silence_after n) (sym h)
+  had r good = grind (arith, common_steps, unread)
 
   -- The outcomes
 
@@ -218,54 +170,36 @@ module _ (laws : Laws) (leaves : OrderlyLaws) (heard : TextsAreHeard) (s : Start
   no_image : t.image ≡ None
   no_image = stands.shown.image below
 
-  abbrev kept : Ghost
-  kept = record g {
-    request = record g.request { hidden = effect.hidden };
-    events = record g.events { told = false };
-    fresh = false;
-  }
+  -- it stays in STARTUP
+  stays_up : (answered : Bool) (ys : List Step) (next : Startup) (hidden : Hidden)
+      → Ends c g far passed effect n n' stands below (Exchanged answered) ys
+      (record { state = AtStartup next; session = t }) hidden false
+      → n' ≡ silence_by (Exchanged answered) n
+      → StartupFits next → StartupStands next n' passed → read_by next.step ≡ None
+      → Gives (InStartup next)
+  stays_up answered ys next hidden e silence fits link none =
+      subst (λ (q : Option Told). CallGives c g far n Idle
+      (record { state = AtStartup next; session = told_in q t }) passed n') (sym none)
+      (gives c g far passed effect n n' stands below (Exchanged answered) ys
+      (record { state = AtStartup next; session = t }) hidden false e tt silence fits link
+      (stands.joined.0, subst (λ (q : Option Told). IsTold q t) (sym none) tt))
 
   -- it goes on before the reset
   goes : (answered : Bool) → n' ≡ silence_by (Exchanged answered) n → (next : Startup)
       → is_behind next.step ≡ false → StartupStands next n' passed → StartupFits next
       → Gives (InStartup next)
-  goes answered silence next before link fits =
-      subst (λ (q : Option Told). CallGives c g far n Idle
-      (record { state = AtStartup next; session = told_in q t }) passed n')
-      (sym (read_none next.step before))
-      (gives c g far passed effect n n' (Exchanged answered) []
-      (record { state = AtStartup next; session = t }) kept (record {
-        fits = tt;
-        silent = silence;
-        terms = (refl, refl, refl, refl);
-        busy = refl;
-        confirm = refl;
-        free = refl;
+  goes answered silence next before link fits = stays_up answered [] next effect.hidden
+      (record {
+        limit = refl;
+        configuration = refl;
+        plain = (refl, refl, refl, refl);
         book = sym (ap (λ (was : Bool). resets was (is_behind next.step) ++ []) b
             ∙ ap (λ (is : Bool). resets false is ++ []) before);
-        reports = refl;
         session = (tt, refl);
-        frozen = subst (λ (q : Bool). FrozenRuns passed.events.frozen q [] passed.events.frozen
-            false) (sym told_is) (tt, refl);
+        frozen = (tt, refl);
         images = (tt, refl);
-        below = below;
-        fresh = stands.fresh;
-        was_image = no_image;
         image = no_image;
-        stands = record {
-          page = effect.page ∙ stands.page;
-          kind = effect.kind ∙ stands.kind;
-          for_it = stands.for_it;
-          sees = sees_kept t.configuration.devices far passed effect.misses stands.sees;
-          fits = fits;
-          link = link;
-          joined = (
-            stands.joined.0,
-            subst (λ (q : Option Told). IsTold q t) (sym (read_none next.step before)) tt,
-          );
-          calm = tt;
-          fresh = λ k. absurd (let z : false ≡ true = k in cc);
-          sent = stands.sent;
+        left = record {
           request = (
             λ k. absurd (let z : false ≡ true = sym before ∙ k in cc),
             effect.opens,
@@ -277,70 +211,12 @@ module _ (laws : Laws) (leaves : OrderlyLaws) (heard : TextsAreHeard) (s : Start
             stands.output.0,
             λ k. absurd (let z : false ≡ true = sym before ∙ k in cc),
           );
-          shown = record {
-            image = λ e. no_image;
-            wanted = stands.shown.wanted;
-            lengths = stands.shown.lengths;
-            isdu = stands.shown.isdu;
-            present = stands.shown.present;
-            no_form = stands.shown.no_form;
-          };
+          quiet = tt;
         };
-      }))
-
-  -- the link is lost
-  falls : 3 ≤ min 3 (n + 1) → n' ≡ min 3 (n + 1) → Gives lost
-  falls third silence =
-      gives c g far passed effect n n' (Exchanged false) (MoveTo ModeDown (Some Lost) ∷ [])
-      (record { state = AtDown (record { why = Some Lost }); session = left t }) kept (record {
-        fits = tt;
-        silent = silence;
-        terms = (refl, refl, refl, refl);
-        busy = refl;
-        confirm = refl;
-        free = refl;
-        book = sym (ap (λ (was : Bool). resets was false ++ []) b);
-        reports = refl;
-        session = (((third, tt), tt), rw nothing refl);
-        frozen = subst (λ (q : Bool). FrozenRuns passed.events.frozen q
-            (MoveTo ModeDown (Some Lost) ∷ []) passed.events.frozen false) (sym told_is)
-            ((tt, tt), refl);
-        images = ((tt, tt), rw no_image refl);
-        below = below;
-        fresh = stands.fresh;
-        was_image = no_image;
-        image = refl;
-        stands = record {
-          page = effect.page ∙ stands.page;
-          kind = effect.kind ∙ stands.kind;
-          for_it = stands.for_it;
-          sees = sees_kept t.configuration.devices far passed effect.misses stands.sees;
-          fits = tt;
-          link = tt;
-          joined = (refl, refl);
-          calm = tt;
-          fresh = λ k. absurd (let z : false ≡ true = k in cc);
-          sent = stands.sent;
-          request = effect.opens;
-          events = tt;
-          output = tt;
-          shown = record {
-            image = λ e. refl;
-            wanted = stands.shown.wanted;
-            lengths = stands.shown.lengths;
-            isdu = stands.shown.isdu;
-            present = stands.shown.present;
-            no_form = stands.shown.no_form;
-          };
-        };
-      })
-
-  abbrev reset : Ghost
-  reset = record g {
-    request = record g.request { hidden = record effect.hidden { late = None } };
-    events = record g.events { told = false };
-    fresh = false;
-  }
+        sent = stands.sent;
+        shown = shown_as stands.shown (λ e. no_image) refl stands.shown.present
+            stands.shown.no_form;
+      }) silence fits link (read_none next.step before)
 
   -- the page's first octet is read: the device holds nothing of before
   reads : n' ≡ 0 → (octets : ArrayVec ℕ) → IsAt passed.page startup_link passed
@@ -352,16 +228,13 @@ module _ (laws : Laws) (leaves : OrderlyLaws) (heard : TextsAreHeard) (s : Start
       let empty : passed.isdu ≡ Empty = orderly.startup mode in
       let off : passed.valid ≡ false =
       is_valid_not passed.valid (λ v. sym mode ∙ orderly.valid v) in
-      gives c g far passed effect n n' (Exchanged true) (Reset ∷ [])
-      (record { state = state_of (begun (Read octets)); session = t }) reset (record {
-        fits = tt;
-        silent = silence;
-        terms = (refl, refl, refl, refl);
-        busy = refl;
-        confirm = refl;
-        free = refl;
+      let hidden : Hidden = record effect.hidden { late = None } in
+      stays_up true (Reset ∷ []) _ hidden
+      (record {
+        limit = refl;
+        configuration = refl;
+        plain = (refl, refl, refl, refl);
         book = sym (ap (λ (was : Bool). resets was true ++ []) b);
-        reports = refl;
         session = ((may_reset t.configuration.devices (stands.request.3 b), tt), rw nothing refl);
         frozen = ((tt, tt), untold_of passed.events.frozen effect.told);
         images = (
@@ -370,24 +243,11 @@ module _ (laws : Laws) (leaves : OrderlyLaws) (heard : TextsAreHeard) (s : Start
               record (images_of (shown_in t g.sent) passed) { output = q })
               (sym (no_output passed off)),
         );
-        below = below;
-        fresh = stands.fresh;
-        was_image = no_image;
         image = no_image;
-        stands = record {
-          page = effect.page ∙ stands.page;
-          kind = effect.kind ∙ stands.kind;
-          for_it = stands.for_it;
-          sees = sees_kept t.configuration.devices far passed effect.misses stands.sees;
-          fits = fits;
-          link = link;
-          joined = (stands.joined.0, tt);
-          calm = tt;
-          fresh = λ k. absurd (let z : false ≡ true = k in cc);
-          sent = stands.sent;
+        left = record {
           request = (
             λ _. refl,
-            subst (λ (q : IsduState). IsOpen q None reset.request.hidden) (sym empty) tt,
+            subst (λ (q : IsduState). IsOpen q None hidden) (sym empty) tt,
             stands.request.2,
             λ k. absurd (let z : true ≡ false = k in cc),
           );
@@ -402,16 +262,12 @@ module _ (laws : Laws) (leaves : OrderlyLaws) (heard : TextsAreHeard) (s : Start
                   (sym (ap (λ (l : Link). l.waits) at.link_is)) tt;
             },
           );
-          shown = record {
-            image = λ e. no_image;
-            wanted = stands.shown.wanted;
-            lengths = stands.shown.lengths;
-            isdu = stands.shown.isdu;
-            present = stands.shown.present;
-            no_form = stands.shown.no_form;
-          };
+          quiet = tt;
         };
-      })
+        sent = stands.sent;
+        shown = shown_as stands.shown (λ e. no_image) refl stands.shown.present
+            stands.shown.no_form;
+      }) silence fits link refl
 
   -- What comes back
 
@@ -425,7 +281,8 @@ module _ (laws : Laws) (leaves : OrderlyLaws) (heard : TextsAreHeard) (s : Start
       (if two then WasLost else Again) in
       IsRisen (is_behind s.step) outcome n' far far' → OutcomeFits outcome → Gives outcome
   by_tries true two silence risen fits =
-      falls (third_time s.sent.tries n (grind (arith, nat_tests)) stands.link.tries) silence
+      loses c g far passed effect n n' stands below (Exchanged false) Lost nothing
+      (third_time s.sent.tries n (grind (arith, nat_tests)) stands.link.tries) tt silence
   by_tries false two silence risen fits = goes false silence
       (record {
         sent = record { message = message; tries = s.sent.tries + 1 };
@@ -444,11 +301,7 @@ module _ (laws : Laws) (leaves : OrderlyLaws) (heard : TextsAreHeard) (s : Start
       (subst (λ (f : Far). IsAt f.page startup_link f) x.far_is (risen.both.met refl))
       (here (begun (Read (record { items = slice_index r.od.items 0 ∷ [] })))
       risen.both.stands) fits
-  by_step (Read octets) before r silence risen fits = absurd (cc)
-  by_step (Ident told pre) before r silence risen fits = absurd (cc)
-  by_step (Leave told pre) before r silence risen fits = absurd (cc)
-  by_step (Cycle told) before r silence risen fits = absurd (cc)
-  by_step (Enter told) before r silence risen fits = absurd (cc)
+  by_step other before r silence risen fits = absurd (cc)
 
   by_reply : (q : Option Reply) → good_reply startup_shape message came ≡ q
       → let outcome : Outcome = startup_turned t.configuration s q in

@@ -34,6 +34,7 @@ pub mod Reporting
 pub mod Ending
 pub mod SmallFacts
 pub mod Orderly
+pub mod Shown
 pub mod Effects
 pub mod Waking
 pub mod StartExchange

@@ -18,7 +18,6 @@ use Rattle.iol_segment.specs.Cut.{last_given}
 use Rattle.iol_far.specs.declared.carried.Carried.{Carried}
 use Rattle.iol_far.specs.declared.kind.Kind.{Kind}
 use Rattle.iol_far.specs.declared.kind.HandsOver.{HandsOver}
-use Rattle.iol_far.specs.declared.kind.HandsOver.TheVariants.{FirstRead, LastSegment}
 use Rattle.iol_far.specs.declared.mode.Mode.TheVariants.{Operate as FarOperate}
 use Rattle.iol_far.specs.Codec.{layout_in, message_in, flow_of}
 use Rattle.iol_far.specs.Far.{Far}
@@ -46,30 +45,26 @@ use Rattle.iol_app.proofs.Given.{Laws, level_more}
 
 -- The request, where the message goes out again as it was
 
-same_progress : (d : Devices) (clear : Bool) (e : Exchange) (current : Option Current)
-    → doubts_by d (Some e) current ≡ false
-    → progress_of d clear (missed_by d (Some e) current) ≡ progress_of d clear current
-same_progress d clear e current sure = grind (arith, common_steps)
+module _ (d : Devices) (e : Exchange) (current : Option Current)
+    (sure : doubts_by d (Some e) current ≡ false) where
+  same_progress : (clear : Bool)
+      → progress_of d clear (missed_by d (Some e) current) ≡ progress_of d clear current
+  same_progress clear = grind (arith, common_steps)
 
-same_move : (d : Devices) (e : Exchange) (current : Option Current)
-    → doubts_by d (Some e) current ≡ false
-    → move_for e (missed_by d (Some e) current) ≡ move_for e current
-same_move d e current sure = grind (arith, common_steps)
+  same_move : move_for e (missed_by d (Some e) current) ≡ move_for e current
+  same_move = grind (arith, common_steps)
 
-more_vain : (d : Devices) (e : Exchange) (current : Option Current) (tries : ℕ)
-    → doubts_by d (Some e) current ≡ false → suc (vain_by d e current tries)
-    ≤ vain_by d e (missed_by d (Some e) current) (tries + 1)
-more_vain d e current tries sure = grind (arith, common_steps)
+  more_vain : (tries : ℕ) → suc (vain_by d e current tries)
+      ≤ vain_by d e (missed_by d (Some e) current) (tries + 1)
+  more_vain tries = grind (arith, common_steps)
 
-noted : (d : Devices) (e : Exchange) (current : Option Current) (tries : ℕ)
-    → doubts_by d (Some e) current ≡ false → IfSome current (AgainBy d e tries)
-    → IfSome (missed_by d (Some e) current) (AgainBy d e (tries + 1))
-noted d e current tries sure h = grind (arith, common_steps)
+  noted : (tries : ℕ) → IfSome current (AgainBy d e tries)
+      → IfSome (missed_by d (Some e) current) (AgainBy d e (tries + 1))
+  noted tries h = grind (arith, common_steps)
 
-still_on : (d : Devices) (e : Exchange) (current : Option Current)
-    → doubts_by d (Some e) current ≡ false → IfSome current (λ c. is_over c.progress ≡ false)
-    → IfSome (missed_by d (Some e) current) (λ c. is_over c.progress ≡ false)
-still_on d e current sure h = grind (arith, common_steps)
+  still_on : IfSome current (λ c. is_over c.progress ≡ false)
+      → IfSome (missed_by d (Some e) current) (λ c. is_over c.progress ≡ false)
+  still_on h = grind (arith, common_steps)
 
 -- busy replies were counted as before
 pub busy_missed : (d : Devices) (limit : ℕ) (e : Exchange) (current : Option Current) (busy : ℕ)
@@ -103,8 +98,7 @@ unfolding control_of flow_of
 question_moves size r out = tt
 
 asks_whole : (h : HandsOver) (size : ℕ) → hands_whole h size Ask ≡ true → ⊥
-asks_whole FirstRead size e = let z : false ≡ true = e in cc
-asks_whole LastSegment size e = let z : false ≡ true = e in cc
+asks_whole h size e = grind (arith, common_steps)
 
 clear_link : (layouts : Layouts) (link : Link) → OperateLink layouts Clear link
     → link ≡ operate_link
@@ -153,14 +147,14 @@ module _ (laws : Laws) (heard : TextsAreHeard) (page : List ℕ) (kind : Kind) (
   sent_again d e current for_it valid same sure out linked level =
       let next : Option Current = missed_by d (Some e) current in
       let p : progress_of d clear next ≡ progress_of d clear current =
-      same_progress d clear e current sure in
+      same_progress d e current sure clear in
       let move : move_for e next ≡ move_for e current = same_move d e current sure in
       let vain : ℕ = vain_by d e next (w.tries + 1) in
       record {
         level = subst (λ (q : Progress). LevelAt q w.message vain) (sym p)
             (level_more laws page kind run.od some base link (progress_of d clear current)
             (master_text run w.message) (suc (vain_by d e current w.tries)) vain far
-            (more_vain d e current w.tries sure) level);
+            (more_vain d e current sure w.tries) level);
         out = record {
           mode = out.mode;
           goes = subst (λ (q : Progress). IsSent page run.od link q (master_text run w.message)
@@ -170,7 +164,7 @@ module _ (laws : Laws) (heard : TextsAreHeard) (page : List ℕ) (kind : Kind) (
           once = λ hands. absurd (let z : false ≡ true =
               sym (none_handed d kind run.od e current for_it valid same sure)
               ∙ ap (hands_whole kind.hands_over run.od) (sym move) ∙ hands in cc);
-          again = noted d e current w.tries sure out.again;
+          again = noted d e current sure w.tries out.again;
           goes_on = λ k. still_on d e current sure (out.goes_on k);
           confirm = out.confirm;
           reads = out.reads;

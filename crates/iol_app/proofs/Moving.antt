@@ -2,7 +2,7 @@
 -- request on by it.
 use Rattle.std.proofs.lemmas.Grind.{common_steps}
 use Rattle.std.proofs.Common.{◌≡◌, ℕ, zero, suc, ◌%◌, ◌≤◌, Bool, true, false, [], refl, sym, ap, subst, ◌∙◌, arith, Option, Some, None, List}
-use Rattle.std.specs.Prelude.{nat_lt, ◌==◌, IfSome}
+use Rattle.std.specs.Prelude.{nat_lt, ◌==◌, IfSome, if◌then◌else◌}
 use Rattle.std.proofs.lemmas.Bool.Decides.{nat_tests}
 use Rattle.std.proofs.Math.Numerals.{add-one}
 use Rattle.arrayvec.specs.ArrayVec.{ArrayVec}
@@ -14,7 +14,7 @@ use Rattle.iol_mseq.specs.Shape.{Shape}
 use Rattle.iol_isdu.specs.declared.values.Request.{Request}
 use Rattle.iol_isdu.specs.Answers.{is_read}
 use Rattle.iol_isdu.specs.Texts.{IsRequest, request_text}
-use Rattle.iol_segment.specs.Cut.{Cutting, segment, flow_at, last_given}
+use Rattle.iol_segment.specs.Cut.{Cutting, pair, segment, flow_at, last_given}
 use Rattle.iol_segment.specs.Join.{Joining, stage}
 use Rattle.iol_segment.specs.TextLaws.{TextLaws}
 use Rattle.iol_far.specs.Codec.{flow_of}
@@ -23,17 +23,17 @@ use Rattle.iol_far.specs.SegmentLaws.{AnswersFit}
 use Rattle.iol_far.specs.declared.kind.Recalls.{Recalls}
 use Rattle.iol_far.specs.Level.{Written, Had, Begin, More, Ask, Next, IsMove, IsIdle, Busy, asked as level_asked, after}
 use Rattle.iol_mode.specs.declared.configuration.Devices.{Devices}
-use Rattle.iol_mode.specs.declared.configuration.Devices.TheVariants.{Own, Any}
 use Rattle.iol_app.specs.declared.event_work.Reading.{Reading}
 use Rattle.iol_app.specs.declared.request.Current.{Current}
 use Rattle.iol_app.specs.declared.request.Progress.{Progress as Cursor}
 use Rattle.iol_app.specs.declared.request.Progress.TheVariants.{Sending, Doubting, Asking, Receiving, Refused}
 use Rattle.iol_app.specs.declared.session.Exchange.{Exchange}
 use Rattle.iol_app.specs.declared.session.Exchange.TheVariants.{Request as NextMessage}
-use Rattle.iol_app.specs.Requests.{text_of, ProgressFits, IsAllGiven, IsJoining, IsCurrent, sent_on, one_more, IsUnsent}
+use Rattle.iol_app.specs.Requests.{text_of, sending, ProgressFits, IsAllGiven, IsJoining, IsCurrent, sent_on, one_more, IsUnsent}
 use Rattle.iol_app.specs.State.{od_size}
 use Rattle.iol_app.specs.Messages.{head_for, data_for, progress_head, progress_data, request_head, request_data}
 use Rattle.iol_app.specs.Moves.{unsent, before_last, asked_for, progress_of, progress_at, segment_move, move_at, request_move, IsMoveOf, MessagesAreMoves}
+use Rattle.iol_app.specs.Ends.{BusyAt}
 use Rattle.iol_app.proofs.Joining.{more_follow}
 use Rattle.iol_app.proofs.Cutting.{is_pair}
 use Rattle.iol_isdu.specs.declared.values.Cause.{Cause}
@@ -52,8 +52,7 @@ flow_at_next i = let other : (suc i == 0) ≡ false = grind (arith, nat_tests) i
 begin_moves : (devices : Devices) (size : ℕ) (request : Request) (octets : List ℕ)
     → IsRequest request → octets ≡ segment size (request_text request) 0
     → IsMove size (Begin request) (unsent devices) Isdu false Start octets
-begin_moves Own size request octets h e = (h, e)
-begin_moves Any size request octets h e = (h, e)
+begin_moves devices size request octets h e = grind (arith, common_steps)
 
 segment_moves : (devices : Devices) (size : ℕ) (request : Request) (flow : Flow)
     (piece : ArrayVec ℕ) (given : ℕ) → IsRequest request
@@ -141,6 +140,12 @@ messages_are_moves fit laws s layout exchange h told =
 
 -- A segment of the request was written
 
+-- busy replies are counted from here
+pub sent_busy : (devices : Devices) (cutter : Cutting Request) (b : Bool) (busy : ℕ) → busy ≡ 0
+    → BusyAt devices (sending (if b then Some (pair cutter.size (text_of cutter) cutter.given) else
+    None)) busy
+sent_busy devices cutter b busy e = grind (arith, common_steps)
+
 pub sent_follows : (trust : Recalls) (vain : ℕ) (devices : Devices) (clear : Bool)
     (cutter : Cutting Request) (abort : Option Cause) (flow : Flow) (piece : ArrayVec ℕ)
     (od : List ℕ) (given : ℕ) → cutter.given ≡ given
@@ -168,3 +173,7 @@ asked_after trust vain devices cutter busy given od e h = grind (arith, common_s
 pub unsent_idle : (devices : Devices) (clear : Bool) (current : Option Current)
     → IsUnsent current → IsIdle (progress_of devices clear current)
 unsent_idle devices clear current h = grind (arith, common_steps)
+
+-- with none under way
+pub resting_idle : (devices : Devices) (clear : Bool) → IsIdle (progress_of devices clear None)
+resting_idle devices clear = unsent_idle devices clear None tt

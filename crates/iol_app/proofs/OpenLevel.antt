@@ -1,21 +1,17 @@
 -- What the two ends' level says of the request that may still be carried out, and of its answer.
-use Rattle.std.proofs.Common.{◌≡◌, inl, inr, ℕ, List, [], ◌∷◌, refl, sym, ◌∙◌, ap, subst, arith}
+use Rattle.std.proofs.Common.{◌≡◌, ℕ, List, [], ◌∷◌, refl, ◌∙◌, subst, arith}
 use Rattle.std.proofs.lemmas.Grind.{common_steps}
 use Rattle.std.specs.Prelude.{Option, Some, None}
 use Rattle.iol_mseq.specs.declared.master.MasterMsg.{MasterMsg}
 use Rattle.iol_isdu.specs.declared.values.Request.{Request}
 use Rattle.iol_far.specs.declared.carried.Carried.{Carried}
-use Rattle.iol_isdu.specs.Texts.{request_text}
-use Rattle.iol_segment.specs.TextLaws.{joined}
-use Rattle.iol_segment.specs.JoinLaws.{count_at}
-use Rattle.iol_far.specs.Isdu.{IsduState, Empty, Handed, fits, received, isdu_data}
+use Rattle.iol_far.specs.Isdu.{IsduState, Handed, fits, received, isdu_data}
 use Rattle.iol_far.specs.Far.{Far, Heard, hear, heard_as}
 use Rattle.iol_far.specs.Local.{LocalStep, local, locals}
 use Rattle.iol_far.specs.declared.kind.Kind.{Kind}
 use Rattle.iol_far.specs.declared.kind.HandsOver.{HandsOver}
-use Rattle.iol_far.specs.declared.kind.HandsOver.TheVariants.{FirstRead, LastSegment}
 use Rattle.iol_far.specs.declared.kind.Recalls.{Recalls}
-use Rattle.iol_far.specs.Level.{Progress, Perhaps, Written, Busy as IsBusy, IsWritten, Stands as FarStands, Move, Begin, Leave, after, base_after, Link}
+use Rattle.iol_far.specs.Level.{Progress, IsWritten, Stands as FarStands, Move, Begin, Leave, after, base_after, Link}
 use Rattle.iol_far.specs.Laws.{ReplySays}
 use Rattle.iol_steps.specs.Bridge.{Hidden, open_request, IsOpen, hidden_after, hidden_through}
 use Rattle.iol_steps.specs.Station.{AnswerFits, ProgressFits}
@@ -55,28 +51,14 @@ unhanded text last q e = grind (arith, common_steps)
 written_handed : (hands_over : HandsOver) (size : ℕ) (base : List Carried) (r : Request) (i : ℕ)
     (q : Request) (counted : Option ℕ) (c : List Carried)
     → IsWritten hands_over size base r i (Handed q) counted c → (q ≡ r) × (c ≡ base)
-written_handed FirstRead size base r i q counted c h =
-    absurd (unhanded (joined size (request_text r) i) (count_at i) q h.0)
-written_handed LastSegment size base r i q counted c (e, inl h) =
-    absurd (unhanded (joined size (request_text r) i) (count_at i) q h.1)
-written_handed LastSegment size base r i q counted c (e, inr h) = h.1
+written_handed hands_over size base r i q counted c h = grind (arith, common_steps, unhanded)
 
 -- the far end is handed a request only where the progress names it, and the record is as it was
 pub stands_handed : (hands_over : HandsOver) (size : ℕ) (base : List Carried) (p : Progress)
     (q : Request) (counted : Option ℕ) (c : List Carried)
     → FarStands hands_over size base p (Handed q) counted c
     → ((request : Option Request) → ProgressFits p request → request ≡ Some q) × (c ≡ base)
-stands_handed hands_over size base (Perhaps r) q counted c (is, last, inl h) =
-    absurd (let z : Path IsduState (Handed q) Empty = h.0 in cc)
-stands_handed hands_over size base (Perhaps r) q counted c (is, last, inr h) =
-    let w = written_handed hands_over size base r 0 q counted c h in
-    ((λ request fits. fits ∙ ap (λ (x : Request). Some x) (sym w.0)), w.1)
-stands_handed hands_over size base (Written r i) q counted c h =
-    let w = written_handed hands_over size base r i q counted c h.1 in
-    ((λ request fits. fits ∙ ap (λ (x : Request). Some x) (sym w.0)), w.1)
-stands_handed hands_over size base (IsBusy r) q counted c h =
-    ((λ request fits. fits ∙ ap (λ (x : Request). Some x) (sym h.0)), h.1)
-stands_handed hands_over size base p q counted c h = absurd h
+stands_handed hands_over size base p q counted c h = grind (arith, common_steps, written_handed)
 
 -- what is handed is the request under way, where both stand so
 pub stands_open : (hands_over : HandsOver) (size : ℕ) (base : List Carried) (p : Progress)
@@ -93,7 +75,6 @@ fits_after : (trust : Recalls) (vain : ℕ) (p : Progress) (what : Move) (x : Li
     (request : Option Request) → ProgressFits p request
     → ((q : Request) → what ≡ Begin q → request ≡ Some q)
     → ProgressFits (after trust vain p what x) request
-fits_after trust vain p (Begin q) x request fits begins = begins q refl
 fits_after trust vain p what x request fits begins = grind (arith, common_steps)
 
 -- where that isn't over, the record that it began with is that of before

@@ -1,5 +1,5 @@
 -- The far end as it can be, while a message of STARTUP to the page is out, or a test read.
-use Rattle.std.proofs.Common.{◌≡◌, ℕ, false, List, [], ◌∷◌, refl, sym, subst}
+use Rattle.std.proofs.Common.{◌≡◌, ℕ, false, List, refl, sym, subst}
 use Rattle.std.specs.Prelude.{Option, Some, IfSome}
 use Rattle.iol_octets.specs.Control.{control_of}
 use Rattle.iol_octets.specs.Checksum as checksum
@@ -9,13 +9,14 @@ use Rattle.iol_mseq.specs.Texts.{master_text}
 use Rattle.iol_mseq.specs.declared.master.MasterMsg.{MasterMsg}
 use Rattle.iol_far.specs.Codec.{message_in}
 use Rattle.iol_far.specs.Far.{Far}
-use Rattle.iol_far.specs.Local.{LocalStep, local, locals}
+use Rattle.iol_far.specs.Local.{LocalStep, locals}
 use Rattle.iol_far.specs.Laws.{confirms as octets_confirm}
 use Rattle.iol_far.specs.Linked.{TextsAreHeard}
 use Rattle.iol_far.specs.Orderly.{IsOrderly, IsToPage, OrderlyLaws}
 use Rattle.iol_link.specs.Honest.{test_read}
 use Rattle.iol_mode.specs.Messages.{page_read}
 use Rattle.iol_app.proofs.ImagesPart.{OutputsSent}
+use Rattle.iol_app.proofs.Given.{by_locals}
 
 pub test_confirms : octets_confirm test_read ≡ false
 unfolding control_of
@@ -25,25 +26,24 @@ test_is : master_text startup_shape (page_read 2) ≡ test_read
 unfolding control_of checksum.checksum_of checksum.compressed
 test_is = refl
 
-test_parts : HasMasterParts startup_shape (page_read 2)
+-- the read of the page's first octet has the parts of STARTUP
+pub first_parts : HasMasterParts startup_shape (page_read 2)
 unfolding control_of
-test_parts = record { out = refl; od = refl }
+first_parts = record { out = refl; od = refl }
 
 -- the test read is that of the page's first octet
 pub test_to_page : TextsAreHeard → IsToPage test_read (page_read 2)
 unfolding control_of
 test_to_page heard = record {
   heard = subst (λ (o : List ℕ). message_in startup_shape o ≡ Some (page_read 2)) test_is
-      (heard startup_shape (page_read 2) test_parts);
+      (heard startup_shape (page_read 2) first_parts);
   page = refl;
 }
 
 module _ (leaves : OrderlyLaws) where
   pub orderly_locals : (far : Far) (steps : List LocalStep) → IsOrderly far
       → IsOrderly (locals far steps)
-  orderly_locals far [] h = h
-  orderly_locals far (step ∷ steps) h =
-      orderly_locals (local far step) steps (leaves.steps far step h)
+  orderly_locals far steps = by_locals IsOrderly leaves.steps steps far
 
   -- no output is left of the far end's
   pub alike_sent : (sent : Option (List ℕ)) (far : Far) (o : List ℕ) (m : MasterMsg)

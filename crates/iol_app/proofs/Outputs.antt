@@ -1,11 +1,12 @@
 -- The device's output over an exchange: valid in OPERATE alone once an image was sent, that image,
 -- and as told.
 use Rattle.std.proofs.lemmas.Grind.{common_steps}
-use Rattle.std.proofs.Common.{arith, Bool, List, [], ◌∷◌}
+use Rattle.std.proofs.Common.{arith, Bool, List}
 use Rattle.std.specs.Prelude.{Option}
 use Rattle.iol_far.specs.Far.{Far}
 use Rattle.iol_far.specs.Local.{LocalStep, local, locals}
 use Rattle.iol_steps.specs.Step.{Image}
+use Rattle.iol_app.proofs.Given.{by_locals}
 use Rattle.iol_app.specs.Ends.{OutputTold}
 
 module _ (sent : Option Image) (known : Type 0) (told : Bool) where
@@ -17,6 +18,4 @@ module _ (sent : Option Image) (known : Type 0) (told : Bool) where
 
   pub outputs_locals : (steps : List LocalStep) (far : Far) → Outputs far
       → Outputs (locals far steps)
-  outputs_locals [] far h = h
-  outputs_locals (step ∷ steps) far h =
-      outputs_locals steps (local far step) (outputs_step far step h)
+  outputs_locals = by_locals Outputs outputs_step

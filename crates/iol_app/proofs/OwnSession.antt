@@ -125,6 +125,12 @@ exchange_session m seen h far steps passage o opens =
 abbrev pub woken_if : Bool → Far → Far
 woken_if wakes far = if wakes then woken far else far
 
+-- what holds of a far end once it was woken or as it was
+pub woken_as : (P : Far → Type 0) (wakes : Bool) (far : Far) → P (woken far) → P far
+    → P (woken_if wakes far)
+woken_as P true far h k = h
+woken_as P false far h k = k
+
 woken_session : (m : Moment) (seen : Seen) (h : Hidden) (wakes : Bool) (far : Far)
     → SessionRuns m seen h far.carried (woken_steps wakes far) seen h (woken_if wakes far).carried
 woken_session m seen h false far = (tt, refl)

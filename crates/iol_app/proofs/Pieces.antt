@@ -1,6 +1,6 @@
 -- The two pieces of a turn, over the core's own data.
 use Rattle.std.proofs.lemmas.Grind.{common_steps}
-use Rattle.std.proofs.Common.{◌≡◌, inl, inr, ℕ, Bool, true, false, List, [], ◌∷◌, refl, sym, ap, ◌∙◌, subst, lit<, Option, Some, None, arith}
+use Rattle.std.proofs.Common.{◌≡◌, inl, inr, ℕ, Bool, true, false, List, [], ◌∷◌, refl, sym, ap, subst, Option, Some, None, arith}
 use Rattle.iol_octets.specs.Control.{control_of}
 use Rattle.iol_mseq.specs.Shape.{startup_shape}
 use Rattle.iol_mseq.specs.Master.{HasMasterParts}
@@ -12,13 +12,12 @@ use Rattle.iol_far.specs.Far.{Far}
 use Rattle.iol_link.specs.Attempts.{Sending, good_reply, attempt_of}
 use Rattle.iol_link.specs.Honest.{HonestExchange}
 use Rattle.iol_mode.specs.declared.configuration.Devices.{Devices}
-use Rattle.iol_mode.specs.declared.configuration.Devices.TheVariants.{Own, Any}
 use Rattle.iol_mode.specs.declared.states.Operate.{Operate}
 use Rattle.iol_mode.specs.declared.states.State.{State}
 use Rattle.iol_mode.specs.declared.states.State.TheVariants.{Down as AtDown, Operate as AtOperate}
-use Rattle.iol_mode.specs.Messages.{page_read, command_message, unsent}
+use Rattle.iol_mode.specs.Messages.{command_message, unsent}
 use Rattle.iol_mode.specs.Next.{EnteredFits}
-use Rattle.iol_mode.specs.States.{Outcome, InDown, InStartup, InPreoperate, InOperate, OutcomeFits, StateFits, IsDown, is_reset, is_starting, state_of, waked, operate_by, counted}
+use Rattle.iol_mode.specs.States.{Outcome, OutcomeFits, StateFits, IsDown, is_reset, is_starting, state_of, waked, operate_by, counted}
 use Rattle.iol_mode.specs.Exchanges.{IsSending, AreFew, ExchangeGives, AcceptedBy, StandsOn, WakeStands, judged, text_out}
 use Rattle.iol_mode.specs.Turns.{IsRisen}
 use Rattle.iol_mode.specs.Stands.{StateStands}
@@ -34,28 +33,18 @@ use Rattle.iol_app.specs.State.{SessionState, IsSession, IsOutBy, IsMessageFor, 
 use Rattle.iol_app.specs.StationState.{StateFits as Joined, IsStill, NextFits, IsSettledSaid, settled_session, waked_session, mode_in}
 use Rattle.iol_app.specs.StationLaws.{StationLaws}
 use Rattle.iol_app.specs.Core.{came_of, Core, Ghost, Stands, CallGives, ReceiveGives, SendGives, made_ghost, IsAttempted, ordered, moment_of, images_in, after_exchange, settled_core, after_wake, core_out}
+use Rattle.iol_app.proofs.Orderly.{first_parts}
 use Rattle.iol_app.proofs.Doubts.{after_fits}
 use Rattle.iol_app.specs.Pieces.{SendSteps, Received, WakeSteps, ReceiveSteps}
 use Rattle.iol_app.proofs.Turns.{startup_next, preoperate_next, operate_next}
 use Rattle.iol_app.proofs.Settling.{settled_fits}
-
-first_parts : HasMasterParts startup_shape (page_read 2)
-unfolding control_of
-first_parts = record { out = refl; od = refl }
 
 reset_parts : HasMasterParts startup_shape (command_message startup_shape DeviceStartup)
 unfolding control_of
 reset_parts = record { out = refl; od = refl }
 
 waked_fits : (devices : Devices) (answered : Bool) → OutcomeFits (waked devices answered)
-waked_fits Own true = record {
-  message_is = refl;
-  parts = first_parts;
-  step = lit< tt;
-  admitted = tt;
-}
-waked_fits Any true = record { message_is = refl; parts = reset_parts; step = tt; admitted = tt }
-waked_fits devices false = tt
+waked_fits devices answered = grind (arith, common_steps, first_parts, reset_parts)
 
 -- a wake says nothing
 pub idle_said : (devices : Devices) (answered : Bool) (s : SessionState) (said : Said)
@@ -90,15 +79,7 @@ entered_tried outcome n far h = grind (arith, common_steps)
 -- a turn of a start-up leaves no message that would go out again in OPERATE
 risen_settled : (outcome : Outcome) (s : SessionState) (n : ℕ) (far : Far)
     → EnteredFits outcome n far → after_exchange outcome s ≡ settled_core outcome s
-risen_settled (InDown state) s n far h = refl
-risen_settled (InStartup state) s n far h = refl
-risen_settled (InPreoperate state) s n far h = refl
-risen_settled (InOperate state None) s n far h = absurd h
-risen_settled (InOperate state (Some reply)) s n far h =
-    ap (λ (out : Option Sending). let k : Core =
-    after_exchange (InOperate (record state { out = out }) (Some reply)) s in k) h.out
-    ∙ ap (λ (out : Option Sending). let k : Core =
-    settled_core (InOperate (record state { out = out }) (Some reply)) s in k) (sym h.out)
+risen_settled outcome s n far h = grind (arith, common_steps)
 
 waked_tried : (devices : Devices) (answered : Bool)
     → IsAttempted (state_of (waked devices answered))
@@ -142,40 +123,40 @@ module _ (laws : StationLaws) (t : SessionState) (came : Option (List ℕ)) (sai
   abbrev at : State → Core
   at state = record { state = state; session = t }
 
+  -- what it comes to
+  abbrev outcome : State → Outcome
+  outcome state = judged t.configuration state came
+
+  abbrev Came : State → Type 0
+  Came state = Received (at state) g far n said (after_exchange (outcome state) t) far' n'
+
   abbrev Gives : State → Type 0
   Gives state = Stands (at state) g far n → HonestExchange far n (text_out state) came far' n'
-      → AreFew state → OutcomeFits (judged t.configuration state came)
-      → ExchangeGives state came (judged t.configuration state came)
-      → IsSettledSaid (judged t.configuration state came) t said
-      → StandsOn (state_of (judged t.configuration state came))
-      (after_exchange (judged t.configuration state came) t).state
-      → Received (at state) g far n said (after_exchange (judged t.configuration state came) t)
-      far' n'
+      → AreFew state → OutcomeFits (outcome state) → ExchangeGives state came (outcome state)
+      → IsSettledSaid (outcome state) t said
+      → StandsOn (state_of (outcome state)) (after_exchange (outcome state) t).state → Came state
 
   -- in both modes of a start-up
   rise_gives : (state : State) → is_starting state ≡ true → (mode_in state ≡ ModeOperate → ⊥)
-      → IsStill t → NextFits (judged t.configuration state came) t → Stands (at state) g far n
-      → HonestExchange far n (text_out state) came far' n'
-      → OutcomeFits (judged t.configuration state came)
-      → IsRisen (is_reset state) (judged t.configuration state came) n' far far'
-      → IsSettledSaid (judged t.configuration state came) t said
-      → Received (at state) g far n said
-      (after_exchange (judged t.configuration state came) t) far' n'
+      → IsStill t → NextFits (outcome state) t → Stands (at state) g far n
+      → HonestExchange far n (text_out state) came far' n' → OutcomeFits (outcome state)
+      → IsRisen (is_reset state) (outcome state) n' far far'
+      → IsSettledSaid (outcome state) t said → Came state
   rise_gives state starting down still next stands x fits risen says =
-      let outcome : Outcome = judged t.configuration state came in
-      let given : CallGives (at state) g far n Idle (settled_core outcome t) far' n' =
+      let settled : Core = settled_core (outcome state) t in
+      let given : CallGives (at state) g far n Idle settled far' n' =
       laws.rises.gives (at state) g far far' n n' came starting stands valid x risen fits
-      (settled_fits outcome t fits next) in
+      (settled_fits (outcome state) t fits next) in
       subst (λ (c : Core). Received (at state) g far n said c far' n')
-      (sym (risen_settled outcome t n' far' risen.entered))
-      (subst (λ (k : Said). Received (at state) g far n k (settled_core outcome t) far' n')
-      (sym (still_said outcome t said still says))
+      (sym (risen_settled (outcome state) t n' far' risen.entered))
+      (subst (λ (k : Said). Received (at state) g far n k settled far' n')
+      (sym (still_said (outcome state) t said still says))
       (record {
         given = given;
         unmade =
             unmade (moment_of (at state) g n given.call) given.steps (images_in (at state) g far)
             down given.images.0;
-        attempted = entered_tried outcome n' far' risen.entered;
+        attempted = entered_tried (outcome state) n' far' risen.entered;
       }))
 
   -- in OPERATE, where the message is for this
@@ -183,13 +164,12 @@ module _ (laws : StationLaws) (t : SessionState) (came : Option (List ℕ)) (sai
       → Gives (AtOperate (record { out = Some w; layouts = layouts }))
   out_gives layouts w e is stands x few fits gives says on =
       let state : State = AtOperate (record { out = Some w; layouts = layouts }) in
-      let outcome : Outcome = judged t.configuration state came in
       let named : SessionState = record t { exchange = Some e } in
       let same : t ≡ named = ap (λ (k : Option Exchange). record t { exchange = k }) is in
       let given = gives far far' n n' stands.link x in
-      let joined : Joined (state_of outcome) (settled_session outcome t) =
-      settled_fits outcome t fits (out_next (Some w) layouts came t refl stands.joined) in
-      let next : SessionState → Core = after_exchange outcome in
+      let joined : Joined (state_of (outcome state)) (settled_session (outcome state) t) =
+      settled_fits (outcome state) t fits (out_next (Some w) layouts came t refl stands.joined) in
+      let next : SessionState → Core = after_exchange (outcome state) in
       let fitting : StateFits (next t).state × Joined (next t).state (next t).session =
       after_fits (counted w (good_reply layouts.run w.message came)) layouts
       (attempt_of w.tries (good_reply layouts.run w.message came)) t valid
@@ -198,10 +178,10 @@ module _ (laws : StationLaws) (t : SessionState) (came : Option (List ℕ)) (sai
       laws.receives.gives layouts w t e g far far' n n' came said
       (subst (λ (s : SessionState). let c : Core = record { state = state; session = s } in
       Stands c g far n) same stands) (subst IsSession same valid) x few given.0 given.1
-      (subst (λ (s : SessionState). StandsOn (state_of outcome) (next s).state) same on)
+      (subst (λ (s : SessionState). StandsOn (state_of (outcome state)) (next s).state) same on)
       (subst (λ (s : SessionState). StateFits (next s).state) same fitting.0)
       (subst (λ (s : SessionState). Joined (next s).state (next s).session) same fitting.1)
-      (subst (λ (s : SessionState). IsSettledSaid outcome s said) same says) in
+      (subst (λ (s : SessionState). IsSettledSaid (outcome state) s said) same says) in
       subst (λ (s : SessionState). let c : Core = record { state = state; session = s } in
       Received c g far n said (next s) far' n') (sym same)
       (record {

@@ -68,12 +68,7 @@ module _ (laws : ReaderLaws) (event : Bool) where
 
   frozen_list : (e : Event) (es : List Event) (m : Events) → IsEventMemory m → IsFrozen e es m
       → IsEventList (e ∷ es)
-  frozen_list e es m valid frozen =
-      record {
-        some = omega arith;
-        most =
-            subst (λ (l : List Event). length l ≤ 6) frozen.0 valid.frozen;
-      }
+  frozen_list e es m valid frozen = grind (arith, common_steps)
 
   -- the octet that the reading wants
   pub reads_next : (r : Reading) (flag : Bool) (due : Event × List Event) (c : Bool)

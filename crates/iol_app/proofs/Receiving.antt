@@ -151,6 +151,9 @@ module _ (names : TextNamesAnswer) (taken : AnswersAreTakenUp) (laws : Laws)
       goes_out : IsGoing sending
       goes_out = goes laws layouts w t g far n x.steps e t.current stands
 
+      passing : Passes layouts w t g far x.steps x.passage e t.current
+      passing = passes laws layouts w t g far n x.steps e t.current stands x.passage
+
       by_tries : (b : Bool) → (w.tries == 2) ≡ b → n' ≡ min 3 (n + 1)
           → let o : Outcome = operate_by
           (record { message = w.message; tries = if b then 0 else w.tries + 1 }) layouts
@@ -159,19 +162,19 @@ module _ (names : TextNamesAnswer) (taken : AnswersAreTakenUp) (laws : Laws)
           → ReceiveGives c g far n said (after_exchange o c.session) far' n'
       by_tries true two silence met left says =
           gives laws layouts w t g far n x.steps x.passage e t.current stands far' n' x.far_is
-          said (passes laws layouts w t g far n x.steps e t.current stands x.passage)
-          (Exchanged false) _ _ _
+          said passing
+          (Exchanged false) _ _ _ _
           (loses laws layouts w t g far n x.steps x.passage e t.current stands far' n' x.far_is
-          said (passes laws layouts w t g far n x.steps e t.current stands x.passage) says
+          said passing says
           (third_time w.tries n (grind (arith, nat_tests)) stands.link.tries)) tt silence
           (left.on far' n' met.stands) left.fits left.joined tt
       by_tries false two silence met left says =
           gives laws layouts w t g far n x.steps x.passage e t.current stands far' n' x.far_is
-          said (passes laws layouts w t g far n x.steps e t.current stands x.passage)
-          (Exchanged false) _ _ _
+          said passing
+          (Exchanged false) _ _ _ _
           (misses laws layouts w t g far n x.steps x.passage e t.current stands far' n' x.far_is
-          said (passes laws layouts w t g far n x.steps e t.current stands x.passage) heard valid
-          says) tt silence (left.on far' n' met.stands) left.fits left.joined tt
+          said passing heard valid says) tt silence (left.on far' n' met.stands) left.fits
+          left.joined tt
 
       by_reply : (reply : Option Reply) → good_reply layouts.run w.message came ≡ reply
           → IsMet (after_by reply) n' far' → Left (after_by reply)

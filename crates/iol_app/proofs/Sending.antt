@@ -41,6 +41,7 @@ use Rattle.iol_app.specs.State.{SessionState, IsSession, IsMessageFor, sending, 
 use Rattle.iol_app.proofs.DueFacts.{IsDue, due_is}
 use Rattle.iol_app.proofs.OperateMessages.{tell_differs, page_command}
 use Rattle.iol_app.proofs.Telling.{told_layout}
+use Rattle.iol_app.proofs.Shown.{shown_as}
 use Rattle.iol_app.specs.Core.{Core, Ghost, Stands, Sends, SendGives, core_out, free_core, made_ghost, vain_by, AgainBy, reading_at, reading_in, ordered_by}
 use Rattle.iol_app.proofs.SmallFacts.{operating, keeps_some, events_due, confirms_is, not_operate, begins_request, tells_wanted, drops_told, some_or, image_some, sent_made, same_carried}
 
@@ -255,14 +256,8 @@ module _ (levels : (size : ℕ) → 1 ≤ size → LevelLaws size) (modes : Mode
         (λ k none. stands.output.1 k refl),
         stands.output.2,
       );
-      shown = record {
-        image = λ k. absurd (k refl);
-        wanted = stands.shown.wanted;
-        lengths = stands.shown.lengths;
-        isdu = stands.shown.isdu;
-        present = stands.shown.present;
-        no_form = stands.shown.no_form;
-      };
+      shown = shown_as stands.shown (λ k. absurd (k refl)) refl stands.shown.present
+          stands.shown.no_form;
     };
     session = refl;
     frozen = refl;

@@ -1,7 +1,7 @@
 -- What always holds of a session.
 use Rattle.std.proofs.lemmas.Grind.{common_steps}
 use Rattle.std.proofs.lemmas.Bool.Decides.{nat_tests}
-use Rattle.std.proofs.Common.{◌≡◌, ℕ, ◌+◌, ◌%◌, ◌<◌, ◌≤◌, Bool, true, false, ◌&&◌, ◌==◌, Result, Ok, Err, if◌then◌else◌, List, length, refl, sym, ap, subst, ◌∙◌, arith, Option, Some, None}
+use Rattle.std.proofs.Common.{◌≡◌, ℕ, ◌+◌, ◌%◌, ◌<◌, ◌≤◌, Bool, true, false, ◌&&◌, ◌==◌, Result, if◌then◌else◌, List, length, refl, sym, ap, subst, ◌∙◌, arith, Option, Some, None}
 use Rattle.std.specs.Prelude.{not, slice_index, is_some, IfSome, IsTrue, unwrap_or}
 use Rattle.std.proofs.lemmas.List.{length-append}
 use Rattle.iol_mseq.specs.Shape.{Shape, IsLayout}
@@ -14,14 +14,13 @@ use Rattle.iol_isdu.specs.declared.values.Cause.{Cause}
 use Rattle.iol_isdu.specs.Texts.{request_front}
 use Rattle.iol_mseq.specs.Parts.{first_of_zeros}
 use Rattle.iol_segment.specs.Cut.{Cutting}
-use Rattle.iol_segment.specs.Join.{Joining, taken, empty}
+use Rattle.iol_segment.specs.Join.{Joining, taken}
 use Rattle.arrayvec.specs.ArrayVec.{ArrayVec}
 use Rattle.iol_octets.specs.Control.{control_of}
 use Rattle.iol_octets.specs.declared.flow_control.Flow.{Flow}
 use Rattle.iol_octets.specs.declared.flow_control.Flow.TheVariants.{Start, Count}
 use Rattle.iol_segment.specs.declared.took.Took.{Took}
-use Rattle.iol_segment.specs.declared.took.Took.TheVariants.{Repeat, More, Whole}
-use Rattle.iol_isdu.specs.Answers.{is_read, answer_fault}
+use Rattle.iol_isdu.specs.Answers.{is_read}
 use Rattle.iol_isdu.specs.declared.fault.IsduFault.{IsduFault}
 use Rattle.iol_segment.specs.declared.took.JoinFault.{JoinFault}
 use Rattle.iol_app.specs.declared.output.Output.{Output}
@@ -34,7 +33,7 @@ use Rattle.iol_app.specs.declared.session.Exchange.TheVariants.{Abort, Request a
 use Rattle.iol_steps.specs.declared.said.Said.{Said}
 use Rattle.iol_steps.specs.declared.said.Said.TheVariants.{Cut}
 use Rattle.iol_app.specs.Outputs.{output_after, carried_by, IsOutput}
-use Rattle.iol_app.specs.Requests.{text_of, Outcome, GoesOn, asked, doubted, sent_anew, finished, joined, forgotten_by, refused, waited, one_more, sending, is_doubting, replied_at, replied, going, current_after, request_in, request_after, IsOutcomeSaid, IsSaid, Suits, ProgressFits, IsAllGiven, IsCurrent, IsSure}
+use Rattle.iol_app.specs.Requests.{text_of, Outcome, GoesOn, asked, doubted, sent_anew, finished, joined, forgotten_by, refused, sending, is_doubting, replied_at, replied, going, current_after, request_in, request_after, IsOutcomeSaid, IsSaid, Suits, ProgressFits, IsAllGiven, IsCurrent, IsSure}
 use Rattle.iol_app.specs.State.{SessionState, IsSession, od_size, output_length, absorbed}
 use Rattle.iol_app.specs.Messages.{ask_of, question, head_of, head_for, data_for, progress_head, progress_data, request_head, request_data}
 use Rattle.iol_app.proofs.Cutting.{length-segment, is_pair, given_goes_on, sent_on_fits}
@@ -81,42 +80,19 @@ doubted_stays current again limit od h whole size =
 -- no good reply leaves anything in doubt
 finished_sure : (cutter : Cutting Request) (abort : Option Cause) (text : List ℕ)
     (fault : Option IsduFault) → IfSome (going (finished cutter abort text fault)) IsSure
-finished_sure cutter abort text None = tt
-finished_sure cutter abort text (Some fault) = (refl, refl)
+finished_sure cutter abort text fault = grind (arith, common_steps)
 
 joined_sure : (cutter : Cutting Request) (abort : Option Cause) (had : ℕ)
     (took : Result Took JoinFault) (joining : Joining)
     → IfSome (going (joined cutter abort had took joining)) IsSure
-joined_sure cutter abort had (Err fault) joining = (refl, refl)
-joined_sure cutter abort had (Ok Whole) joining = finished_sure cutter abort joining.text
-    (answer_fault (is_read cutter.source) joining.text)
-joined_sure cutter abort had (Ok More) joining = (refl, refl)
-joined_sure cutter abort had (Ok Repeat) joining = (refl, refl)
+joined_sure cutter abort had took joining = grind (arith, common_steps, finished_sure)
 
 sending_sure : (piece : Option (Flow × ArrayVec ℕ)) → is_doubting (sending piece) ≡ false
-sending_sure None = refl
-sending_sure (Some piece) = refl
-
--- the first segment of an answer
-abbrev first_had : Cutting Request → Option Cause → List ℕ → Outcome
-first_had cutter abort od = joined cutter abort 0 (taken (empty false) Start od).took
-    (taken (empty false) Start od).joining
+sending_sure piece = grind (arith, common_steps)
 
 asked_sure : (cutter : Cutting Request) (abort : Option Cause) (busy limit : ℕ) (od : List ℕ)
     → IfSome (going (asked cutter abort busy limit od)) IsSure
-asked_sure cutter abort busy limit od =
-    elim (slice_index od 0 == 1) as (λ b. IfSome (going
-    (if b then GoesOn (waited cutter abort (one_more busy) limit) else
-    if slice_index od 0 == 0 then GoesOn (refused cutter abort) else
-    first_had cutter abort od)) IsSure) [
-      | true ↦ (refl, refl)
-      | false ↦ elim (slice_index od 0 == 0) as (λ b. IfSome (going
-          (if b then GoesOn (refused cutter abort) else first_had cutter abort od)) IsSure) [
-            | true ↦ (refl, refl)
-            | false ↦ joined_sure cutter abort 0 (taken (empty false) Start od).took
-                (taken (empty false) Start od).joining
-          ]
-    ]
+asked_sure cutter abort busy limit od = grind (arith, common_steps, joined_sure)
 
 replied_sure : (p : Progress) (limit : ℕ) (od : List ℕ) (current : Current)
     → current.progress ≡ p → IfSome (going (replied_at p limit od current)) IsSure
@@ -163,10 +139,7 @@ answered_as : (layout : Option Shape) (current : Current) (od : List ℕ) → Is
     → current.cutter.size ≡ od_size layout
     → IfSome layout (λ l. length od ≡ answered_od l (progress_head current.progress).read)
     → IsAnswered current.cutter.size current.progress od
-answered_as None current od h same fits = let low : 1 ≤ current.cutter.size = h.some in
-    absurd (omega (arith, low, same))
-answered_as (Some layout) current od h same fits = λ read. fits ∙ ap (answered_od layout) read
-    ∙ sym same
+answered_as layout current od h same fits = grind (arith, common_steps)
 
 -- The request under way after a reply, and what is said of it
 
@@ -226,11 +199,7 @@ module _ (layout : Option Shape) (reading : Reading) (limit : ℕ) (od : List �
 
 sure_after : (exchange : Exchange) (limit : ℕ) (od : List ℕ) (current : Option Current)
     → IfSome current IsSure → IfSome (current_after exchange limit od current) IsSure
-sure_after exchange limit od None h = tt
-sure_after Abort limit od (Some current) h = tt
-sure_after NextMessage limit od (Some current) h = replied_sure current.progress limit od current
-    refl
-sure_after any limit od (Some current) h = h
+sure_after exchange limit od current h = grind (arith, common_steps, replied_sure)
 
 output_stays : (size : ℕ) (exchange : Exchange) (output : Output) → IsOutput size output
     → IsOutput size (output_after exchange output)

@@ -1,5 +1,5 @@
 -- Facts of the parts of a session: the input that is shown, the output, the request, the events.
-use Rattle.std.proofs.Common.{◌≡◌, ℕ, ◌+◌, ◌≤◌, min, Bool, true, false, not, ◌&&◌, List, [], ◌∷◌, length, refl, arith}
+use Rattle.std.proofs.Common.{◌≡◌, ℕ, ◌+◌, ◌≤◌, min, Bool, true, false, not, ◌&&◌, List, [], length, refl, arith}
 use Rattle.std.proofs.lemmas.Bool.Decides.{nat_tests}
 use Rattle.std.proofs.lemmas.Grind.{common_steps}
 use Rattle.std.specs.Prelude.{Option, Some, if◌then◌else◌, ◌==◌, IfSome, IsSome, replicate, is_some, unwrap_or}
@@ -19,6 +19,7 @@ use Rattle.iol_steps.specs.Exchange.{image_had, told_by, output_due}
 use Rattle.iol_event.specs.Memory.{Events}
 use Rattle.iol_steps.specs.Station.{Reading, is_due, EventsFit}
 use Rattle.iol_app.proofs.Accepted.{by_accepted}
+use Rattle.iol_app.proofs.Given.{by_locals}
 use Rattle.iol_app.specs.declared.output.Output.{Output}
 use Rattle.iol_app.specs.declared.session.Exchange.{Exchange}
 use Rattle.iol_app.specs.declared.session.Exchange.TheVariants.{ConfirmEvents}
@@ -45,8 +46,7 @@ input_step far step h = grind (arith, common_steps)
 
 pub input_locals : (steps : List LocalStep) (far : Far) → HasOctets far.input
     → HasOctets (locals far steps).input
-input_locals [] far h = h
-input_locals (step ∷ steps) far h = input_locals steps (local far step) (input_step far step h)
+input_locals = by_locals (λ far. HasOctets far.input) input_step
 
 pub input_hear : (far : Far) (o : List ℕ) → (hear far o).far.input ≡ far.input
 input_hear far o = by_accepted (λ q. (heard_as far o q).far.input ≡ far.input) far o refl

@@ -1,5 +1,5 @@
 -- What one exchange of a start-up comes to, in both its modes.
-use Rattle.std.proofs.Common.{◌≡◌, ◌≢◌, inl, ℕ, suc, ◌≤◌, Bool, true, false, ◌&&◌, List, [], ◌∷◌, ◌++◌, filter, refl, sym, ◌∙◌, ap, subst, arith}
+use Rattle.std.proofs.Common.{◌≡◌, ◌≢◌, inl, ℕ, suc, ◌≤◌, Bool, true, false, ◌&&◌, List, [], ◌∷◌, ◌++◌, refl, sym, ◌∙◌, ap, subst, arith}
 use Rattle.std.proofs.lemmas.Grind.{common_steps}
 use Rattle.std.specs.Prelude.{Option, Some, None, Ok, IfSome, IsTrue, not, unwrap_or}
 use Rattle.iol_octets.specs.declared.control.Channel.{Channel}
@@ -22,7 +22,6 @@ use Rattle.iol_far.specs.Linked.{TextsAreHeard}
 use Rattle.iol_far.specs.Local.{locals}
 use Rattle.iol_far.specs.declared.kind.Kind.{Kind}
 use Rattle.iol_far.specs.declared.kind.HandsOver.{HandsOver}
-use Rattle.iol_far.specs.declared.kind.HandsOver.TheVariants.{FirstRead, LastSegment}
 use Rattle.iol_far.specs.declared.kind.Recalls.TheVariants.{UntilSent}
 use Rattle.iol_far.specs.Level.{Progress, Quiet, Move, Begin, Other, Link, IsMove, IsOutOnce, IsIdle, RecallsAtLeast, IsBefore, IsLevel, taken}
 use Rattle.iol_far.specs.Laws.{confirms as octets_confirm}
@@ -31,36 +30,33 @@ use Rattle.iol_mode.specs.declared.states.Startup.{Startup}
 use Rattle.iol_mode.specs.declared.states.Preoperate.{Preoperate}
 use Rattle.iol_mode.specs.declared.states.Told.{Told}
 use Rattle.iol_mode.specs.declared.states.State.{State}
-use Rattle.iol_mode.specs.declared.states.State.TheVariants.{Down as AtDown, Startup as AtStartup, Preoperate as AtPreoperate, Operate as AtOperate}
+use Rattle.iol_mode.specs.declared.states.State.TheVariants.{Startup as AtStartup, Preoperate as AtPreoperate, Operate as AtOperate}
 use Rattle.iol_image.specs.Image.{IsImage}
 use Rattle.iol_mode.specs.declared.why.Why.{Why}
 use Rattle.iol_mode.specs.Next.{IsEntered}
 use Rattle.iol_mode.specs.declared.states.Step.{Step as PageStep}
-use Rattle.iol_mode.specs.declared.states.Step.TheVariants.{Reset, First, Read, Ident, Leave, Cycle, Enter}
 use Rattle.iol_mode.specs.Stands.{startup_link, preoperate_link, entering_link, StepLevel, StateStands}
 use Rattle.iol_mode.specs.States.{Outcome, InDown, OutcomeFits, StateFits, state_of, is_behind, is_reset}
 use Rattle.iol_mode.specs.Turns.{IsRisen}
 use Rattle.iol_steps.specs.declared.mode.Mode.{Mode}
 use Rattle.iol_steps.specs.declared.mode.Mode.TheVariants.{Down as ModeDown, Startup as ModeStartup, Preoperate as ModePreoperate, Operate as ModeOperate}
 use Rattle.iol_steps.specs.declared.said.Said.TheVariants.{Idle}
-use Rattle.iol_steps.specs.Step.{Step, TellLength, Move as MoveTo, Exchanged, silence_by, output_length, CallFits, is_clash_free, is_for_book, is_report, resets}
-use Rattle.iol_steps.specs.Bridge.{Hidden, IsOpen, hidden_through, told_through, exchange_steps, told_exchanged}
+use Rattle.iol_steps.specs.Step.{Step, TellLength, Move as MoveTo, Exchanged, silence_by, output_length, CallFits, resets}
+use Rattle.iol_steps.specs.Bridge.{Hidden, IsOpen, hidden_through}
 use Rattle.iol_steps.specs.Kinds.{Seen}
 use Rattle.iol_steps.specs.Session.{MayMove, HoldsNothing}
 use Rattle.iol_steps.specs.Images.{Images}
 use Rattle.iol_steps.specs.Station.{far_mode, output_by, images_of, session_of, is_due}
 use Rattle.iol_steps.specs.Station as steps
 use Rattle.iol_steps.specs.Exchange.{reading_flagged}
-use Rattle.iol_app.proofs.Given.{Laws, page_locals, page_after as page_passed, kind_after, level_locals, sees_kept, misses_passed}
-use Rattle.iol_app.proofs.OwnSession.{SessionRuns, session_runs-append, exchange_session, own_open}
-use Rattle.iol_app.proofs.FrozenPart.{FrozenRuns, ConfirmsTold, frozen_runs-append, exchange_frozen}
-use Rattle.iol_app.proofs.ImagesPart.{ImagesRuns, images_runs-append, exchange_images}
-use Rattle.iol_app.specs.Ends.{OutputTold, SentSeen, ShownSeen}
+use Rattle.iol_app.proofs.Given.{Laws, page_locals, page_after as page_passed, kind_after, level_locals}
+use Rattle.iol_app.proofs.OwnSession.{own_open}
+use Rattle.iol_app.specs.Ends.{OutputTold, ShownSeen}
 use Rattle.iol_app.proofs.Outputs.{outputs_locals}
-use Rattle.iol_app.proofs.Clash.{no_busy, no_confirm, exchange_before}
 use Rattle.iol_app.proofs.OpenLevel.{IsTied, tied_locals, hear_carried}
 use Rattle.iol_app.proofs.EventReading.{kept_fits}
-use Rattle.iol_app.proofs.Told.{told_exchange}
+use Rattle.iol_app.proofs.Effects.{Effect, Ends, Left, untold_effect, gives as call_gives, falls as call_falls}
+use Rattle.iol_app.proofs.Shown.{shown_as}
 use Rattle.iol_app.proofs.FirstOctet.{confirms_of}
 use Rattle.iol_app.specs.declared.event_work.Reading.TheVariants.{Resting}
 use Rattle.iol_app.specs.State.{SessionState, IsSession, told, entered}
@@ -68,10 +64,9 @@ use Rattle.iol_app.specs.StationState.{StateFits as Joined, settled_session, mod
 use Rattle.iol_app.proofs.StartMessages.{step_channel, sends_channel, preoperate_turns, page_confirms}
 use Rattle.iol_app.proofs.Telling.{startup_layout, told_layout, told_told, told_shown}
 use Rattle.iol_app.specs.Moves.{progress_of}
-use Rattle.iol_app.specs.Core.{Core, Ghost, Stands, CallGives, work_of, RequestStands, EventsStand, OutputStands, OutputOff, CalmAt, ShownStands, moment_of, seen_in, shown_in, images_in, settled_core}
-use Rattle.iol_mode.specs.Kinds.{IsFor, SeesPulses, trusted}
+use Rattle.iol_app.specs.Core.{Core, Ghost, Stands, CallGives, OutputOff, ShownStands, moment_of, seen_in, shown_in, settled_core}
+use Rattle.iol_mode.specs.Kinds.{IsFor, trusted}
 use Rattle.iol_mode.specs.declared.configuration.Devices.{Devices}
-use Rattle.iol_mode.specs.declared.configuration.Configuration.{Configuration}
 use Rattle.iol_mode.specs.Exchanges.{text_out}
 use Rattle.iol_app.proofs.FarSide.{Goes, IsGoing, outputs_sent, outputs_after, opens_after}
 
@@ -105,25 +100,10 @@ still t = record t {
 
 pub is_still : (t : SessionState) → t.current ≡ None → t.exchange ≡ None → t.image ≡ None
     → t.events.reading ≡ Resting → t.output.told ≡ false → t ≡ still t
-is_still t a b c d e = λ i. record {
-  limit = t.limit;
-  layout = t.layout;
-  isdu = t.isdu;
-  configuration = t.configuration;
-  present = t.present;
-  current = a i;
-  exchange = b i;
-  output = record t.output { told = e i };
-  events = record t.events { reading = d i };
-  image = c i;
-  clear = t.clear;
-}
+is_still t a b c d e = grind (arith, common_steps)
 
 none_due : (b awake : Bool) → false ≡ (awake && is_due (reading_flagged b))
 none_due b awake = grind (arith, common_steps)
-
-none_rests : (awake : Bool) → false ≡ (awake && false)
-none_rests awake = grind (arith, common_steps)
 
 no_command : (mode : Mode) (command : Option MasterCommand) → mode ≢ ModeOperate
     → output_by mode command ≡ None
@@ -137,15 +117,9 @@ reset_at (InPre s) = refl
 pub level_behind : (step : PageStep) (o : List ℕ) (tries : ℕ) (far : Far) → is_behind step ≡ true
     → StepLevel step o tries far
     → IsLevel far.page far.kind startup_shape.od far.carried startup_link Quiet o tries far
-level_behind Reset o tries far e h = absurd (cc)
-level_behind First o tries far e h = absurd (cc)
-level_behind (Read octets) o tries far e h = h
-level_behind (Ident told pre) o tries far e h = h
-level_behind (Leave told pre) o tries far e h = h
-level_behind (Cycle told) o tries far e h = h
-level_behind (Enter told) o tries far e h = h
+level_behind step o tries far e h = grind (arith, common_steps)
 
-below : (start : Start) → mode_at start ≢ ModeOperate
+pub below : (start : Start) → mode_at start ≢ ModeOperate
 below start e = grind (arith, common_steps)
 
 waits_idle : (waits : Option WaitingCommand) → IfSome waits (λ command. IsIdle Quiet)
@@ -153,8 +127,7 @@ waits_idle waits = grind (arith, common_steps)
 
 -- a message to the page hands nothing over
 page_once : (hands_over : HandsOver) (size times : ℕ) → IsOutOnce hands_over size Other times
-page_once FirstRead size times e = absurd (let z : false ≡ true = e in cc)
-page_once LastSegment size times e = absurd (let z : false ≡ true = e in cc)
+page_once hands_over size times e = grind (arith, common_steps)
 
 -- what a port trusts its device with
 pub trusts : (devices : Devices) (kind : Kind) → IsFor devices kind
@@ -218,27 +191,10 @@ pub record Rests (start : Start) (t : SessionState) (g : Ghost) (far : Far) : Ty
   pub clear : t.clear ≡ false
   pub untold : g.events.told ≡ false
   pub output : OutputOff t.output.told far
-  pub fresh : IsTrue g.fresh → ⊥
 
 pub rests_of : (start : Start) (t : SessionState) (g : Ghost) (far : Far) (n : ℕ)
     → Stands (record { state = state_at start; session = t }) g far n → Rests start t g far
-rests_of (InStart s b) t g far n h =
-    record {
-      late = h.request.0 b;
-      opens = h.request.1;
-      clear = h.request.2;
-      untold = h.events.1;
-      output = h.output.1 b;
-      fresh = h.fresh;
-    }
-rests_of (InPre s) t g far n h = record {
-  late = h.request.0;
-  opens = h.request.1;
-  clear = h.request.2;
-  untold = h.events.1;
-  output = h.output;
-  fresh = h.fresh;
-}
+rests_of start t g far n h = grind (arith, common_steps)
 
 module _ (laws : Laws) (heard : TextsAreHeard) (start : Start) (session : SessionState)
     (g : Ghost) (far far' : Far) (n n' : ℕ) (came : Option (List ℕ))
@@ -256,9 +212,6 @@ module _ (laws : Laws) (heard : TextsAreHeard) (start : Start) (session : Sessio
 
   abbrev h : Hidden
   h = hidden_through None far x.steps g.request.hidden
-
-  abbrev xs : List Step
-  xs = exchange_steps None far x.steps x.passage o
 
   abbrev pub after : Ghost
   after = record g {
@@ -310,7 +263,7 @@ module _ (laws : Laws) (heard : TextsAreHeard) (start : Start) (session : Sessio
     starting = λ e. refl;
   }
 
-  page_here : (locals far x.steps).page ≡ far.page
+  pub page_here : (locals far x.steps).page ≡ far.page
   page_here = page_locals laws x.steps far
 
   kind_passed : passed.kind ≡ far.kind
@@ -323,7 +276,7 @@ module _ (laws : Laws) (heard : TextsAreHeard) (start : Start) (session : Sessio
       (laws.layouts far.page (far_mode (mode_at start))).1) far.carried k.link Quiet o
       k.tries x.steps far k.level
 
-  outputs_here : OutputTold g.sent (output_by (mode_at start) (command_in k.message) ≡ None)
+  pub outputs_here : OutputTold g.sent (output_by (mode_at start) (command_in k.message) ≡ None)
       false (locals far x.steps)
   outputs_here = outputs_locals g.sent (output_by (mode_at start) (command_in k.message) ≡ None)
       false x.steps far (
@@ -348,7 +301,7 @@ module _ (laws : Laws) (heard : TextsAreHeard) (start : Start) (session : Sessio
   tied : IsTied far.carried None h (locals far x.steps).carried
   tied = tied_locals far.carried None x.steps far g.request.hidden rests.opens (rests.late, refl)
 
-  opens : IsOpen passed.isdu None h
+  pub opens : IsOpen passed.isdu None h
   opens = opens_after laws going goes (locals far x.steps) level None h tt
       (λ q e. absurd (let z : Path Move Other (Begin q) = e in cc))
       (own_open None g.request.hidden x.steps far rests.opens)
@@ -358,112 +311,44 @@ module _ (laws : Laws) (heard : TextsAreHeard) (start : Start) (session : Sessio
   unconfirmed = sym (confirms_of (layout_in far.page (taken k.link o).mode) o k.message
       goes.sent_at.spells) ∙ page_confirms k.message k.page
 
-  confirms : ConfirmsTold o (locals far x.steps) (told_through far x.steps false)
-  confirms w e = absurd (let z : false ≡ true = sym unconfirmed ∙ e in cc)
-
-  told_is : told_exchanged far x.steps x.passage o false ≡ false
-  told_is = (told_exchange laws.events o steps.Resting
-      (λ e. absurd (let z : false ≡ true = sym unconfirmed ∙ e in cc)) x.steps x.passage far
-      false ((λ a. tt), none_rests far.awake)).1 ∙ sym (none_rests passed.awake)
-
-  -- how the new mode and the session stand
-  pub record Left (state : State) (u : SessionState) : Type 0 where
-    pub request : RequestStands state (work_of u) u.events after passed
-    pub events : EventsStand state u.exchange u.events after.events passed
-    pub output : OutputStands state u.exchange u.output.told g.sent passed
-    pub quiet : CalmAt state n'
-
-  -- steps that clash with none of the far end's, and of which nothing is said
-  abbrev IsPlain : List Step → Type 0
-  IsPlain ys = (no_busy ys ≡ true) × (no_confirm ys ≡ true) × IsTrue (is_clash_free ys)
-      × (filter is_for_book ys ≡ []) × (filter is_report ys ≡ [])
+  abbrev pub effect : Effect c g far passed
+  effect = untold_effect c g far laws refl rests.opens x.steps x.passage o unconfirmed opens
+      (outputs_sent laws going goes (locals far x.steps) page_here level outputs_here) rests.untold
 
   -- what an outcome has to bring
-  pub record Ends (answered : Bool) (next : Core) (ys : List Step) : Type 0 where
-    pub limit : next.session.limit ≡ session.limit
-    pub configuration : next.session.configuration ≡ session.configuration
-    pub session_runs : SessionRuns (moment_of c g n (Exchanged answered)) (seen_in c g) h
-        passed.carried ys (seen_in next after) h passed.carried
-    pub frozen : FrozenRuns passed.events.frozen false ys passed.events.frozen false
-    pub images : ImagesRuns (moment_of c g n (Exchanged answered))
-        (images_of (shown_in (still session) g.sent) passed) ys
-        (images_of (shown_in next.session g.sent) passed)
-    pub plain : IsPlain ys
-    pub left : Left next.state next.session
-    pub sent : SentSeen next.session.layout next.session.output.carried.items g.sent
-    pub image : next.session.image ≡ None
-    pub shown : ShownStands next g.page
+  abbrev pub Brings : Bool → Core → List Step → Type 0
+  Brings answered next ys = Ends c g far passed effect n n' stands (below start)
+      (Exchanged answered) ys next h false
+
+  abbrev LeftIn : State → SessionState → Type 0
+  LeftIn state u = Left c g far passed effect n n' stands (below start)
+      (record { state = state; session = u }) h false
+
+  no_book : (is : Bool) → [] ≡ resets (is_reset c.state) is ++ []
+  no_book is = sym (ap (λ (was : Bool). resets was is ++ []) (reset_at start))
 
   fits_call : (start : Start) (answered : Bool) → CallFits (mode_at start) (Exchanged answered)
   fits_call start answered = grind (arith, common_steps)
 
   pub gives : (answered : Bool) → n' ≡ silence_by (Exchanged answered) n
       → (outcome : Outcome) (u : SessionState) → settled_session outcome (still session) ≡ u
-      → (ys : List Step) → Ends answered (record { state = state_of outcome; session = u }) ys
+      → (ys : List Step) → Brings answered (record { state = state_of outcome; session = u }) ys
       → IsRisen true outcome n' far far' → OutcomeFits outcome
       → Joined (state_of outcome) (settled_session outcome (still session))
       → CallGives c g far n Idle (settled_core outcome (still session)) far' n'
   gives answered silence outcome u same ys b risen fits joined =
       let next : Core = record { state = state_of outcome; session = u } in
-      let m = moment_of c g n (Exchanged answered) in
-      let before = exchange_before None far x.steps x.passage o ys b.plain.0 b.plain.1 b.plain.2 in
-      let i' = images_of (shown_in (still session) g.sent) passed in
       subst (λ (v : SessionState). CallGives c g far n Idle
       (record { state = state_of outcome; session = v }) far' n') (sym same)
-      (subst (λ (f : Far). CallGives c g far n Idle next f n') (sym x.far_is) (record {
-        call = Exchanged answered;
-        steps = xs ++ ys;
-        after = after;
-        fits = fits_call start answered;
-        silent = silence;
-        terms = (b.limit, refl, b.configuration, refl);
-        clash_free = before.free;
-        fresh = λ e. absurd (rests.fresh e);
-        said_book = before.book ∙ b.plain.3
-            ∙ sym (ap (λ (r : Bool). resets r (is_reset next.state) ++ []) (reset_at start));
-        said_reports = before.reports ∙ b.plain.4;
-        session = session_runs-append m (seen_in c g) (seen_in c g) (seen_in next after)
-            g.request.hidden h h far.carried passed.carried passed.carried xs ys
-            (exchange_session m (seen_in c g) g.request.hidden far x.steps x.passage o
-            rests.opens) b.session_runs;
-        frozen = subst (λ (t : Bool). FrozenRuns far.events.frozen t (xs ++ ys)
-            passed.events.frozen false) (sym rests.untold)
-            (frozen_runs-append far.events.frozen passed.events.frozen passed.events.frozen
-            false false false xs ys
-            (subst (λ (t : Bool). FrozenRuns far.events.frozen false xs passed.events.frozen t)
-            told_is (exchange_frozen None far x.steps x.passage o false confirms)) b.frozen);
-        images = images_runs-append m (images_in c g far) i'
-            (images_of (shown_in next.session g.sent) passed) xs ys
-            (exchange_images m None (shown_in (still session) g.sent) far x.steps x.passage o
-            (outputs_sent laws going goes (locals far x.steps) page_here level outputs_here))
-            b.images;
-        image_is_last = ((λ e. absurd (below start e.0)), (λ e. b.image), (λ e f. b.image));
-        output_is_wanted = λ e. absurd (below start e.0);
-        stands = record {
-          page = page_passed laws x.passage (locals far x.steps) o ∙ page_here ∙ stands.page;
-          kind = kind_passed ∙ stands.kind;
-          for_it = subst (λ (k : Configuration). IsFor k.devices g.kind) (sym b.configuration)
-              stands.for_it;
-          sees = subst (λ (k : Configuration). SeesPulses k.devices passed) (sym b.configuration)
-              (sees_kept session.configuration.devices far passed
-              (misses_passed laws x.passage x.steps far o) stands.sees);
-          fits = fits;
-          link = subst (λ (f : Far). StateStands (state_of outcome) n' f) x.far_is
-              risen.both.stands;
-          joined = subst (Joined (state_of outcome)) same joined;
-          calm = b.left.quiet;
-          fresh = λ e. absurd (let z : false ≡ true = e in cc);
-          sent = b.sent;
-          request = b.left.request;
-          events = b.left.events;
-          output = b.left.output;
-          shown = b.shown;
-        };
-      }))
+      (subst (λ (f : Far). CallGives c g far n Idle next f n') (sym x.far_is)
+      (call_gives c g far passed effect n n' stands (below start) (Exchanged answered) ys next h
+      false b (fits_call start answered) silence fits
+      (subst (λ (f : Far). StateStands (state_of outcome) n' f) x.far_is risen.both.stands)
+      (subst (Joined (state_of outcome)) same joined)))
 
   -- The outcomes
 
-  kept : (next : Start) → Left (state_at next) (still session)
+  kept : (next : Start) → LeftIn (state_at next) (still session)
   kept (InStart s b) = record {
     request = (
       λ _. tied.0,
@@ -484,26 +369,20 @@ module _ (laws : Laws) (heard : TextsAreHeard) (start : Start) (session : Sessio
 
   abbrev shown' : (state : State) (event : Bool)
       → ShownStands (record { state = state; session = entered event (still session) }) g.page
-  shown' state event = record {
-    image = λ e. refl;
-    wanted = stands.shown.wanted;
-    lengths = stands.shown.lengths;
-    isdu = stands.shown.isdu;
-    present = stands.shown.present;
-    no_form = refl;
-  }
+  shown' state event = shown_as stands.shown (λ e. refl) refl stands.shown.present refl
 
   -- a start-up goes on in its mode
   pub stays : (answered : Bool) (next : Start)
       → seen_in (record { state = state_at next; session = still session }) after ≡ seen_in c g
-      → Ends answered (record { state = state_at next; session = still session }) []
+      → Brings answered (record { state = state_at next; session = still session }) []
   stays answered next same = record {
     limit = refl;
     configuration = refl;
-    session_runs = (tt, ap (λ (e : Seen). session_of e h passed.carried) (sym same));
+    session = (tt, ap (λ (e : Seen). session_of e h passed.carried) (sym same));
     frozen = (tt, refl);
     images = (tt, refl);
-    plain = (refl, refl, refl, refl, refl);
+    plain = (refl, refl, refl, refl);
+    book = no_book _;
     left = kept next;
     sent = stands.sent;
     image = refl;
@@ -514,16 +393,17 @@ module _ (laws : Laws) (heard : TextsAreHeard) (start : Start) (session : Sessio
   moves : (answered event : Bool) (state : State)
       → MayMove (moment_of c g n (Exchanged answered)) (mode_at start) (mode_in state)
       (why_in state) × HoldsNothing (mode_in state) h.late
-      → Left state (entered event (still session))
-      → Ends answered (record { state = state; session = entered event (still session) })
+      → LeftIn state (entered event (still session))
+      → Brings answered (record { state = state; session = entered event (still session) })
       (MoveTo (mode_in state) (why_in state) ∷ [])
   moves answered event state may left = record {
     limit = refl;
     configuration = refl;
-    session_runs = ((may, tt), refl);
+    session = ((may, tt), refl);
     frozen = ((tt, tt), refl);
     images = ((tt, tt), refl);
-    plain = (refl, refl, refl, refl, refl);
+    plain = (refl, refl, refl, refl);
+    book = no_book _;
     left = left;
     sent = stands.sent;
     image = refl;
@@ -533,15 +413,14 @@ module _ (laws : Laws) (heard : TextsAreHeard) (start : Start) (session : Sessio
   -- it goes down, for a cause
   pub falls : (answered : Bool) (why : Why)
       → MayMove (moment_of c g n (Exchanged answered)) (mode_at start) ModeDown (Some why)
-      → Ends answered (settled_core (InDown (record { why = Some why })) (still session))
+      → Brings answered (settled_core (InDown (record { why = Some why })) (still session))
       (MoveTo ModeDown (Some why) ∷ [])
-  falls answered why may =
-      moves answered session.events.flag (AtDown (record { why = Some why })) (may, tt)
-      (record { request = opens; events = tt; output = tt; quiet = tt })
+  falls answered why may = call_falls c g far passed effect n n' stands (below start)
+      (Exchanged answered) why refl may
 
   -- it comes to PREOPERATE
   pub climbs : (s : Preoperate) → MayMove (moment_of c g n (Exchanged true)) (mode_at start)
-      ModePreoperate None → Ends true
+      ModePreoperate None → Brings true
       (record { state = AtPreoperate s; session = still session })
       (MoveTo ModePreoperate None ∷ [])
   climbs s may = moves true session.events.flag (AtPreoperate s) (may, tied.0) (kept (InPre s))
@@ -553,7 +432,7 @@ module _ (laws : Laws) (heard : TextsAreHeard) (start : Start) (session : Sessio
       → layouts_of g.page ≡ Ok read.layouts → read.layouts.isdu ≡ knows_isdu g.page
       → read.page ≡ g.page → is_expected session.configuration.expected g.page ≡ true
       → IsSession (still session)
-      → Ends true (record { state = AtStartup s; session = told read (still session) })
+      → Brings true (record { state = AtStartup s; session = told read (still session) })
       (TellLength ∷ [])
   tells s behind read first same asked isdu page right valid =
       let q = kept (InStart s behind) in
@@ -580,7 +459,7 @@ module _ (laws : Laws) (heard : TextsAreHeard) (start : Start) (session : Sessio
       record {
         limit = refl;
         configuration = refl;
-        session_runs = ((tt, tt), ap (λ (e : Seen). session_of e h passed.carried) (sym same));
+        session = ((tt, tt), ap (λ (e : Seen). session_of e h passed.carried) (sym same));
         frozen = ((tt, tt), refl);
         images = (
           ((first, right), tt),
@@ -592,7 +471,8 @@ module _ (laws : Laws) (heard : TextsAreHeard) (start : Start) (session : Sessio
                 page = w.page i;
               }) passed in y,
         );
-        plain = (refl, refl, refl, refl, refl);
+        plain = (refl, refl, refl, refl);
+        book = no_book _;
         left = record {
           request = q.request;
           events = q.events;
@@ -619,7 +499,7 @@ module _ (laws : Laws) (heard : TextsAreHeard) (start : Start) (session : Sessio
       → MayMove (moment_of c g n (Exchanged true)) (mode_at start) ModeOperate None
       → passed.events.held ≡ false → r.event ≡ not (is_empty passed.events.frozen)
       → IsEntered (record { out = None; layouts = layouts }) n' far' r
-      → Ends true (record {
+      → Brings true (record {
         state = AtOperate (record { out = None; layouts = layouts });
         session = entered r.event (still session);
       }) (MoveTo ModeOperate None ∷ [])

@@ -28,12 +28,13 @@ use Rattle.iol_mode.specs.declared.states.Told.{Told}
 use Rattle.iol_mode.specs.declared.states.Step.{Step as PageStep}
 use Rattle.iol_mode.specs.declared.states.Step.TheVariants.{Reset, First, Read, Ident, Leave, Cycle, Enter}
 use Rattle.iol_mode.specs.declared.states.State.{State}
-use Rattle.iol_mode.specs.declared.states.State.TheVariants.{Startup as AtStartup, Preoperate as AtPreoperate}
+use Rattle.iol_mode.specs.declared.states.State.TheVariants.{Startup as AtStartup, Preoperate as AtPreoperate, Operate as AtOperate}
+use Rattle.iol_mode.specs.declared.why.Why.{Why}
 use Rattle.iol_mode.specs.declared.why.Why.TheVariants.{Lost, WrongDevice}
 use Rattle.iol_mode.specs.Why.{why_of}
 use Rattle.iol_mode.specs.Next.{IsEntered, read_by}
 use Rattle.iol_mode.specs.Stands.{StepStands}
-use Rattle.iol_mode.specs.States.{Outcome, InDown, InOperate, is_behind, is_reset, OutcomeFits, StepFits, state_of, is_starting, begun, step_behind, step_after, told_of, page_taken, taken_where, checked, startup_by, startup_turned, preoperate_by, preoperate_after, preoperate_turned}
+use Rattle.iol_mode.specs.States.{Outcome, InDown, is_behind, is_reset, OutcomeFits, StepFits, state_of, is_starting, begun, step_behind, step_after, told_of, page_taken, taken_where, checked, startup_by, startup_turned, preoperate_by, preoperate_after, preoperate_turned}
 use Rattle.iol_mode.specs.Turns.{IsRisen}
 use Rattle.iol_steps.specs.declared.mode.Mode.TheVariants.{Down as ModeDown, Startup as ModeStartup, Preoperate as ModePreoperate, Operate as ModeOperate}
 use Rattle.iol_steps.specs.declared.said.Said.TheVariants.{Idle}
@@ -44,12 +45,12 @@ use Rattle.iol_app.proofs.EventReading.{ends_hold}
 use Rattle.iol_app.specs.State.{SessionState, IsSession, told, entered}
 use Rattle.iol_app.specs.StationState.{StateFits as Joined, IsTold as IsToldBy, settled_session, told_in}
 use Rattle.iol_app.proofs.Telling.{told_stays}
-use Rattle.iol_app.specs.Core.{Ghost, Stands, CallGives, Rises, moment_of, settled_core}
+use Rattle.iol_app.specs.Core.{Core, Ghost, Stands, CallGives, Rises, moment_of, seen_in, settled_core}
 use Rattle.iol_mode.specs.Exchanges.{text_out, judged}
 use Rattle.iol_app.proofs.FarSide.{Goes, IsGoing, silent, replied, IsReplied}
 use Rattle.iol_app.proofs.SmallFacts.{third_time}
 use Rattle.iol_app.proofs.Leaving.{leaving_rises}
-use Rattle.iol_app.proofs.StartExchange.{InStart, InPre, Start, state_at, mode_at, same_expected, still, is_still, Message, message_of, rests_of, going, goes as goes_going, unconfirmed, Ends, gives, stays, falls, climbs, tells, enters}
+use Rattle.iol_app.proofs.StartExchange.{InStart, InPre, Start, Rests, state_at, mode_at, same_expected, still, is_still, Message, message_of, rests_of, going, goes as goes_going, unconfirmed, Brings, gives, stays, falls, climbs, tells, enters}
 
 -- what is known of every start-up
 record Known : Type 0 where
@@ -61,9 +62,12 @@ module _ (known : Known) (session : SessionState) (valid : IsSession (still sess
     (g : Ghost) (far far' : Far) (n n' : ℕ) (came : Option (List ℕ)) where
   open known use {laws, heard, asks}
 
-  abbrev CallGivesBy : State → Outcome → Type 0
-  CallGivesBy state outcome = CallGives (record { state = state; session = still session }) g
-      far n Idle (settled_core outcome (still session)) far' n'
+  -- from the mode that it began in, what such an outcome gives
+  abbrev Rising : State → Outcome → Type 0
+  Rising state outcome = IsRisen true outcome n' far far' → OutcomeFits outcome
+      → Joined (state_of outcome) (settled_session outcome (still session))
+      → CallGives (record { state = state; session = still session }) g far n Idle
+      (settled_core outcome (still session)) far' n'
 
   asked_by : (layouts : Layouts) → layouts_of g.page ≡ Ok layouts → IsAskedBy g.page layouts
   asked_by layouts e = subst (λ (q : Result Layouts PageFault). IfOk q (IsAskedBy g.page)) e
@@ -78,19 +82,34 @@ module _ (known : Known) (session : SessionState) (valid : IsSession (still sess
     exchange : HonestExchange far n (master_text k.shape k.message) came far' n'
     exchange = subst (λ (o : List ℕ). HonestExchange far n o came far' n') k.text_is x
 
-    abbrev By : Bool → Outcome → SessionState → List Step → Type 0
-    By answered outcome u ys = Ends laws heard start session g far far' n n' came stands
-        (rests_of start (still session) g far n stands) k exchange answered
-        (record { state = state_of outcome; session = u }) ys
+    abbrev rests : Rests start (still session) g far
+    rests = rests_of start (still session) g far n stands
+
+    abbrev By : Bool → Core → List Step → Type 0
+    By answered next ys = Brings laws heard start session g far far' n n' came stands rests k
+        exchange answered next ys
 
     by : (answered : Bool) → n' ≡ silence_by (Exchanged answered) n
         → (outcome : Outcome) (u : SessionState) → settled_session outcome (still session) ≡ u
-        → (ys : List Step) → By answered outcome u ys
-        → IsRisen true outcome n' far far' → OutcomeFits outcome
-        → Joined (state_of outcome) (settled_session outcome (still session))
-        → CallGivesBy (state_at start) outcome
-    by = gives laws heard start session g far far' n n' came stands
-        (rests_of start (still session) g far n stands) k exchange
+        → (ys : List Step) → By answered (record { state = state_of outcome; session = u }) ys
+        → Rising (state_at start) outcome
+    by = gives laws heard start session g far far' n n' came stands rests k exchange
+
+    -- it goes down, for a cause
+    down : (answered : Bool) → n' ≡ silence_by (Exchanged answered) n → (why : Why)
+        → MayMove (moment_of (record { state = state_at start; session = still session }) g n
+        (Exchanged answered)) (mode_at start) ModeDown (Some why)
+        → Rising (state_at start) (InDown (record { why = Some why }))
+    down answered silence why may = by answered silence _ _ refl _
+        (falls laws heard start session g far far' n n' came stands rests k exchange answered why
+        may)
+
+    -- it goes on in its mode
+    staying : (answered : Bool) (next : Start)
+        → seen_in (record { state = state_at next; session = still session }) g
+        ≡ seen_in (record { state = state_at start; session = still session }) g
+        → By answered (record { state = state_at next; session = still session }) []
+    staying = stays laws heard start session g far far' n n' came stands rests k exchange
 
     page_new : far'.page ≡ g.page
     page_new = ap (λ (f : Far). f.page) exchange.far_is
@@ -99,11 +118,11 @@ module _ (known : Known) (session : SessionState) (valid : IsSession (still sess
 
     abbrev sending : Goes
     sending = going laws heard start session g far far' n n' came stands
-        (rests_of start (still session) g far n stands) k exchange
+        rests k exchange
 
     goes_out : IsGoing sending
     goes_out = goes_going laws heard start session g far far' n n' came stands
-        (rests_of start (still session) g far n stands) k exchange
+        rests k exchange
 
     abbrev Good : Reply → Type 0
     Good r = IsReplied laws sending goes_out far far' n n' came exchange k.level r
@@ -113,16 +132,18 @@ module _ (known : Known) (session : SessionState) (valid : IsSession (still sess
         → MayMove (moment_of (record { state = state_at start; session = still session }) g n
         (Exchanged true)) (mode_at start) ModeOperate None
         → IsEntered (record { out = None; layouts = layouts }) n' far' r
-        → By true (InOperate (record { out = None; layouts = layouts }) (Some r))
-        (entered r.event (still session)) (MoveTo ModeOperate None ∷ [])
+        → By true (record {
+          state = AtOperate (record { out = None; layouts = layouts });
+          session = entered r.event (still session);
+        }) (MoveTo ModeOperate None ∷ [])
     enters_by layouts r good may entered_is =
         let same = sym good.far_is ∙ exchange.far_is in
         enters laws heard start session g far far' n n' came stands
-        (rests_of start (still session) g far n stands) k exchange layouts r may
+        rests k exchange layouts r may
         (subst (λ (f : Far). f.events.held ≡ false) same
         (ends_hold (locals far exchange.steps) (master_text k.shape k.message) good.octets
         (unconfirmed laws heard start session g far far' n n' came stands
-        (rests_of start (still session) g far n stands) k exchange) good.replies))
+        rests k exchange) good.replies))
         (ap (λ (q : Reply). q.event) good.reply_is
         ∙ ap (λ (f : Far). not (is_empty f.events.frozen)) same) entered_is
 
@@ -138,45 +159,29 @@ module _ (known : Known) (session : SessionState) (valid : IsSession (still sess
       (record { state = AtPreoperate s; session = still session }) g far n)
       (x : HonestExchange far n (text_out (AtPreoperate s)) came far' n') where
     pre_tries : (b : Bool) → (s.sent.tries == 2) ≡ b → n' ≡ min 3 (n + 1)
-        → let o : Outcome = preoperate_by
+        → Rising (AtPreoperate s) (preoperate_by
         (record { message = s.sent.message; tries = if b then 0 else s.sent.tries + 1 })
-        s.cycle_written s.pre s.layouts (if b then WasLost else Again) in
-        IsRisen true o n' far far' → OutcomeFits o
-        → Joined (state_of o) (settled_session o (still session))
-        → CallGivesBy (AtPreoperate s) o
-    pre_tries true two silence risen fits joined =
+        s.cycle_written s.pre s.layouts (if b then WasLost else Again))
+    pre_tries true two silence =
+        down (InPre s) stands x false silence Lost
+        (third_time s.sent.tries n (grind (arith, nat_tests)) stands.link.tries)
+    pre_tries false two silence =
         by (InPre s) stands x false silence _ _ refl _
-        (falls laws heard (InPre s) session g far far' n n' came stands _ _ _ false Lost
-        (third_time s.sent.tries n (grind (arith, nat_tests)) stands.link.tries)) risen
-        fits joined
-    pre_tries false two silence risen fits joined =
-        by (InPre s) stands x false silence _ _ refl _
-        (stays laws heard (InPre s) session g far far' n n' came stands _ _ _ false
-        (InPre _) refl) risen fits joined
+        (staying (InPre s) stands x false (InPre _) refl)
 
     pre_written : (written : Bool) (r : Reply) → Good (InPre s) stands x r
-        → IsRisen true (preoperate_after written s.pre s.layouts r) n' far far'
-        → OutcomeFits (preoperate_after written s.pre s.layouts r)
-        → Joined (state_of (preoperate_after written s.pre s.layouts r))
-        (settled_session (preoperate_after written s.pre s.layouts r) (still session))
-        → CallGivesBy (AtPreoperate s) (preoperate_after written s.pre s.layouts r)
-    pre_written true r good risen fits joined =
+        → Rising (AtPreoperate s) (preoperate_after written s.pre s.layouts r)
+    pre_written true r good risen =
         by (InPre s) stands x true good.silence_is _ _ refl _
-        (enters_by (InPre s) stands x s.layouts r good tt risen.entered) risen fits joined
-    pre_written false r good risen fits joined =
+        (enters_by (InPre s) stands x s.layouts r good tt risen.entered) risen
+    pre_written false r good risen =
         by (InPre s) stands x true good.silence_is _ _ refl _
-        (stays laws heard (InPre s) session g far far' n n' came stands _ _ _ true (InPre _)
-        refl) risen fits joined
+        (staying (InPre s) stands x true (InPre _) refl) risen
 
     pre_rises : (q : Option Reply) → good_reply s.pre s.sent.message came ≡ q
-        → IsRisen true (preoperate_turned s q) n' far far' → OutcomeFits (preoperate_turned s q)
-        → Joined (state_of (preoperate_turned s q))
-        (settled_session (preoperate_turned s q) (still session))
-        → CallGivesBy (AtPreoperate s) (preoperate_turned s q)
-    pre_rises None e risen fits joined =
-        pre_tries (s.sent.tries == 2) refl (missed_by (InPre s) stands x e) risen fits joined
-    pre_rises (Some r) e risen fits joined =
-        pre_written s.cycle_written r (had_by (InPre s) stands x r e) risen fits joined
+        → Rising (AtPreoperate s) (preoperate_turned s q)
+    pre_rises None e = pre_tries (s.sent.tries == 2) refl (missed_by (InPre s) stands x e)
+    pre_rises (Some r) e = pre_written s.cycle_written r (had_by (InPre s) stands x r e)
 
   -- STARTUP
   module _ (s : Startup) (b : is_behind s.step ≡ true) (stands : Stands
@@ -189,32 +194,24 @@ module _ (known : Known) (session : SessionState) (valid : IsSession (still sess
     asked_of layouts e = asked_by layouts (ap layouts_of (sym stands.page) ∙ e)
 
     start_tries : (b : Bool) → (s.sent.tries == 2) ≡ b → n' ≡ min 3 (n + 1)
-        → let o : Outcome = startup_by session.configuration
+        → Rising (AtStartup s) (startup_by session.configuration
         (record { message = s.sent.message; tries = if b then 0 else s.sent.tries + 1 })
-        s.step (if b then WasLost else Again) in
-        IsRisen true o n' far far' → OutcomeFits o
-        → Joined (state_of o) (settled_session o (still session)) → CallGivesBy (AtStartup s) o
-    start_tries true two silence risen fits joined =
-        by (InStart s b) stands x false silence _ _ refl _
-        (falls laws heard (InStart s b) session g far far' n n' came stands _ _ _ false Lost
-        (third_time s.sent.tries n (grind (arith, nat_tests)) stands.link.tries)) risen
-        fits joined
-    start_tries false two silence risen fits joined =
+        s.step (if b then WasLost else Again))
+    start_tries true two silence =
+        down (InStart s b) stands x false silence Lost
+        (third_time s.sent.tries n (grind (arith, nat_tests)) stands.link.tries)
+    start_tries false two silence =
         by (InStart s b) stands x false silence _ _
         (told_stays (read_by s.step) (still session) valid stands.joined.1) _
-        (stays laws heard (InStart s b) session g far far' n n' came stands _ _ _ false
-        (InStart _ b) refl) risen fits joined
+        (staying (InStart s b) stands x false (InStart _ b) refl)
 
     module _ (r : Reply) (good : Good (InStart s b) stands x r) where
       goes : (step : PageStep) → is_behind step ≡ true
           → told_in (read_by step) (still session) ≡ still session
-          → IsRisen true (begun step) n' far far' → OutcomeFits (begun step)
-          → Joined (state_of (begun step)) (settled_session (begun step) (still session))
-          → CallGivesBy (AtStartup s) (begun step)
-      goes step behind same risen fits joined =
+          → Rising (AtStartup s) (begun step)
+      goes step behind same =
           by (InStart s b) stands x true good.silence_is _ _ same _
-          (stays laws heard (InStart s b) session g far far' n n' came stands _ _ _ true
-          (InStart _ behind) refl) risen fits joined
+          (staying (InStart s b) stands x true (InStart _ behind) refl)
 
       may_fault : (fault : PageFault) → page_fault g.page ≡ Some (why_of fault)
           → MayMove m ModeStartup ModeDown (Some (why_of fault))
@@ -238,20 +235,15 @@ module _ (known : Known) (session : SessionState) (valid : IsSession (still sess
       abbrev asks_now : Configuration
       asks_now = session.configuration
 
-      abbrev Rising : Outcome → Type 0
-      Rising outcome = IsRisen true outcome n' far far' → OutcomeFits outcome
-          → Joined (state_of outcome) (settled_session outcome (still session))
-          → CallGivesBy (AtStartup s) outcome
-
       by_taken : (asked : Result Layouts PageFault) (octets : List ℕ)
-          → is_expected asks_now.expected octets ≡ true → Rising (page_taken asks_now asked octets)
-      by_taken (Err fault) octets known risen fits joined =
+          → is_expected asks_now.expected octets ≡ true
+          → Rising (AtStartup s) (page_taken asks_now asked octets)
+      by_taken (Err fault) octets known risen =
           let asked : layouts_of g.page ≡ Err fault =
           ap layouts_of (sym (page_new (InStart s b) stands x)) ∙ risen.fault fault refl in
-          by (InStart s b) stands x true good.silence_is _ _ refl _
-          (falls laws heard (InStart s b) session g far far' n n' came stands _ _ _ true
-          (why_of fault) (may_fault fault (ap fault_in asked))) risen fits joined
-      by_taken (Ok layouts) octets known risen fits joined =
+          down (InStart s b) stands x true good.silence_is (why_of fault)
+          (may_fault fault (ap fault_in asked)) risen
+      by_taken (Ok layouts) octets known risen =
           let read : Told = told_of asks_now layouts octets in
           let new : far'.page ≡ g.page = page_new (InStart s b) stands x in
           let behind = behind_told read layouts.pre risen.both.stands.step in
@@ -260,74 +252,70 @@ module _ (known : Known) (session : SessionState) (valid : IsSession (still sess
           let right : is_expected asks_now.expected g.page ≡ true =
           ap (is_expected asks_now.expected) (sym page) ∙ known in
           by (InStart s b) stands x true good.silence_is _ _ (behind_session read layouts.pre) _
-          (tells laws heard (InStart s b) session g far far' n n' came stands _ _ _ _
-          (behind_page read layouts.pre) read refl
-          refl asked (asked_by layouts asked).isdu page right valid) risen fits joined
+          (tells laws heard (InStart s b) session g far far' n n' came stands
+          (rests (InStart s b) stands x) (k (InStart s b) stands x)
+          (exchange (InStart s b) stands x) _ (behind_page read layouts.pre) read refl
+          refl asked (asked_by layouts asked).isdu page right valid) risen
 
       -- another device is there than the one that is expected
       by_wrong : (octets : List ℕ) → is_expected asks_now.expected octets ≡ false
-          → Rising (InDown (record { why = Some (WrongDevice (identity_of octets)) }))
-      by_wrong octets unknown risen fits joined =
+          → Rising (AtStartup s) (InDown (record { why = Some (WrongDevice (identity_of octets)) }))
+      by_wrong octets unknown risen =
           let found : identity_of g.page ≡ identity_of octets =
           ap identity_of (sym (page_new (InStart s b) stands x))
           ∙ risen.device (identity_of octets) refl in
           let wrong : is_expected asks_now.expected g.page ≡ false =
           same_expected asks_now.expected g.page octets found ∙ unknown in
-          by (InStart s b) stands x true good.silence_is _ _ refl _
-          (falls laws heard (InStart s b) session g far far' n n' came stands _ _ _ true
-          (WrongDevice (identity_of octets)) (found, wrong)) risen fits joined
+          down (InStart s b) stands x true good.silence_is (WrongDevice (identity_of octets))
+          (found, wrong) risen
 
       by_known : (b : Bool) (octets : List ℕ) → is_expected asks_now.expected octets ≡ b
-          → Rising (taken_where b asks_now (layouts_of octets) octets)
+          → Rising (AtStartup s) (taken_where b asks_now (layouts_of octets) octets)
       by_known true octets known = by_taken (layouts_of octets) octets known
       by_known false octets known = by_wrong octets known
 
       by_octets : (b : Bool) (octets : List ℕ)
-          → Rising (if b then checked asks_now (layouts_of octets) octets else begun
+          → Rising (AtStartup s) (if b then checked asks_now (layouts_of octets) octets else begun
           (Read (record { items = octets })))
-      by_octets true octets risen fits joined =
-          by_known (is_expected asks_now.expected octets) octets refl risen fits joined
-      by_octets false octets risen fits joined =
-          goes (Read (record { items = octets })) refl refl risen fits joined
+      by_octets true octets = by_known (is_expected asks_now.expected octets) octets refl
+      by_octets false octets = goes (Read (record { items = octets })) refl refl
 
       by_step : (step : PageStep) → is_behind step ≡ true → StepFits step → StepStands step far
-          → IsToldBy (read_by step) (still session) → Rising (step_after asks_now step r)
-      by_step Reset behind proper at before risen fits joined = absurd (cc)
-      by_step First behind proper at before risen fits joined = absurd (cc)
-      by_step (Read read) behind proper at before risen fits joined =
+          → IsToldBy (read_by step) (still session)
+          → Rising (AtStartup s) (step_after asks_now step r)
+      by_step Reset behind proper at before risen = absurd (cc)
+      by_step First behind proper at before risen = absurd (cc)
+      by_step (Read read) behind proper at before risen =
           by_octets (length (read.items ++ slice_index r.od.items 0 ∷ []) == 10)
-          (read.items ++ slice_index r.od.items 0 ∷ []) risen fits joined
-      by_step (Ident page pre) behind proper at before risen fits joined =
+          (read.items ++ slice_index r.od.items 0 ∷ []) risen
+      by_step (Ident page pre) behind proper at before risen =
           goes (Leave page pre) refl (told_stays (Some page) (still session) valid before) risen
-          fits joined
-      by_step (Cycle page) behind proper at before risen fits joined =
-          goes (Enter page) refl (told_stays (Some page) (still session) valid before) risen fits
-          joined
-      by_step (Leave page pre) behind proper at before risen fits joined =
+      by_step (Cycle page) behind proper at before risen =
+          goes (Enter page) refl (told_stays (Some page) (still session) valid before) risen
+      by_step (Leave page pre) behind proper at before risen =
           let q = asked_of page.layouts at.0 in
           let present : is_present g.page ≡ true = q.present ∙ sym q.old
           ∙ ap (λ (p : Option Shape). is_some p) proper.pre_is in
           by (InStart s b) stands x true good.silence_is _ _ refl _
-          (climbs laws heard (InStart s b) session g far far' n n' came stands _ _ _ _
-          present) risen fits joined
-      by_step (Enter page) behind proper at before risen fits joined =
+          (climbs laws heard (InStart s b) session g far far' n n' came stands
+          (rests (InStart s b) stands x) (k (InStart s b) stands x)
+          (exchange (InStart s b) stands x) _ present) risen
+      by_step (Enter page) behind proper at before risen =
           let q = asked_of page.layouts at.0 in
           let none : not (is_old g.page) ≡ false = sym q.old
           ∙ ap (λ (p : Option Shape). is_some p) proper.old in
           let old : is_old g.page ≡ true = grind (arith, common_steps, none) in
           by (InStart s b) stands x true good.silence_is _ _ refl _
-          (enters_by (InStart s b) stands x page.layouts r good old risen.entered) risen fits
-          joined
+          (enters_by (InStart s b) stands x page.layouts r good old risen.entered)
+          risen
 
     start_rises : (q : Option Reply) → good_reply startup_shape s.sent.message came ≡ q
-        → let o : Outcome = startup_turned session.configuration s q in
-        IsRisen true o n' far far' → OutcomeFits o
-        → Joined (state_of o) (settled_session o (still session)) → CallGivesBy (AtStartup s) o
-    start_rises None e risen fits joined =
-        start_tries (s.sent.tries == 2) refl (missed_by (InStart s b) stands x e) risen fits joined
-    start_rises (Some r) e risen fits joined =
+        → Rising (AtStartup s) (startup_turned session.configuration s q)
+    start_rises None e =
+        start_tries (s.sent.tries == 2) refl (missed_by (InStart s b) stands x e)
+    start_rises (Some r) e =
         by_step r (had_by (InStart s b) stands x r e) s.step b stands.fits.step stands.link.step
-        stands.joined.1 risen fits joined
+        stands.joined.1
 
 -- in both
 -- whose device was reset

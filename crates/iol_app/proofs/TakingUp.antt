@@ -110,6 +110,17 @@ joined_up current answer had h low octets same =
     by_stage : (at : Stage) → stage octets ≡ at → IsUp at → IsUp (stage octets)
     by_stage at e = subst IsUp (sym e)
 
+-- the first segment of an answer is no word of the device's own
+module _ (cutter : Cutting Request) (od : List ℕ) (answer : Answer) (h : Fitting cutter answer)
+    (is : od ≡ joined_octets cutter.size (answer_text cutter.source answer) 0) where
+  not_busy : (slice_index od 0 == 1) ≡ false
+  not_busy = ap (λ (xs : List ℕ). slice_index xs 0 == 1) is
+      ∙ h.laws.busy (is_read cutter.source) answer h.valid
+
+  not_none : (slice_index od 0 == 0) ≡ false
+  not_none = ap (λ (xs : List ℕ). slice_index xs 0 == 0) is
+      ∙ h.laws.silent (is_read cutter.source) answer h.valid
+
 taken_up : (current : Current) (p : Cursor) (limit : ℕ) (od : List ℕ) (answer : Answer)
     → IsCurrent current → is_forgotten p current.again od ≡ false → current.progress ≡ p
     → IsReading p
@@ -120,21 +131,11 @@ taken_up : (current : Current) (p : Cursor) (limit : ℕ) (od : List ℕ) (answe
     → IsTakenUp current answer (next_segment p) (octets_had p od)
     (replied_at p limit od current)
 taken_up current Doubting limit od answer c kept e reading h is low =
-    let not_busy : (slice_index od 0 == 1) ≡ false =
-    ap (λ (xs : List ℕ). slice_index xs 0 == 1) is
-    ∙ h.laws.busy (is_read current.cutter.source) answer h.valid in
-    let not_none : (slice_index od 0 == 0) ≡ false =
-    ap (λ (xs : List ℕ). slice_index xs 0 == 0) is
-    ∙ h.laws.silent (is_read current.cutter.source) answer h.valid in
-    rw (not_none, not_busy) (joined_up current answer 0 h low od is)
+    rw (not_none current.cutter od answer h is, not_busy current.cutter od answer h is)
+    (joined_up current answer 0 h low od is)
 taken_up current (Asking busy) limit od answer c kept e reading h is low =
-    let not_busy : (slice_index od 0 == 1) ≡ false =
-    ap (λ (xs : List ℕ). slice_index xs 0 == 1) is
-    ∙ h.laws.busy (is_read current.cutter.source) answer h.valid in
-    let not_none : (slice_index od 0 == 0) ≡ false =
-    ap (λ (xs : List ℕ). slice_index xs 0 == 0) is
-    ∙ h.laws.silent (is_read current.cutter.source) answer h.valid in
-    rw (not_busy, not_none) (joined_up current answer 0 h low od is)
+    rw (not_busy current.cutter od answer h is, not_none current.cutter od answer h is)
+    (joined_up current answer 0 h low od is)
 taken_up current (Receiving joining had) limit od answer c kept e reading h is low =
     rw (
       kept,

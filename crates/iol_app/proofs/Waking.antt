@@ -1,7 +1,7 @@
 -- A wake.
 use Rattle.std.proofs.Common.{◌≡◌, ◌≢◌, inl, inr, ℕ, ◌≤◌, Bool, true, false, List, [], ◌∷◌, refl, sym, ◌∙◌, ap, subst, arith}
 use Rattle.std.proofs.lemmas.Grind.{common_steps}
-use Rattle.std.specs.Prelude.{Some, None}
+use Rattle.std.specs.Prelude.{None}
 use Rattle.iol_event.specs.declared.event.Event.{Event}
 use Rattle.iol_far.specs.Far.{Far, hear}
 use Rattle.iol_far.specs.Local.{locals, woken}
@@ -22,20 +22,16 @@ use Rattle.iol_mode.specs.States.{StateFits, IsDown, state_of, waked}
 use Rattle.iol_mode.specs.Stands.{StateStands}
 use Rattle.iol_steps.specs.declared.mode.Mode.TheVariants.{Down as ModeDown, Operate as ModeOperate}
 use Rattle.iol_steps.specs.declared.said.Said.TheVariants.{Idle}
-use Rattle.iol_steps.specs.Step.{Start, Reset, Move as MoveTo, Woke}
-use Rattle.iol_steps.specs.FrozenEvents.{untold}
-use Rattle.iol_steps.specs.Station.{frozen_of}
-use Rattle.iol_app.proofs.Given.{Laws, all_laws, sees_kept}
+use Rattle.iol_steps.specs.Step.{Start, Reset, Woke}
+use Rattle.iol_app.proofs.Given.{Laws, all_laws}
 use Rattle.iol_app.proofs.OwnSession.{woken_if}
 use Rattle.iol_app.proofs.Orderly.{orderly_locals, alike_sent, test_confirms, test_to_page}
-use Rattle.iol_app.proofs.Effects.{Effect, seen_effect, passed_effect, gives}
+use Rattle.iol_app.proofs.Effects.{Effect, seen_effect, passed_effect, opens_passed, untold_of, gives, loses}
+use Rattle.iol_app.proofs.Shown.{shown_as}
 use Rattle.iol_app.specs.Requests.{request_in}
 use Rattle.iol_app.specs.State.{SessionState}
 use Rattle.iol_app.specs.StationState.{settled_session, waked_session}
 use Rattle.iol_app.specs.Core.{Core, Ghost, Stands, CallGives, Wakes, after_wake}
-
-untold_of : (f : List Event) (t : Bool) → untold (frozen_of f t) ≡ frozen_of f false
-untold_of f t = grind (arith, common_steps)
 
 -- the core after a wake of a port for these devices
 abbrev woken_by : Devices → Bool → SessionState → Core
@@ -45,8 +41,7 @@ woken_by devices answered t = record {
 }
 
 may_reset : (devices : Devices) → devices ≡ Own → MayReset devices ModeDown (Woke true)
-may_reset Own e = (refl, refl)
-may_reset Any e = absurd (cc)
+may_reset devices e = grind (arith, common_steps)
 
 module _ (s : Down) (t : SessionState) (g : Ghost) (far : Far) (silence : ℕ)
     (stands : Stands (record { state = AtDown s; session = t }) g far silence) where
@@ -59,51 +54,27 @@ module _ (s : Down) (t : SessionState) (g : Ghost) (far : Far) (silence : ℕ)
   below : ModeDown ≢ ModeOperate
   below e = absurd (cc)
 
+  no_image : t.image ≡ None
+  no_image = stands.shown.image below
+
   module _ (far' : Far) (effect : Effect c g far far') where
-    sees_now : SeesPulses t.configuration.devices far'
-    sees_now = sees_kept t.configuration.devices far far' effect.misses stands.sees
-
-    abbrev started_ghost : Ghost
-    started_ghost = record g {
-      request = record g.request { hidden = effect.hidden };
-      events = record g.events { told = false };
-      fresh = false;
-    }
-
     -- a port for any device knows nothing of it yet
     starts : t.configuration.devices ≡ Any
         → StateStands (state_of (waked Any true)) silence far'
         → StateFits (state_of (waked Any true))
         → CallGives c g far silence Idle (woken_by Any true t) far' silence
     starts any link fits =
-        gives c g far far' effect silence silence (Woke true) (Start ∷ []) (woken_by Any true t)
-        started_ghost (record {
-          fits = tt;
-          silent = refl;
-          terms = (refl, refl, refl, refl);
-          busy = refl;
-          confirm = refl;
-          free = refl;
+        gives c g far far' effect silence silence stands below (Woke true) (Start ∷ [])
+        (woken_by Any true t) effect.hidden false (record {
+          limit = refl;
+          configuration = refl;
+          plain = (refl, refl, refl, refl);
           book = refl;
-          reports = refl;
           session = (((any, refl, refl), tt), rw free refl);
           frozen = ((tt, tt), untold_of far'.events.frozen effect.told);
           images = ((tt, tt), refl);
-          below = below;
-          fresh = stands.fresh;
-          was_image = stands.shown.image below;
-          image = stands.shown.image below;
-          stands = record {
-            page = effect.page ∙ stands.page;
-            kind = effect.kind ∙ stands.kind;
-            for_it = stands.for_it;
-            sees = sees_now;
-            fits = fits;
-            link = link;
-            joined = (stands.joined, tt);
-            calm = tt;
-            fresh = λ k. absurd (let z : false ≡ true = k in cc);
-            sent = stands.sent;
+          image = no_image;
+          left = record {
             request = (
               λ b. absurd (let z : false ≡ true = b in cc),
               effect.opens,
@@ -112,223 +83,127 @@ module _ (s : Down) (t : SessionState) (g : Ghost) (far : Far) (silence : ℕ)
             );
             events = (refl, refl);
             output = (refl, λ b. absurd (let z : false ≡ true = b in cc));
-            shown = record {
-              image = λ e. stands.shown.image below;
-              wanted = stands.shown.wanted;
-              lengths = stands.shown.lengths;
-              isdu = stands.shown.isdu;
-              present = tt;
-              no_form = refl;
-            };
+            quiet = tt;
           };
-        })
-
-    abbrev failed_ghost : Ghost
-    failed_ghost = record g {
-      request = record g.request { hidden = effect.hidden };
-      events = record g.events { told = effect.told };
-      fresh = false;
-    }
+          sent = stands.sent;
+          shown = shown_as stands.shown (λ e. no_image) refl tt refl;
+        }) tt refl fits link (stands.joined, tt)
 
     -- no rate is answered
     fails : CallGives c g far silence Idle (after_wake false t) far' silence
-    fails =
-        let gone : t.image ≡ None = stands.shown.image below in
-        gives c g far far' effect silence silence (Woke false) (MoveTo ModeDown (Some NoWake) ∷ [])
-        (after_wake false t) failed_ghost (record {
-          fits = tt;
-          silent = refl;
-          terms = (refl, refl, refl, refl);
-          busy = refl;
-          confirm = refl;
-          free = refl;
-          book = refl;
-          reports = refl;
-          session = (((refl, tt), tt), rw free refl);
-          frozen = ((tt, tt), refl);
-          images = ((tt, tt), rw gone refl);
-          below = below;
-          fresh = stands.fresh;
-          was_image = gone;
-          image = refl;
-          stands = record {
-            page = effect.page ∙ stands.page;
-            kind = effect.kind ∙ stands.kind;
-            for_it = stands.for_it;
-            sees = sees_now;
-            fits = tt;
-            link = tt;
-            joined = (refl, refl);
-            calm = tt;
-            fresh = λ k. absurd (let z : false ≡ true = k in cc);
-            sent = stands.sent;
-            request = effect.opens;
-            events = tt;
-            output = tt;
-            shown = record {
-              image = λ e. refl;
-              wanted = stands.shown.wanted;
-              lengths = stands.shown.lengths;
-              isdu = stands.shown.isdu;
-              present = stands.shown.present;
-              no_form = stands.shown.no_form;
-            };
-          };
-        })
+    fails = loses c g far far' effect silence silence stands below (Woke false) NoWake free refl
+        tt refl
 
   -- our own device was reset
   module _ (there : Far) (effect : Effect c g far (woken there)) where
-    abbrev reset_ghost : Ghost
-    reset_ghost = record g {
-      request = record g.request { hidden = record effect.hidden { late = None } };
-      events = record g.events { told = false };
-      fresh = false;
-    }
-
     resets : t.configuration.devices ≡ Own
         → StateStands (state_of (waked Own true)) silence (woken there)
         → StateFits (state_of (waked Own true))
         → CallGives c g far silence Idle (woken_by Own true t) (woken there) silence
     resets own link fits =
-        gives c g far (woken there) effect silence silence (Woke true) (Reset ∷ [])
-        (woken_by Own true t) reset_ghost (record {
-          fits = tt;
-          silent = refl;
-          terms = (refl, refl, refl, refl);
-          busy = refl;
-          confirm = refl;
-          free = refl;
+        gives c g far (woken there) effect silence silence stands below (Woke true) (Reset ∷ [])
+        (woken_by Own true t) (record effect.hidden { late = None }) false (record {
+          limit = refl;
+          configuration = refl;
+          plain = (refl, refl, refl, refl);
           book = refl;
-          reports = refl;
           session = ((may_reset t.configuration.devices own, tt), rw free refl);
           frozen = ((tt, tt), untold_of (woken there).events.frozen effect.told);
           images = ((tt, tt), refl);
-          below = below;
-          fresh = stands.fresh;
-          was_image = stands.shown.image below;
-          image = stands.shown.image below;
-          stands = record {
-            page = effect.page ∙ stands.page;
-            kind = effect.kind ∙ stands.kind;
-            for_it = stands.for_it;
-            sees = sees_now (woken there) effect;
-            fits = fits;
-            link = link;
-            joined = (stands.joined, tt);
-            calm = tt;
-            fresh = λ k. absurd (let z : false ≡ true = k in cc);
-            sent = stands.sent;
-            request = (
-              λ b. refl,
-              tt,
-              refl,
-              λ b. absurd (let z : true ≡ false = b in cc),
-            );
+          image = no_image;
+          left = record {
+            request = (λ b. refl, tt, refl, λ b. absurd (let z : true ≡ false = b in cc));
             events = (refl, refl);
             output = (refl, λ b. record { untold = refl; off = λ a. refl; waits = tt });
-            shown = record {
-              image = λ e. stands.shown.image below;
-              wanted = stands.shown.wanted;
-              lengths = stands.shown.lengths;
-              isdu = stands.shown.isdu;
-              present = tt;
-              no_form = refl;
-            };
+            quiet = tt;
           };
-        })
+          sent = stands.sent;
+          shown = shown_as stands.shown (λ e. no_image) refl tt refl;
+        }) tt refl fits link (stands.joined, tt)
 
--- from the wire's own words
-module _ (laws : Laws) (leaves : OrderlyLaws) (heard : TextsAreHeard) (s : Down) (t : SessionState)
-    (g : Ghost) (far : Far) (n : ℕ)
-    (stands : Stands (record { state = AtDown s; session = t }) g far n) where
-  abbrev at_down : Core
-  at_down = record { state = AtDown s; session = t }
+  -- from the wire's own words
+  module _ (laws : Laws) (leaves : OrderlyLaws) (heard : TextsAreHeard) where
+    abbrev Gives : Bool → Far → Type 0
+    Gives answered far' = CallGives c g far silence Idle (after_wake answered t) far' silence
 
-  abbrev Gives : Bool → Far → Type 0
-  Gives answered far' = CallGives at_down g far n Idle (after_wake answered t) far' n
+    abbrev Stood : Bool → Far → Type 0
+    Stood answered far' =
+        StateStands (state_of (waked t.configuration.devices answered)) silence far'
 
-  abbrev Stood : Far → Type 0
-  Stood far' = StateStands (state_of (waked t.configuration.devices true)) n far'
+    abbrev Fits : Bool → Type 0
+    Fits answered = StateFits (state_of (waked t.configuration.devices answered))
 
-  nothing : request_in t.current ≡ None
-  nothing = free s t g far n stands
+    -- a rate is answered
+    answers_any : (far' : Far) → Effect c g far far' → t.configuration.devices ≡ Any
+        → Stood true far' → Fits true → Gives true far'
+    answers_any far' effect any link fits =
+        subst (λ (d : Devices). CallGives c g far silence Idle (woken_by d true t) far' silence)
+        (sym any) (starts far' effect any
+        (subst (λ (d : Devices). StateStands (state_of (waked d true)) silence far') any link)
+        (subst (λ (d : Devices). StateFits (state_of (waked d true))) any fits))
 
-  -- a rate is answered
-  answers_any : (far' : Far) → Effect at_down g far far' → t.configuration.devices ≡ Any
-      → Stood far' → StateFits (state_of (waked t.configuration.devices true)) → Gives true far'
-  answers_any far' effect any link fits =
-      subst (λ (d : Devices). CallGives at_down g far n Idle (woken_by d true t) far' n) (sym any)
-      (starts s t g far n stands far' effect any
-      (subst (λ (d : Devices). StateStands (state_of (waked d true)) n far') any link)
-      (subst (λ (d : Devices). StateFits (state_of (waked d true))) any fits))
+    answers_seen : (there : Far) → Effect c g far (woken there) → Stood true (woken there)
+        → Fits true → Gives true (woken there)
+    answers_seen there effect link fits = split t.configuration.devices refl
+      where
+        split : (d : Devices) → t.configuration.devices ≡ d → Gives true (woken there)
+        split Any any = answers_any (woken there) effect any link fits
+        split Own own =
+            subst (λ (d : Devices). CallGives c g far silence Idle (woken_by d true t)
+            (woken there) silence) (sym own) (resets there effect own
+            (subst (λ (d : Devices). StateStands (state_of (waked d true)) silence (woken there))
+            own link)
+            (subst (λ (d : Devices). StateFits (state_of (waked d true))) own fits))
 
-  answers_seen : (there : Far) → Effect at_down g far (woken there) → Stood (woken there)
-      → StateFits (state_of (waked t.configuration.devices true)) → Gives true (woken there)
-  answers_seen there effect link fits = split t.configuration.devices refl
-    where
-      split : (d : Devices) → t.configuration.devices ≡ d → Gives true (woken there)
-      split Any any = answers_any (woken there) effect any link fits
-      split Own own =
-          subst (λ (d : Devices). CallGives at_down g far n Idle (woken_by d true t) (woken there)
-          n) (sym own)
-          (resets s t g far n stands there effect own
-          (subst (λ (d : Devices). StateStands (state_of (waked d true)) n (woken there)) own link)
-          (subst (λ (d : Devices). StateFits (state_of (waked d true))) own fits))
+    by_seen : (far' : Far) (answered : Bool) (w : SeenWake far answered far')
+        → Stood answered far' → Fits answered → Gives answered far'
+    by_seen far' true w link fits =
+        let there = locals far w.steps in
+        let is : far' ≡ woken there = w.far_is
+        ∙ ap (λ (b : Bool). woken_if b there) (w.answered_is refl) in
+        subst (Gives true) (sym is)
+        (answers_seen there (seen_effect c g far laws free stands.request w.steps true)
+        (subst (Stood true) is link) fits)
+    by_seen far' false w link fits =
+        subst (Gives false) (sym w.far_is) (fails (woken_if w.wakes (locals far w.steps))
+        (seen_effect c g far laws free stands.request w.steps w.wakes))
 
-  by_seen : (far' : Far) (answered : Bool) (w : SeenWake far answered far')
-      → StateStands (state_of (waked t.configuration.devices answered)) n far'
-      → StateFits (state_of (waked t.configuration.devices answered)) → Gives answered far'
-  by_seen far' true w link fits =
-      let there = locals far w.steps in
-      let is : far' ≡ woken there = w.far_is
-      ∙ ap (λ (b : Bool). woken_if b there) (w.answered_is refl) in
-      subst (Gives true) (sym is)
-      (answers_seen there (seen_effect at_down g far laws nothing stands.request w.steps true)
-      (subst Stood is link) fits)
-  by_seen far' false w link fits =
-      subst (Gives false) (sym w.far_is)
-      (fails s t g far n stands (woken_if w.wakes (locals far w.steps))
-      (seen_effect at_down g far laws nothing stands.request w.steps w.wakes))
+    by_unseen : (far' : Far) (answered : Bool) (w : UnseenWake far answered far')
+        → Stood answered far' → Fits answered → Gives answered far'
+    by_unseen far' answered w link fits = subst (Gives answered) (sym w.far_is)
+        (by answered (subst (Stood answered) w.far_is link) fits)
+      where
+        there : Far
+        there = locals far w.steps
 
-  by_unseen : (far' : Far) (answered : Bool) (w : UnseenWake far answered far')
-      → StateStands (state_of (waked t.configuration.devices answered)) n far'
-      → StateFits (state_of (waked t.configuration.devices answered)) → Gives answered far'
-  by_unseen far' answered w link fits = subst (Gives answered) (sym w.far_is)
-      (by answered (subst (λ (f : Far).
-      StateStands (state_of (waked t.configuration.devices answered)) n f) w.far_is link) fits)
-    where
-      there : Far
-      there = locals far w.steps
+        after : Far
+        after = (hear there test_read).far
 
-      to_page : IsToPage test_read (page_read 2)
-      to_page = test_to_page heard
+        to_page : IsToPage test_read (page_read 2)
+        to_page = test_to_page heard
 
-      effect : Effect at_down g far (hear (locals far w.steps) test_read).far
-      effect = passed_effect at_down g far laws nothing stands.request w.steps BackLost test_read
-          test_confirms (leaves.holds (locals far w.steps) test_read (page_read 2) to_page)
-          (alike_sent leaves g.sent (locals far w.steps) test_read (page_read 2) to_page
-          (orderly_locals leaves far w.steps w.orderly))
+        effect : Effect c g far after
+        effect = passed_effect c g far laws free stands.request w.steps BackLost test_read
+            test_confirms (opens_passed g.request.hidden far w.steps BackLost test_read
+            (leaves.holds there test_read (page_read 2) to_page) stands.request)
+            (alike_sent leaves g.sent there test_read (page_read 2) to_page
+            (orderly_locals leaves far w.steps w.orderly))
 
-      by : (answered : Bool) → StateStands (state_of (waked t.configuration.devices answered)) n
-          (hear (locals far w.steps) test_read).far
-          → StateFits (state_of (waked t.configuration.devices answered))
-          → Gives answered (hear (locals far w.steps) test_read).far
-      by false link fits = fails s t g far n stands (hear (locals far w.steps) test_read).far effect
-      by true link fits = split t.configuration.devices refl
-        where
-          split : (d : Devices) → t.configuration.devices ≡ d
-              → Gives true (hear (locals far w.steps) test_read).far
-          split Any any = answers_any (hear (locals far w.steps) test_read).far effect any link fits
-          split Own own = absurd (
-              let sees : far.misses_pulses ≡ false =
-              subst (λ (d : Devices). SeesPulses d far) own stands.sees in
-              let k : true ≡ false = sym w.misses ∙ sees in cc)
+        by : (answered : Bool) → Stood answered after → Fits answered → Gives answered after
+        by false link fits = fails after effect
+        by true link fits = split t.configuration.devices refl
+          where
+            split : (d : Devices) → t.configuration.devices ≡ d → Gives true after
+            split Any any = answers_any after effect any link fits
+            split Own own = absurd (
+                let sees : far.misses_pulses ≡ false =
+                subst (λ (d : Devices). SeesPulses d far) own stands.sees in
+                let k : true ≡ false = sym w.misses ∙ sees in cc)
 
-  by_wake : (far' : Far) (answered : Bool) → HonestWake far answered far'
-      → StateStands (state_of (waked t.configuration.devices answered)) n far'
-      → StateFits (state_of (waked t.configuration.devices answered)) → Gives answered far'
-  by_wake far' answered (inl w) link fits = by_seen far' answered w link fits
-  by_wake far' answered (inr w) link fits = by_unseen far' answered w link fits
+    by_wake : (far' : Far) (answered : Bool) → HonestWake far answered far'
+        → Stood answered far' → Fits answered → Gives answered far'
+    by_wake far' answered (inl w) link fits = by_seen far' answered w link fits
+    by_wake far' answered (inr w) link fits = by_unseen far' answered w link fits
 
 wakes_at : Laws → OrderlyLaws → TextsAreHeard → (state : State) (t : SessionState) (g : Ghost)
     (far far' : Far) (n : ℕ) (answered : Bool)
@@ -338,7 +213,7 @@ wakes_at : Laws → OrderlyLaws → TextsAreHeard → (state : State) (t : Sessi
     → StateFits (state_of (waked t.configuration.devices answered))
     → CallGives (record { state = state; session = t }) g far n Idle (after_wake answered t) far' n
 wakes_at laws leaves heard (AtDown s) t g far far' n answered stands down w link fits =
-    by_wake laws leaves heard s t g far n stands far' answered w link fits
+    by_wake s t g far n stands laws leaves heard far' answered w link fits
 wakes_at laws leaves heard other t g far far' n answered stands down w link fits = absurd down
 
 pub wakes : ((size : ℕ) → 1 ≤ size → LevelLaws size) → MuchStays → RepliesAreRead

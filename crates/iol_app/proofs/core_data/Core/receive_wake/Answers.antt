@@ -1,9 +1,8 @@
 -- What a wake gives: on every wire, and where both ends stand together.
 use Rattle.std.proofs.lemmas.Grind.{common_steps}
-use Rattle.std.proofs.Common.{◌≡◌, true, false, refl, sym, Bool, None, arith}
+use Rattle.std.proofs.Common.{◌≡◌, Bool, None, arith}
 use Rattle.std.specs.Prelude.{is_some}
 use Rattle.iol_mode.specs.declared.configuration.Devices.{Devices}
-use Rattle.iol_mode.specs.declared.configuration.Devices.TheVariants.{Own, Any}
 use Rattle.iol_mode.specs.States.{waked}
 use Rattle.iol_app.specs.State.{SessionState}
 use Rattle.iol_app.specs.StationState.{settled_session, waked_session}
@@ -15,9 +14,7 @@ use Rattle.iol_app.proofs.core_data.Core.receive_wake.Goals as goal
 -- in down no request is under way
 woken_current : (devices : Devices) (answered : Bool) (s : SessionState) → s.current ≡ None
     → (settled_session (waked devices answered) (waked_session answered s)).current ≡ s.current
-woken_current Own true s free = refl
-woken_current Any true s free = refl
-woken_current devices false s free = sym free
+woken_current devices answered s free = grind (arith, common_steps)
 
 pub returns-clause-request : goal.returns-clause-request
 returns-clause-request c = grind (arith, common_steps, still_down, woken_current)

@@ -3,8 +3,8 @@ use Rattle.std.proofs.lemmas.Grind.{common_steps}
 use Rattle.std.proofs.Common.{◌≡◌, ◌∙◌, Bool, true, false, List, ℕ, Option, refl, sym, subst, ap, arith}
 use Rattle.std.specs.Prelude.{is_some}
 use Rattle.iol_far.specs.Octets.{octets_in}
-use Rattle.iol_mode.specs.States.{IsDown, StateFits as ModeFits}
-use Rattle.iol_mode.specs.Exchanges.{WakeStands, text_out, layout_out, tries_in}
+use Rattle.iol_mode.specs.States.{StateFits as ModeFits}
+use Rattle.iol_mode.specs.Exchanges.{text_out, layout_out, tries_in}
 use Rattle.iol_app.specs.declared.asked.Outgoing.{Outgoing}
 use Rattle.iol_app.specs.declared.asked.Asked.{Asked}
 use Rattle.iol_app.specs.declared.asked.Asked.TheVariants.{Exchange}
@@ -12,36 +12,18 @@ use Rattle.iol_app.specs.Asking.{asked_in, outgoing}
 use Rattle.iol_app.specs.declared.brought.Brought.TheVariants as brought
 use Rattle.iol_app.specs.Brought.{IsReplied, verdict_on}
 use Rattle.iol_app.specs.State.{IsSession}
-use Rattle.iol_app.specs.StationState.{StateFits, StateFits as Joined}
-use Rattle.iol_app.specs.Core.{Core, after_wake}
-use Rattle.iol_app.specs.Pieces.{IsOut, WakeSteps}
+use Rattle.iol_app.specs.StationState.{StateFits}
+use Rattle.iol_app.specs.Core.{Core}
+use Rattle.iol_app.specs.Pieces.{IsOut}
 use Rattle.iol_app.specs.Seen.{station_of}
 use Rattle.iol_app.proofs.Ending.{settled_ends}
 use Rattle.iol_app.proofs.Reporting.{turn_reading}
 use Rattle.iol_app.proofs.Pieces.{receive_steps, wake_steps as core_wake_steps}
-use Rattle.iol_app.proofs.Stepping.{Exchanged, sent_down, sent_current, wake_steps, wake_stands, wake_is_turn, exchange_steps, exchange_stands, exchange_is_turn, exchange_is_exact, sent_tries, sent_devices, wake_is_exact}
+use Rattle.iol_app.proofs.Stepping.{Exchanged, Woken, sent_down, sent_current, wake_steps, wake_stands, wake_is_turn, exchange_steps, exchange_stands, exchange_is_turn, exchange_is_exact, sent_tries, sent_devices, wake_is_exact}
 use Rattle.iol_mode.specs.declared.configuration.Configuration.{Configuration}
 use Rattle.iol_mode.specs.Kinds.{SeesPulses}
 use Rattle.iol_app.proofs.core_data.Core.turn.Given as given
 use Rattle.iol_app.proofs.core_data.Core.turn.Goals as goal
-
-pub returns-else-put_next-clause-steps : goal.returns-else-put_next-clause-steps
-returns-else-put_next-clause-steps g c =
-    let mid : Core = c.put_next.new.self in
-    let out : IsOut false (asked_in c.args.self.now.state c.args.self.now.session c.args.room)
-    mid.state =
-    subst (λ (is : Bool). IsOut is (asked_in c.args.self.now.state c.args.self.now.session
-    c.args.room) mid.state) c.if-put_next.false c.put_next.ensures.out in
-    let down = out.0 in
-    let same : mid ≡ c.args.self.now =
-    sent_down c.args.self.now mid c.args.room c.put_next.ensures.sent down in
-    let steps : WakeSteps mid (is_some c.wake-rate.result) c.take_wake.new.self =
-    core_wake_steps c.station_laws.ensures mid (is_some c.wake-rate.result)
-    c.take_wake.new.self down c.take_wake.ensures.stands c.take_wake.ensures.core in
-    wake_steps g.W.Wire.facts c.args.wire.now c.wake-rate.new.self c.args.room c.args.said.now
-    c.args.self.now c.take_wake.new.self c.wake-rate.result c.requires.idle
-    (subst (λ (k : Core). WakeSteps k (is_some c.wake-rate.result) c.take_wake.new.self) same
-    steps) c.wake-rate.ensures.wakes c.wake-rate.ensures.honesty c.wake-rate.ensures.quiet
 
 -- the message that is out is the one asked for
 is_out : (g : given.Over) (c : goal.After-exchange g)
@@ -150,53 +132,56 @@ returns-then-put_next-clause-exact g c =
     c.put_next.ensures.sent (is_out g c).0 c.requires.stands (exchanged g c) _ _ _
     (replied g c)
 
+-- in down nothing goes out, a wake is asked for, and the core is as it was
+is_down : (g : given.Over) (c : goal.After-of_wake g)
+    → IsOut false (asked_in c.args.self.now.state c.args.self.now.session c.args.room)
+    c.put_next.new.self.state
+is_down g c =
+    subst (λ (is : Bool). IsOut is (asked_in c.args.self.now.state c.args.self.now.session
+    c.args.room) c.put_next.new.self.state) c.if-put_next.false c.put_next.ensures.out
+
+woken : (g : given.Over) (c : goal.After-of_wake g)
+    → Woken g.W.Wire.facts c.args.wire.now c.wake-rate.new.self c.args.room c.args.said.now
+    c.args.self.now c.take_wake.new.self c.wake-rate.result
+woken g c =
+    subst (λ (k : Core). Woken g.W.Wire.facts c.args.wire.now c.wake-rate.new.self c.args.room
+    c.args.said.now k c.take_wake.new.self c.wake-rate.result)
+    (sent_down c.args.self.now c.put_next.new.self c.args.room c.put_next.ensures.sent
+    (is_down g c).0)
+    (record {
+      down = (is_down g c).0;
+      still = c.take_wake.ensures.still;
+      idle = c.requires.idle;
+      called = c.wake-rate.ensures.gives;
+      passes = c.wake-rate.ensures.wakes;
+      honesty = c.wake-rate.ensures.honesty;
+      quiet = c.wake-rate.ensures.quiet;
+      stands = c.take_wake.ensures.stands;
+      is = c.take_wake.ensures.core;
+    })
+
+pub returns-else-put_next-clause-steps : goal.returns-else-put_next-clause-steps
+returns-else-put_next-clause-steps g c =
+    let w = woken g c in
+    wake_steps g.W.Wire.facts c.args.wire.now c.wake-rate.new.self c.args.room c.args.said.now
+    c.args.self.now c.take_wake.new.self c.wake-rate.result w
+    (core_wake_steps c.station_laws.ensures c.args.self.now (is_some c.wake-rate.result)
+    c.take_wake.new.self w.down w.stands w.is)
+
 pub returns-else-put_next-clause-exact : goal.returns-else-put_next-clause-exact
 returns-else-put_next-clause-exact g c =
-    let mid : Core = c.put_next.new.self in
-    let out : IsOut false (asked_in c.args.self.now.state c.args.self.now.session c.args.room)
-    mid.state =
-    subst (λ (is : Bool). IsOut is (asked_in c.args.self.now.state c.args.self.now.session
-    c.args.room) mid.state) c.if-put_next.false c.put_next.ensures.out in
-    let same : mid ≡ c.args.self.now =
-    sent_down c.args.self.now mid c.args.room c.put_next.ensures.sent out.0 in
     wake_is_exact g.W.Wire.facts c.args.wire.now c.wake-rate.new.self c.args.room c.args.said.now
     c.args.self.now c.take_wake.new.self c.wake-rate.result
     (asked_in c.args.self.now.state c.args.self.now.session c.args.room)
-    (tries_in c.args.self.now.state) c.of_wake.result
-    (subst (λ (k : Core). IsDown k.state) same out.0)
-    (subst (λ (k : Core). Joined k.state k.session) same c.take_wake.ensures.still)
-    c.requires.idle
-    (subst (λ (k : Core). WakeStands k.session.configuration.devices
-    (is_some c.wake-rate.result)) same c.take_wake.ensures.stands)
-    (subst (λ (k : Core). c.take_wake.new.self ≡ after_wake (is_some c.wake-rate.result) k.session)
-    same c.take_wake.ensures.core)
-    c.wake-rate.ensures.wakes c.wake-rate.ensures.honesty c.wake-rate.ensures.quiet
-    c.wake-rate.ensures.gives out.1 c.of_wake.ensures
+    (tries_in c.args.self.now.state) c.of_wake.result (woken g c) (is_down g c).1 c.of_wake.ensures
 
 pub returns-else-put_next-clause-turn : goal.returns-else-put_next-clause-turn
 returns-else-put_next-clause-turn g c =
-    let mid : Core = c.put_next.new.self in
-    let out : IsOut false (asked_in c.args.self.now.state c.args.self.now.session c.args.room)
-    mid.state =
-    subst (λ (is : Bool). IsOut is (asked_in c.args.self.now.state c.args.self.now.session
-    c.args.room) mid.state) c.if-put_next.false c.put_next.ensures.out in
-    let same : mid ≡ c.args.self.now =
-    sent_down c.args.self.now mid c.args.room c.put_next.ensures.sent out.0 in
     wake_is_turn g.W.Wire.facts c.args.wire.now c.wake-rate.new.self c.args.room c.args.said.now
-    c.args.self.now c.take_wake.new.self c.wake-rate.result
-    (subst (λ (k : Core). IsDown k.state) same out.0)
-    (subst (λ (k : Core). Joined k.state k.session) same c.take_wake.ensures.still)
-    c.requires.idle
-    (subst (λ (k : Core). WakeStands k.session.configuration.devices
-    (is_some c.wake-rate.result)) same c.take_wake.ensures.stands)
-    (subst (λ (k : Core). c.take_wake.new.self ≡ after_wake (is_some c.wake-rate.result) k.session)
-    same c.take_wake.ensures.core)
-    c.wake-rate.ensures.wakes c.wake-rate.ensures.honesty c.wake-rate.ensures.quiet
-    c.wake-rate.ensures.gives
+    c.args.self.now c.take_wake.new.self c.wake-rate.result (woken g c)
 
 pub returns-else-put_next-clause-stands : goal.returns-else-put_next-clause-stands
 returns-else-put_next-clause-stands g c =
     wake_stands g.W.Wire.facts c.args.wire.now c.wake-rate.new.self c.args.room c.args.said.now
-    c.page_and_room_stay.ensures.much c.put_next.new.self c.take_wake.new.self c.wake-rate.result
-    c.take_wake.ensures.stands c.take_wake.ensures.core c.wake-rate.ensures.wakes
-    c.wake-rate.ensures.honesty c.wake-rate.ensures.quiet
+    c.page_and_room_stay.ensures.much c.args.self.now c.take_wake.new.self c.wake-rate.result
+    (woken g c)
