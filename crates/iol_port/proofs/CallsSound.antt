@@ -116,16 +116,7 @@ module _ (P : PortState → Type 0) (a b : PortState) where
   turn_leaves : (t : Turn) (c : Piece) (reply : Answered) → TurnsAll t a b → TurnsWork t a b
       → Leaves P a c reply → P b
   turn_leaves t c reply all work l =
-      l.moves (moment_in a t) t.steps b
-      (record {
-        may_book = work.may_book;
-        book = work.book;
-        may_session = work.may_session;
-        session = work.session;
-        base = work.base;
-        terms = all.terms;
-        at = refl;
-      })
+      l.moves (moment_in a t) t.steps b (grind (arith, common_steps))
 
   pub piece_leaves : (c : Piece) (reply : Answered) → PieceOf a c reply b → Leaves P a c reply → P b
   piece_leaves (Whole (call.Submit q)) reply e l =
@@ -174,15 +165,7 @@ module _ (P : PortState → Type 0) (a b : PortState) where
       turn_leaves t (Whole call.Turn) reply all work l
   piece_leaves Send reply (_, inl s) l =
       l.moves (moment_by a (Exchanged true)) s.steps b
-      (record {
-        may_book = s.may_book;
-        book = s.book;
-        may_session = s.may_session (Exchanged true);
-        session = s.session;
-        base = s.base;
-        terms = s.terms;
-        at = refl;
-      })
+      (grind (arith, common_steps, s.may_session (Exchanged true)))
   piece_leaves Send reply (_, inr (_, e)) l = is a (l.stays a.kept a.images) e
   piece_leaves Receive reply (_, r) l = turn_leaves r.turn Receive reply r.all r.work l
 

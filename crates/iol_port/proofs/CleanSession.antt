@@ -14,11 +14,11 @@ use Rattle.iol_isdu.specs.declared.values.Request.{Request}
 use Rattle.iol_isdu.specs.declared.values.Answer.{Answer}
 use Rattle.iol_far.specs.declared.carried.Carried.{Carried}
 use Rattle.iol_far.specs.Octets.{octets_in}
-use Rattle.iol_far.specs.Isdu.{IsduState, Handed, Answered, handed, fits, own}
+use Rattle.iol_far.specs.declared.kind.Kind.{Kind}
+use Rattle.iol_far.specs.Isdu.{IsduState, Handed, Answered, handed, fits}
 use Rattle.iol_far.specs.Far.{Far, hear}
 use Rattle.iol_far.specs.Local.{Carry, local, locals, carried_by, has_room, IsWorkedOff}
 use Rattle.iol_far.specs.Level.{Link, Quiet, Stands, IsBefore, link_of}
-use Rattle.iol_far.specs.declared.kind.HandsOver.TheVariants.{FirstRead}
 use Rattle.iol_far.specs.Laws.{IsSized, RepliesAreRead, InputStaysSized, MuchStays}
 use Rattle.iol_mode.specs.States.{InOperate as OutOperate, operate_turned}
 use Rattle.iol_mode.specs.Stands.{operate_link, IsOperating, IsAccepted}
@@ -69,13 +69,7 @@ calm_ready s room calm free follows = grind (arith, common_steps)
 -- and with a request begun it is calm too
 pub begun_calm : (s : SessionState) (current : Option Current) → IsCalm s
     → IsCalm (record s { current = current })
-begun_calm s current h = record {
-  exchange = h.exchange;
-  output = h.output;
-  reading = h.reading;
-  confirm = h.confirm;
-  flag = h.flag;
-}
+begun_calm s current h = grind (arith, common_steps)
 
 -- what a new message is of
 abbrev pub channel_for : Exchange → SessionState → Channel
@@ -104,8 +98,11 @@ pub record SameBut (far ready : Far) : Type 0 where
   pub sized : IsSized far → IsSized ready
   pub grows : (more : List Carried) × (ready.carried ≡ far.carried ++ more)
 
-same_far : (far : Far) → SameBut far far
-same_far far = record {
+-- another ISDU state, and a record that grows by this
+same_grown : (far : Far) (state : IsduState) (carried more : List Carried)
+    → carried ≡ far.carried ++ more
+    → SameBut far (record far { isdu = state; carried = carried })
+same_grown far state carried more is = record {
   awake = refl;
   events = refl;
   page = refl;
@@ -113,8 +110,11 @@ same_far far = record {
   link_is = refl;
   room = refl;
   sized = λ h. h;
-  grows = ([], sym (append-nil far.carried));
+  grows = (more, is);
 }
+
+same_far : (far : Far) → SameBut far far
+same_far far = same_grown far far.isdu far.carried [] (sym (append-nil far.carried))
 
 pub same_carried : (far : Far) (answer : Answer) (state : IsduState)
     → SameBut far (carried_by state far answer)
@@ -125,16 +125,7 @@ same_carried far answer (Handed request) = by (has_room far && fits request answ
           isdu = Answered request answer None;
           carried = far.carried ++ record { request = request; answer = answer } ∷ [];
         } else far)
-    by true = record {
-      awake = refl;
-      events = refl;
-      page = refl;
-      kind = refl;
-      link_is = refl;
-      room = refl;
-      sized = λ h. h;
-      grows = (record { request = request; answer = answer } ∷ [], refl);
-    }
+    by true = same_grown far _ _ (record { request = request; answer = answer } ∷ []) refl
     by false = same_far far
 same_carried far answer _ = same_far far
 
@@ -173,15 +164,15 @@ module _ {W : Type 0} (facts : WireFacts W) where
   open facts use {far}
 
   -- between requests both ends are level
-  pub level_between : (layouts : Layouts) (station : StationState W) (wire : W)
-      → Stood facts layouts operate_link station wire
-      → Stands FirstRead layouts.run.od (far wire).carried Quiet (far wire).isdu
+  pub level_between : (kind : Kind) (layouts : Layouts) (station : StationState W) (wire : W)
+      → Stood facts kind layouts operate_link station wire
+      → Stands kind.hands_over layouts.run.od (far wire).carried Quiet (far wire).isdu
       (far wire).counted (far wire).carried
-      → IsBefore (far wire).page own layouts.run.od (far wire).carried operate_link Quiet
+      → IsBefore (far wire).page kind layouts.run.od (far wire).carried operate_link Quiet
       (far wire)
-  level_between layouts station wire stood stands = record {
+  level_between kind layouts station wire stood stands = record {
     awake = stood.awake;
-    kind_is = stood.own;
+    kind_is = stood.kind_is;
     page_is = refl;
     link_is = stood.at;
     isdu = _;
@@ -189,10 +180,10 @@ module _ {W : Type 0} (facts : WireFacts W) where
   }
 
   -- What a turn gives that sends a message of the ISDU channel
-  pub record Exchanged (layouts : Layouts) (exchange : Exchange) (old : StationState W) (wire : W)
-      (said : Said) (new : StationState W) : Type 0 where
+  pub record Exchanged (kind : Kind) (layouts : Layouts) (exchange : Exchange)
+      (old : StationState W) (wire : W) (said : Said) (new : StationState W) : Type 0 where
     pub next : W
-    pub stood : Stood facts layouts operate_link new next
+    pub stood : Stood facts kind layouts operate_link new next
     pub message : MasterMsg
     pub for : IsMessageFor exchange (sending exchange old.session) message
     pub parts : HasMasterParts layouts.run message
@@ -200,37 +191,29 @@ module _ {W : Type 0} (facts : WireFacts W) where
     pub work : IsWorkedOff (handed (far wire).isdu) (far wire) ready
     pub answer : Option (List ℕ)
     pub reply : Reply
-    pub heard_as : HeardWell layouts message ready (far next) answer reply
+    pub heard_as : HeardWell kind layouts message ready (far next) answer reply
     pub session : new.session ≡ absorbed exchange reply (sending exchange old.session)
     pub said_is : IsTaken exchange reply.od.items (sending exchange old.session) said
 
   -- and one of the request
-  pub record Turned (layouts : Layouts) (old : StationState W) (wire : W) (c : Current)
-      (said : Said) (new : StationState W) : Type 0 where
-    pub next : W
-    pub stood : Stood facts layouts operate_link new next
-    pub message : MasterMsg
-    pub head : head_of message.mc ≡ progress_head c.progress
-    pub octets : message.od.items ≡ progress_data c.progress
-    pub parts : HasMasterParts layouts.run message
-    pub ready : Far
-    pub work : IsWorkedOff (handed (far wire).isdu) (far wire) ready
-    pub answer : Option (List ℕ)
-    pub reply : Reply
-    pub heard_as : HeardWell layouts message ready (far next) answer reply
+  pub record Turned (kind : Kind) (layouts : Layouts) (old : StationState W) (wire : W)
+      (c : Current) (said : Said) (new : StationState W) : Type 0 where
+    pub turn : Exchanged kind layouts NextMessage old wire said new
+    pub head : head_of turn.message.mc ≡ progress_head c.progress
+    pub octets : turn.message.od.items ≡ progress_data c.progress
     pub current : new.session.current
-        ≡ current_after NextMessage old.session.limit reply.od.items (Some c)
+        ≡ current_after NextMessage old.session.limit turn.reply.od.items (Some c)
     pub limit : new.session.limit ≡ old.session.limit
     pub clear : new.session.clear ≡ false
-    pub said_is : IsSaid NextMessage old.session.limit reply.od.items (Some c) said
+    pub said_is : IsSaid NextMessage old.session.limit turn.reply.od.items (Some c) said
 
   module _ (cleanly : ExchangesCleanly facts) (read_back : RepliesAreRead)
-      (stays_sized : InputStaysSized) (much : MuchStays) where
+      (stays_sized : InputStaysSized) (much : MuchStays) (kind : Kind) where
     pub exchanged : (layouts : Layouts) (link : Link) (old : StationState W) (wire : W)
         (room : Bool) (exchange : Exchange) (said : Said) (new : StationState W)
-        → Stood facts layouts link old wire → due_of old.session room ≡ exchange
+        → Stood facts kind layouts link old wire → due_of old.session room ≡ exchange
         → channel_for exchange old.session ≡ Isdu → IsTurn facts room old said new
-        → Exchanged layouts exchange old wire said new
+        → Exchanged kind layouts exchange old wire said new
     exchanged layouts link old wire room exchange said new stood due channel_is turn =
         by_turn (subst (λ (l : AnyLink W). IsLinkTurn facts l old.session room said new)
         stood.link_is turn)
@@ -243,7 +226,7 @@ module _ {W : Type 0} (facts : WireFacts W) where
             ∙ ap (λ (e : Exchange). sending e s) due
 
         by_turn : IsOperateTurn facts wire (record { out = None; layouts = layouts }) s room
-            said new → Exchanged layouts exchange old wire said new
+            said new → Exchanged kind layouts exchange old wire said new
         by_turn t =
             let message : MasterMsg = t.message in
             let o : List ℕ = master_text layouts.run message in
@@ -264,12 +247,12 @@ module _ {W : Type 0} (facts : WireFacts W) where
             stays_sized.hears x.ready o (same.sized
             (t.exchange.passes stood.is_honest.0).regular.sized) in
             let quiet : IsQuiet x.ready.events = subst IsQuiet (sym same.events) stood.quiet in
-            let found = heard_well read_back layouts message link x.ready accepted channel
-            (same.awake ∙ stood.awake) (same.kind ∙ stood.own)
+            let found = heard_well read_back kind layouts message link x.ready accepted channel
+            (same.awake ∙ stood.awake) (same.kind ∙ stood.kind_is)
             (ap knows_isdu same.page ∙ stood.isdu)
             (same.link_is ∙ stood.at) quiet sized in
             let reply : Reply = found.0 in
-            let well : HeardWell layouts message x.ready (far (wire_of new.link))
+            let well : HeardWell kind layouts message x.ready (far (wire_of new.link))
             (octets_in t.exchange.answer) reply =
             rw (x.far_is, x.answer_is) found.1 in
             let settled : IsSettled (OutOperate (record { out = None; layouts = layouts })
@@ -298,7 +281,7 @@ module _ {W : Type 0} (facts : WireFacts W) where
                 told = ap (λ (z : SessionState). z.isdu) settled.session ∙ stood.told;
                 operating = inr_link;
                 awake = well.awake;
-                own = well.ours;
+                kind_is = well.kind_is;
                 at = well.link_is;
                 isdu = ap knows_isdu (well.page ∙ same.page) ∙ stood.isdu;
                 quiet = well.quiet;
@@ -320,28 +303,20 @@ module _ {W : Type 0} (facts : WireFacts W) where
 
     pub turned : (layouts : Layouts) (link : Link) (old : StationState W) (wire : W)
         (room : Bool) (c : Current) (said : Said) (new : StationState W)
-        → Stood facts layouts link old wire → old.session.current ≡ Some c → c.abort ≡ None
+        → Stood facts kind layouts link old wire → old.session.current ≡ Some c → c.abort ≡ None
         → IsTurn facts room old said new
-        → Turned layouts old wire c said new
+        → Turned kind layouts old wire c said new
     turned layouts link old wire room c said new stood is abort turn =
         let s : SessionState = old.session in
-        let x : Exchanged layouts NextMessage old wire said new =
+        let x : Exchanged kind layouts NextMessage old wire said new =
         exchanged layouts link old wire room NextMessage said new stood
         (request_due s room c stood.calm is abort)
         (ap (λ (q : Option Current). (request_head q).channel) is ∙ progress_channel c.progress)
         turn in
         record {
-          next = x.next;
-          stood = x.stood;
-          message = x.message;
+          turn = x;
           head = x.for.head ∙ ap request_head is;
           octets = x.for.octets ∙ ap request_data is;
-          parts = x.parts;
-          ready = x.ready;
-          work = x.work;
-          answer = x.answer;
-          reply = x.reply;
-          heard_as = x.heard_as;
           current = ap (λ (z : SessionState). z.current) x.session
               ∙ ap (λ (q : Option Current). current_after NextMessage s.limit x.reply.od.items q)
               is;

@@ -12,21 +12,25 @@ use Rattle.iol_octets.specs.Flow.{flow_address}
 use Rattle.iol_isdu.specs.declared.values.Request.{Request}
 use Rattle.iol_isdu.specs.declared.values.Answer.{Answer}
 use Rattle.iol_isdu.specs.Answers.{BeginsWithAnswer, IsAnswerText, answer_fault, is_read}
-use Rattle.iol_isdu.specs.Laws.{OneAnswerText}
 use Rattle.iol_isdu.specs.Texts.{IsRequest, FitsAnswer, request_front, request_text, answer_front}
 use Rattle.iol_segment.specs.Cut.{segment, segments, flow_at}
 use Rattle.iol_segment.specs.Join.{empty, taken, is_last, next_count}
 use Rattle.iol_segment.specs.JoinLaws.{count_at, standing, took_at, JoinLaws}
 use Rattle.iol_segment.specs.TextLaws.{TextLaws, HoldsLength, joined}
 use Rattle.iol_far.specs.Codec.{flow_of}
-use Rattle.iol_far.specs.Isdu.{Handed, Answered, received, isdu_written, isdu_read, answer_text, fits, handed, IsduState, isdu_data, own}
-use Rattle.iol_far.specs.SegmentLaws.{AnswersFit, SegmentLaws}
+use Rattle.iol_far.specs.declared.kind.Kind.{Kind}
+use Rattle.iol_far.specs.declared.kind.HandsOver.{HandsOver}
+use Rattle.iol_far.specs.declared.kind.HandsOver.TheVariants.{FirstRead, LastSegment}
+use Rattle.iol_far.specs.declared.kind.Recalls.{Recalls}
+use Rattle.iol_far.specs.declared.kind.Recalls.TheVariants.{UntilSent}
+use Rattle.iol_far.specs.Isdu.{Receiving as TextSoFar, Whole, Handed, Answered, received, isdu_written, isdu_read, answer_text, fits, handed, IsduState, isdu_data, recalled, written_by}
+use Rattle.iol_far.specs.SegmentLaws.{SegmentLaws}
 use Rattle.iol_app.specs.declared.request.Current.{Current}
 use Rattle.iol_app.specs.declared.request.Progress.TheVariants.{Sending, Asking, Receiving}
 use Rattle.iol_app.specs.Requests.{sent_on, GoesOn, HasText, joined as joined_with, asked, received as received_with, IsOutcomeSaid, Outcome, replied, going}
 use Rattle.iol_steps.specs.declared.said.Said.{Said}
 use Rattle.iol_steps.specs.declared.said.Said.TheVariants.{Answered as SaidAnswered, Busy as SaidBusy}
-use Rattle.iol_port.specs.Turns.{cutting, Stage, Written, Waiting, Reading, Ended, turns_at, StageFits}
+use Rattle.iol_port.specs.Turns.{cutting, Stage, Written, Waiting, Reading, Ended, busy_replies, turns_at, once_written, StageFits}
 use Rattle.iol_page.specs.declared.page.Layouts.{Layouts}
 use Rattle.iol_far.specs.declared.carried.Carried.{Carried}
 use Rattle.iol_far.specs.Far.{Far, isdu_moved}
@@ -106,49 +110,91 @@ not_last i = grind (arith, nat_tests)
 is_next : (i : ℕ) → (suc i % 16 == next_count (count_at i)) ≡ true
 is_next i = grind (arith, nat_tests)
 
--- the next segment of a request
-pub written_next : (size : ℕ) → SegmentLaws size → (request : Request) (i : ℕ)
+-- what a device keeps that forgets an answer once it is sent, every device keeps
+same_recalled : (recalls : Recalls) (size : ℕ) (state : IsduState)
+    → recalled UntilSent size state ≡ state → recalled recalls size state ≡ state
+same_recalled recalls size state e = grind (arith, common_steps)
+
+-- a write behind the text so far
+appended : (hands_over : HandsOver) (counted : Option ℕ) (text : List ℕ) (last : Option ℕ)
+    (flow : Flow) (octets : List ℕ)
+    → written_by hands_over counted (TextSoFar text last) flow octets
+    ≡ once_written hands_over (isdu_written (TextSoFar text last) flow octets)
+appended hands_over counted text last flow octets = grind (arith, common_steps)
+
+-- a START write, at any state
+pub begun : (hands_over : HandsOver) (counted : Option ℕ) (state : IsduState) (octets : List ℕ)
+    → written_by hands_over counted state Start octets
+    ≡ once_written hands_over (received octets None)
+begun hands_over counted state octets = grind (arith, common_steps)
+
+-- before its last segment a request's text is received
+open_text : (hands_over : HandsOver) (size : ℕ) → SegmentLaws size → (request : Request) (i : ℕ)
     → IsRequest request → suc i * size < length (request_text request)
-    → isdu_written (received (joined size (request_text request) i) (count_at i))
+    → once_written hands_over (received (joined size (request_text request) i) (count_at i))
+    ≡ TextSoFar (joined size (request_text request) i) (count_at i)
+open_text hands_over size laws request i valid more =
+    grind (arith, common_steps, laws.grows request i (count_at i) valid more)
+
+-- the next segment of a request
+pub written_next : (hands_over : HandsOver) (recalls : Recalls) (counted : Option ℕ) (size : ℕ)
+    → SegmentLaws size → (request : Request) (i : ℕ) → IsRequest request
+    → suc i * size < length (request_text request)
+    → written_by hands_over counted
+    (recalled recalls size (TextSoFar (joined size (request_text request) i) (count_at i)))
     (flow_of (flow_address (flow_at (suc i)))) (segment size (request_text request) (suc i))
-    ≡ received (joined size (request_text request) (suc i)) (count_at (suc i))
-written_next size laws request i valid more =
+    ≡ once_written hands_over
+    (received (joined size (request_text request) (suc i)) (count_at (suc i)))
+written_next hands_over recalls counted size laws request i valid more =
     rw (
-      laws.grows request i (count_at i) valid more,
+      same_recalled recalls size
+          (TextSoFar (joined size (request_text request) i) (count_at i)) refl,
       flow_next i,
       flow_count (suc i),
-      not_last
-          i,
+      appended hands_over counted (joined size (request_text request) i) (count_at i)
+          (Count (suc i % 16)) (segment size (request_text request) (suc i)),
+      not_last i,
       is_next i,
     ) refl
 
--- START once it is whole
-pub handed_over : (size : ℕ) → SegmentLaws size → (request : Request) (i : ℕ)
-    → IsRequest request → i * size < length (request_text request)
-    → length (request_text request) ≤ suc i * size
-    → isdu_read size (received (joined size (request_text request) i) (count_at i))
-    (flow_of 0x10) ≡ Handed request
-handed_over size laws request i valid begins ends =
-    rw (flow_start, laws.ends request i (count_at i) valid (begins, ends)) refl
-
--- while it is written nothing is handed
-pub none_handed : (size : ℕ) → SegmentLaws size → (request : Request) (i : ℕ)
-    → IsRequest request → i * size < length (request_text request)
-    → handed (received (joined size (request_text request) i) (count_at i)) ≡ None
-none_handed size given request i given2 given3 = grind (arith, common_steps)
+-- a START read at what every device keeps
+read_start : (recalls : Recalls) (size : ℕ) (state : IsduState)
+    → recalled UntilSent size state ≡ state
+    → isdu_read size (recalled recalls size state) (flow_of 0x10) ≡ isdu_read size state Start
+read_start recalls size state same = rw (same_recalled recalls size state same, flow_start) refl
 
 -- the answer's next segment
-pub read_next : (size : ℕ) (request : Request) (answer : Answer) (j : ℕ)
+pub read_next : (recalls : Recalls) (size : ℕ) (request : Request) (answer : Answer) (j : ℕ)
     → suc j * size < length (answer_text request answer)
-    → isdu_read size (Answered request answer (Some j)) (flow_of ((j + 1) % 16))
-    ≡ Answered request answer (Some (suc j))
-read_next size request answer j more = rw (add-one j, flow_count (suc j)) (grind (arith, nat_tests))
+    → isdu_read size (recalled recalls size (Answered request answer (Some j)))
+    (flow_of ((j + 1) % 16)) ≡ Answered request answer (Some (suc j))
+read_next recalls size request answer j more =
+    rw (
+      same_recalled recalls size (Answered request answer (Some j))
+          (rw (add-one j) (grind (arith, nat_tests))),
+      add-one j,
+      flow_count (suc j),
+    ) (grind (arith, nat_tests))
 
 -- The answer's side at the master
 
-module _ (size : ℕ) (texts : TextLaws size) (joins : JoinLaws size) (one : OneAnswerText)
-    (fit : AnswersFit) (request : Request) (answer : Answer)
+-- the cursor behind a segment of the answer
+abbrev pub gets : Request → ℕ → Answer → ℕ → ℕ → Current
+gets request size answer given j = record {
+  cutter = cutting request size given;
+  progress = Receiving (standing false size (answer_text request answer) j) j;
+  again = false;
+  abort = None;
+}
+
+module _ (laws : CleanLaws) (size : ℕ) (low : 1 ≤ size) (request : Request) (answer : Answer)
     (fitting : IsTrue (fits request answer)) where
+  abbrev texts : TextLaws size
+  texts = laws.texts size low
+
+  abbrev joins : JoinLaws size
+  joins = laws.joins size low
+
   abbrev read : Bool
   read = is_read request
 
@@ -156,13 +202,13 @@ module _ (size : ℕ) (texts : TextLaws size) (joins : JoinLaws size) (one : One
   text = answer_text request answer
 
   fits_answer : FitsAnswer read answer
-  fits_answer = fit request answer fitting
+  fits_answer = (laws.segments size low).fitting request answer fitting
 
   holds : HoldsLength text
   holds = texts.answers read answer fits_answer
 
   spells : IsAnswerText read answer text
-  spells = (one read answer fits_answer text).1 refl
+  spells = (laws.one read answer fits_answer text).1 refl
 
   accepted : answer_fault read text ≡ None
   accepted = texts.accepted read answer fits_answer
@@ -170,18 +216,10 @@ module _ (size : ℕ) (texts : TextLaws size) (joins : JoinLaws size) (one : One
   begins : BeginsWithAnswer read text answer
   begins = record { text = text; rest = []; spells = spells; whole = sym (append-nil text) }
 
-  abbrev pub gets : ℕ → ℕ → Current
-  gets given j = record {
-    cutter = cutting request size given;
-    progress = Receiving (standing false size text j) j;
-    again = false;
-    abort = None;
-  }
-
   -- a segment before the last is kept
   pub joined_more : (given j : ℕ) → suc j * size < length text
       → joined_with (cutting request size given) None j (Ok (took_at size text j))
-      (standing false size text j) ≡ GoesOn (gets given j)
+      (standing false size text j) ≡ GoesOn (gets request size answer given j)
   joined_more given j more =
       let few : nat_le (length text) (suc j * size) ≡ false = grind (arith, nat_tests) in
       rw few refl
@@ -275,58 +313,71 @@ work_done f ready request base is carried room h =
 module _ {W : Type 0} (facts : WireFacts W) where
   open facts use {far}
 
-  pub record Next (layouts : Layouts) (request : Request) (base : List Carried) (turns : ℕ)
-      (said : Said) (new : StationState W) : Type 0 where
+  pub record Next (kind : Kind) (layouts : Layouts) (request : Request) (base : List Carried)
+      (turns : ℕ) (said : Said) (new : StationState W) : Type 0 where
     pub stage : Stage
     pub wire : W
-    pub at : At facts layouts request base stage new wire
-    pub turns_are : turns_at layouts.run.od request stage ≡ suc turns
+    pub at : At facts kind layouts request base stage new wire
+    pub turns_are : turns_at kind.hands_over layouts.run.od request stage ≡ suc turns
     pub said_is : SaidAt stage said
 
-  module _ (laws : CleanLaws) (cleanly : ExchangesCleanly facts) (layouts : Layouts)
-      (low : 1 ≤ layouts.run.od) (request : Request) (valid : IsRequest request)
-      (base : List Carried) where
+  module _ (laws : CleanLaws) (cleanly : ExchangesCleanly facts) (kind : Kind)
+      (layouts : Layouts) (low : 1 ≤ layouts.run.od) (request : Request)
+      (valid : IsRequest request) (base : List Carried) where
     abbrev size : ℕ
     size = layouts.run.od
 
     abbrev Turns : StationState W → W → Current → Said → StationState W → Type 0
-    Turns old wire c said new = Turned facts layouts old wire c said new
+    Turns old wire c said new = Turned facts kind layouts old wire c said new
 
     -- what the message makes of the device's ISDU state
-    abbrev after : Current → IsduState → IsduState
-    after c state = isdu_moved own None size state (progress_head c.progress).read
+    abbrev after : Current → Option ℕ → IsduState → IsduState
+    after c counted state = isdu_moved kind counted size state (progress_head c.progress).read
         (flow_of (progress_head c.progress).address) (progress_data c.progress)
 
-    module _ (old : StationState W) (wire : W) (c : Current) (said : Said)
-        (new : StationState W) (t : Turns old wire c said new) where
-      same : SameBut (far wire) t.ready
-      same = work_same (far wire) t.ready (handed (far wire).isdu) t.work
+    module _ {old : StationState W} {wire : W} {c : Current} {said : Said}
+        {new : StationState W} (t : Turns old wire c said new) where
+      same : SameBut (far wire) t.turn.ready
+      same = work_same (far wire) t.turn.ready (handed (far wire).isdu) t.turn.work
 
-      pub state_by : (far t.next).isdu ≡ after c t.heard_as.before
+      pub state_by : (far t.turn.next).isdu ≡ after c t.turn.heard_as.counted t.turn.heard_as.before
       state_by = grind (arith, common_steps)
 
-      pub state_is : link_of (far wire) ≡ operate_link → (far t.next).isdu ≡ after c t.ready.isdu
-      state_is given = state_by ∙ ap (λ (state : IsduState). after c state)
-          (t.heard_as.before_is (ap (λ (l : Link). l.waits) (same.link_is ∙ given)))
+      pub state_is : link_of (far wire) ≡ operate_link → (state : IsduState)
+          → t.turn.ready.isdu ≡ state → (far t.turn.next).isdu
+          ≡ after c t.turn.heard_as.counted state
+      state_is given state is = state_by ∙ ap (after c t.turn.heard_as.counted)
+          (t.turn.heard_as.before_is (ap (λ (l : Link). l.waits) (same.link_is ∙ given)) ∙ is)
 
-      pub od_is : t.reply.od.items ≡ (if (progress_head c.progress).read then isdu_data size
-          (far t.next).isdu else [])
-      od_is = t.heard_as.od ∙ ap (λ (h : Head). if h.read then isdu_data size (far t.next).isdu
+      -- where nothing was handed over, the message alone changes the state, and the record stays
+      stays : link_of (far wire) ≡ operate_link → (state : IsduState) → (far wire).isdu ≡ state
+          → handed state ≡ None → ((far t.turn.next).isdu ≡ after c t.turn.heard_as.counted state)
+          × ((far t.turn.next).carried ≡ (far wire).carried)
+      stays given state is none =
+          let still = work_none (far wire) t.turn.ready (ap handed is ∙ none) t.turn.work in (
+            state_is given state (ap (λ (f : Far). f.isdu) still ∙ is),
+            t.turn.heard_as.carried ∙ ap (λ (f : Far). f.carried) still,
+          )
+
+      pub od_is : t.turn.reply.od.items ≡ (if (progress_head c.progress).read then isdu_data size
+          (far t.turn.next).isdu else [])
+      od_is = t.turn.heard_as.od ∙ ap
+          (λ (h : Head). if h.read then isdu_data size (far t.turn.next).isdu
           else []) t.head
 
       -- the request goes on, or has its answer
       next_is : (n : ℕ) → takes_more (far wire).room base ≡ true → 2 ≤ old.session.limit
-          → (stage : Stage) → StageFits size request base stage new.session.current
-          (far t.next).isdu (far t.next).carried
-          → turns_at size request stage ≡ suc n → SaidAt stage said
-          → Next layouts request base n said new
+          → (stage : Stage) → StageFits kind.hands_over size request base stage
+          new.session.current (far t.turn.next).isdu (far t.turn.next).carried
+          → turns_at kind.hands_over size request stage ≡ suc n → SaidAt stage said
+          → Next kind layouts request base n said new
       next_is n room limit stage fits turns is = record {
         stage = stage;
-        wire = t.next;
+        wire = t.turn.next;
         at = record {
-          stood = t.stood;
+          stood = t.turn.stood;
           fits = fits;
-          room = ap (λ (most : Option ℕ). takes_more most base) (t.heard_as.room ∙ same.room)
+          room = ap (λ (most : Option ℕ). takes_more most base) (t.turn.heard_as.room ∙ same.room)
               ∙ room;
           limit = subst (λ (n : ℕ). 2 ≤ n) (sym t.limit) limit;
           after = t.clear;
@@ -335,91 +386,67 @@ module _ {W : Type 0} (facts : WireFacts W) where
         said_is = is;
       }
 
-      pub goes_on : (other : Current)
-          → replied old.session.limit t.reply.od.items c ≡ GoesOn other
-          → (new.session.current ≡ Some other) × (said ≡ SaidBusy)
-      goes_on other e = (
+      -- what the reply makes of the request, and what is said of it
+      pub comes_to : (o : Outcome) → replied old.session.limit t.turn.reply.od.items c ≡ o
+          → (new.session.current ≡ going o) × IsOutcomeSaid (is_read c.cutter.source) o said
+      comes_to o e = (
         t.current ∙ ap going e,
-        subst
-            (λ (o : Outcome). IsOutcomeSaid (is_read c.cutter.source) o said) e t.said_is,
-      )
-
-      pub has_text : (text : List ℕ) → replied old.session.limit t.reply.od.items c
-          ≡ HasText text → (new.session.current ≡ None)
-          × IsOutcomeSaid (is_read c.cutter.source) (HasText text) said
-      has_text text e = (
-        t.current ∙ ap going e,
-        subst
-            (λ (o : Outcome). IsOutcomeSaid (is_read c.cutter.source) o said) e t.said_is,
+        subst (λ (x : Outcome). IsOutcomeSaid (is_read c.cutter.source) x said) e t.said_is,
       )
 
     module _ (room : Bool) (old : StationState W) (wire : W) (said : Said)
         (new : StationState W) (turn : IsTurn facts room old said new) where
-      takes : (c : Current) → Stood facts layouts operate_link old wire
+      takes : {link : Link} (c : Current) → Stood facts kind layouts link old wire
           → old.session.current ≡ Some c → c.abort ≡ None → Turns old wire c said new
-      takes c stood is abort = turned facts cleanly laws.read_back laws.sized laws.much layouts
-          operate_link old wire room c said new stood is abort turn
+      takes {link = link} c stood is abort = turned facts cleanly laws.read_back laws.sized
+          laws.much kind layouts link old wire room c said new stood is abort turn
 
       -- another segment of the request
-      write_step : (i : ℕ) → At facts layouts request base (Written (suc i)) old wire
+      write_step : (i : ℕ) → At facts kind layouts request base (Written (suc i)) old wire
           → suc i * size < length (request_text request)
-          → Next layouts request base (suc i) said new
+          → Next kind layouts request base (suc i) said new
       write_step i at more =
           let c : Current = sends request size (suc i) in
           let is : old.session.current ≡ Some c = at.fits.1
           ∙ ap (λ (x : Current). Some x) (sends_is request size (suc i) more) in
           let t : Turns old wire c said new = takes c at.stood is refl in
-          let still : t.ready ≡ far wire =
-          work_none (far wire) t.ready
-          (ap handed at.fits.2 ∙ none_handed size (laws.segments size low) request i
-          valid at.fits.0) t.work in
-          let state : (far t.next).isdu ≡ received (joined size (request_text request) (suc i))
-          (count_at (suc i)) =
-          state_is old wire c said new t at.stood.at ∙ ap (λ (f : Far). after c f.isdu) still
-          ∙ ap (after c) at.fits.2 ∙ written_next size (laws.segments size low) request i
-          valid more in
-          let goes = goes_on old wire c said new t
-          (sent_on (cutting request size (suc (suc i))) None) (refl) in
-          next_is old wire c said new t (suc i) at.room at.limit (Written (suc (suc i))) (
-            more,
-            goes.0,
-            state,
-            t.heard_as.carried ∙ ap (λ (f : Far). f.carried) still
-                ∙ at.fits.3,
-          ) refl goes.1
+          let text : (far wire).isdu
+          ≡ TextSoFar (joined size (request_text request) i) (count_at i) =
+          at.fits.2 ∙ open_text kind.hands_over size (laws.segments size low) request i valid
+          more in
+          let still = stays t at.stood.at
+          (TextSoFar (joined size (request_text request) i) (count_at i)) text refl in
+          let state : (far t.turn.next).isdu ≡ once_written kind.hands_over
+          (received (joined size (request_text request) (suc i)) (count_at (suc i))) =
+          still.0 ∙ written_next kind.hands_over kind.recalls t.turn.heard_as.counted size
+          (laws.segments size low) request i valid more in
+          let goes = comes_to t (GoesOn (sent_on (cutting request size (suc (suc i))) None)) refl in
+          next_is t (suc i) at.room at.limit (Written (suc (suc i)))
+          (more, goes.0, state, still.1 ∙ at.fits.3) refl goes.1
 
-      -- the device has it whole
-      ask_step : (i : ℕ) → At facts layouts request base (Written (suc i)) old wire
-          → length (request_text request) ≤ suc i * size
-          → Next layouts request base (suc i) said new
-      ask_step i at ends =
+      -- the device has it whole, hands it over, and says that it is busy
+      ask_step : (i : ℕ) → At facts kind layouts request base (Written (suc i)) old wire
+          → length (request_text request) ≤ suc i * size → kind.hands_over ≡ FirstRead
+          → (far wire).isdu ≡ Whole request (count_at i)
+          → Next kind layouts request base (suc i) said new
+      ask_step i at ends by_read whole =
           let c : Current = asks request size (suc i) 0 in
           let is : old.session.current ≡ Some c = at.fits.1
           ∙ ap (λ (x : Current). Some x) (asks_is request size (suc i) ends) in
           let t : Turns old wire c said new = takes c at.stood is refl in
-          let still : t.ready ≡ far wire =
-          work_none (far wire) t.ready
-          (ap handed at.fits.2 ∙ none_handed size (laws.segments size low) request i
-          valid at.fits.0) t.work in
-          let state : (far t.next).isdu ≡ Handed request =
-          state_is old wire c said new t at.stood.at ∙ ap (λ (f : Far). after c f.isdu) still
-          ∙ ap (after c) at.fits.2 ∙ handed_over size (laws.segments size low) request i
-          valid at.fits.0 ends in
-          let od : t.reply.od.items ≡ isdu_data size (Handed request) =
-          od_is old wire c said new t ∙ ap (isdu_data size) state in
+          let still = stays t at.stood.at (Whole request (count_at i)) whole refl in
+          let state : (far t.turn.next).isdu ≡ Handed request = still.0
+          ∙ read_start kind.recalls size (Whole request (count_at i)) refl in
+          let od : t.turn.reply.od.items ≡ isdu_data size (Handed request) =
+          od_is t ∙ ap (isdu_data size) state in
           let few : (1 == old.session.limit) ≡ false = let l = at.limit in
           grind (arith, nat_tests) in
-          let goes = goes_on old wire c said new t (asks request size (suc i) 1)
-          (rw (od, few) refl) in
+          let goes = comes_to t (GoesOn (asks request size (suc i) 1)) (rw (od, few) refl) in
           let count = segments_last size (laws.texts size low) (request_text request) i
           at.fits.0 ends in
-          next_is old wire c said new t (suc i) at.room at.limit Waiting (
-            suc i,
-            goes.0,
-            state,
-            t.heard_as.carried ∙ ap (λ (f : Far). f.carried) still
-                ∙ at.fits.3,
-          ) (omega (arith, count)) goes.1
+          let one : busy_replies kind.hands_over ≡ 1 = ap busy_replies by_read in
+          next_is t (suc i) at.room at.limit Waiting
+          (suc i, goes.0, state, still.1 ∙ at.fits.3, by_read) (omega (arith, count, one)) goes.1
 
       -- The answer
 
@@ -427,102 +454,115 @@ module _ {W : Type 0} (facts : WireFacts W) where
       had_step : (c : Current) (t : Turns old wire c said new) (given j n : ℕ) (answer : Answer)
           → IsTrue (fits request answer) → c.cutter.source ≡ request
           → takes_more (far wire).room base ≡ true → 2 ≤ old.session.limit
-          → (far t.next).isdu ≡ Answered request answer (Some j)
-          → (far t.next).carried ≡ grown_by base request answer
+          → (far t.turn.next).isdu ≡ Answered request answer (Some j)
+          → (far t.turn.next).carried ≡ grown_by base request answer
           → j * size < length (answer_text request answer)
-          → replied old.session.limit t.reply.od.items c
+          → replied old.session.limit t.turn.reply.od.items c
           ≡ joined_with (cutting request size given) None j
           (Ok (took_at size (answer_text request answer) j))
           (standing false size (answer_text request answer) j)
-          → suc n ≡ segments size (request_text request) + 1 + suc j
-          → Next layouts request base n said new
+          → suc n ≡ segments size (request_text request) + busy_replies kind.hands_over + suc j
+          → Next kind layouts request base n said new
       had_step c t given j n answer fitting source some limit state carried begins outcome count =
           ⊎_elim
           (λ (more : suc j * size < length (answer_text request answer)).
-          let goes = goes_on old wire c said new t
-          (gets size (laws.texts size low) (laws.joins size low) laws.one
-          (laws.segments size low).fitting request answer fitting given j)
-          (outcome ∙ joined_more size (laws.texts size low) (laws.joins size low) laws.one
-          (laws.segments size low).fitting request answer fitting given j more) in
-          next_is old wire c said new t n some limit (Reading answer (suc j))
+          let goes = comes_to t (GoesOn (gets request size answer given j))
+          (outcome ∙ joined_more laws size low request answer fitting given j more) in
+          next_is t n some limit (Reading answer (suc j))
           (given, goes.0, state, carried, fitting, more) (sym count) goes.1)
           (λ (all : length (answer_text request answer) ≤ suc j * size).
-          let text = has_text old wire c said new t (answer_text request answer)
-          (outcome ∙ joined_last size (laws.texts size low) (laws.joins size low) laws.one
-          (laws.segments size low).fitting request answer fitting given j all) in
+          let text = comes_to t (HasText (answer_text request answer))
+          (outcome ∙ joined_last laws size low request answer fitting given j all) in
           let last = segments_last size (laws.texts size low) (answer_text request answer) j
           begins all in
-          next_is old wire c said new t n some limit (Ended answer)
+          next_is t n some limit (Ended answer)
           (text.0, carried, fitting, (j, state)) (omega (arith, count, last))
-          (said_last size (laws.texts size low) (laws.joins size low) laws.one
-          (laws.segments size low).fitting request answer fitting said
+          (said_last laws size low request answer fitting said
           (subst (λ (q : Request). IsOutcomeSaid (is_read q)
           (HasText (answer_text request answer)) said) source text.1)))
           (cases_lt (suc j * size) (length (answer_text request answer)))
 
-      -- its first segment
-      first_step : At facts layouts request base Waiting old wire
-          → Next layouts request base (segments size (request_text request) + 1) said new
-      first_step at =
-          let c : Current = asks request size at.fits.0 1 in
-          let t : Turns old wire c said new = takes c at.stood at.fits.1 refl in
-          let done : Worked request base t.ready =
-          work_done (far wire) t.ready request base at.fits.2 at.fits.3 at.room t.work in
-          let state : (far t.next).isdu ≡ Answered request done.answer (Some 0) =
-          state_is old wire c said new t at.stood.at ∙ ap (after c) done.isdu
-          ∙ (rw flow_start refl) in
-          let od : t.reply.od.items ≡ segment size (answer_text request done.answer) 0 =
-          od_is old wire c said new t ∙ ap (isdu_data size) state in
-          had_step c t at.fits.0 0 (segments size (request_text request) + 1) done.answer
-          done.fitting refl at.room at.limit state (t.heard_as.carried ∙ done.carried)
+      -- its first segment, of a request that was handed over
+      first_step : (stage : Stage) → At facts kind layouts request base stage old wire
+          → (given busy n : ℕ) → old.session.current ≡ Some (asks request size given busy)
+          → (far wire).isdu ≡ Handed request → (far wire).carried ≡ base
+          → n ≡ segments size (request_text request) + busy_replies kind.hands_over
+          → Next kind layouts request base n said new
+      first_step stage at given busy n is handed_is carried count =
+          let c : Current = asks request size given busy in
+          let t : Turns old wire c said new = takes c at.stood is refl in
+          let done : Worked request base t.turn.ready =
+          work_done (far wire) t.turn.ready request base handed_is carried at.room t.turn.work in
+          let state : (far t.turn.next).isdu ≡ Answered request done.answer (Some 0) =
+          state_is t at.stood.at (Answered request done.answer None) done.isdu
+          ∙ read_start kind.recalls size (Answered request done.answer None) refl in
+          let od : t.turn.reply.od.items ≡ segment size (answer_text request done.answer) 0 =
+          od_is t ∙ ap (isdu_data size) state in
+          had_step c t given 0 n done.answer
+          done.fitting refl at.room at.limit state (t.turn.heard_as.carried ∙ done.carried)
           (let whole = answer_some request done.answer in omega (arith, whole))
           (ap (λ (xs : List ℕ). replied old.session.limit xs c) od
-          ∙ first_joined size (laws.texts size low) (laws.joins size low) laws.one
-          (laws.segments size low).fitting request done.answer done.fitting at.fits.0 1
+          ∙ first_joined laws size low request done.answer done.fitting given busy
           old.session.limit)
-          (omega arith)
+          (omega (arith, count))
+
+      -- behind the request's last segment
+      asked_step : (i : ℕ) (hands_over : HandsOver) → kind.hands_over ≡ hands_over
+          → At facts kind layouts request base (Written (suc i)) old wire
+          → length (request_text request) ≤ suc i * size
+          → (far wire).isdu ≡ once_written hands_over (Whole request (count_at i))
+          → Next kind layouts request base (suc i) said new
+      asked_step i FirstRead by_read at ends whole = ask_step i at ends by_read whole
+      asked_step i LastSegment by_write at ends whole =
+          let count = segments_last size (laws.texts size low) (request_text request) i
+          at.fits.0 ends in
+          let none : busy_replies kind.hands_over ≡ 0 = ap busy_replies by_write in
+          first_step (Written (suc i)) at (suc i) 0 (suc i)
+          (at.fits.1 ∙ ap (λ (x : Current). Some x) (asks_is request size (suc i) ends)) whole
+          at.fits.3 (omega (arith, count, none))
 
       -- its next segment
       next_step : (answer : Answer) (j : ℕ)
-          → At facts layouts request base (Reading answer (suc j)) old wire
-          → Next layouts request base (segments size (request_text request) + 1 + suc j)
-          said new
+          → At facts kind layouts request base (Reading answer (suc j)) old wire
+          → Next kind layouts request base
+          (segments size (request_text request) + busy_replies kind.hands_over + suc j) said new
       next_step answer j at =
-          let c : Current = gets size (laws.texts size low) (laws.joins size low) laws.one
-          (laws.segments size low).fitting request answer at.fits.4 at.fits.0 j in
+          let c : Current = gets request size answer at.fits.0 j in
           let t : Turns old wire c said new = takes c at.stood at.fits.1 refl in
-          let still : t.ready ≡ far wire =
-          work_none (far wire) t.ready (ap handed at.fits.2) t.work in
-          let state : (far t.next).isdu ≡ Answered request answer (Some (suc j)) =
-          state_is old wire c said new t at.stood.at ∙ ap (λ (f : Far). after c f.isdu) still
-          ∙ ap (after c) at.fits.2 ∙ read_next size request answer j at.fits.5 in
-          let od : t.reply.od.items ≡ segment size (answer_text request answer) (suc j) =
-          od_is old wire c said new t ∙ ap (isdu_data size) state in
-          had_step c t at.fits.0 (suc j) (segments size (request_text request) + 1 + suc j)
-          answer at.fits.4 refl at.room at.limit state
-          (t.heard_as.carried ∙ ap (λ (f : Far). f.carried) still ∙ at.fits.3) at.fits.5
+          let still = stays t at.stood.at (Answered request answer (Some j)) at.fits.2 refl in
+          let state : (far t.turn.next).isdu ≡ Answered request answer (Some (suc j)) =
+          still.0 ∙ read_next kind.recalls size request answer j at.fits.5 in
+          let od : t.turn.reply.od.items ≡ segment size (answer_text request answer) (suc j) =
+          od_is t ∙ ap (isdu_data size) state in
+          had_step c t at.fits.0 (suc j)
+          (segments size (request_text request) + busy_replies kind.hands_over + suc j)
+          answer at.fits.4 refl at.room at.limit state (still.1 ∙ at.fits.3) at.fits.5
           (ap (λ (xs : List ℕ). replied old.session.limit xs c) od
-          ∙ next_joined size (laws.texts size low) (laws.joins size low) laws.one
-          (laws.segments size low).fitting request answer at.fits.4 at.fits.0 j at.fits.5)
+          ∙ next_joined laws size low request answer at.fits.4 at.fits.0 j at.fits.5)
           (omega arith)
 
       -- from each stage to the next
-      pub step : (stage : Stage) → At facts layouts request base stage old wire
+      pub step : (stage : Stage) → At facts kind layouts request base stage old wire
           → ((answer : Answer) → stage ≡ Ended answer → ⊥)
-          → Next layouts request base (turns_at size request stage) said new
+          → Next kind layouts request base (turns_at kind.hands_over size request stage) said new
       step (Written zero) at goes = absurd at.fits
       step (Written (suc i)) at goes = ⊎_elim
           (λ (more : suc i * size < length (request_text request)). write_step i at more)
-          (λ (ends : length (request_text request) ≤ suc i * size). ask_step i at ends)
+          (λ (ends : length (request_text request) ≤ suc i * size).
+          asked_step i kind.hands_over refl at ends (at.fits.2
+          ∙ ap (once_written kind.hands_over)
+          ((laws.segments size low).ends request i (count_at i) valid (at.fits.0, ends))))
           (cases_lt (suc i * size) (length (request_text request)))
-      step Waiting at goes = first_step at
+      step Waiting at goes = first_step Waiting at at.fits.0 1
+          (segments size (request_text request) + busy_replies kind.hands_over) at.fits.1
+          at.fits.2 at.fits.3 refl
       step (Reading answer zero) at goes = absurd at.fits
       step (Reading answer (suc j)) at goes = next_step answer j at
       step (Ended answer) at goes = absurd (goes answer refl)
 
       -- The first turn: the request was begun, and nothing is handed at the device
 
-      module _ (link : Link) (stood : Stood facts layouts link old wire) where
+      module _ (link : Link) (stood : Stood facts kind layouts link old wire) where
         first_takes : (other : ℕ) → old.session.current
             ≡ Some (sent_on (cutting request other 0) None)
             → Turns old wire (sends request other 0) said new
@@ -531,8 +571,7 @@ module _ {W : Type 0} (facts : WireFacts W) where
             text_some request in omega (arith, whole) in
             let is : old.session.current ≡ Some (sends request other 0) = current
             ∙ ap (λ (x : Current). Some x) (sends_is request other 0 none) in
-            turned facts cleanly laws.read_back laws.sized laws.much layouts link old wire room
-            (sends request other 0) said new stood is refl turn
+            takes (sends request other 0) stood is refl
 
         -- it is cut in segments of the layout's size
         same_size : (other : ℕ) → old.session.current
@@ -540,35 +579,36 @@ module _ {W : Type 0} (facts : WireFacts W) where
         same_size other current =
             let t = first_takes other current in
             sym (laws.pieces other (request_text request) 0) ∙ sym (ap length t.octets)
-            ∙ t.parts.od ∙ ap (λ (h : Head). if h.read then 0 else size) t.head
+            ∙ t.turn.parts.od ∙ ap (λ (h : Head). if h.read then 0 else size) t.head
 
         first_at : old.session.current ≡ Some (sent_on (cutting request size 0) None)
             → handed (far wire).isdu ≡ None → (far wire).carried ≡ base
             → takes_more (far wire).room base ≡ true → 2 ≤ old.session.limit
-            → Next layouts request base 0 said new
+            → Next kind layouts request base 0 said new
         first_at current unhanded carried some limit =
             let c : Current = sends request size 0 in
             let t = first_takes size current in
-            let still : t.ready ≡ far wire = work_none (far wire) t.ready unhanded t.work in
-            let state : (far t.next).isdu
-            ≡ received (joined size (request_text request) 0) (count_at 0) =
-            state_by old wire c said new t ∙ (rw flow_start refl) in
-            let goes = goes_on old wire c said new t (sent_on (cutting request size 1) None) refl in
+            let still = work_none (far wire) t.turn.ready unhanded t.turn.work in
+            let state : (far t.turn.next).isdu ≡ once_written kind.hands_over
+            (received (joined size (request_text request) 0) (count_at 0)) =
+            state_by t ∙ (rw flow_start (begun kind.hands_over t.turn.heard_as.counted
+            (recalled kind.recalls size t.turn.heard_as.before)
+            (segment size (request_text request) 0))) in
+            let goes = comes_to t (GoesOn (sent_on (cutting request size 1) None)) refl in
             let none : 0 * size < length (request_text request) = let whole =
             text_some request in omega (arith, whole) in
-            next_is old wire c said new t 0 some limit (Written 1) (
+            next_is t 0 some limit (Written 1) (
               none,
               goes.0,
               state,
-              t.heard_as.carried ∙ ap (λ (f : Far). f.carried) still
-                  ∙ carried,
+              t.turn.heard_as.carried ∙ ap (λ (f : Far). f.carried) still ∙ carried,
             ) refl goes.1
 
         pub first : (other : ℕ) → old.session.current
             ≡ Some (sent_on (cutting request other 0) None) → handed (far wire).isdu ≡ None
             → (far wire).carried ≡ base → takes_more (far wire).room base ≡ true
             → 2 ≤ old.session.limit
-            → Next layouts request base 0 said new
+            → Next kind layouts request base 0 said new
         first other current = first_at
             (current ∙ ap (λ (n : ℕ). Some (sent_on (cutting request n 0) None))
             (same_size other current))

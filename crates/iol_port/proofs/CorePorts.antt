@@ -18,7 +18,7 @@ use Rattle.iol_steps.specs.declared.mode.Mode.TheVariants.{Operate}
 use Rattle.iol_steps.specs.declared.said.Said.{Said}
 use Rattle.iol_steps.specs.declared.said.Said.TheVariants.{Idle}
 use Rattle.iol_steps.specs.Step.{Step, Take, Deny, Make, Reset, WireCall, Moment, is_clash_free, no_make, resets, book_said, reports_said}
-use Rattle.iol_steps.specs.Session.{MaySession, MaySessionAll, session_through}
+use Rattle.iol_steps.specs.Session.{Session, MaySession, MaySessionAll, session_after, session_through}
 use Rattle.iol_event.specs.declared.event.Event.{Event}
 use Rattle.iol_steps.specs.Images.{MayImagesAll, images_through}
 use Rattle.iol_app.specs.State.{begun_in}
@@ -31,6 +31,7 @@ use Rattle.iol_port.specs.declared.call.Call.{Call}
 use Rattle.iol_port.specs.declared.call.Answered.{Answered}
 use Rattle.iol_port.specs.declared.call.Answered.TheVariants as answered
 use Rattle.iol_port.specs.Steps.{MayBookAll, book_through, kept_through}
+use Rattle.iol_port.specs.declared.port_core.PortCore.TheInside.{Inside}
 use Rattle.iol_port.specs.Run.{PortState, Pending, PieceOf, Send, Receive, opened, is_sending, is_take, moment_by}
 use Rattle.iol_port.specs.declared.awaited.Awaited.TheVariants.{Nothing, Wake, Reply}
 use Rattle.iol_port.specs.View.{Parts, Choice, IsOut, IsTied, PendingAt, ShowsAt, StandsFor, OpensWell, IsOpened, opening_for, Follows, Does, BeginsNext, TakesNext, state_of}
@@ -42,6 +43,16 @@ use Rattle.iol_port.proofs.CallLemmas.{none_pending}
 
 abbrev Bare : Type 0
 Bare = Parts (Unit {0})
+
+-- the parts that the fields of a port show
+abbrev pub parts_in : {A : Type 0} → Inside A → Bare
+parts_in inside = record {
+  station = bare inside.core;
+  book = inside.book;
+  kept = inside.kept.items;
+  sent = inside.sent;
+  counters = inside.counters;
+}
 
 abbrev not_yet : ℕ → Ghost → Choice
 not_yet base g = record { base = base; ghost = g; pending = None }
@@ -67,6 +78,26 @@ wake_out p e = grind (arith, common_steps)
 -- a message is made, or none is
 abbrev make_of : Bool → List Step
 make_of made = cond made (Make ∷ []) []
+
+-- it is a step of the sending, and no business of the book or the session
+made_sends : (made : Bool) → IsTrue (list_all is_sending (make_of made))
+made_sends made = grind (arith, common_steps)
+
+made_free : (made : Bool) → IsTrue (is_clash_free (make_of made))
+made_free made = grind (arith, common_steps)
+
+made_none : (made : Bool) → IsTrue (list_any is_take (make_of made)) → ⊥
+made_none made given = grind (arith, common_steps)
+
+made_book : (made : Bool) (b : BookState)
+    → MayBookAll (make_of made) b × (b ≡ book_through (make_of made) b)
+made_book made b = grind (arith, common_steps)
+
+made_may : (made : Bool) (m : Moment) (s : Session) → MaySessionAll m (make_of made) s
+made_may made m s = grind (arith, common_steps)
+
+made_session : (made : Bool) (s : Session) → s ≡ session_through (make_of made) s
+made_session made s = grind (arith, common_steps)
 
 record Sent (mid k : Core) (g after : Ghost) (far : Far) (n : ℕ) (made : Bool) : Type 0 where
   stands : Stands k after far n
@@ -187,14 +218,12 @@ module _ (p : Bare) (far : Far) (n : ℕ) (base : ℕ) (g : Ghost) (k : Core) (b
   -- nothing is taken or denied
   idle_out : (after : Ghost) (made : Bool) → Sent (core_of p.station) k g after far n made
       → b.state ≡ p.book.state → GoesOut
-  idle_out after true s book =
-      goes_out [] (core_of p.station) g after true s refl refl (tt, tt) book (λ call. (tt, tt))
-      refl s.may (λ call. refl) refl (refl, refl, refl, refl) refl
-      (λ k. absurd (let e : false ≡ true = k in cc))
-  idle_out after false s book =
-      goes_out [] (core_of p.station) g after false s refl refl tt book (λ call. tt) refl s.may
-      (λ call. refl) refl (refl, refl, refl, refl) refl (λ k. absurd
-      (let e : false ≡ true = k in cc))
+  idle_out after made s book =
+      goes_out [] (core_of p.station) g after made s (made_sends made) (made_free made)
+      (made_book made p.book.state).0 (book ∙ (made_book made p.book.state).1)
+      (λ call. made_may made (moment_by before call) before.session)
+      (made_session made before.session) s.may
+      (λ call. refl) refl (refl, refl, refl, refl) refl (λ k. absurd (made_none made k))
 
   -- the next request is taken
   taking_out : (t : Ticket) (q : Request) → next_taken p.book.state.standing ≡ Some (t, q)
@@ -202,17 +231,14 @@ module _ (p : Bare) (far : Far) (n : ℕ) (base : ℕ) (g : Ghost) (k : Core) (b
       BeginGives (core_of p.station) mid g far n q → (after : Ghost) (made : Bool)
       → Sent mid k (begun_ghost g) after far n made → b.state ≡ took p.book.state (t, q)
       → GoesOut
-  taking_out t q head begins after true s book =
+  taking_out t q head begins after made s book =
       goes_out (Take t.0 q ∷ []) (record
       (core_of p.station) { session = begun_in q p.station.session }) (begun_ghost g) after
-      true s refl refl (head, (tt, tt)) book
-      (λ call. (begins.may (moment_by before call) t.0 refl, (tt, tt))) (sym (begins.is t.0))
-      (λ call. (tt, s.may call)) (λ call. refl) refl (refl, refl, refl, refl) refl (λ _. refl)
-  taking_out t q head begins after false s book =
-      goes_out (Take t.0 q ∷ []) (record
-      (core_of p.station) { session = begun_in q p.station.session }) (begun_ghost g) after
-      false s refl refl (head, tt) book
-      (λ call. (begins.may (moment_by before call) t.0 refl, tt)) (sym (begins.is t.0))
+      made s (made_sends made) (grind (arith, common_steps)) (head, (made_book made _).0)
+      (book ∙ (made_book made _).1)
+      (λ call. let m : Moment = moment_by before call in
+      (begins.may m t.0 refl, made_may made m (session_after (Take t.0 q) before.session)))
+      (sym (begins.is t.0) ∙ made_session made _)
       (λ call. (tt, s.may call)) (λ call. refl) refl (refl, refl, refl, refl) refl (λ _. refl)
 
   -- or denied
@@ -221,16 +247,13 @@ module _ (p : Bare) (far : Far) (n : ℕ) (base : ℕ) (g : Ghost) (k : Core) (b
       → MaySession m (Deny t.0) (session_in (core_of p.station) g far))
       → (after : Ghost) (made : Bool) → Sent (core_of p.station) k g after far n made
       → b.state ≡ denied p.book.state t → GoesOut
-  denying_out t head may after true s book =
-      goes_out (Deny t.0 ∷ []) (core_of p.station) g after true s refl refl (head, (tt, tt)) book
-      (λ call. (may (moment_by before call) refl, (tt, tt))) refl (λ call. (tt, s.may call))
-      (λ call. refl) refl (refl, refl, refl, refl) refl (λ k. absurd
-      (let e : false ≡ true = k in cc))
-  denying_out t head may after false s book =
-      goes_out (Deny t.0 ∷ []) (core_of p.station) g after false s refl refl (head, tt) book
-      (λ call. (may (moment_by before call) refl, tt)) refl (λ call. (tt, s.may call))
-      (λ call. refl) refl (refl, refl, refl, refl) refl (λ k. absurd
-      (let e : false ≡ true = k in cc))
+  denying_out t head may after made s book =
+      goes_out (Deny t.0 ∷ []) (core_of p.station) g after made s (made_sends made)
+      (grind (arith, common_steps)) (head, (made_book made _).0) (book ∙ (made_book made _).1)
+      (λ call. let m : Moment = moment_by before call in
+      (may m refl, made_may made m before.session))
+      (made_session made before.session) (λ call. (tt, s.may call)) (λ call. refl) refl
+      (refl, refl, refl, refl) refl (λ k. absurd (made_none made k))
 
   abbrev At : StationState (Unit {0}) → BookState → Type 0
   At s start = SendSteps (core_of s) k × (b.state ≡ start)
@@ -239,25 +262,23 @@ module _ (p : Bare) (far : Far) (n : ℕ) (base : ℕ) (g : Ghost) (k : Core) (b
       → BeginsNext p.station p.book.state s start → At s start
       → IsAttempted p.station.link.state → Stands (core_of p.station) g far n → GoesOut
   unfolding BeginSteps DenySteps
-  begins_out s start (inl (s_is, b_is)) at tried stands =
-      let (sends, book) = subst (λ (x : BookState). At p.station x) b_is
-      (subst (λ (x : StationState (Unit {0})). At x start) s_is at) in
+  begins_out s start (inl (s_is, b_is)) sending tried stands =
+      let (sends, book) = rw (s_is, b_is) at sending in
       let (after, made, sent) = is_sent (core_of p.station) k g far n sends tried stands in
       idle_out after made sent book
-  begins_out s start (inr (inl (t, q, head, b_is, none, s_is, follows, begins))) at tried stands =
+  begins_out s start (inr (inl (t, q, head, b_is, none, s_is, follows, begins))) sending tried
+      stands =
       let mid : StationState (Unit {0}) =
       record p.station { session = begun_in q p.station.session } in
-      let (sends, book) = subst (λ (x : BookState). At mid x) b_is
-      (subst (λ (x : StationState (Unit {0})). At x start) s_is at) in
+      let (sends, book) = rw (s_is, b_is) at sending in
       let gives : BeginGives (core_of p.station) (core_of mid) g far n q =
       subst (λ (x : StationState (Unit {0})). BeginGives (core_of p.station) (core_of x) g
       far n q) s_is (begins follows g far n stands) in
       let (after, made, sent) = is_sent (core_of mid) k (begun_ghost g) far n sends tried
       gives.stands in
       taking_out t q head gives after made sent book
-  begins_out s start (inr (inr (t, head, b_is, none, s_is, told, denies))) at tried stands =
-      let (sends, book) = subst (λ (x : BookState). At p.station x) b_is
-      (subst (λ (x : StationState (Unit {0})). At x start) s_is at) in
+  begins_out s start (inr (inr (t, head, b_is, none, s_is, told, denies))) sending tried stands =
+      let (sends, book) = rw (s_is, b_is) at sending in
       let (after, made, sent) = is_sent (core_of p.station) k g far n sends tried stands in
       denying_out t head (λ m page. denies g far n stands m t.0 page) after made sent book
 
@@ -306,8 +327,7 @@ again_does p sent = λ far n a for_a.
     )
   where
     some : (c : Core) (g : Ghost) (n : ℕ) (x : Option Pending) → PendingAt x p.sent c g n → IsSome x
-    some c g n None out = absurd (let k : true ≡ false = sym sent ∙ out.0 in cc)
-    some c g n (Some o) out = refl
+    some c g n x out = grind (arith, common_steps)
 
 -- What comes back
 
@@ -440,42 +460,24 @@ sent_same room old new is_out sent = grind (arith, common_steps)
 
 -- A call of a port over a wire is that of the port without it
 
--- what is begun without a wire is begun over it
-pub begins_over : {W : Type 0} (wire : W) (c d : Core) (b after : BookState)
-    → BeginsNext (bare c) b (bare d) after
-    → BeginsNext (station_of wire c) b (station_of wire d) after
-begins_over wire c d b after (inl (same, kept)) =
-    inl (ap (λ (s : StationState (Unit {0})). station_of wire (core_of s)) same, kept)
-begins_over wire c d b after (inr (inl (t, q, head, taken, free, is, follows, steps))) =
-    inr (inl (
-      t,
-      q,
-      head,
-      taken,
-      free,
-      ap
-          (λ (s : StationState (Unit {0})). station_of wire (core_of s)) is,
-      follows,
-      steps,
-    ))
-begins_over wire c d b after (inr (inr (t, head, denied, free, same, told, steps))) =
-    inr (inr (
-      t,
-      head,
-      denied,
-      free,
-      ap
-          (λ (s : StationState (Unit {0})). station_of wire (core_of s)) same,
-      told,
-      steps,
-    ))
+module _ {W : Type 0} (wire : W) where
+  abbrev over : StationState (Unit {0}) → StationState W
+  over s = station_of wire (core_of s)
 
-pub takes_over : {W : Type 0} (wire : W) (room : Bool) (c d : Core) (b after : BookState)
-    → TakesNext room (bare c) b (bare d) after
-    → TakesNext room (station_of wire c) b (station_of wire d) after
-takes_over wire room c d b after takes t q ready told head =
-    let taken = takes t q ready told head in
-    (ap (λ (s : StationState (Unit {0})). station_of wire (core_of s)) taken.0, taken.1, taken.2)
+  -- what is begun without a wire is begun over it
+  pub begins_over : (c d : Core) (b after : BookState) → BeginsNext (bare c) b (bare d) after
+      → BeginsNext (station_of wire c) b (station_of wire d) after
+  begins_over c d b after (inl (is, kept)) = inl (ap over is, kept)
+  begins_over c d b after (inr (inl (t, q, head, taken, free, is, follows, steps))) =
+      inr (inl (t, q, head, taken, free, ap over is, follows, steps))
+  begins_over c d b after (inr (inr (t, head, denied, free, is, told, steps))) =
+      inr (inr (t, head, denied, free, ap over is, told, steps))
+
+  pub takes_over : (room : Bool) (c d : Core) (b after : BookState)
+      → TakesNext room (bare c) b (bare d) after
+      → TakesNext room (station_of wire c) b (station_of wire d) after
+  takes_over room c d b after takes t q ready told head =
+      let taken = takes t q ready told head in (ap over taken.0, taken.1, taken.2)
 
 module _ {W : Type 0} (facts : WireFacts W) (wire : W) where
   open facts use {honest, far, silence}
@@ -491,20 +493,7 @@ module _ {W : Type 0} (facts : WireFacts W) (wire : W) where
   -- a port that is new is so over a wire
   pub new_over : (devices : Devices) (limits : Limits) (p : Bare) → IsNewFor devices limits p
       → IsOpened (opening_for facts devices limits wire) (parts_over wire p)
-  new_over devices limits p new =
-      let is = new (far wire) (silence wire) in
-      record {
-        wire_is = refl;
-        mode = is.mode;
-        why = is.why;
-        session_is = is.session_is;
-        book = is.book;
-        places = is.places;
-        entries = is.entries;
-        kept = is.kept;
-        sent = is.sent;
-        counters = is.counters;
-      }
+  new_over devices limits p new = grind (arith, common_steps, new (far wire) (silence wire))
 
   pub opens_over : (devices : Devices) (limits : Limits) (p : Bare) → CoreOpensFor devices limits p
       → OpensWell (opening_for facts devices limits wire)

@@ -6,7 +6,7 @@ use Rattle.std.proofs.lemmas.List.Folds.{list_all-append}
 use Rattle.iol_event.specs.declared.event.Event.{Event}
 use Rattle.iol_book.specs.BookModel.{BookState}
 use Rattle.iol_steps.specs.declared.mode.Mode.{Mode}
-use Rattle.iol_steps.specs.Step.{Step, Take, Deny, Make, WireCall, Terms, Moment, clash, is_clash_free, CallFits, silence_by}
+use Rattle.iol_steps.specs.Step.{Step, WireCall, Terms, Moment, clash, is_clash_free, CallFits, silence_by}
 use Rattle.iol_steps.specs.Session.{Session, MaySessionAll, session_after, session_through}
 use Rattle.iol_steps.specs.FrozenEvents.{Frozen, MayFrozenAll, frozen_through}
 use Rattle.iol_steps.specs.Images.{Images, MayImagesAll, images_after, images_through}
@@ -49,15 +49,8 @@ module _ (m : Moment) (ys : List Step) where
       × (frozen_through (xs ++ ys) f ≡ frozen_through ys f)
       × (kept_through (xs ++ ys) kept ≡ kept_through ys kept)
   rest_stays [] s i f kept only = (refl, refl, (λ k. k), refl, refl)
-  rest_stays (Take t q ∷ xs) s i f kept only = let r =
-      rest_stays xs (session_after (Take t q) s) i f kept only in
-      (r.0, r.1, (λ k. (tt, r.2 k)), r.3, r.4)
-  rest_stays (Deny t ∷ xs) s i f kept only = let r = rest_stays xs s i f kept only in
-      (r.0, r.1, (λ k. (tt, r.2 k)), r.3, r.4)
-  rest_stays (Make ∷ xs) s i f kept only = let r =
-      rest_stays xs s (images_after m Make i) f kept only in
-      (r.0, r.1, (λ k. (tt, r.2 k)), r.3, r.4)
-  rest_stays (x ∷ xs) s i f kept only = absurd (cc)
+  rest_stays (x ∷ xs) s i f kept only =
+      grind (arith, common_steps, rest_stays xs (session_after x s) (images_after m x i) f kept)
 
 -- No step of the one clashes with a step of the other
 

@@ -1,5 +1,6 @@
 -- What a call of a port without the wire leaves, over a wire.
-use Rattle.std.proofs.Common.{List, Option, Result, refl, ap}
+use Rattle.std.proofs.lemmas.Grind.{common_steps}
+use Rattle.std.proofs.Common.{arith, List, Option, Result, ap}
 use Rattle.iol_event.specs.declared.event.Event.{Event}
 use Rattle.iol_page.specs.declared.cycle.CycleTime.{CycleTime}
 use Rattle.iol_page.specs.declared.identity.Identity.{Identity}
@@ -13,7 +14,6 @@ use Rattle.iol_port.specs.declared.fault.PortFault.{PortFault}
 use Rattle.iol_port.specs.View.{Parts}
 use Rattle.iol_port.specs.CorePort.{parts_over}
 use Rattle.iol_port.specs.EveryWire.{SubmitGives, CollectGives, WithdrawGives, CancelGives, ArchiveGives, TakeEventGives, SetOutputGives, ClearOutputGives, ExpectGives, SetCycleGives, RestartGives}
-use Rattle.iol_port.proofs.CallLemmas.{on_ok, on_err}
 
 module _ {W : Type 0} (wire : W) (p next : Parts (Unit {0})) where
   abbrev over : Parts (Unit {0}) → Parts W
@@ -21,52 +21,23 @@ module _ {W : Type 0} (wire : W) (p next : Parts (Unit {0})) where
 
   pub submit_over : {b : BookState} {r : Result Ticket PortFault} → SubmitGives p b r next
       → SubmitGives (over p) b r (over next)
-  submit_over h = record {
-    allowed = h.allowed;
-    ticket = h.ticket;
-    entered = h.entered;
-    refused = h.refused;
-    unchanged = h.unchanged;
-    memory = h.memory;
-    rest = ap over h.rest;
-  }
+  submit_over h = grind (arith, common_steps)
 
   pub collect_over : {t : Ticket} {r : Result Outcome PortFault} → CollectGives p t r next
       → CollectGives (over p) t r (over next)
-  collect_over h = record {
-    answer = h.answer;
-    book = h.book;
-    memory = h.memory;
-    rest = ap over h.rest;
-  }
+  collect_over h = grind (arith, common_steps)
 
   pub withdraw_over : {t : Ticket} {r : Result (Unit {0}) PortFault} → WithdrawGives p t r next
       → WithdrawGives (over p) t r (over next)
-  withdraw_over h = record {
-    answer = h.answer;
-    book = h.book;
-    memory = h.memory;
-    rest = ap over h.rest;
-  }
+  withdraw_over h = grind (arith, common_steps)
 
   pub cancel_over : {t : Ticket} {r : Result (Unit {0}) PortFault} → CancelGives p t r next
       → CancelGives (over p) t r (over next)
-  cancel_over {r = r} h = record {
-    answer = h.answer;
-    waits = on_ok _ _ r (ap over) h.waits;
-    unchanged = on_err _ _ r (ap over) h.unchanged;
-  }
+  cancel_over h = grind (arith, common_steps)
 
   pub archive_over : {r : Result (List Entry) PortFault} → ArchiveGives p r next
       → ArchiveGives (over p) r (over next)
-  archive_over h = record {
-    allowed = h.allowed;
-    journal = h.journal;
-    refused = h.refused;
-    book = h.book;
-    memory = h.memory;
-    rest = ap over h.rest;
-  }
+  archive_over h = grind (arith, common_steps)
 
   pub take_event_over : {r : Result Event PortFault} → TakeEventGives p r next
       → TakeEventGives (over p) r (over next)
@@ -74,11 +45,7 @@ module _ {W : Type 0} (wire : W) (p next : Parts (Unit {0})) where
 
   pub set_output_over : {image : Image} {r : Result (Unit {0}) PortFault}
       → SetOutputGives p image r next → SetOutputGives (over p) image r (over next)
-  set_output_over {r = r} h = record {
-    answer = h.answer;
-    wanted = on_ok _ _ r (ap over) h.wanted;
-    unchanged = on_err _ _ r (ap over) h.unchanged;
-  }
+  set_output_over h = grind (arith, common_steps)
 
   pub clear_output_over : ClearOutputGives p next → ClearOutputGives (over p) (over next)
   clear_output_over h = ap over h
@@ -92,17 +59,7 @@ module _ {W : Type 0} (wire : W) (p next : Parts (Unit {0})) where
   set_cycle_over h = record { counts = h.counts; paces = ap over h.paces }
 
   pub restart_over : RestartGives p next → RestartGives (over p) (over next)
-  restart_over h = record {
-    wire = refl;
-    mode = h.mode;
-    why = h.why;
-    session_is = h.session_is;
-    book = h.book;
-    memory = h.memory;
-    kept = h.kept;
-    sent = h.sent;
-    counters = h.counters;
-  }
+  restart_over h = grind (arith, common_steps)
 
 -- what each call answers and leaves, over a wire
 pub ruleset over_wire = (

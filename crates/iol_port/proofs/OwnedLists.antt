@@ -133,10 +133,8 @@ each_next P s p h urgent waiting = by s.taken s.urgent s.waiting h urgent waitin
         → Each P us → Each P ws → P p.0 p.1
     by (Some taken) us ws h urgent waiting = absurd (cc)
     by None [] [] h urgent waiting = absurd (cc)
-    by None [] (w ∷ ws) h urgent waiting = let e : w ≡ p = cc in
-        subst (λ (v : Ticket × Request). P v.0 v.1) e waiting.0
-    by None (u ∷ us) ws h urgent waiting = let e : u ≡ p = cc in
-        subst (λ (v : Ticket × Request). P v.0 v.1) e urgent.0
+    by None [] (w ∷ ws) h urgent waiting = grind (arith, common_steps)
+    by None (u ∷ us) ws h urgent waiting = grind (arith, common_steps)
 
 -- the ticket of that number
 pub ticket_is : (t k : Ticket) → same_ticket t k ≡ true → k ≡ t
@@ -435,19 +433,7 @@ module _ (given : ℕ) (before : List Carried) (Asked : Ticket → Request → T
 
   fits_more : (sent : Option (Request × Option Answer)) (taken : Option (Ticket × Request))
       (owned : List Owned) (o : Owned) → Fits sent taken owned → Fits sent taken (owned ++ o ∷ [])
-  fits_more None taken owned o fits = tt
-  fits_more (Some sent) taken owned o fits =
-      record {
-        ticket = fits.ticket;
-        taken_is = fits.taken_is;
-        asked = fits.asked;
-        answered = by sent.1 fits.answered;
-      }
-    where
-      by : (answer : Option Answer) → AnswerFits owned fits.ticket answer
-          → AnswerFits (owned ++ o ∷ []) fits.ticket answer
-      by None answered = tt
-      by (Some a) answered = answer_then owned (o ∷ []) fits.ticket a answered
+  fits_more sent taken owned o fits = grind (arith, common_steps, one_first)
 
   -- The steps
 

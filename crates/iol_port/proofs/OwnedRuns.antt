@@ -16,10 +16,7 @@ use Rattle.iol_book.specs.declared.entries.Outcome.{Outcome}
 use Rattle.iol_book.specs.declared.entries.Outcome.TheVariants as outcome
 use Rattle.iol_book.specs.Replay.{same_ticket, without, others_without}
 use Rattle.iol_book.specs.BookModel.{BookState, next_ticket}
-use Rattle.iol_steps.specs.declared.mode.Mode.{Mode}
-use Rattle.iol_steps.specs.declared.mode.Mode.TheVariants.{Down, Startup, Preoperate, Operate}
-use Rattle.iol_mode.specs.declared.why.Why.{Why}
-use Rattle.iol_steps.specs.Step.{Step, Move, Moment, Terms}
+use Rattle.iol_steps.specs.Step.{Step, Moment, Terms}
 use Rattle.iol_steps.specs.Session.{Job, Session, MaySession, MaySessionAll, session_after, session_through, marked}
 use Rattle.iol_steps.specs.Kinds.{restart_steps}
 use Rattle.iol_port.specs.declared.call.Call.TheVariants as call
@@ -35,18 +32,9 @@ use Rattle.iol_mode.specs.declared.configuration.Devices.{Devices}
 
 -- Where the mode is below the reset, it stays so until the device holds nothing of before
 
-moved_on : (m : Moment) (mode : Mode) (why : Option Why) (s : Session)
-    → IsBelow m.terms.devices s.mode → MaySession m (Move mode why) s
-    → (s.late ≡ None) ⊎ IsBelow m.terms.devices mode
-moved_on m Down why s below may = inr tt
-moved_on m Startup why s below may = grind (arith, common_steps)
-moved_on m Preoperate why s below may = inl may.1
-moved_on m Operate why s below may = inl may.1
-
 below_stays : (m : Moment) (step : Step) (s : Session) → IsBelow m.terms.devices s.mode
     → MaySession m step s
     → ((session_after step s).late ≡ None) ⊎ IsBelow m.terms.devices (session_after step s).mode
-below_stays m (Move mode why) s below may = moved_on m mode why s below may
 below_stays m step s below may = grind (arith, common_steps)
 
 restart_below : (devices : Devices) (s : Session) (job : Option Job)
@@ -343,8 +331,13 @@ module _ (devices : Devices) (limits : Limits) (far : Far) (silence : ℕ) (piec
   abbrev tally : List Owned → Ticket → PortState → Tally
   tally owned u p = tally_at limits.given far.carried Both owned u p
 
-  first : RunOwns limits.given far.carried Both
-      (tally [] (ticket_of 0) (opened devices limits far silence)) pieces replies a
+  abbrev OwnsHere : List Owned → Ticket → PortState → Type 0
+  OwnsHere owned u p = OwnsPort limits.given far.carried Both owned u p
+
+  abbrev Ran : Tally → List Piece → List Answered → PortState → Type 0
+  Ran x after answers p = RunOwns limits.given far.carried Both x after answers p
+
+  first : Ran (tally [] (ticket_of 0) (opened devices limits far silence)) pieces replies a
   first = run_owns limits.given far.carried Both (opened devices limits far silence) a pieces
       replies []
       (ticket_of 0) run
@@ -354,8 +347,8 @@ module _ (devices : Devices) (limits : Limits) (far : Far) (silence : ℕ) (piec
   then_run : (b : PortState) (after : List Piece) (answers : List Answered) (owned : List Owned)
       (u : Ticket) → Pieces b after answers c
       → ((d : Piece) (r : Answered) → Happens after answers d r → Happens more others d r)
-      → OwnsPort limits.given far.carried Both owned u b
-      → RunOwns limits.given far.carried Both (tally owned u b) after answers c
+      → OwnsHere owned u b
+      → Ran (tally owned u b) after answers c
   then_run b after answers owned u rest among owns =
       run_owns limits.given far.carried Both b c after answers owned u rest
       (λ d r i. (happens_both _ a pieces more replies others run d r).0 (inr (among d r i))) owns
@@ -375,10 +368,9 @@ module _ (devices : Devices) (limits : Limits) (far : Far) (silence : ℕ) (piec
   -- carried out for none of them
   stays_out : (IsCut : Ticket → Type 0) (b : PortState) (owned : List Owned) (u : Ticket)
       (after : List Piece) (answers : List Answered)
-      (all : RunOwns limits.given far.carried Both
-      (tally first.goes.owned first.goes.ticket a) more others c)
-      → OwnsPort limits.given far.carried Both owned u b
-      → (later : RunOwns limits.given far.carried Both (tally owned u b) after answers c)
+      (all : Ran (tally first.goes.owned first.goes.ticket a) more others c)
+      → OwnsHere owned u b
+      → (later : Ran (tally owned u b) after answers c)
       → all.goes.owned ≡ later.goes.owned
       → ((t : Ticket) → IsCut t → (tally owned u b).late t.0 + (tally owned u b).coming t.0 ≡ 0)
       → (mine added : List Owned) × (b.session.carried ≡ far.carried ++ pairs_of mine)
@@ -410,62 +402,43 @@ module _ (devices : Devices) (limits : Limits) (far : Far) (silence : ℕ) (piec
           (first.got t (outcome.Done x) i)
       by t x (inr i) = all.got t (outcome.Done x) i
 
+  -- what was cut off for good
+  for_good : Pieces a more others c
+      → (mine added : List Owned) × (a.session.carried ≡ far.carried ++ pairs_of mine)
+      × CarriesOut limits.given far.carried (pieces ++ more) (replies ++ others)
+      c.session.carried (mine ++ added)
+      × ((o : Owned) → IsOneOf o added → IsCutForGood pieces replies a o.ticket → ⊥)
+  for_good rest =
+      let mine : List Owned = first.goes.owned in
+      let later = then_run a more others mine first.goes.ticket rest (λ d r i. i)
+      first.goes.owns in
+      stays_out (IsCutForGood pieces replies a) a mine first.goes.ticket more others later
+      first.goes.owns later refl
+      (λ t (cause, sure, cut). let (none, late) = cut_then t cause cut in
+      omega (arith, none, late sure))
+
 pub cut_for_good_stays_out : CutForGoodStaysOut
 cut_for_good_stays_out devices limits far silence pieces more replies others a c run rest =
-    stays_out devices limits far silence pieces more replies others a c run
-    (IsCutForGood pieces replies a) a before_it.goes.owned before_it.goes.ticket more others
-    later before_it.goes.owns later refl
-    (λ t (cause, sure, cut). let (none, late) =
-    cut_then devices limits far silence pieces more replies others a c run t cause cut in
-    omega (arith, none, late sure))
-  where
-    before_it : RunOwns limits.given far.carried (Happens (pieces ++ more) (replies ++ others))
-        (tally_at limits.given far.carried (Happens (pieces ++ more) (replies ++ others)) []
-        (ticket_of 0) (opened devices limits far silence)) pieces replies a
-    before_it = first devices limits far silence pieces more replies others a c run
-
-    later : RunOwns limits.given far.carried (Happens (pieces ++ more) (replies ++ others))
-        (tally_at limits.given far.carried (Happens (pieces ++ more) (replies ++ others))
-        before_it.goes.owned before_it.goes.ticket a) more others c
-    later = then_run devices limits far silence pieces more replies others a c run a more others
-        before_it.goes.owned before_it.goes.ticket rest (λ d r i. i) before_it.goes.owns
+    for_good devices limits far silence pieces more replies others a c run rest
 
 pub late_ends : LateEnds
 unfolding run_then goes_then
 late_ends devices limits far silence pieces more piece replies others a b c run resets rest =
-    stays_out devices limits far silence pieces (piece ∷ more) replies (answered.Nothing ∷ others)
-    a c
-    run (IsCutOff pieces replies a) b woken.goes.owned woken.goes.ticket more others all
+    let ends : List Piece = piece ∷ more in
+    let told : List Answered = answered.Nothing ∷ others in
+    let start = first devices limits far silence pieces ends replies told a c run in
+    let woken = piece_wakes limits.given far.carried Happened a b piece answered.Nothing
+    start.goes.owned start.goes.ticket resets.is resets.below start.goes.owns resets.up in
+    let later = then_run devices limits far silence pieces ends replies told a c run b more
+    others woken.goes.owned woken.goes.ticket rest (λ d r i. inr i) woken.goes.owns in
+    let all = run_then limits.given far.carried Happened a b c piece answered.Nothing more
+    others start.goes.owned start.goes.ticket resets.is start.goes.owns woken.goes later in
+    stays_out devices limits far silence pieces ends replies told a c run
+    (IsCutOff pieces replies a) b woken.goes.owned woken.goes.ticket more others all
     woken.goes.owns later refl
     (λ t (cause, cut). let (none, _) =
-    cut_then devices limits far silence pieces (piece ∷ more) replies (answered.Nothing ∷ others) a
-    c run t cause cut in omega (arith, none, woken.woken t.0))
+    cut_then devices limits far silence pieces ends replies told a c run t cause cut in
+    omega (arith, none, woken.woken t.0))
   where
     Happened : Piece → Answered → Type 0
     Happened d r = Happens (pieces ++ piece ∷ more) (replies ++ answered.Nothing ∷ others) d r
-
-    before_it : RunOwns limits.given far.carried Happened
-        (tally_at limits.given far.carried Happened [] (ticket_of 0)
-        (opened devices limits far silence)) pieces replies a
-    before_it = first devices limits far silence pieces (piece ∷ more) replies
-        (answered.Nothing ∷ others) a c run
-
-    woken : GoesWoken limits.given far.carried Happened
-        (tally_at limits.given far.carried Happened before_it.goes.owned before_it.goes.ticket
-        a) b.book b.session
-    woken = piece_wakes limits.given far.carried Happened a b piece answered.Nothing
-        before_it.goes.owned before_it.goes.ticket resets.is resets.below before_it.goes.owns
-        resets.up
-
-    later : RunOwns limits.given far.carried Happened
-        (tally_at limits.given far.carried Happened woken.goes.owned woken.goes.ticket b) more
-        others c
-    later = then_run devices limits far silence pieces (piece ∷ more) replies
-        (answered.Nothing ∷ others) a c run b more others woken.goes.owned woken.goes.ticket
-        rest (λ d r i. inr i) woken.goes.owns
-
-    all : RunOwns limits.given far.carried Happened
-        (tally_at limits.given far.carried Happened before_it.goes.owned before_it.goes.ticket
-        a) (piece ∷ more) (answered.Nothing ∷ others) c
-    all = run_then limits.given far.carried Happened a b c piece answered.Nothing more others
-        before_it.goes.owned before_it.goes.ticket resets.is before_it.goes.owns woken.goes later

@@ -62,20 +62,8 @@ next_is s t q h = by_lists s.taken s.urgent s.waiting (eq-eqb t.0 t.0 refl) h
         → IsNext (record s { urgent = us; waiting = ws; taken = taken }) t q
     by_lists (Some taken) us ws same h = absurd (cc)
     by_lists None [] [] same h = absurd (cc)
-    by_lists None [] (w ∷ ws) same h = let e : w ≡ (t, q) = cc in
-        rw e (record {
-          free = refl;
-          found = rw same refl;
-          waits = rw same refl;
-          rest = rw same refl;
-        })
-    by_lists None (u ∷ us) ws same h = let e : u ≡ (t, q) = cc in
-        rw e (record {
-          free = refl;
-          found = rw same refl;
-          waits = rw same refl;
-          rest = rw same refl;
-        })
+    by_lists None [] (w ∷ ws) same h = grind (arith, common_steps)
+    by_lists None (u ∷ us) ws same h = grind (arith, common_steps)
 
 pub took_replayed : (book : BookState) (t : Ticket) (q : Request)
     → next_taken book.standing ≡ Some (t, q) → IsReplayed book → IsReplayed (took book (t, q))
@@ -368,33 +356,18 @@ module _ (laws : BookLaws) where
   sound_reset b s base sound = grind (arith, common_steps, settled)
 
   -- busy replies and the mark are no business of the record
-  sound_again : (b : BookState) (s : Session) (base : ℕ) (job : Job) (busy : ℕ) (asked : Bool)
-      → Sound b (record s { job = Some job }) base
-      → Sound b (record s { job = Some (record job { busy = busy; asked = asked }) }) base
-  sound_again b s base job busy asked sound = grind (arith, common_steps)
-
   sound_busy : (b : BookState) (s : Session) (base : ℕ) (job : Option Job)
       → Sound b (record s { job = job }) base → Sound b (record s { job = busy_once_more job }) base
-  sound_busy b s base None sound = sound
-  sound_busy b s base (Some job) sound = sound_again b s base job _ _ sound
+  sound_busy b s base job sound = grind (arith, common_steps)
 
   pub sound_cancelling : (b : BookState) (s : Session) (base : ℕ) (job : Option Job)
       → Sound b (record s { job = job }) base → Sound b (record s { job = marked job }) base
-  sound_cancelling b s base None sound = sound
-  sound_cancelling b s base (Some job) sound = sound_again b s base job _ _ sound
+  sound_cancelling b s base job sound = grind (arith, common_steps)
 
   -- nor is the mode
   pub sound_moved : (b : BookState) (s : Session) (base : ℕ) (mode : Mode) (why : Option Why)
       → Sound b s base → Sound b (record s { mode = mode; why = why }) base
-  sound_moved b s base mode why sound =
-      record {
-        replayed = sound.replayed;
-        same = sound.same;
-        sure = sound.sure;
-        alone = sound.alone;
-        within = sound.within;
-        fits = sound.fits;
-      }
+  sound_moved b s base mode why sound = grind (arith, common_steps)
 
   sound_after : (m : Moment) (step : Step) (b : BookState) (s : Session) (job : Option Job)
       (base : ℕ) → MayBook step b → MaySession m step (record s { job = job })

@@ -1,7 +1,7 @@
 -- Turns of a port over a clean wire, one after the other: requests that wait are served in order,
 -- each in its number of turns.
-use Rattle.std.proofs.Common.{◌≡◌, ◌⊎◌, inl, inr, ℕ, zero, suc, ◌+◌, ◌-◌, ◌<◌, ◌≤◌, Bool, true, false, List, [], ◌∷◌, ◌++◌, length, append_assoc, refl, sym, ap, subst, ◌∙◌, Option, Some, None, take_all, take, get_or, replicate, arith}
-use Rattle.std.specs.Prelude.{IsTrue, is_some, if◌then◌else◌, slice_get, drop}
+use Rattle.std.proofs.Common.{◌≡◌, ◌⊎◌, inl, inr, ℕ, zero, suc, ◌+◌, ◌-◌, ◌<◌, ◌≤◌, Bool, true, false, List, [], ◌∷◌, ◌++◌, length, append_assoc, refl, sym, ap, subst, ◌∙◌, Option, Some, take_all, take, get_or, replicate, arith}
+use Rattle.std.specs.Prelude.{IsTrue, is_some, slice_get, drop}
 use Rattle.std.proofs.lemmas.Bool.Decides.{nat_tests}
 use Rattle.std.proofs.lemmas.Grind.{common_steps}
 use Rattle.std.proofs.lemmas.List.{take_more, length-append}
@@ -13,26 +13,27 @@ use Rattle.iol_far.specs.declared.carried.Carried.{Carried}
 use Rattle.iol_far.specs.Isdu.{IsduState, answer_text}
 use Rattle.iol_far.specs.Local.{has_room}
 use Rattle.iol_far.specs.Record.{takes_more}
-use Rattle.iol_far.specs.Level.{Quiet, Stands, grown_by}
+use Rattle.iol_far.specs.Level.{Quiet, Stands, IsBefore, grown_by}
 use Rattle.iol_link.specs.WireFacts.{WireFacts}
 use Rattle.iol_mode.specs.Stands.{operate_link}
 use Rattle.iol_mode.specs.Next.{AnyLink}
 use Rattle.iol_book.specs.declared.entries.Ticket.{Ticket}
 use Rattle.iol_book.specs.declared.entries.Outcome.TheVariants.{Done}
+use Rattle.iol_book.specs.Replay.{Standing}
 use Rattle.iol_book.specs.BookModel.{BookState, next_taken, others_behind, took, posted}
 use Rattle.iol_app.specs.StationState.{wire_of}
 use Rattle.iol_port.specs.declared.call.Call.{Call}
 use Rattle.iol_port.specs.declared.call.Call.TheVariants as call
 use Rattle.iol_port.specs.View.{Parts}
 use Rattle.iol_port.specs.Turns.{Stage, Written, Waiting, Reading, Ended, turns_at, turns_needed}
-use Rattle.iol_port.specs.Clean.{CleanLaws, IsAt, IsBetween, MayStart, MayServe, IsAfter, CleanTurn, takes_all, turns_between, record_of, IsOnTime, IsOnItsWay, AreServed, CleanRuns, CleanServes}
+use Rattle.iol_port.specs.Clean.{CleanLaws, IsAt, IsBetween, MayStart, MayServe, IsAfter, CleanTurn, takes_all, turns_between, record_of, kind_of, IsOnTime, IsOnItsWay, AreServed, CleanRuns, CleanServes}
 use Rattle.iol_port.proofs.CleanStages.{segment_within}
 use Rattle.iol_mode.specs.declared.configuration.Configuration.{Configuration}
 use Rattle.iol_mode.specs.declared.configuration.Devices.{Devices}
 use Rattle.iol_mode.specs.declared.configuration.Devices.TheVariants.{Any}
 use Rattle.iol_app.specs.Due.{may_follow}
 use Rattle.iol_port.proofs.CleanSession.{calm_ready, level_between}
-use Rattle.iol_far.specs.declared.kind.HandsOver.TheVariants.{FirstRead}
+use Rattle.iol_far.specs.declared.kind.Kind.{Kind}
 
 -- Room in the record
 
@@ -69,9 +70,13 @@ behind : (urgent waiting : List (Ticket × Request)) (first : Ticket × Request)
     → drop 1 urgent ++ others_behind urgent waiting ≡ rest
 behind urgent waiting first rest given = grind (arith, common_steps)
 
+-- the book once the request that is next was taken, and has this answer
+abbrev pub served : BookState → Ticket × Request → Answer → BookState
+served book next answer = posted (took book next) (Done answer)
+
 queue_rest : (book : BookState) (first : Ticket × Request) (rest : List (Ticket × Request))
     (answer : Answer) → Queue book (first ∷ rest)
-    → Queue (posted (took book first) (Done answer)) rest
+    → Queue (served book first answer) rest
 queue_rest book first rest answer queue = record {
   free = refl;
   others = queue.others;
@@ -79,14 +84,14 @@ queue_rest book first rest answer queue = record {
       queue.order;
 }
 
-was_free : (taken : Option (Ticket × Request)) (list : List (Ticket × Request))
-    (first : Ticket × Request) → (if is_some taken then None else slice_get list 0) ≡ Some first
-    → is_some taken ≡ false
-was_free taken list first given = grind (arith, common_steps)
-
 headed : (list : List (Ticket × Request)) (first : Ticket × Request)
     → slice_get list 0 ≡ Some first → list ≡ first ∷ drop 1 list
 headed list first given = grind (arith, common_steps)
+
+-- what is taken next heads those that wait, and none is taken
+next_heads : (s : Standing) (first : Ticket × Request) → next_taken s ≡ Some first
+    → (is_some s.taken ≡ false) × (s.urgent ++ s.waiting ≡ first ∷ drop 1 (s.urgent ++ s.waiting))
+next_heads s first given = grind (arith, common_steps, headed (s.urgent ++ s.waiting) first)
 
 -- Calls
 
@@ -128,12 +133,11 @@ at_most_one devices rest = grind (arith, common_steps)
 module _ {W : Type 0} (facts : WireFacts W) where
   open facts use {honest, far}
 
-  record_at : (layouts : Layouts) (ticket : Ticket) (request : Request) (base : List Carried)
-      (book : BookState) (stage : Stage) (now : Parts W)
-      (is : IsAt facts layouts ticket request base book stage now)
+  record_at : {kind : Kind} {layouts : Layouts} {ticket : Ticket} {request : Request}
+      {base : List Carried} {book : BookState} {stage : Stage} {now : Parts W}
+      (is : IsAt facts kind layouts ticket request base book stage now)
       → record_of facts now ≡ (far is.wire).carried
-  record_at layouts ticket request base book stage now is =
-      ap (λ (l : AnyLink W). (far (wire_of l)).carried) is.at.stood.link_is
+  record_at is = ap (λ (l : AnyLink W). (far (wire_of l)).carried) is.at.stood.link_is
 
   -- the wire is honest, the device's record has this room, and start-ups ask this
   pub record Steady (room : Option ℕ) (asks : Configuration) (now : Parts W) : Type 0 where
@@ -141,28 +145,29 @@ module _ {W : Type 0} (facts : WireFacts W) where
     pub room_is : (far (wire_of now.station.link)).room ≡ room
     pub asks_is : now.station.session.configuration ≡ asks
 
-  steady_more : (room : Option ℕ) (asks : Configuration) (mid next : Parts W)
+  steady_more : {room : Option ℕ} {asks : Configuration} {mid next : Parts W}
       → Steady room asks mid → CleanTurn facts mid next → Steady room asks next
-  steady_more room asks mid next steady turn = record {
-    is_honest = subst IsTrue (sym turn.honesty) steady.is_honest;
-    room_is = turn.room steady.is_honest ∙ steady.room_is;
-    asks_is = turn.asks ∙ steady.asks_is;
-  }
+  steady_more steady turn = grind (arith, common_steps)
 
-  steady_devices : {room : Option ℕ} (asks : Configuration) (now : Parts W) → Steady room asks now
+  steady_devices : {room : Option ℕ} {asks : Configuration} {now : Parts W} → Steady room asks now
       → now.station.session.configuration.devices ≡ asks.devices
-  steady_devices asks now steady = ap (λ (k : Configuration). k.devices) steady.asks_is
+  steady_devices steady = ap (λ (k : Configuration). k.devices) steady.asks_is
 
-  module _ (layouts : Layouts) (devices : Devices) where
+  module _ (kind : Kind) (layouts : Layouts) (devices : Devices) where
     abbrev pub needed : Request → Answer → ℕ
-    needed request answer = turns_needed layouts.run.od request answer
+    needed request answer = turns_needed kind.hands_over layouts.run.od request answer
+
+    -- with the turns between it and those behind it
+    abbrev pub spent : Request → List (Ticket × Request) → Answer → ℕ
+    spent request rest answer = needed request answer + turns_between devices rest
 
     abbrev pub After : ℕ → Ticket × Request → List Carried → BookState → Parts W → Type 0
-    After n next base book now = IsAfter facts layouts next.0 next.1 base book n now
+    After n next base book now = IsAfter facts kind layouts next.0 next.1 base book n now
 
     -- between requests: the next one may start, if there is one and the record has room
     pub record Idle (rest : List (Ticket × Request)) (base : List Carried) (book : BookState)
         (now : Parts W) : Type 0 where
+      pub kind_is : kind_of facts now ≡ kind
       pub record_is : record_of facts now ≡ base
       pub book_is : now.book.state ≡ book
       pub may : 1 ≤ length rest → (ticket : Ticket) (request : Request)
@@ -175,7 +180,7 @@ module _ {W : Type 0} (facts : WireFacts W) where
         → Parts W → Type 0
     Rests n request rest answer base book now =
         (turns_between devices rest ≡ 1) × (needed request answer ≡ n)
-        × IsBetween facts layouts (grown_by base request answer) book false now
+        × IsBetween facts kind layouts (grown_by base request answer) book false now
 
     -- where the port stands after so many turns
     abbrev pub Going : ℕ → List (Ticket × Request) → List Carried → BookState → Parts W → Type 0
@@ -185,41 +190,44 @@ module _ {W : Type 0} (facts : WireFacts W) where
         ((after : After (suc n) next base book now)
         × ((answer : Answer) → after.stage ≡ Ended answer → ⊥))
         ⊎ ((answer : Answer)
-        × (Rests (suc n) next.1 rest answer base (posted (took book next) (Done answer)) now
-        ⊎ ((needed next.1 answer + turns_between devices rest ≤ suc n)
-        × Going (suc n - (needed next.1 answer + turns_between devices rest)) rest
-        (grown_by base next.1 answer) (posted (took book next) (Done answer)) now)))
+        × (Rests (suc n) next.1 rest answer base (served book next answer) now
+        ⊎ ((spent next.1 rest answer ≤ suc n)
+        × Going (suc n - spent next.1 rest answer) rest (grown_by base next.1 answer)
+        (served book next answer) now)))
 
     -- a request has its answer
-    between_at : (ticket : Ticket) (request : Request) (base : List Carried) (book : BookState)
-        (answer : Answer) (now : Parts W)
-        → IsAt facts layouts ticket request base book (Ended answer) now
-        → IsBetween facts layouts (grown_by base request answer)
-        (posted (took book (ticket, request)) (Done answer)) false now
-    between_at ticket request base book answer now is = record {
+    between_at : {ticket : Ticket} {request : Request} {base : List Carried} {book : BookState}
+        {answer : Answer} {now : Parts W}
+        → IsAt facts kind layouts ticket request base book (Ended answer) now
+        → IsBetween facts kind layouts (grown_by base request answer)
+        (served book (ticket, request) answer) false now
+    between_at {now = now} is = record {
       wire = is.wire;
       stood = is.at.stood;
       free = is.at.fits.0;
       clear_is = is.at.after;
-      level = level_between facts layouts now.station is.wire is.at.stood
-          (subst (λ (s : IsduState). Stands FirstRead layouts.run.od (far is.wire).carried
-          Quiet s (far is.wire).counted (far is.wire).carried) (sym is.at.fits.3.1) refl);
+      level = level_between facts kind layouts now.station is.wire is.at.stood
+          (subst (λ (s : IsduState). Stands kind.hands_over layouts.run.od
+          (far is.wire).carried Quiet s (far is.wire).counted (far is.wire).carried)
+          (sym is.at.fits.3.1) refl);
       record_is = is.at.fits.1;
       book_is = is.book_is;
     }
 
-    between_record : (base : List Carried) (book : BookState) (clear : Bool) (now : Parts W)
-        → IsBetween facts layouts base book clear now → record_of facts now ≡ base
-    between_record base book clear now is =
+    between_record : {base : List Carried} {book : BookState} {clear : Bool} {now : Parts W}
+        → IsBetween facts kind layouts base book clear now → record_of facts now ≡ base
+    between_record is =
         ap (λ (l : AnyLink W). (far (wire_of l)).carried) is.stood.link_is ∙ is.record_is
 
     -- where a request may follow the next one may start
-    idle_between : (rest : List (Ticket × Request)) (base : List Carried) (book : BookState)
-        (clear : Bool) (now : Parts W) → now.station.session.configuration.devices ≡ devices
+    idle_between : {rest : List (Ticket × Request)} {base : List Carried} {book : BookState}
+        {clear : Bool} {now : Parts W} → now.station.session.configuration.devices ≡ devices
         → (1 ≤ length rest → may_follow devices clear ≡ true)
-        → IsBetween facts layouts base book clear now → Idle rest base book now
-    idle_between rest base book clear now devices_are follows is = record {
-      record_is = between_record base book clear now is;
+        → IsBetween facts kind layouts base book clear now → Idle rest base book now
+    idle_between {now = now} devices_are follows is = record {
+      kind_is = ap (λ (l : AnyLink W). (far (wire_of l)).kind) is.stood.link_is
+          ∙ is.stood.kind_is;
+      record_is = between_record is;
       book_is = is.book_is;
       may = λ more next other is_next room. record {
         wire = is.wire;
@@ -231,7 +239,8 @@ module _ {W : Type 0} (facts : WireFacts W) where
             ∙ ap (may_follow devices) is.clear_is ∙ follows more);
         link = operate_link;
         operating = is.stood.operating;
-        level = is.level;
+        level = subst (λ (k : Kind). IsBefore (far is.wire).page k layouts.run.od
+            (far is.wire).carried operate_link Quiet (far is.wire)) (sym is.stood.kind_is) is.level;
         isdu = is.stood.isdu;
         told = is.stood.told;
         quiet = is.stood.quiet;
@@ -248,34 +257,31 @@ module _ {W : Type 0} (facts : WireFacts W) where
         → After (suc n) next base book now → Going (suc n) (next ∷ rest) base book now
     went n next rest base book now devices_are after = by after.stage after.is_at after.turns_are
       where
-        by : (stage : Stage) → IsAt facts layouts next.0 next.1 base book stage now
-            → turns_at layouts.run.od next.1 stage ≡ suc n
+        by : (stage : Stage) → IsAt facts kind layouts next.0 next.1 base book stage now
+            → turns_at kind.hands_over layouts.run.od next.1 stage ≡ suc n
             → Going (suc n) (next ∷ rest) base book now
         by (Ended answer) is turns =
-            let behind : IsBetween facts layouts (grown_by base next.1 answer)
-            (posted (took book next) (Done answer)) false now =
-            between_at next.0 next.1 base book answer now is in
+            let behind = between_at is in
             inr (
               answer,
               elim (at_most_one devices rest) [
                 | inl none ↦ inr (
                   omega (arith, turns, none),
                   subst (λ (k : ℕ). Going k rest (grown_by base next.1 answer)
-                      (posted (took book next) (Done answer)) now)
-                      (sym (none_left (needed next.1 answer + turns_between devices rest) n
-                      (omega (arith, turns, none))))
-                      (idle_between rest (grown_by base next.1 answer)
-                      (posted (took book next) (Done answer)) false now devices_are
-                      (may_between devices rest none) behind),
+                      (served book next answer) now)
+                      (sym (none_left (spent next.1 rest answer) n (omega (arith, turns, none))))
+                      (idle_between devices_are (may_between devices rest none) behind),
                 )
                 | inr one ↦ inl (one, turns, behind)
               ],
             )
-        by stage is turns = inl (
-          record { stage = stage; is_at = is; turns_are = turns },
-          λ
-              answer e. cc,
-        )
+        by stage is turns =
+            inl (record { stage = stage; is_at = is; turns_are = turns }, λ answer e. cc)
+
+    same_devices : {room : Option ℕ} {asks : Configuration} {mid next : Parts W}
+        → Steady room asks mid → CleanTurn facts mid next → asks.devices ≡ devices
+        → next.station.session.configuration.devices ≡ devices
+    same_devices steady turn same = steady_devices (steady_more steady turn) ∙ same
 
     -- one turn more
     going_more : (room : Option ℕ) (asks : Configuration) (n : ℕ)
@@ -300,34 +306,32 @@ module _ {W : Type 0} (facts : WireFacts W) where
         ap (λ (b : BookState). next_taken b.standing) idle.book_is
         ∙ queue_next book first rest queue in
         let after : After 1 first (record_of facts mid) mid.book.state next =
-        turn.starts layouts first.0 first.1 (idle.may (omega arith) first.0 first.1 is_next some) in
-        went 0 first rest base book next
-        (steady_devices asks next (steady_more room asks mid next steady turn) ∙ same)
+        subst (λ (k : Kind). IsAfter facts k layouts first.0 first.1 (record_of facts mid)
+        mid.book.state 1 next) idle.kind_is
+        (turn.starts layouts first.0 first.1
+        (idle.may (omega arith) first.0 first.1 is_next some)) in
+        went 0 first rest base book next (same_devices steady turn same)
         (subst (λ (b : BookState). After 1 first base b next) idle.book_is
         (subst (λ (xs : List Carried). After 1 first xs mid.book.state next) idle.record_is
         after))
     going_more room asks (suc n) (first ∷ rest) base book mid next queue fits steady same turn
         (inl (after, goes)) =
-        went (suc n) first rest base book next
-        (steady_devices asks next (steady_more room asks mid next steady turn) ∙ same)
+        went (suc n) first rest base book next (same_devices steady turn same)
         (subst (λ (k : ℕ). After (suc k) first base book next) after.turns_are
-        (turn.goes_on layouts first.0 first.1 base book after.stage after.is_at goes))
+        (turn.goes_on kind layouts first.0 first.1 base book after.stage after.is_at goes))
     going_more room asks (suc n) (first ∷ rest) base book mid next queue fits steady same turn
         (inr (answer, inl (one, needs, rests))) = inr (
           answer,
           inr (
             omega (arith, one, needs),
             subst (λ (k : ℕ). Going k rest (grown_by base first.1 answer)
-                (posted (took book first) (Done answer)) next)
-                (sym (none_left (needed first.1 answer + turns_between devices rest) (suc n)
-                (omega (arith, one, needs))))
+                (served book first answer) next)
+                (sym (none_left (spent first.1 rest answer) (suc n) (omega (arith, one, needs))))
                 (let any : devices ≡ Any = any_between devices rest one in
-                idle_between rest (grown_by base first.1 answer)
-                (posted (took book first) (Done answer)) true next
-                (steady_devices asks next (steady_more room asks mid next steady turn) ∙ same)
+                idle_between (same_devices steady turn same)
                 (λ more. ap (λ (d : Devices). may_follow d true) any)
-                (turn.rests (steady_devices asks mid steady ∙ same ∙ any) layouts
-                (grown_by base first.1 answer) (posted (took book first) (Done answer)) rests)),
+                (turn.rests (steady_devices steady ∙ same ∙ any) kind layouts
+                (grown_by base first.1 answer) (served book first answer) rests)),
           ),
         )
     going_more room asks (suc n) (first ∷ rest) base book mid next queue fits steady same turn
@@ -336,12 +340,10 @@ module _ {W : Type 0} (facts : WireFacts W) where
           inr (
             omega (arith, few),
             subst (λ (k : ℕ). Going k rest (grown_by base first.1 answer)
-                (posted (took book first) (Done answer)) next)
-                (one_more (needed first.1 answer + turns_between devices rest) n few)
-                (going_more room asks
-                (suc n - (needed first.1 answer + turns_between devices rest)) rest
-                (grown_by base first.1 answer)
-                (posted (took book first) (Done answer)) mid next
+                (served book first answer) next)
+                (one_more (spent first.1 rest answer) n few)
+                (going_more room asks (suc n - spent first.1 rest answer) rest
+                (grown_by base first.1 answer) (served book first answer) mid next
                 (queue_rest book first rest answer queue)
                 (takes_rest room base (length rest) first.1 answer fits) steady same turn going),
           ),
@@ -350,85 +352,75 @@ module _ {W : Type 0} (facts : WireFacts W) where
     -- what that says of the record and of the book
     on_its_way : CleanLaws → (stage : Stage) (n : ℕ) (next : Ticket × Request)
         (base : List Carried) (book : BookState) (now : Parts W)
-        → IsAt facts layouts next.0 next.1 base book stage now
-        → turns_at layouts.run.od next.1 stage ≡ n
+        → IsAt facts kind layouts next.0 next.1 base book stage now
+        → turns_at kind.hands_over layouts.run.od next.1 stage ≡ n
         → ((answer : Answer) → stage ≡ Ended answer → ⊥)
-        → IsOnItsWay facts layouts n next base book now
+        → IsOnItsWay facts kind.hands_over layouts n next base book now
     on_its_way laws (Written zero) n next base book now is turns goes = absurd is.at.fits
     on_its_way laws (Written (suc i)) n next base book now is turns goes =
         let few = segment_within layouts.run.od (laws.texts layouts.run.od is.low)
         (request_text next.1) i is.at.fits.0 in (
           is.book_is,
-          inl (
-            omega (arith, few, turns),
-            record_at layouts next.0 next.1 base book
-                (Written (suc i)) now is ∙ is.at.fits.3,
-          ),
+          inl (omega (arith, few, turns), record_at is ∙ is.at.fits.3),
         )
-    on_its_way laws Waiting n next base book now is turns goes = (
-      is.book_is,
-      inl (
-        omega (arith, turns),
-        record_at layouts next.0 next.1 base book
-            Waiting now is ∙ is.at.fits.3,
-      ),
-    )
+    on_its_way laws Waiting n next base book now is turns goes =
+        (is.book_is, inl (omega (arith, turns), record_at is ∙ is.at.fits.3))
     on_its_way laws (Reading answer zero) n next base book now is turns goes = absurd is.at.fits
     on_its_way laws (Reading answer (suc j)) n next base book now is turns goes =
         let few = segment_within layouts.run.od (laws.texts layouts.run.od is.low)
         (answer_text next.1 answer) (suc j) is.at.fits.5 in (
           is.book_is,
-          inr (
-            answer,
-            omega (arith, few, turns),
-            record_at layouts next.0 next.1
-                base book (Reading answer (suc j)) now is ∙ is.at.fits.3,
-          ),
+          inr (answer, omega (arith, few, turns), record_at is ∙ is.at.fits.3),
         )
     on_its_way laws (Ended answer) n next base book now is turns goes = absurd (goes answer refl)
 
     are_served : CleanLaws → (n : ℕ) (requests : List (Ticket × Request)) (base : List Carried)
         (book : BookState) (now : Parts W) → Going n requests base book now
-        → AreServed facts devices layouts n requests base book now
+        → AreServed facts devices kind.hands_over layouts n requests base book now
     are_served laws zero requests base book now idle = (idle.record_is, idle.book_is)
     are_served laws (suc n) [] base book now grown = grown
     are_served laws (suc n) (next ∷ rest) base book now (inl (after, goes)) =
         inl (on_its_way laws after.stage (suc n) next base book now after.is_at after.turns_are
         goes)
     are_served laws (suc n) (next ∷ rest) base book now (inr (answer, inl (one, needs, rests))) =
-        let after : BookState = posted (took book next) (Done answer) in
-        let none : suc n - (needed next.1 answer + turns_between devices rest) ≡ 0 =
-        omega (arith, one, needs) in
+        let after : BookState = served book next answer in
+        let none : suc n - spent next.1 rest answer ≡ 0 = omega (arith, one, needs) in
         inr (
           answer,
           omega (arith, needs),
-          subst (λ (k : ℕ). AreServed facts devices layouts k rest (grown_by base next.1 answer)
+          subst (λ (k : ℕ). AreServed facts devices kind.hands_over layouts k rest
+              (grown_by base next.1 answer)
               after now) (sym none)
-              (between_record (grown_by base next.1 answer) after false now rests, rests.book_is),
+              (between_record rests, rests.book_is),
         )
     are_served laws (suc n) (next ∷ rest) base book now (inr (answer, inr (few, going))) =
         inr (
           answer,
           omega (arith, few),
-          are_served laws (suc n - (needed next.1 answer + turns_between devices rest)) rest
-              (grown_by base next.1 answer) (posted (took book next) (Done answer)) now going,
+          are_served laws (suc n - spent next.1 rest answer) rest
+              (grown_by base next.1 answer) (served book next answer) now going,
         )
 
+  module _ (layouts : Layouts) (devices : Devices) where
     -- of one request alone
     on_time : (ticket : Ticket) (request : Request) (p : Parts W) (n : ℕ) (now : Parts W)
-        → AreServed facts devices layouts (suc n) ((ticket, request) ∷ []) (record_of facts p)
-        p.book.state now
+        → AreServed facts devices (kind_of facts p).hands_over layouts (suc n)
+        ((ticket, request) ∷ []) (record_of facts p) p.book.state now
         → IsOnTime facts layouts ticket request p (suc n) now
     on_time ticket request p n now (inl given) = grind (arith, common_steps)
     on_time ticket request p n now (inr (answer, few, rest)) =
-        by (suc n - (needed request answer + turns_between devices [])) refl rest
+        by (suc n - (needed + turns_between devices [])) refl rest
       where
+        needed : ℕ
+        needed = turns_needed (kind_of facts p).hands_over layouts.run.od request answer
+
         none : turns_between devices [] ≡ 0
         none = none_behind devices
 
-        by : (left : ℕ) → suc n - (needed request answer + turns_between devices []) ≡ left
-            → AreServed facts devices layouts left [] (grown_by (record_of facts p) request answer)
-            (posted (took p.book.state (ticket, request)) (Done answer)) now
+        by : (left : ℕ) → suc n - (needed + turns_between devices []) ≡ left
+            → AreServed facts devices (kind_of facts p).hands_over layouts left []
+            (grown_by (record_of facts p) request answer)
+            (served p.book.state (ticket, request) answer) now
             → IsOnTime facts layouts ticket request p (suc n) now
         by zero left (is, book) =
             inr (inr (inl (answer, is, omega (arith, few, left, none), book)))
@@ -438,8 +430,10 @@ module _ {W : Type 0} (facts : WireFacts W) where
     -- where it begins
     begins : (first : Ticket × Request) (rest : List (Ticket × Request)) (p : Parts W)
         → MayServe facts layouts first rest p
-        → Going zero (first ∷ rest) (record_of facts p) p.book.state p
+        → Going (kind_of facts p) layouts devices zero (first ∷ rest) (record_of facts p)
+        p.book.state p
     begins first rest p may = record {
+      kind_is = refl;
       record_is = refl;
       book_is = refl;
       may = λ more ticket request is_next room.
@@ -462,8 +456,7 @@ module _ {W : Type 0} (facts : WireFacts W) where
     queue_first : (first : Ticket × Request) (rest : List (Ticket × Request)) (p : Parts W)
         → MayServe facts layouts first rest p → Queue p.book.state (first ∷ rest)
     queue_first first rest p may = record {
-      free = was_free p.book.state.standing.taken
-          (p.book.state.standing.urgent ++ p.book.state.standing.waiting) first may.starts.next;
+      free = (next_heads p.book.state.standing first may.starts.next).0;
       others = may.others;
       order = may.in_order;
     }
@@ -473,18 +466,13 @@ module _ {W : Type 0} (facts : WireFacts W) where
         → MayStart facts layouts ticket request p → MayServe facts layouts (ticket, request) [] p
     may_serve ticket request p may =
         let s = p.book.state.standing in
-        let list : List (Ticket × Request) = s.urgent ++ s.waiting in
-        let free = was_free s.taken list (ticket, request) may.next in
-        let head : slice_get list 0 ≡ Some (ticket, request) =
-        subst (λ (b : Bool). (if b then None else slice_get list 0)
-        ≡ Some (ticket, request)) free may.next in
         let some : has_room (far (wire_of p.station.link)) ≡ true =
         subst (λ (l : AnyLink W). IsTrue (has_room (far (wire_of l)))) (sym may.link_is)
         may.room in
         record {
           starts = may;
-          others = drop 1 list;
-          in_order = headed list (ticket, request) head;
+          others = drop 1 (s.urgent ++ s.waiting);
+          in_order = (next_heads s (ticket, request) may.next).1;
           room = takes_one (far (wire_of p.station.link)).room (record_of facts p) some;
         }
 
@@ -497,8 +485,8 @@ module _ {W : Type 0} (facts : WireFacts W) where
       → (layouts : Layouts) (first : Ticket × Request) (rest : List (Ticket × Request))
       → MayServe facts layouts first rest p
       → Steady (far (wire_of p.station.link)).room p.station.session.configuration now
-      × Going layouts p.station.session.configuration.devices n (first ∷ rest)
-      (record_of facts p) p.book.state now
+      × Going (kind_of facts p) layouts p.station.session.configuration.devices n
+      (first ∷ rest) (record_of facts p) p.book.state now
 
   pub so_far_none : (p : Parts W) → SoFar p [] p
   so_far_none p zero e layouts first rest may =
@@ -517,10 +505,11 @@ module _ {W : Type 0} (facts : WireFacts W) where
       let t : CleanTurn facts mid next = turn found.2 in
       let room : Option ℕ = (far (wire_of p.station.link)).room in
       let devices : Devices = p.station.session.configuration.devices in (
-        steady_more room p.station.session.configuration mid next mid_is.0 t,
-        subst (λ (k : ℕ). Going layouts devices k (first ∷ rest) (record_of facts p)
-            p.book.state next) (sym found.0)
-            (going_more layouts devices room p.station.session.configuration (length calls)
+        steady_more mid_is.0 t,
+        subst (λ (k : ℕ). Going (kind_of facts p) layouts devices k (first ∷ rest)
+            (record_of facts p) p.book.state next) (sym found.0)
+            (going_more (kind_of facts p) layouts devices room p.station.session.configuration
+            (length calls)
             (first ∷ rest) (record_of facts p) p.book.state mid next
             (queue_first layouts devices first rest p may) may.room mid_is.0 refl t mid_is.1),
       )
@@ -536,7 +525,8 @@ module _ {W : Type 0} (facts : WireFacts W) where
   pub clean_serves : CleanLaws → (p next : Parts W) (calls : List Call) (i : ℕ)
       → length calls ≤ i → SoFar p (take i calls) next → CleanServes facts p calls next
   clean_serves laws p next calls i all so_far n e layouts first rest may =
-      are_served layouts p.station.session.configuration.devices laws n (first ∷ rest)
+      are_served (kind_of facts p) layouts p.station.session.configuration.devices laws n
+      (first ∷ rest)
       (record_of facts p) p.book.state next
       (so_far n (take_all i calls all ∙ e) layouts first rest may).1
 

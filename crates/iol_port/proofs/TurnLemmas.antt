@@ -1,5 +1,5 @@
 -- the three pieces of a turn make one turn of the abstract port
-use Rattle.std.proofs.Common.{◌≡◌, ◌∷◌, ◌++◌, [], List, ℕ, Bool, Option, Some, None, filter, refl, ap, sym, ◌∙◌, subst, inl, inr, arith, false}
+use Rattle.std.proofs.Common.{◌≡◌, ◌∷◌, ◌++◌, [], List, ℕ, Bool, Option, Some, None, filter, true, refl, ap, sym, ◌∙◌, subst, inl, inr, arith, false}
 use Rattle.std.proofs.lemmas.Grind.{common_steps}
 use Rattle.std.specs.Option.{option_map}
 use Rattle.iol_isdu.specs.declared.values.Request.{Request}
@@ -8,8 +8,13 @@ use Rattle.iol_book.specs.declared.entries.Ticket.{Ticket}
 use Rattle.iol_book.specs.BookModel.{BookState, next_taken, took, denied}
 use Rattle.iol_steps.specs.declared.mode.Mode.TheVariants.{Down}
 use Rattle.iol_steps.specs.declared.said.Said.{Said}
-use Rattle.iol_steps.specs.Step.{Step, Take, Deny, Moment, Terms, is_for_book, is_report, resets, book_said, reports_said}
-use Rattle.iol_steps.specs.Session.{Session, MaySession, MaySessionAll, session_through}
+use Rattle.std.specs.Prelude.{IsTrue}
+use Rattle.iol_steps.specs.FrozenEvents.{MayFrozenAll, frozen_through}
+use Rattle.iol_steps.specs.Images.{MayImagesAll, images_through}
+use Rattle.iol_app.specs.declared.request.Current.{Current}
+use Rattle.iol_app.specs.Core.{OfRequest}
+use Rattle.iol_steps.specs.Step.{Step, Take, Deny, Moment, is_clash_free, Terms, is_for_book, is_report, resets, book_said, reports_said}
+use Rattle.iol_steps.specs.Session.{MaySession, MaySessionAll, session_through}
 use Rattle.iol_steps.specs.Station.{job_of}
 use Rattle.iol_link.specs.WireFacts.{WireFacts}
 use Rattle.iol_mode.specs.declared.states.State.{State}
@@ -81,41 +86,69 @@ module _ {W : Type 0} (facts : WireFacts W) (p next : Parts W) (base : ℕ) (g :
   kept_steps steps began start settles said_reports = settles.keeps
       ∙ (rw (← said_reports) (sym (kept_through-filter steps p.kept)))
 
-  -- with no taking before it
-  idle_turn : Settles (is_reset p.station.link.state) p.book.state
-      → (t : TurnGives facts p.station g said next.station) → TurnOf before (after t.given.after)
-  idle_turn settles t =
+  -- of these steps first, behind which the call of the wire goes on from that book, with that
+  -- request
+  turn_from : (first : List Step) (start : BookState) (current : Option Current)
+      (request : OfRequest) (fresh : Bool) → Settles (is_reset p.station.link.state) start
+      → (t : TurnGives facts
+      (record p.station { session = record p.station.session { current = current } })
+      (record g { request = request; fresh = fresh }) said next.station)
+      → let x = t.given in
+      let steps : List Step = first ++ x.steps in
+      let m : Moment = moment_of (core_of p.station) g (silence_of facts p.station) x.call in
+      IsTrue (is_clash_free steps)
+      → (MayBookAll x.steps start → MayBookAll steps p.book.state)
+      → book_through x.steps start ≡ book_through steps p.book.state
+      → MaySessionAll m steps before.session
+      → (after x.after).session ≡ session_through steps before.session
+      → MayFrozenAll steps before.frozen
+      → (after x.after).frozen ≡ frozen_through steps before.frozen
+      → kept_through x.steps p.kept ≡ kept_through steps p.kept
+      → MayImagesAll m steps before.images
+      → (after x.after).images ≡ images_through m steps before.images
+      → TurnOf before (after x.after)
+  turn_from first start current request fresh settles t free may_book book may_session session
+      may_frozen frozen kept may_images images =
       let x = t.given in
-      let book = book_steps p.book.state x.steps _ settles x.said_book in (
-        record { call = x.call; steps = x.steps },
+      let told = book_steps start x.steps _ settles x.said_book in (
+        record { call = x.call; steps = first ++ x.steps },
         record {
           fits = x.fits;
           silence = x.silent;
-          clash_free = x.clash_free;
+          clash_free = free;
           terms = terms_of _ _ _ _ _ _ x.terms.0 x.terms.1 x.terms.2;
         },
         record {
-          may_book = book.0;
-          book = book.1;
-          may_session = x.session.0;
-          session = sym x.session.1;
+          may_book = may_book told.0;
+          book = told.1 ∙ book;
+          may_session = may_session;
+          session = session;
           base = refl;
           down = none_down next.station.link.state next.station.session x.after
               x.after.request.hidden.answer t.stands.both.joined;
         },
         record {
-          may_frozen = x.frozen.0;
-          frozen = sym x.frozen.1;
-          kept = kept_steps x.steps _ _ settles x.said_reports;
+          may_frozen = may_frozen;
+          frozen = frozen;
+          kept = kept_steps x.steps _ _ settles x.said_reports ∙ kept;
         },
         record {
-          may_images = x.images.0;
-          images = sym x.images.1;
+          may_images = may_images;
+          images = images;
           image_is_last = x.image_is_last;
           output_is_wanted = t.output_is_wanted;
         },
         (refl, refl),
       )
+
+  -- with no taking before it
+  idle_turn : Settles (is_reset p.station.link.state) p.book.state
+      → (t : TurnGives facts p.station g said next.station) → TurnOf before (after t.given.after)
+  idle_turn settles t =
+      let x = t.given in
+      turn_from [] p.book.state p.station.session.current g.request g.fresh settles t
+      x.clash_free (λ may. may) refl x.session.0 (sym x.session.1) x.frozen.0 (sym x.frozen.1) refl
+      x.images.0 (sym x.images.1)
 
   -- after a taking
   taking_turn : (k : Ticket) (q : Request) → next_taken p.book.state.standing ≡ Some (k, q)
@@ -127,46 +160,17 @@ module _ {W : Type 0} (facts : WireFacts W) (p next : Parts W) (base : ℕ) (g :
       → TurnOf before (after t.given.after)
   taking_turn k q head begins settles t =
       let x = t.given in
-      let book = book_steps (took p.book.state (k, q)) x.steps _ settles x.said_book in
-      let taken_is = begins.is k.0 in
       let m : Moment = moment_of (core_of p.station) g (silence_of facts p.station) x.call in
-      let old : Session = session_in facts p.station g in (
-        record { call = x.call; steps = Take k.0 q ∷ x.steps },
-        record {
-          fits = x.fits;
-          silence = x.silent;
-          clash_free = rw (clash_free-take k.0 q x.steps (x.fresh refl)
-              (clash_free-deny k.0 x.steps (is_reset p.station.link.state)
-              (is_reset next.station.link.state) said x.said_book)) x.clash_free;
-          terms = terms_of _ _ _ _ _ _ x.terms.0 x.terms.1 x.terms.2;
-        },
-        record {
-          may_book = (head, book.0);
-          book = book.1;
-          may_session = (
-            begins.may m k.0 refl,
-            subst
-                (λ (s : Session). MaySessionAll m x.steps s) (sym taken_is) x.session.0,
-          );
-          session = sym x.session.1 ∙ ap (λ (s : Session). session_through x.steps s)
-              (sym taken_is);
-          base = refl;
-          down = none_down next.station.link.state next.station.session x.after
-              x.after.request.hidden.answer t.stands.both.joined;
-        },
-        record {
-          may_frozen = (tt, x.frozen.0);
-          frozen = sym x.frozen.1;
-          kept = kept_steps x.steps _ _ settles x.said_reports;
-        },
-        record {
-          may_images = (tt, x.images.0);
-          images = sym x.images.1;
-          image_is_last = x.image_is_last;
-          output_is_wanted = t.output_is_wanted;
-        },
-        (refl, refl),
-      )
+      let taken_is = begins.is k.0 in
+      turn_from (Take k.0 q ∷ []) (took p.book.state (k, q))
+      (begun_in q p.station.session).current (begun_ghost g).request true settles t
+      (rw (clash_free-take k.0 q x.steps (x.fresh refl)
+      (clash_free-deny k.0 x.steps (is_reset p.station.link.state)
+      (is_reset next.station.link.state) said x.said_book)) x.clash_free)
+      (λ may. (head, may)) refl
+      (begins.may m k.0 refl, subst (MaySessionAll m x.steps) (sym taken_is) x.session.0)
+      (sym x.session.1 ∙ ap (session_through x.steps) (sym taken_is))
+      (tt, x.frozen.0) (sym x.frozen.1) refl (tt, x.images.0) (sym x.images.1)
 
   -- after a denial, which leaves the station as it is
   denying_turn : (k : Ticket) → option_map (λ p. p.0) (next_taken p.book.state.standing)
@@ -176,38 +180,13 @@ module _ {W : Type 0} (facts : WireFacts W) (p next : Parts W) (base : ℕ) (g :
       → (t : TurnGives facts p.station g said next.station) → TurnOf before (after t.given.after)
   denying_turn k head may_deny settles t =
       let x = t.given in
-      let book = book_steps (denied p.book.state k) x.steps _ settles x.said_book in
-      let m : Moment = moment_of (core_of p.station) g (silence_of facts p.station) x.call in (
-        record { call = x.call; steps = Deny k.0 ∷ x.steps },
-        record {
-          fits = x.fits;
-          silence = x.silent;
-          clash_free = rw (clash_free-deny k.0 x.steps (is_reset p.station.link.state)
-              (is_reset next.station.link.state) said x.said_book) x.clash_free;
-          terms = terms_of _ _ _ _ _ _ x.terms.0 x.terms.1 x.terms.2;
-        },
-        record {
-          may_book = (head, book.0);
-          book = book.1;
-          may_session = (may_deny m refl, x.session.0);
-          session = sym x.session.1;
-          base = refl;
-          down = none_down next.station.link.state next.station.session x.after
-              x.after.request.hidden.answer t.stands.both.joined;
-        },
-        record {
-          may_frozen = (tt, x.frozen.0);
-          frozen = sym x.frozen.1;
-          kept = kept_steps x.steps _ _ settles x.said_reports;
-        },
-        record {
-          may_images = (tt, x.images.0);
-          images = sym x.images.1;
-          image_is_last = x.image_is_last;
-          output_is_wanted = t.output_is_wanted;
-        },
-        (refl, refl),
-      )
+      let m : Moment = moment_of (core_of p.station) g (silence_of facts p.station) x.call in
+      turn_from (Deny k.0 ∷ []) (denied p.book.state k) p.station.session.current g.request
+      g.fresh settles t
+      (rw (clash_free-deny k.0 x.steps (is_reset p.station.link.state)
+      (is_reset next.station.link.state) said x.said_book) x.clash_free)
+      (λ may. (head, may)) refl (may_deny m refl, x.session.0) (sym x.session.1)
+      (tt, x.frozen.0) (sym x.frozen.1) refl (tt, x.images.0) (sym x.images.1)
 
 module _ {W : Type 0} (facts : WireFacts W) where
   -- the same over a station that is that one
@@ -244,58 +223,45 @@ module _ {W : Type 0} (facts : WireFacts W) where
       whole : ℕ → Ghost → Choice
       whole base g = record { base = base; ghost = g; pending = None }
 
-      stood : (g : Ghost) → StandsAt facts next.station g → (base : ℕ)
-          → Shows facts next (whole base g)
-      stood g h base = record { is_honest = h.is_honest; both = h.both; out = (after, h.attempted) }
+      -- where a turn leads
+      leads : (base : ℕ) (g h : Ghost) → StandsAt facts next.station h
+          → TurnOf (state_of facts p (whole base g)) (state_of facts next (whole base h))
+          → After (whole base g)
+      leads base g h stands turn = (
+        whole base h,
+        record
+            { is_honest = stands.is_honest; both = stands.both; out = (after, stands.attempted) },
+        (refl, turn),
+      )
+
+      stands_now : {base : ℕ} (g : Ghost) → ShowsAt facts p.station p.sent (whole base g)
+          → StandsAt facts p.station g
+      stands_now g shows = record
+          { is_honest = shows.is_honest; both = shows.both; attempted = shows.out.1 }
 
       by_begins : BeginsNext p.station p.book.state s b → at s b → (base : ℕ) (g : Ghost)
           → ShowsAt facts p.station p.sent (whole base g) → After (whole base g)
       by_begins (inl (s_is, b_is)) turned base g shows =
-          let (gives, posts) = subst (λ (c : BookState). at p.station c) b_is
-          (subst (λ (x : StationState W). at x b) s_is turned) in
-          let t = gives g (record {
-            is_honest = shows.is_honest;
-            both = shows.both;
-            attempted = shows.out.1;
-          }) in (
-            whole base t.given.after,
-            stood t.given.after t.stands base,
-            (refl, idle_turn facts p next base g said (record { posts = posts; keeps = kept }) t),
-          )
+          let (gives, posts) = rw (s_is, b_is) at turned in
+          let t = gives g (stands_now g shows) in
+          leads base g t.given.after t.stands
+          (idle_turn facts p next base g said (record { posts = posts; keeps = kept }) t)
       by_begins (inr (inl (k, q, head, b_is, none, s_is, follows, begins))) turned base g shows =
           let mid : StationState W = record p.station { session = begun_in q p.station.session } in
-          let (gives, posts) = subst (λ (c : BookState). at mid c) b_is
-          (subst (λ (x : StationState W). at x b) s_is turned) in
+          let (gives, posts) = rw (s_is, b_is) at turned in
           let taken = subst (λ (x : StationState W). BeginGives (core_of p.station) (core_of x)
           g (far_of facts p.station) (silence_of facts p.station) q) s_is
           (begins follows g (far_of facts p.station) (silence_of facts p.station) shows.both) in
           let t = gives (begun_ghost g) (record
-          { is_honest = shows.is_honest; both = taken.stands; attempted = shows.out.1 }) in (
-            whole base t.given.after,
-            stood t.given.after t.stands base,
-            (
-              refl,
-              taking_turn facts p next base g said k q head taken
-                  (record { posts = posts; keeps = kept }) t,
-            ),
-          )
+          { is_honest = shows.is_honest; both = taken.stands; attempted = shows.out.1 }) in
+          leads base g t.given.after t.stands (taking_turn facts p next base g said k q head taken
+          (record { posts = posts; keeps = kept }) t)
       by_begins (inr (inr (k, head, b_is, none, s_is, told, denies))) turned base g shows =
-          let (gives, posts) = subst (λ (c : BookState). at p.station c) b_is
-          (subst (λ (x : StationState W). at x b) s_is turned) in
-          let t = gives g (record {
-            is_honest = shows.is_honest;
-            both = shows.both;
-            attempted = shows.out.1;
-          }) in (
-            whole base t.given.after,
-            stood t.given.after t.stands base,
-            (
-              refl,
-              denying_turn facts p next base g said k head
-                  (λ m page. denies g (far_of facts p.station) (silence_of facts p.station)
-                  shows.both m k.0 page) (record { posts = posts; keeps = kept }) t,
-            ),
-          )
+          let (gives, posts) = rw (s_is, b_is) at turned in
+          let t = gives g (stands_now g shows) in
+          leads base g t.given.after t.stands (denying_turn facts p next base g said k head
+          (λ m page. denies g (far_of facts p.station) (silence_of facts p.station)
+          shows.both m k.0 page) (record { posts = posts; keeps = kept }) t)
 
 -- a turn gives no ticket, and keeps the limits
 abbrev GivesNone : BookState → BookState → Type 0
@@ -306,10 +272,7 @@ none_after step b = grind (arith, common_steps)
 
 none_through : (steps : List Step) (b : BookState) → GivesNone b (book_through steps b)
 none_through [] b = (refl, (refl, refl))
-none_through (step ∷ steps) b =
-    let first = none_after step b in
-    let rest = none_through steps (book_after step b) in
-    (rest.0 ∙ first.0, (rest.1.0 ∙ first.1.0, rest.1.1 ∙ first.1.1))
+none_through (step ∷ steps) b = grind (arith, common_steps, none_after, none_through steps)
 
 module _ {W : Type 0} where
   pub turn_gives_none : (s next : StationState W) (b mid after : BookState) (steps : List Step)

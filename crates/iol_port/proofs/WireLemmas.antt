@@ -1,6 +1,6 @@
 -- on every wire a run is its calls, one after another, and its wire comes from the first by calls
 -- alone
-use Rattle.std.proofs.Common.{ap, Ok, Err, OnOk, OnErr, ◌<◌, ◌+◌, ◌∷◌, ◌++◌, [], List, ℕ, Result, false, ◌≡◌, ◌∙◌, sym, inl, inr, length, take, get_or, refl, subst, arith}
+use Rattle.std.proofs.Common.{ap, OnOk, OnErr, ◌<◌, ◌+◌, ◌∷◌, ◌++◌, [], List, ℕ, Result, false, ◌≡◌, ◌∙◌, length, take, get_or, refl, subst, arith}
 use Rattle.std.proofs.lemmas.Grind.{common_steps}
 use Rattle.std.proofs.lemmas.List.{take_more}
 use Rattle.std.specs.Prelude.{◌⊎◌}
@@ -48,19 +48,14 @@ pub record Leaves (p next : Parts (Unit {0})) : Type 0 where
 
 pub stays : {p next mid : Parts (Unit {0})} → next ≡ mid → mid.sent ≡ p.sent
     → mid.station.link ≡ p.station.link → devices_of mid ≡ devices_of p → Leaves p next
-stays same sent link devices = record {
-  sent = ap (λ (q : Parts (Unit {0})). q.sent) same ∙ sent;
-  link = inl (ap (λ (q : Parts (Unit {0})). q.station.link) same ∙ link);
-  devices = ap (λ (q : Parts (Unit {0})). devices_of q) same ∙ devices;
-}
+stays same sent link devices = grind (arith, common_steps)
 
 -- whether it was refused or not
 pub stays_by : {p next : Parts (Unit {0})} (mid : Parts (Unit {0}))
     (r : Result (Unit {0}) PortFault) → OnOk r (next ≡ mid) → OnErr r (next ≡ p)
     → mid.sent ≡ p.sent → mid.station.link ≡ p.station.link → devices_of mid ≡ devices_of p
     → Leaves p next
-stays_by mid (Ok value) changed same sent link devices = stays changed sent link devices
-stays_by mid (Err why) changed same sent link devices = stays same refl refl refl
+stays_by mid r changed same sent link devices = grind (arith, common_steps)
 
 module _ {W : Type 0} (facts : WireFacts W) where
   open facts use {far, silence}
@@ -121,10 +116,7 @@ module _ {W : Type 0} (facts : WireFacts W) where
       → (next.station.link ≡ p.station.link) ⊎ (mode_of next.station.link ≡ Down)
       → StateStands p.station.link.state (silence wire) (far wire)
       → StateStands next.station.link.state (silence wire) (far wire)
-  stands_on wire p next (inl same) stands =
-      subst (λ (l : AnyLink (Unit {0})). StateStands l.state (silence wire) (far wire))
-      (sym same) stands
-  stands_on wire p next (inr down) stands = down_stands next.station.link.state _ _ down
+  stands_on wire p next link stands = grind (arith, common_steps, down_stands)
 
   -- each call but a turn keeps what a port keeps
   pub call_kept : {o : Opening W} {wire : W} {p next : Parts (Unit {0})} {c : Call}

@@ -12,7 +12,8 @@ use Rattle.iol_event.specs.Memory.{Events}
 use Rattle.iol_page.specs.declared.page.Layouts.{Layouts}
 use Rattle.iol_page.specs.Page.{knows_isdu}
 use Rattle.iol_far.specs.declared.carried.Carried.{Carried}
-use Rattle.iol_far.specs.Isdu.{own}
+use Rattle.iol_far.specs.declared.kind.Kind.{Kind}
+use Rattle.iol_far.specs.declared.kind.HandsOver.{HandsOver}
 use Rattle.iol_far.specs.Octets.{octets_in}
 use Rattle.iol_far.specs.Local.{has_room}
 use Rattle.iol_far.specs.Record.{takes_more}
@@ -34,7 +35,7 @@ use Rattle.iol_app.specs.State.{SessionState}
 use Rattle.iol_app.specs.StationState.{StationState, wire_of}
 use Rattle.iol_port.specs.declared.call.Call.{Call}
 use Rattle.iol_port.specs.declared.call.Call.TheVariants as call
-use Rattle.iol_port.specs.Turns.{Stage, Ended, turns_needed, turns_at, StageFits}
+use Rattle.iol_port.specs.Turns.{Stage, Ended, busy_replies, turns_needed, turns_at, StageFits}
 use Rattle.iol_port.specs.View.{Parts}
 
 -- each exchange of a clean wire is one, and leaves it clean
@@ -92,6 +93,10 @@ book_at book ticket request stage = took book (ticket, request)
 abbrev pub record_of : {W : Type 0} → WireFacts W → Parts W → List Carried
 record_of facts p = (facts.far (wire_of p.station.link)).carried
 
+-- the kind of that device
+abbrev pub kind_of : {W : Type 0} → WireFacts W → Parts W → Kind
+kind_of facts p = (facts.far (wire_of p.station.link)).kind
+
 -- between requests, with no message out in OPERATE, both ends are level and the device is awake
 abbrev pub IsLevelBetween : {W : Type 0} → WireFacts W → Parts W → Type 0
 IsLevelBetween {W} facts p =
@@ -107,8 +112,8 @@ module _ {W : Type 0} (facts : WireFacts W) where
   open facts use {honest, far, clean}
 
   -- in OPERATE over a clean wire, honest to the station, with no message out; the device is awake,
-  -- of our own kind, in that link, has ISDU, as the port was told, and has no events
-  pub record Stood (layouts : Layouts) (link : Link) (station : StationState W)
+  -- of this kind, in that link, has ISDU, as the port was told, and has no events
+  pub record Stood (kind : Kind) (layouts : Layouts) (link : Link) (station : StationState W)
       (wire : W) : Type 0 where
     pub link_is : station.link
         ≡ InOperate (record { wire = wire; state = record { out = None; layouts = layouts } })
@@ -118,50 +123,51 @@ module _ {W : Type 0} (facts : WireFacts W) where
     pub told : station.session.isdu ≡ Some true
     pub operating : IsOperating layouts link
     pub awake : (far wire).awake ≡ true
-    pub own : (far wire).kind ≡ own
+    pub kind_is : (far wire).kind ≡ kind
     pub at : link_of (far wire) ≡ link
     pub isdu : knows_isdu (far wire).page ≡ true
     pub quiet : IsQuiet (far wire).events
 
   -- a station over its wire, at this stage of a request that the device's record,
   -- then `base`, had room for
-  pub record At (layouts : Layouts) (request : Request) (base : List Carried) (stage : Stage)
-      (station : StationState W) (wire : W) : Type 0 where
-    pub stood : Stood layouts operate_link station wire
-    pub fits : StageFits layouts.run.od request base stage station.session.current (far wire).isdu
-        (far wire).carried
+  pub record At (kind : Kind) (layouts : Layouts) (request : Request) (base : List Carried)
+      (stage : Stage) (station : StationState W) (wire : W) : Type 0 where
+    pub stood : Stood kind layouts operate_link station wire
+    pub fits : StageFits kind.hands_over layouts.run.od request base stage
+        station.session.current (far wire).isdu (far wire).carried
     pub room : IsTrue (takes_more (far wire).room base)
     pub limit : 2 ≤ station.session.limit
     -- its last good reply was to a message of the request
     pub after : station.session.clear ≡ false
 
   -- a port at this stage of the request of that ticket
-  pub record IsAt (layouts : Layouts) (ticket : Ticket) (request : Request) (base : List Carried)
-      (book : BookState) (stage : Stage) (p : Parts W) : Type 0 where
+  pub record IsAt (kind : Kind) (layouts : Layouts) (ticket : Ticket) (request : Request)
+      (base : List Carried) (book : BookState) (stage : Stage) (p : Parts W) : Type 0 where
     pub wire : W
-    pub at : At layouts request base stage p.station wire
+    pub at : At kind layouts request base stage p.station wire
     pub book_is : p.book.state ≡ book_at book ticket request stage
     pub valid : IsRequest request
     pub low : 1 ≤ layouts.run.od
 
   -- a port between requests, with this book: none is under way, and the device, whose record is
   -- so, has none in hand
-  pub record IsBetween (layouts : Layouts) (base : List Carried) (book : BookState) (clear : Bool)
-      (p : Parts W) : Type 0 where
+  pub record IsBetween (kind : Kind) (layouts : Layouts) (base : List Carried) (book : BookState)
+      (clear : Bool) (p : Parts W) : Type 0 where
     pub wire : W
-    pub stood : Stood layouts operate_link p.station wire
+    pub stood : Stood kind layouts operate_link p.station wire
     pub free : p.station.session.current ≡ None
     -- whether the device surely holds no text
     pub clear_is : p.station.session.clear ≡ clear
-    pub level : IsBefore (far wire).page own layouts.run.od (far wire).carried operate_link Quiet
+    pub level : IsBefore (far wire).page kind layouts.run.od (far wire).carried operate_link Quiet
         (far wire)
     pub record_is : (far wire).carried ≡ base
     pub book_is : p.book.state ≡ book
 
-  -- From here a request takes an exact number of turns: the port is in OPERATE over a clean wire,
-  -- which is honest to it, and its next turn would send IDLE 1, with room for events; both ends are
-  -- level, the device awake; it has ISDU, as the port was told, and no events, and its record has
-  -- room; the request is the next to be taken: no urgent one waits, or it is the first of them
+  -- From here a request takes an exact number of turns, whatever the kind of device: the port is in
+  -- OPERATE over a clean wire, which is honest to it, and its next turn would send IDLE 1, with
+  -- room for events; both ends are level, the device awake; it has ISDU, as the port was told, and
+  -- no events, and its record has room; the request is the next to be taken: no urgent one waits,
+  -- or it is the first of them
   -- REQ-13
   pub record MayStart (layouts : Layouts) (ticket : Ticket) (request : Request)
       (p : Parts W) : Type 0 where
@@ -173,8 +179,8 @@ module _ {W : Type 0} (facts : WireFacts W) where
     pub ready : is_ready p.station.session true ≡ true
     pub link : Link
     pub operating : IsOperating layouts link
-    pub level : IsBefore (far wire).page own layouts.run.od (far wire).carried link Quiet
-        (far wire)
+    pub level : IsBefore (far wire).page (far wire).kind layouts.run.od (far wire).carried link
+        Quiet (far wire)
     pub isdu : knows_isdu (far wire).page ≡ true
     pub told : p.station.session.isdu ≡ Some true
     pub quiet : IsQuiet (far wire).events
@@ -187,18 +193,19 @@ module _ {W : Type 0} (facts : WireFacts W) where
   -- REQ-13
   abbrev pub IsOnTime : Layouts → Ticket → Request → Parts W → ℕ → Parts W → Type 0
   IsOnTime layouts ticket request old n new =
-      ((n ≤ segments layouts.run.od (request_text request) + 1)
+      ((n ≤ segments layouts.run.od (request_text request)
+      + busy_replies (kind_of facts old).hands_over)
       × (record_of facts new ≡ record_of facts old)
       × (new.book.state ≡ took old.book.state (ticket, request)))
       ⊎ ((answer : Answer) × (record_of facts new ≡ grown_by (record_of facts old) request answer)
-      × (n < turns_needed layouts.run.od request answer)
+      × (n < turns_needed (kind_of facts old).hands_over layouts.run.od request answer)
       × (new.book.state ≡ took old.book.state (ticket, request)))
       ⊎ ((answer : Answer) × (record_of facts new ≡ grown_by (record_of facts old) request answer)
-      × (n ≡ turns_needed layouts.run.od request answer)
+      × (n ≡ turns_needed (kind_of facts old).hands_over layouts.run.od request answer)
       × (new.book.state ≡ posted (took old.book.state (ticket, request)) (Done answer)))
       ⊎ ((answer : Answer) × (more : List Carried)
       × (record_of facts new ≡ grown_by (record_of facts old) request answer ++ more)
-      × (turns_needed layouts.run.od request answer < n))
+      × (turns_needed (kind_of facts old).hands_over layouts.run.od request answer < n))
 
   -- From here requests that wait take the sum of their turns: the first may start, they wait in
   -- this order before all others, and the device's record has room for the pairs of all of them.
@@ -216,11 +223,12 @@ module _ {W : Type 0} (facts : WireFacts W) where
   -- how a request stands that is taken and not done after so many turns, the record having been
   -- `base` and the book this one: nothing entered the record yet, or its answer did
   abbrev pub IsOnItsWay :
-      Layouts → ℕ → Ticket × Request → List Carried → BookState → Parts W → Type 0
-  IsOnItsWay layouts n next base book new =
+      HandsOver → Layouts → ℕ → Ticket × Request → List Carried → BookState → Parts W → Type 0
+  IsOnItsWay hands_over layouts n next base book new =
       (new.book.state ≡ took book next)
-      × (((n ≤ segments layouts.run.od (request_text next.1) + 1) × (record_of facts new ≡ base))
-      ⊎ ((answer : Answer) × (n < turns_needed layouts.run.od next.1 answer)
+      × (((n ≤ segments layouts.run.od (request_text next.1) + busy_replies hands_over)
+      × (record_of facts new ≡ base))
+      ⊎ ((answer : Answer) × (n < turns_needed hands_over layouts.run.od next.1 answer)
       × (record_of facts new ≡ grown_by base next.1 answer)))
 
   -- How requests that wait stand after so many turns. Before the first turn none is taken. Then
@@ -230,26 +238,27 @@ module _ {W : Type 0} (facts : WireFacts W) where
   -- said.
   -- REQ-13
   abbrev pub AreServed :
-      Devices → Layouts → ℕ → List (Ticket × Request) → List Carried → BookState → Parts W
-      → Type 0
-  AreServed devices layouts zero requests base book new =
+      Devices → HandsOver → Layouts → ℕ → List (Ticket × Request) → List Carried → BookState
+      → Parts W → Type 0
+  AreServed devices hands_over layouts zero requests base book new =
       (record_of facts new ≡ base) × (new.book.state ≡ book)
-  AreServed devices layouts (suc n) [] base book new =
+  AreServed devices hands_over layouts (suc n) [] base book new =
       (more : List Carried) × (record_of facts new ≡ base ++ more)
-  AreServed devices layouts (suc n) (next ∷ rest) base book new =
-      IsOnItsWay layouts (suc n) next base book new
+  AreServed devices hands_over layouts (suc n) (next ∷ rest) base book new =
+      IsOnItsWay hands_over layouts (suc n) next base book new
       ⊎ ((answer : Answer)
-      × (turns_needed layouts.run.od next.1 answer ≤ suc n)
-      × AreServed devices layouts
-      (suc n - (turns_needed layouts.run.od next.1 answer + turns_between devices rest)) rest
+      × (turns_needed hands_over layouts.run.od next.1 answer ≤ suc n)
+      × AreServed devices hands_over layouts
+      (suc n
+      - (turns_needed hands_over layouts.run.od next.1 answer + turns_between devices rest)) rest
       (grown_by base next.1 answer) (posted (took book next) (Done answer)) new)
 
   -- at some stage, so many turns on
-  pub record IsAfter (layouts : Layouts) (ticket : Ticket) (request : Request) (base : List Carried)
-      (book : BookState) (turns : ℕ) (p : Parts W) : Type 0 where
+  pub record IsAfter (kind : Kind) (layouts : Layouts) (ticket : Ticket) (request : Request)
+      (base : List Carried) (book : BookState) (turns : ℕ) (p : Parts W) : Type 0 where
     pub stage : Stage
-    pub is_at : IsAt layouts ticket request base book stage p
-    pub turns_are : turns_at layouts.run.od request stage ≡ turns
+    pub is_at : IsAt kind layouts ticket request base book stage p
+    pub turns_are : turns_at kind.hands_over layouts.run.od request stage ≡ turns
 
   -- one turn: the next request begins, or goes one stage on; behind a request a port for any device
   -- sends IDLE 1, and no request begins; on an honest wire the record only grows, and may grow as
@@ -258,16 +267,16 @@ module _ {W : Type 0} (facts : WireFacts W) where
   pub record CleanTurn (p next : Parts W) : Type 0 where
     pub starts : (layouts : Layouts) (ticket : Ticket) (request : Request)
         → MayStart layouts ticket request p
-        → IsAfter layouts ticket request (record_of facts p) p.book.state 1 next
-    pub goes_on : (layouts : Layouts) (ticket : Ticket) (request : Request) (base : List Carried)
-        (book : BookState) (stage : Stage)
-        → IsAt layouts ticket request base book stage p
+        → IsAfter (kind_of facts p) layouts ticket request (record_of facts p) p.book.state 1 next
+    pub goes_on : (kind : Kind) (layouts : Layouts) (ticket : Ticket) (request : Request)
+        (base : List Carried) (book : BookState) (stage : Stage)
+        → IsAt kind layouts ticket request base book stage p
         → ((answer : Answer) → stage ≡ Ended answer → ⊥)
-        → IsAfter layouts ticket request base book
-        (suc (turns_at layouts.run.od request stage)) next
+        → IsAfter kind layouts ticket request base book
+        (suc (turns_at kind.hands_over layouts.run.od request stage)) next
     pub rests : p.station.session.configuration.devices ≡ Any
-        → (layouts : Layouts) (base : List Carried) (book : BookState)
-        → IsBetween layouts base book false p → IsBetween layouts base book true next
+        → (kind : Kind) (layouts : Layouts) (base : List Carried) (book : BookState)
+        → IsBetween kind layouts base book false p → IsBetween kind layouts base book true next
     pub honesty : honest (wire_of next.station.link) ≡ honest (wire_of p.station.link)
     pub asks : next.station.session.configuration ≡ p.station.session.configuration
     pub grows : IsTrue (honest (wire_of p.station.link))
@@ -290,5 +299,5 @@ module _ {W : Type 0} (facts : WireFacts W) where
   CleanServes p calls next =
       (n : ℕ) → calls ≡ replicate n call.Turn → (layouts : Layouts) (first : Ticket × Request)
       (rest : List (Ticket × Request)) → MayServe layouts first rest p
-      → AreServed p.station.session.configuration.devices layouts n (first ∷ rest)
-      (record_of facts p) p.book.state next
+      → AreServed p.station.session.configuration.devices (kind_of facts p).hands_over layouts n
+      (first ∷ rest) (record_of facts p) p.book.state next

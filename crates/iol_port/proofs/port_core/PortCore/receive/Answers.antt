@@ -9,20 +9,14 @@ use Rattle.iol_port.specs.Counters.{call_counted, said_counted}
 use Rattle.iol_port.specs.Steps.{book_through}
 use Rattle.iol_port.specs.View.{Parts}
 use Rattle.iol_port.specs.CorePort.{awaited, bare}
-use Rattle.iol_port.proofs.CorePorts.{reply_out, receive_does, reset_told}
+use Rattle.iol_port.proofs.CorePorts.{parts_in, reply_out, receive_does, reset_told}
 use Rattle.iol_port.proofs.TieLemmas.{turn_tied, settled_limit}
 use Rattle.iol_port.proofs.port_core.PortCore.receive.Given as given
 use Rattle.iol_port.proofs.port_core.PortCore.receive.Goals as goal
 
 pub invariant_of-self : goal.invariant_of-self
 invariant_of-self g c =
-    let p : Parts (Unit {0}) = record {
-      station = bare c.self.inside.core;
-      book = c.self.inside.book;
-      kept = c.self.inside.kept.items;
-      sent = c.self.inside.sent;
-      counters = c.self.inside.counters;
-    } in
+    let p : Parts (Unit {0}) = parts_in c.self.inside in
     turn_tied p p.station (bare c.receive-brought.new.self) p.book.state c.settle.new.kept.items
     c.settle.new.book c.resets-reset.result false c.receive-brought.new.said c.self.invariant
     (inl (refl, refl))
@@ -64,13 +58,7 @@ returns-clause-gives g c =
 
 pub returns-clause-does : goal.returns-clause-does
 returns-clause-does g c =
-    let p : Parts (Unit {0}) = record {
-      station = bare c.self.inside.core;
-      book = c.self.inside.book;
-      kept = c.self.inside.kept.items;
-      sent = c.self.inside.sent;
-      counters = c.self.inside.counters;
-    } in
+    let p : Parts (Unit {0}) = parts_in c.self.inside in
     let out = reply_out p c.self.invariant (ap awaited c.self.view_is ∙ c.requires) in
     rw (← c.self.view_is) (receive_does p _ (octets_in c.args.came.now)
     c.receive-brought.new.said out.0 c.receive-brought.ensures.steps refl (book_is g c)

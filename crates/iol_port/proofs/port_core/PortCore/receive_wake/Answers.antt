@@ -10,20 +10,14 @@ use Rattle.iol_port.specs.Counters.{call_counted}
 use Rattle.iol_port.specs.Steps.{book_through}
 use Rattle.iol_port.specs.View.{Parts}
 use Rattle.iol_port.specs.CorePort.{awaited, bare}
-use Rattle.iol_port.proofs.CorePorts.{wake_out, wake_does, reset_told}
+use Rattle.iol_port.proofs.CorePorts.{parts_in, wake_out, wake_does, reset_told}
 use Rattle.iol_port.proofs.TieLemmas.{turn_tied, woken_limit}
 use Rattle.iol_port.proofs.port_core.PortCore.receive_wake.Given as given
 use Rattle.iol_port.proofs.port_core.PortCore.receive_wake.Goals as goal
 
 pub invariant_of-self : goal.invariant_of-self
 invariant_of-self g c =
-    let p : Parts (Unit {0}) = record {
-      station = bare c.self.inside.core;
-      book = c.self.inside.book;
-      kept = c.self.inside.kept.items;
-      sent = c.self.inside.sent;
-      counters = c.self.inside.counters;
-    } in
+    let p : Parts (Unit {0}) = parts_in c.self.inside in
     turn_tied p p.station (bare c.receive_wake.new.self) p.book.state c.settle.new.kept.items
     c.settle.new.book c.resets-reset.result false Idle c.self.invariant (inl (refl, refl))
     (ap (λ (k : Core). k.session.limit) c.receive_wake.ensures.core
@@ -59,13 +53,7 @@ returns-clause-gives g c =
 
 pub returns-clause-does : goal.returns-clause-does
 returns-clause-does g c =
-    let p : Parts (Unit {0}) = record {
-      station = bare c.self.inside.core;
-      book = c.self.inside.book;
-      kept = c.self.inside.kept.items;
-      sent = c.self.inside.sent;
-      counters = c.self.inside.counters;
-    } in
+    let p : Parts (Unit {0}) = parts_in c.self.inside in
     let out = wake_out p (ap awaited c.self.view_is ∙ c.requires) in
     rw (← c.self.view_is) (wake_does p _ (is_some c.args.rate) out.0
     c.receive_wake.ensures.steps refl (book_is g c) c.settle.ensures.kept)

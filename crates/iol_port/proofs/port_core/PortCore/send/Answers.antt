@@ -15,20 +15,14 @@ use Rattle.iol_book.specs.BookModel.{BookState}
 use Rattle.iol_port.specs.View.{Parts, BeginsNext}
 use Rattle.iol_port.proofs.TieLemmas.{send_tied}
 use Rattle.iol_port.specs.CorePort.{bare, SendGives, SendDoes}
-use Rattle.iol_port.proofs.CorePorts.{send_does, again_does, sent_same}
+use Rattle.iol_port.proofs.CorePorts.{parts_in, send_does, again_does, sent_same}
 use Rattle.iol_port.proofs.port_core.PortCore.send.Goals.{then-not-self, else-not-self}
 use Rattle.iol_port.proofs.port_core.PortCore.send.Given as given
 use Rattle.iol_port.proofs.port_core.PortCore.send.Goals as goal
 
 pub invariant_of-self : goal.invariant_of-self
 invariant_of-self g c =
-    let p : Parts (Unit {0}) = record {
-      station = bare c.self.inside.core;
-      book = c.self.inside.book;
-      kept = c.self.inside.kept.items;
-      sent = c.self.inside.sent;
-      counters = c.self.inside.counters;
-    } in
+    let p : Parts (Unit {0}) = parts_in c.self.inside in
     let mid : Core = c.if-not-self.self-inside.core in
     let book : BookValue = c.if-not-self.self-inside.book in
     let later : List Event = c.if-not-self.self-inside.kept.items in
@@ -60,30 +54,15 @@ invariant_of-self g c =
     c.has_room-room.result c.send.result c.self.invariant begun.0 begun.1 room
     c.send.ensures.sent c.send.ensures.reads c.send.ensures.says
 
+-- the parts after the sending
+abbrev after : (g : given.Over) (c : goal.After-send g) → Parts (Unit {0})
+after g c = record (parts_in c.if-not-self.self-inside) { station = bare c.send.new.self }
+
 both : (g : given.Over) (c : goal.After-send g)
-    → let next : Parts (Unit {0}) = record {
-      station = bare c.send.new.self;
-      book = c.if-not-self.self-inside.book;
-      kept = c.if-not-self.self-inside.kept.items;
-      sent = c.if-not-self.self-inside.sent;
-      counters = c.if-not-self.self-inside.counters;
-    } in
-    SendGives c.args.self.now next × SendDoes c.args.self.now next
+    → SendGives c.args.self.now (after g c) × SendDoes c.args.self.now (after g c)
 both g c =
-    let p : Parts (Unit {0}) = record {
-      station = bare c.self.inside.core;
-      book = c.self.inside.book;
-      kept = c.self.inside.kept.items;
-      sent = c.self.inside.sent;
-      counters = c.self.inside.counters;
-    } in
-    let next : Parts (Unit {0}) = record {
-      station = bare c.send.new.self;
-      book = c.if-not-self.self-inside.book;
-      kept = c.if-not-self.self-inside.kept.items;
-      sent = c.if-not-self.self-inside.sent;
-      counters = c.if-not-self.self-inside.counters;
-    } in
+    let p : Parts (Unit {0}) = parts_in c.self.inside in
+    let next : Parts (Unit {0}) = after g c in
     let room : c.has_room-room.result ≡ has_room p.kept = c.has_room-room.ensures
     ∙ ap (λ (q : Parts (Unit {0})). has_room q.kept) (sym c.self.view_is) in
     subst (λ (q : Parts (Unit {0})). SendGives q next × SendDoes q next) c.self.view_is
@@ -128,7 +107,9 @@ both g c =
           (c.self.invariant.out sent)
           (subst (λ (k : Core). IsSent c.has_room-room.result k c.send.new.self)
           core_is c.send.ensures.sent) in
-          let next_is : next ≡ p = cc in
+          let next_is : next ≡ p =
+          ap (λ x. record (parts_in x) { station = bare c.send.new.self }) is
+          ∙ ap (λ (k : Core). record p { station = bare k }) same in
           subst (λ (q : Parts (Unit {0})). SendGives p q × SendDoes p q) (sym next_is) (
             record {
               core = λ free. absurd (let k : true ≡ false = sym sent ∙ free in cc);

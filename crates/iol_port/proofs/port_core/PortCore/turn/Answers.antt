@@ -16,7 +16,7 @@ use Rattle.iol_port.specs.CorePort.{bare, parts_over}
 use Rattle.iol_port.specs.EveryWire.{taken_where}
 use Rattle.iol_port.specs.Steps.{book_through}
 use Rattle.iol_port.proofs.AskLemmas.{book_told, turn_begun_asked}
-use Rattle.iol_port.proofs.CorePorts.{begins_over, takes_over}
+use Rattle.iol_port.proofs.CorePorts.{parts_in, begins_over, takes_over}
 use Rattle.iol_port.proofs.Denying.{turn_denies}
 use Rattle.iol_port.proofs.TieLemmas.{begun_same, ends_ask, turn_tied, turn_limit}
 use Rattle.iol_port.proofs.TurnLemmas.{turn_does, turn_gives_none}
@@ -29,23 +29,13 @@ settle-requires-clause-asked g c =
     ends_ask _ _ _ (begun_same _ _ _ _ c.begin_next.ensures.next c.self.invariant.same)
     c.turn-brought.ensures.ends
 
--- the parts before the turn
-abbrev inside : (g : given.Over) (c : goal.After-settle g) → Parts (Unit {0})
-inside g c = record {
-  station = bare c.self.inside.core;
-  book = c.self.inside.book;
-  kept = c.self.inside.kept.items;
-  sent = c.self.inside.sent;
-  counters = c.self.inside.counters;
-}
-
 free : (g : given.Over) (c : goal.After-settle g) → c.self.inside.sent ≡ false
 free g c = ap (λ (q : Parts (Unit {0})). q.sent) c.self.view_is ∙ c.requires.free
 
 pub invariant_of-self : goal.invariant_of-self
 invariant_of-self g c =
     rw (free g c)
-    (turn_tied (inside g c) (bare c.begin_next.new.core) (bare c.turn-brought.new.self)
+    (turn_tied (parts_in c.self.inside) (bare c.begin_next.new.core) (bare c.turn-brought.new.self)
     c.begin_next.new.book.state c.settle.new.kept.items c.settle.new.book _ _
     c.turn-brought.new.said c.self.invariant c.begin_next.ensures.next
     (turn_limit g.W.Wire.facts _ (station_of c.args.wire.now c.begin_next.new.core)
@@ -56,7 +46,7 @@ invariant_of-self g c =
 
 -- and what was begun, over the wire
 abbrev before : (g : given.Over) (c : goal.After-settle g) → Parts g.row.W.Denot
-before g c = parts_over c.args.wire.now (inside g c)
+before g c = parts_over c.args.wire.now (parts_in c.self.inside)
 
 abbrev after : (g : given.Over) (c : goal.After-settle g) → Parts g.row.W.Denot
 after g c = record {
