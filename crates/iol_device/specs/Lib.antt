@@ -3,6 +3,7 @@ pub mod Record
 pub mod Faults
 pub mod Device
 pub mod Silence
+pub mod Pulses
 pub mod Number
 pub mod Hearing
 pub mod NumberLaws

@@ -1,8 +1,8 @@
 //! What a device is without its application.
-ghost use Rattle.std.specs.Prelude.{◌≡◌, ◌+◌, ◌-◌, ◌<◌, ◌≤◌, ◌↔◌, ◌==◌, ◌++◌, length, slice_index, Option, Some, None, IsTrue, IsErr, IfErr, OnErr, option_copied, option_map, IfNone, OnSome, false, is_some, IsOk, unwrap_or, if◌then◌else◌, []};
+ghost use Rattle.std.specs.Prelude.{◌≡◌, true, ◌+◌, ◌-◌, ◌<◌, ◌≤◌, ◌↔◌, ◌==◌, ◌++◌, length, slice_index, Option, Some, None, IsTrue, IsErr, IfErr, OnErr, option_copied, option_map, IfNone, OnSome, false, is_some, IsOk, unwrap_or, if◌then◌else◌, []};
 
 use crate::app::App;
-use crate::commands::{Waiting, command_in, is_confirm, mode_asked};
+use crate::commands::{Waiting, command_in, is_confirm, is_that, mode_asked};
 use crate::data::{copy_of, flow_of, message_in, message_of, size_of, take_image};
 use crate::fault::DeviceFault;
 use crate::isdu::{IsduSide, is_kind_of};
@@ -36,6 +36,7 @@ pub(crate) struct FarEnd<R: Record = Kept> {
     layout: Layout,
     /// The octet of page address 0x01.
     cycle_time: u8,
+    misses_pulses: bool,
     carried: R,
 }
 
@@ -53,7 +54,7 @@ impl<R: Record> Model for FarEnd<R> {
       isdu = d.isdu.state;
       kind = d.isdu.kind;
       counted = d.isdu.counted;
-      misses_pulses = false;
+      misses_pulses = d.misses_pulses;
       events = d.events;
       input = d.input;
       out = unwrap_or d.out [];
@@ -70,7 +71,7 @@ impl<R: Record> Model for FarEnd<R> {
 impl<R: Record> FarEnd<R> {
     ghost use Rattle.iol_page.specs.Page.{layouts_of, knows_isdu};
     ghost use Rattle.iol_event.specs.Memory.{is_full};
-    ghost use Rattle.iol_far.specs.Codec.{layout_in, flow_of};
+    ghost use Rattle.iol_far.specs.Codec.{layout_in, message_in, flow_of};
     ghost use Rattle.iol_far.specs.Far as far;
     ghost use Rattle.iol_far.specs.Far.{layout_of, moved};
     ghost use Rattle.iol_far.specs.Isdu.{handed};
@@ -82,6 +83,8 @@ impl<R: Record> FarEnd<R> {
     ghost use Rattle.iol_device.specs.Inside.{new_mode};
     ghost use Rattle.iol_far.specs.Octets.{buffered};
     ghost use Rattle.iol_far.specs.Laws.{IsRegular};
+    ghost use Rattle.iol_far.specs.Orderly.{IsOrderly};
+    ghost use Rattle.iol_device.specs.Pulses.{is_orderly, is_asked, is_asked_if, is_said};
     ghost use Rattle.iol_device.specs.declared.fault.DeviceFault.{DeviceFault};
 
     /// Asleep, as a device is delivered.
@@ -107,7 +110,75 @@ impl<R: Record> FarEnd<R> {
             layouts,
             layout,
             cycle_time: 0,
+            misses_pulses: false,
             carried,
+        }
+    }
+
+    /// It may miss the pulse of a wake-up request.
+    ///
+    /// Rule WIRE-3.
+    pub fn may_miss_pulses(&mut self)
+        ensures { self.new ≡ record self.old { misses_pulses = true } }
+    {
+        self.misses_pulses = true;
+    }
+
+    /// Whether it may miss the pulse of a wake-up request.
+    ///
+    /// Rule WIRE-3.
+    pub fn misses_pulses(&self) -> bool
+        ensures { result ≡ self.now.misses_pulses }
+    {
+        self.misses_pulses
+    }
+
+    /// Whether it is as a device is that may miss pulses.
+    ///
+    /// Rule WIRE-3.
+    #[tactic(auto, using(crate::proofs::Orderly::orderly))]
+    pub fn is_orderly(&self) -> bool
+        ensures value { result ≡ is_orderly self.now }
+        ensures orderly { result ≡ true → IsOrderly self.now }
+    {
+        let holds_text = self.mode == Mode::Startup && !self.isdu.is_empty();
+        let is_valid = self.valid && self.mode != Mode::Operate;
+        !holds_text && !is_valid && self.is_asked_if_it_waits()
+    }
+
+    /// Whether each command that waits asks for another mode.
+    ///
+    /// Rules DEV-3, DEV-4.
+    fn is_asked_if_it_waits(&self) -> bool
+        ensures { result ≡ is_asked_if self.now self.now.waits }
+    {
+        match &self.waits {
+            Some(command) => self.is_asked(command),
+            None => true,
+        }
+    }
+
+    /// Whether a command that waits asks for another mode, as its octets say.
+    ///
+    /// Rules DEV-3, DEV-4.
+    fn is_asked(&self, command: &Waiting) -> bool
+        ensures { result ≡ is_asked self.now (record {
+          into = command.now.into;
+          octets = command.now.octets.items;
+        }) }
+    {
+        command.into != self.mode && self.is_said(command.into, &command.octets)
+    }
+
+    /// Whether octets, where they are a message in the present layout, ask for that mode.
+    ///
+    /// Rule DEV-3.
+    fn is_said(&self, into: Mode, octets: &[u8]) -> bool
+        ensures { result ≡ is_said self.now into (message_in (layout_of self.now) octets.now) }
+    {
+        match message_in(&self.layout, octets) {
+            Some(message) => is_that(self.known_mode(mode_asked(command_in(&message))), into),
+            None => true,
         }
     }
 

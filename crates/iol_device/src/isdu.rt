@@ -8,6 +8,7 @@ ghost use Rattle.iol_isdu.specs.Parse.{request_of};
 ghost use Rattle.iol_far.specs.Isdu.{Empty, Receiving, IsduState, Answered, isdu_written, isdu_read, isdu_data, completed, answer_text, answered, handed, fits, recalled, handed_over, written_over, written_by, counted_by};
 ghost use Rattle.iol_far.specs.Record.{takes_more};
 ghost use Rattle.iol_device.specs.App.{Reacts};
+ghost use Rattle.iol_device.specs.Pulses.{is_empty};
 ghost use Rattle.iol_device.specs.Inside.{IsduValue, IsKept, IsKeptAt, GoesOn, IsSent, state_of, last_sent, count_in, sent_flow, is_sent, is_next, is_all_sent, waits_for_read};
 
 use crate::app::App;
@@ -311,6 +312,13 @@ impl IsduSide {
             Stage::Handed => Some(&self.cutter.source().request),
             _ => None,
         }
+    }
+
+    /// Whether nothing is held, neither a text nor an answer.
+    pub fn is_empty(&self) -> bool
+        ensures { result ≡ is_empty self.now.state }
+    {
+        self.stage == Stage::Empty
     }
 
     /// Whether the application has a request, or will have it.

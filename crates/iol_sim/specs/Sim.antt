@@ -4,16 +4,17 @@ use Rattle.arrayvec.specs.ArrayVec.{ArrayVec}
 use Rattle.iol_octets.specs.Checksum.{with_flip}
 use Rattle.iol_device.specs.Device.{Running}
 use Rattle.iol_device.specs.Hearing.{heard}
+use Rattle.iol_device.specs.Pulses.{is_orderly}
 use Rattle.iol_far.specs.Octets.{octets_in}
 use Rattle.iol_far.specs.Far.{Far, hear}
 use Rattle.iol_far.specs.Local.{woken}
 use Rattle.iol_device.specs.App.{Gives}
-use Rattle.iol_link.specs.Honest.{silence_after}
+use Rattle.iol_link.specs.Honest.{silence_after, test_read}
 use Rattle.iol_link.specs.WireFacts.{WireFacts}
 use Rattle.iol_link.specs.declared.wire.Rate.{Rate}
 use Rattle.iol_link.specs.declared.wire.Rate.TheVariants.{Com2}
 use Rattle.iol_sim.specs.declared.script.Fate.{Fate}
-use Rattle.iol_sim.specs.declared.script.Fate.TheVariants.{Clean, BackLost, OutDamaged, BackDamaged, Silent}
+use Rattle.iol_sim.specs.declared.script.Fate.TheVariants.{Clean, BackLost, OutDamaged, BackDamaged, NoWake, Silent}
 use Rattle.iol_sim.specs.declared.script.Step.{Step}
 use Rattle.iol_sim.specs.Script.{fate_of, rest_of, auto_of, Devices, IsWorked, AreDone, AreThose}
 
@@ -90,13 +91,34 @@ abbrev pub rate_by : Fate → Option Rate
 rate_by Clean = Some Com2
 rate_by fate = None
 
+-- whether the pulse alone is lost, and the device misses it: it may, and before the steps it was
+-- as such a device is
+-- WIRE-3
+abbrev pub misses_pulse : Fate → Far → Far → Bool
+misses_pulse NoWake before far = is_orderly before && far.misses_pulses
+misses_pulse fate before far = false
+
+-- then it hears the test read as it is
+-- WIRE-3
+abbrev pub reached_by : {P : Type 0} → Fate → Far → Running P → Running P
+reached_by fate before device =
+    if misses_pulse fate before device.far then heard device test_read else woken_by fate device
+
+-- and a rate is found where it replies
+-- WIRE-3
+abbrev pub rate_found : Fate → Far → Far → Option Rate
+rate_found fate before far =
+    if misses_pulse fate before far then option_map (λ reply. Com2) (hear far test_read).reply
+    else rate_by fate
+
 pub record IsWake {P : Type 0} (gives : Gives P) (old : Simulated P) (answer : Option Rate)
     (new : Simulated P) : Type 0 where
   pub ready : Devices P
   pub ready_is : IsReady gives old ready
   pub new_is : new
-      ≡ prepared old (record ready { device = woken_by (fate_now old) ready.device })
-  pub answer_is : answer ≡ rate_by (fate_now old)
+      ≡ prepared old
+      (record ready { device = reached_by (fate_now old) old.device.far ready.device })
+  pub answer_is : answer ≡ rate_found (fate_now old) old.device.far ready.device.far
   pub those : AreThose (devices_of old) (devices_of new)
 
 -- An exchange

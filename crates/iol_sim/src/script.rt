@@ -15,7 +15,8 @@ pub enum Fate {
     OutDamaged,
     /// The device's reply comes damaged; that to a wake isn't seen.
     BackDamaged,
-    /// A wake is lost, and so is a message.
+    /// A wake is lost, and so is a message. Where the device may miss pulses, the pulse of the
+    /// wake alone is lost, and the test read behind it is heard.
     NoWake,
     /// This call and all after it are lost, until the wire is mended.
     Silent,

@@ -1,5 +1,5 @@
 //! A simulated wire, with a device at its far end.
-ghost use Rattle.std.specs.Prelude.{◌≡◌, ℕ, [], true, None, Option, false, List, Some, IfOk, IfErr, IfSome, MatchBool, length, min, ◌+◌, ◌≤◌, if◌then◌else◌, ◌∷◌, option_copied};
+ghost use Rattle.std.specs.Prelude.{◌≡◌, ℕ, [], true, None, Option, false, List, Some, IfOk, IfErr, IfSome, MatchBool, length, min, ◌+◌, ◌≤◌, if◌then◌else◌, ◌∷◌, option_copied, option_map};
 ghost use Rattle.std.specs.Vec.Iter.{into_iter_items};
 ghost use Rattle.iol_octets.specs.Checksum.{AreOctets};
 ghost use Rattle.iol_far.specs.Octets.{octets_in, buffered};
@@ -20,6 +20,9 @@ use std::vec::IntoIter;
 
 /// The most octets that a message can have.
 const LONGEST: usize = 66;
+
+/// The test read of a wake-up request: that of page address 0x00.
+const TEST_READ: [u8; 2] = [0xA2, 0x00];
 
 /// A wire with a device at its far end, and a script of what happens to it and to each call.
 /// There may be a second device, which the script plugs in in place of the first.
@@ -69,13 +72,16 @@ impl<P: App, A: Allocator + Copy> Model for Sim<P, A> {
 }
 
 impl<P: App, A: Allocator + Copy> Sim<P, A> {
-    ghost use Rattle.iol_far.specs.Far.{hear};
+    ghost use Rattle.iol_far.specs.Far.{Far, hear};
     ghost use Rattle.iol_device.specs.App.{Follows};
     ghost use Rattle.iol_device.specs.Hearing.{heard};
+    ghost use Rattle.iol_device.specs.Pulses.{is_orderly};
+    ghost use Rattle.iol_link.specs.Honest.{test_read};
+    ghost use Rattle.iol_link.specs.declared.wire.Rate.{Rate};
     ghost use Rattle.iol_sim.specs.declared.fault.SimFault.{SimFault};
     ghost use Rattle.iol_sim.specs.declared.script.Fate.{Fate};
     ghost use Rattle.iol_sim.specs.Script.{fate_of, rest_of, auto_of, swapped, IsDone, AreDone};
-    ghost use Rattle.iol_sim.specs.Sim.{devices_of, fate_now, prepared, IsReady, woken_by, rate_by, heard_by, reply_by, silence_by};
+    ghost use Rattle.iol_sim.specs.Sim.{devices_of, fate_now, prepared, IsReady, misses_pulse, woken_by, rate_by, reached_by, rate_found, heard_by, reply_by, silence_by};
 
     /// A wire to this device, with this script, which isn't copied.
     ///
@@ -318,6 +324,55 @@ impl<P: App, A: Allocator + Copy> Sim<P, A> {
         }
     }
 
+    /// Whether the pulse alone is lost, and the device, which was orderly or not, misses it.
+    ///
+    /// Rule WIRE-3.
+    fn misses_pulse(&self, fate: Fate, orderly: bool) -> bool
+        ensures { (before : Far) → orderly ≡ is_orderly before
+            → result ≡ misses_pulse fate before self.now.device.far }
+    {
+        match fate {
+            Fate::NoWake => orderly && self.device.misses_pulses(),
+            Fate::Clean
+            | Fate::OutLost
+            | Fate::BackLost
+            | Fate::OutDamaged
+            | Fate::BackDamaged
+            | Fate::Silent => false,
+        }
+    }
+
+    /// The device misses the pulse, and hears the test read behind it alone. The rate of its
+    /// reply is answered.
+    ///
+    /// Rule WIRE-3.
+    fn miss_pulse(&mut self) -> Option<Rate>
+        ensures rate { result
+            ≡ option_map (λ reply. Rate.Com2) (hear self.old.device.far test_read).reply }
+        ensures device { self.new ≡ record self.old { device = heard self.old.device test_read } }
+    {
+        let mut reply = Message::new();
+        self.device
+            .hear_into(&TEST_READ, &mut reply)
+            .then_some(Rate::Com2)
+    }
+
+    /// The wake-up request is made of a device that was orderly before the steps, or not.
+    ///
+    /// Rule WIRE-3.
+    fn make_wake(&mut self, fate: Fate, orderly: bool) -> Option<Rate>
+        ensures rate { (before : Far) → orderly ≡ is_orderly before
+            → result ≡ rate_found fate before self.old.device.far }
+        ensures device { (before : Far) → orderly ≡ is_orderly before → self.new
+            ≡ record self.old { device = reached_by fate before self.old.device } }
+    {
+        if self.misses_pulse(fate, orderly) {
+            self.miss_pulse()
+        } else {
+            self.reach(fate)
+        }
+    }
+
     /// The octets are sent. Answers whether a reply comes back; it is put into the buffer.
     fn pass(&mut self, fate: Fate, sent: &[u8], reply: &mut Message) -> bool
         ensures answer { buffered result reply.new
@@ -430,8 +485,9 @@ impl<P: App, A: Allocator + Copy> Wire for Sim<P, A> {
 
     fn wake(&mut self) -> Option<Rate> {
         page_and_room_stay();
+        let orderly = self.device.is_orderly();
         let fate = self.prepare();
-        self.reach(fate)
+        self.make_wake(fate, orderly)
     }
 
     fn exchange(&mut self, sent: &[u8]) -> Option<Message> {
