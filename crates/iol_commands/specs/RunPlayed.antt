@@ -1,14 +1,13 @@
 -- What `run` carries out, and what it prints of it.
 use Rattle.std.specs.Prelude.{◌≡◌, ℕ, Bool, true, false, Some, None, option_map, List, ◌++◌, IsSomeAnd}
 use Rattle.std.specs.List.{list_any}
-use Rattle.iol_book.specs.declared.entries.Limits.{Limits}
 use Rattle.iol_book.specs.declared.fault.BookFault.TheVariants.{OutOfMemory}
 use Rattle.iol_device.specs.Device.{Running}
 use Rattle.iol_far.specs.declared.kind.Kind.{Kind}
-use Rattle.iol_far.specs.Far as device
+use Rattle.iol_far.specs.Far.{Far, opened_as}
 use Rattle.iol_far.specs.Isdu.{own}
 use Rattle.iol_link.specs.WireFacts.{WireFacts}
-use Rattle.iol_mode.specs.Kinds.{IsFor}
+use Rattle.iol_mode.specs.Kinds.{IsFor, SeesPulses}
 use Rattle.iol_sim.specs.Params.{Stores}
 use Rattle.iol_sim.specs.declared.params.Entry.{Entry}
 use Rattle.iol_sim.specs.Sim.{Simulated, sim_facts}
@@ -23,20 +22,25 @@ use Rattle.iol_port.specs.EveryWire.{RunGives}
 use Rattle.iol_script.specs.Script.{ScriptValue, script_in, calls_in}
 use Rattle.iol_commands.specs.RunPrinted.{answers_text, record_text, away_text}
 
+-- the far end of a new device of this kind and page, which may miss pulses or not
+abbrev pub first_far : Kind → Bool → List ℕ → Far
+first_far kind misses page =
+    record (opened_as kind page (Some 1000)) { misses_pulses = misses }
+
 -- the port of a script at first, over its new device, whose record has room for 1,000 requests
 abbrev pub first_port : ScriptValue → PortState
 first_port script = opened script.devices script.limits
-    (device.opened_as script.kind script.page (Some 1000)) 0
+    (first_far script.kind script.misses_pulses script.page) 0
 
 -- whether a call was refused for want of memory
 abbrev pub lacks_memory : Answered → Bool
 lacks_memory (answered.Refused (fault.Book OutOfMemory)) = true
 lacks_memory other = false
 
--- a new device of this kind and page, with these parameters
-abbrev pub new_device : Kind → List ℕ → List Entry → Running (List Entry)
-new_device kind page params = record {
-  far = device.opened_as kind page (Some 1000);
+-- a new device of this kind and page, which may miss pulses or not, with these parameters
+abbrev pub new_device : Kind → Bool → List ℕ → List Entry → Running (List Entry)
+new_device kind misses page params = record {
+  far = first_far kind misses page;
   app = params;
   first = params;
   number = 0;
@@ -44,11 +48,12 @@ new_device kind page params = record {
 }
 
 -- the wire of a script at first: a new device of its kind, page and parameters, a second one of
--- our own kind where the script has its page, and its steps, none of which was used
+-- our own kind, which misses no pulse, where the script has its page, and its steps, none of which
+-- was used
 abbrev pub first_wire : ScriptValue → Simulated (List Entry)
 first_wire script = record {
-  device = new_device script.kind script.page script.params;
-  away = option_map (λ page. new_device own page script.params) script.other;
+  device = new_device script.kind script.misses_pulses script.page script.params;
+  away = option_map (λ page. new_device own false page script.params) script.other;
   steps = script.steps;
   auto = true;
   silent = false;
@@ -61,10 +66,13 @@ abbrev pub records_text : Simulated (List Entry) → List ℕ
 records_text sim = record_text sim.device.far.carried
     ++ away_text (option_map (λ d. d.far.carried) sim.away)
 
--- a script of one device, which is one of those that its port is for
+-- a script of one device, which is one of those that its port is for; one of our own sees each
+-- pulse
 pub record HasItsDevice (script : ScriptValue) : Type 0 where
   pub one : script.other ≡ None
   pub for_it : IsFor script.devices script.kind
+  pub sees : SeesPulses script.devices
+      (first_far script.kind script.misses_pulses script.page)
 
 -- Calls are made on a port, one after the other: none of the answers lacks memory,
 -- and the text is what they are.

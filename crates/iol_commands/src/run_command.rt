@@ -1,15 +1,14 @@
 //! `run`: a port over a simulated wire, as a script says.
-ghost use Rattle.std.specs.Prelude.{◌≡◌, ◌≢◌, ◌<◌, ◌≤◌, ◌⊎◌, ℕ, Err, OnErr, OnOk, IfOk, IfErr, IsOk, None, Some};
+ghost use Rattle.std.specs.Prelude.{◌≡◌, ◌≢◌, ◌<◌, ◌≤◌, ◌⊎◌, ℕ, Err, OnErr, OnOk, IfOk, IfErr, IsOk, None, Some, false};
 ghost use Rattle.std.specs.Io.KnownBytes.{Keeps};
 ghost use Rattle.std.specs.Option.{ForSome};
 ghost use Rattle.std.specs.String.{string_bytes};
 ghost use Rattle.std.specs.Vec.{vec_len};
-ghost use Rattle.iol_far.specs.Far.{opened_as};
 ghost use Rattle.iol_page.specs.Page.{layouts_of};
-ghost use Rattle.iol_script.specs.Script.{first_bad_run};
+ghost use Rattle.iol_script.specs.Script.{first_bad_run, value_of};
 ghost use Rattle.iol_script.specs.Text.{numbered_lines};
 ghost use Rattle.iol_commands.specs.declared.fault.ProgramFault.TheVariants.{Line, NoThread, OutOfMemory, TooLong, WriteFailed};
-ghost use Rattle.iol_commands.specs.RunPlayed.{first_wire, new_device, PrintsRun};
+ghost use Rattle.iol_commands.specs.RunPlayed.{first_far, first_wire, new_device, PrintsRun};
 ghost use Rattle.iol_commands.specs.Input.{IsTooLong, OfLines, TakesInput, Writes};
 
 use crate::fault::ProgramFault;
@@ -89,30 +88,26 @@ pub(crate) fn wire_of<A: Handle>(alloc: A, script: Script<A>) -> Result<Sim<Para
     requires other { ForSome script.other (λ page. IsOk (layouts_of page)) }
     requires params { vec_len script.params ≤ 32 }
     ensures far { IfOk result (λ sim. sim.device.far
-        ≡ opened_as script.kind script.page (Some ROOM)) }
+        ≡ first_far script.kind script.misses_pulses script.page) }
     ensures app { IfOk result (λ sim. sim.device.app ≡ script.params.items) }
     ensures steps { IfOk result (λ sim. sim.steps ≡ script.steps.items) }
     ensures silence { IfOk result (λ sim. sim.silence ≡ 0) }
-    ensures whole { IfOk result (λ sim. sim ≡ first_wire (record {
-      page = script.page;
-      other = script.other;
-      kind = script.kind;
-      params = script.params.items;
-      devices = script.devices;
-      limits = script.limits;
-      steps = script.steps.items;
-    })) }
+    ensures whole { IfOk result (λ sim. sim ≡ first_wire (value_of script)) }
 {
     let Script {
         page,
         other,
         kind,
+        misses_pulses,
         params,
         devices: _,
         limits: _,
         steps,
     } = script;
-    let device = device_of(alloc, kind, Params::of(params.as_slice()), page)?;
+    let mut device = device_of(alloc, kind, Params::of(params.as_slice()), page)?;
+    if misses_pulses {
+        device.may_miss_pulses();
+    }
     match other {
         Some(page) => {
             let away = device_of(alloc, Kind::own(), Params::of(params.as_slice()), page)?;
@@ -122,7 +117,7 @@ pub(crate) fn wire_of<A: Handle>(alloc: A, script: Script<A>) -> Result<Sim<Para
     }
 }
 
-/// A new device.
+/// A new device, which misses no pulse.
 fn device_of<A: Handle>(
     alloc: A,
     kind: Kind,
@@ -130,7 +125,7 @@ fn device_of<A: Handle>(
     page: Page,
 ) -> Result<Device<Params, Kept<A>>, AllocError>
     requires { IsOk (layouts_of page) }
-    ensures { IfOk result (λ device. device ≡ new_device kind page params) }
+    ensures { IfOk result (λ device. device ≡ new_device kind false page params) }
 {
     Device::open_as(alloc, kind, params, page, ROOM).map_err(|_| AllocError)
 }

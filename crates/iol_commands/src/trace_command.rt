@@ -5,7 +5,7 @@ ghost use Rattle.std.specs.Option.{ForSome};
 ghost use Rattle.std.specs.Vec.{vec_len};
 ghost use Rattle.iol_book.specs.BookModel.{AreLimits};
 ghost use Rattle.iol_page.specs.Page.{layouts_of};
-ghost use Rattle.iol_script.specs.Script.{calls_in, first_bad_run};
+ghost use Rattle.iol_script.specs.Script.{calls_in, first_bad_run, value_of};
 ghost use Rattle.iol_script.specs.Text.{numbered_lines};
 ghost use Rattle.iol_commands.specs.declared.fault.ProgramFault.TheVariants.{Line, NoThread, OutOfMemory, TooLong, WriteFailed};
 ghost use Rattle.iol_commands.specs.TracePrinted.{PrintsTrace, TracesOut};
@@ -70,15 +70,7 @@ fn traced<A: Handle, W: Write>(
     requires calls { length (calls_in (numbered_lines input.now)) ≤ 1000000 }
     ensures printed { OnOk result
         ((text : List ℕ) × Appends (W.contents writer.old) (W.contents writer.new) text
-        × TracesOut (record {
-          page = script.page;
-          other = script.other;
-          kind = script.kind;
-          params = script.params.items;
-          devices = script.devices;
-          limits = script.limits;
-          steps = script.steps.items;
-        })
+        × TracesOut (value_of script)
         (calls_in (numbered_lines input.now)) text) }
     ensures faults { IfErr result (λ e. (e ≡ OutOfMemory) ⊎ (e ≡ WriteFailed)) }
 {

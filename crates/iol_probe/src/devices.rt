@@ -195,6 +195,8 @@ fn answer_call<P: App, R: Record>(
         print_named(output, "page", device.page())
     } else if is(name, b"mode") {
         print_mode(output, device)
+    } else if is(name, b"pulses") {
+        print_pulses(output, device)
     } else if is(name, b"cycle") {
         print_named(output, "cycle", &[device.cycle_time()])
     } else {
@@ -215,6 +217,8 @@ fn act<P: App, R: Record>(device: &mut Device<P, R>, name: &[u8], line: &mut Lin
         device.clear_input();
     } else if is(name, b"silence") {
         device.silence();
+    } else if is(name, b"miss") {
+        device.may_miss_pulses();
     } else {
         line.refuse();
     }
@@ -258,6 +262,22 @@ fn print_mode<P: App, R: Record>(
     }
     if device.is_silent() {
         output.push_str(" silent")?;
+    }
+    output.push_str("\n")
+}
+
+/// Whether it misses pulses, and is as a device is that may.
+fn print_pulses<P: App, R: Record>(
+    output: &mut String,
+    device: &Device<P, R>,
+) -> Result<(), AllocError> {
+    output.push_str(if device.misses_pulses() {
+        "pulses missed"
+    } else {
+        "pulses seen"
+    })?;
+    if device.is_orderly() {
+        output.push_str(" orderly")?;
     }
     output.push_str("\n")
 }

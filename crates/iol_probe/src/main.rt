@@ -29,8 +29,8 @@
 //! book reset|archive|journal
 //! device param INDEX SUB ro|rw WORD
 //! device open|apart ROOM OCTETS                      device bare OCTETS
-//! device hear OCTETS|raise QQ CCCC|input OCTETS|clear|wake|work|power|silence
-//! device handed|answer N ANSWER (where apart)|output|record|page|mode|cycle
+//! device hear OCTETS|raise QQ CCCC|input OCTETS|clear|wake|work|power|silence|miss
+//! device handed|answer N ANSWER (where apart)|output|record|page|mode|cycle|pulses
 //! port open JOURNAL BUSY GIVEN [QUEUE]
 //! port send|asks|awaits|receive OCTETS|silence|woken com1|com2|com3|none
 //! port submit|urgent REQUEST|collect T|withdraw T|cancel T|archive

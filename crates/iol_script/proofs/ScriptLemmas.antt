@@ -52,6 +52,9 @@ allowed : {T : Type 0} (b : Bool) (o : Option T) (y : T) → cond b None o ≡ S
 allowed true o y e = cc
 allowed false o y e = e
 
+same : {T : Type 0} (x y : T) → Some x ≡ Some y → x ≡ y
+same x y e = cc
+
 setting-calls : (draft next : Draft) (s : Setting) → with_setting draft s ≡ Some next
     → draft.calls ≡ next.calls
 setting-calls draft next (setting.Page octets) e =
@@ -63,6 +66,9 @@ setting-calls draft next (setting.Other octets) e =
 setting-calls draft next (setting.Kind kind) e =
     let more : Draft = record draft { kind = Some kind } in
     ap (λ (d : Draft). d.calls) (given (is_none draft.kind) more next e)
+setting-calls draft next setting.MissesPulses e =
+    let more : Draft = record draft { misses_pulses = true } in
+    ap (λ (d : Draft). d.calls) (same more next (allowed draft.misses_pulses (Some more) next e))
 setting-calls draft next (setting.Devices devices) e =
     let more : Draft = record draft { devices = Some devices } in
     ap (λ (d : Draft). d.calls) (given (is_none draft.devices) more next e)

@@ -13,6 +13,7 @@ module _ {A : Type 0} where
     page = fields.page;
     other = fields.other;
     kind = fields.kind;
+    misses_pulses = fields.misses_pulses;
     devices = fields.devices;
     limits = fields.limits;
     params = fields.params.items;

@@ -23,14 +23,16 @@ use Rattle.iol_script.specs.declared.call_line.CallLine.{CallLine}
 use Rattle.iol_script.specs.declared.call_line.CallLine.TheVariants.{Once, Turns}
 use Rattle.iol_script.specs.declared.run_line.RunLine.{RunLine}
 use Rattle.iol_script.specs.declared.run_line.RunLine.TheVariants as line
+use Rattle.iol_script.specs.declared.script.Script.{Script}
 
 -- a script, as far as its lines are read
 pub record Draft : Type 0 where
   -- the page, that of a second device, the kind, for which devices the port is, and the limits,
-  -- where a line gave them
+  -- where a line gave them; whether one said that the device may miss pulses
   pub page : Option (List ℕ)
   pub other : Option (List ℕ)
   pub kind : Option Kind
+  pub misses_pulses : Bool
   pub devices : Option Devices
   pub limits : Option Limits
   pub params : List Entry
@@ -46,6 +48,7 @@ empty_draft = record {
   page = None;
   other = None;
   kind = None;
+  misses_pulses = false;
   devices = None;
   limits = None;
   params = [];
@@ -81,6 +84,8 @@ with_setting draft (setting.Other octets) =
     if is_none draft.other then Some (record draft { other = Some octets }) else None
 with_setting draft (setting.Kind kind) =
     if is_none draft.kind then Some (record draft { kind = Some kind }) else None
+with_setting draft setting.MissesPulses =
+    if draft.misses_pulses then None else Some (record draft { misses_pulses = true })
 with_setting draft (setting.Devices devices) =
     if is_none draft.devices then Some (record draft { devices = Some devices }) else None
 with_setting draft (setting.Limits busy journal queue) =
@@ -131,11 +136,12 @@ first_bad_run lines = result_err (draft_of lines)
 
 -- what a script sets up
 pub record ScriptValue : Type 0 where
-  -- direct parameter page 1 of the device, that of a second one, the kind of the first, and the
-  -- parameters that each of them has
+  -- direct parameter page 1 of the device, that of a second one, the kind of the first, whether
+  -- that may miss pulses, and the parameters that each of them has
   pub page : List ℕ
   pub other : Option (List ℕ)
   pub kind : Kind
+  pub misses_pulses : Bool
   pub params : List Entry
   -- for which devices, and with what limits, the port is opened
   pub devices : Devices
@@ -149,12 +155,26 @@ default_page = 0x17 ∷ 0x2D ∷ 0x11 ∷ 0x00 ∷ 0x00 ∷ 0x12 ∷ 0x34 ∷ 0x
 abbrev pub default_limits : Limits
 default_limits = record { journal = 1000; busy = 100; queue = 64; given = 0 }
 
+-- a script without its memory
+abbrev pub value_of : {A : Type 0} → Script A → ScriptValue
+value_of script = record {
+  page = script.page;
+  other = script.other;
+  kind = script.kind;
+  misses_pulses = script.misses_pulses;
+  params = script.params.items;
+  devices = script.devices;
+  limits = script.limits;
+  steps = script.steps.items;
+}
+
 -- a draft with what no line gave
 abbrev pub script_of : Draft → ScriptValue
 script_of draft = record {
   page = unwrap_or draft.page default_page;
   other = draft.other;
   kind = unwrap_or draft.kind own;
+  misses_pulses = draft.misses_pulses;
   params = draft.params;
   devices = unwrap_or draft.devices Own;
   limits = unwrap_or draft.limits default_limits;

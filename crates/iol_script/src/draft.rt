@@ -6,7 +6,7 @@ ghost use Rattle.iol_book.specs.BookModel.{AreLimits};
 ghost use Rattle.iol_page.specs.Page.{layouts_of};
 ghost use Rattle.iol_script.specs.declared.fault.ScriptFault.TheVariants.{Line};
 ghost use Rattle.iol_script.specs.DraftLines.{after_call, after_page, after_setting, after_turns, after_wire, after_words, with_calls};
-ghost use Rattle.iol_script.specs.RunLines.{call_form, devices_form, kind_form, limits_form, other_form, page_form, page_line, param_form, turns_form, wire_form};
+ghost use Rattle.iol_script.specs.RunLines.{call_form, devices_form, kind_form, limits_form, other_form, page_form, page_line, param_form, pulses_form, turns_form, wire_form};
 ghost use Rattle.iol_script.specs.Text.{words_left};
 ghost use Rattle.iol_sim.specs.Params.{number_of};
 
@@ -16,7 +16,7 @@ use crate::fault::ScriptFault;
 use crate::fields::{end_of, is};
 use crate::parts::Words;
 use crate::script::Script;
-use crate::setting::{devices_of, kind_of, limits_of, page_of, param_of};
+use crate::setting::{devices_of, kind_of, limits_of, page_of, param_of, pulses_of};
 use crate::wire_line::{WireLine, parse_wire};
 use iol_book::{Limits, QueueLimit};
 use iol_far::Kind;
@@ -54,6 +54,7 @@ pub(crate) struct Draft<A: Allocator> {
     /// The page of a second device.
     other: Option<Page>,
     kind: Option<Kind>,
+    misses_pulses: bool,
     devices: Option<Devices>,
     limits: Option<Limits>,
     params: Vec<Entry, A>,
@@ -77,7 +78,7 @@ impl<A: Allocator> Model for Draft<A> {
 
 impl<A: Allocator> Draft<A> {
     ghost use Rattle.iol_script.specs.declared.run_line.RunLine.{RunLine};
-    ghost use Rattle.iol_script.specs.Script.{draft_after, empty_draft, script_after, script_of, takes_param};
+    ghost use Rattle.iol_script.specs.Script.{draft_after, empty_draft, script_after, script_of, takes_param, value_of};
 
     /// No line is read.
     pub(crate) fn new(alloc: A) -> Draft<A>
@@ -89,6 +90,7 @@ impl<A: Allocator> Draft<A> {
             page: None,
             other: None,
             kind: None,
+            misses_pulses: false,
             devices: None,
             limits: None,
             params: Vec::new(alloc),
@@ -125,6 +127,8 @@ impl<A: Allocator> Draft<A> {
             self.take_other(words).ok_or(bad)
         } else if is(name, b"kind") {
             self.take_kind(words).ok_or(bad)
+        } else if is(name, b"pulses") {
+            self.take_pulses(words).ok_or(bad)
         } else if is(name, b"devices") {
             self.take_devices(words).ok_or(bad)
         } else if is(name, b"limits") {
@@ -188,6 +192,19 @@ impl<A: Allocator> Draft<A> {
             return None;
         }
         self.kind = Some(kind);
+        Some(())
+    }
+
+    /// The words behind `pulses`.
+    fn take_pulses(&mut self, words: Words) -> Option<()>
+        ensures { option_map (λ _. self.new) result
+            ≡ after_setting self.old (pulses_form (words_left words.entry)) }
+    {
+        pulses_of(words)?;
+        if self.begun || self.misses_pulses {
+            return None;
+        }
+        self.misses_pulses = true;
         Some(())
     }
 
@@ -313,17 +330,7 @@ impl<A: Allocator> Draft<A> {
 
     /// What the lines set up.
     pub(crate) fn finish(self) -> Script<A>
-        ensures value { script_of self
-            ≡ record {
-              page = result.page;
-              other = result.other;
-              kind = result.kind;
-              params = result.params.items;
-              devices = result.devices;
-              limits = result.limits;
-              steps =
-                  result.steps.items;
-            } }
+        ensures value { script_of self ≡ value_of result }
         ensures page { IsOk (layouts_of result.page) }
         ensures other { ForSome result.other (λ page. IsOk (layouts_of page)) }
         ensures params { vec_len result.params ≤ 32 }
@@ -336,6 +343,7 @@ impl<A: Allocator> Draft<A> {
             page: self.page.unwrap_or(Page::from_octets(&PAGE)),
             other: self.other,
             kind: self.kind.unwrap_or(Kind::own()),
+            misses_pulses: self.misses_pulses,
             params: self.params,
             devices: self.devices.unwrap_or(Devices::Own),
             limits: self.limits.unwrap_or(LIMITS),

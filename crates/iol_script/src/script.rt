@@ -6,7 +6,7 @@ ghost use Rattle.iol_book.specs.BookModel.{AreLimits};
 ghost use Rattle.iol_page.specs.Page.{layouts_of};
 ghost use Rattle.iol_script.specs.declared.fault.ScriptFault.TheVariants.{Line};
 ghost use Rattle.iol_script.specs.RunLines.{run_form};
-ghost use Rattle.iol_script.specs.Script.{calls_in, first_bad_run, script_in};
+ghost use Rattle.iol_script.specs.Script.{calls_in, first_bad_run, script_in, value_of};
 ghost use Rattle.iol_script.specs.Text.{numbered_lines};
 
 use crate::draft::Draft;
@@ -31,6 +31,8 @@ pub struct Script<A: Allocator = Global> {
     pub other: Option<Page>,
     /// The kind of the device; the second one is of our own.
     pub kind: Kind,
+    /// Whether it may miss the pulse of a wake-up request; the second one doesn't.
+    pub misses_pulses: bool,
     /// The parameters that each device has, at most 32, each at a place of its own.
     pub params: Vec<Entry, A>,
     /// For which devices the port is opened.
@@ -53,16 +55,7 @@ impl<A: Allocator + Copy> Script<A> {
         // What is read.
         ensures good { OnOk result (first_bad_run (numbered_lines input.now) ≡ None) }
         ensures script { IfOk result (λ s. script_in (numbered_lines input.now)
-            ≡ Some (record {
-              page = s.page;
-              other = s.other;
-              kind = s.kind;
-              params = s.params.items;
-              devices = s.devices;
-              limits = s.limits;
-              steps =
-                  s.steps.items;
-            })) }
+            ≡ Some (value_of s)) }
         ensures bad_line { (n : ℕ) → result ≡ Err (Line n)
             → first_bad_run (numbered_lines input.now) ≡ Some n }
 

@@ -2,7 +2,7 @@
 ghost use Rattle.std.specs.Prelude.{◌≡◌, IfSome, IsOk, option_map};
 ghost use Rattle.iol_book.specs.BookModel.{AreLimits};
 ghost use Rattle.iol_page.specs.Page.{layouts_of};
-ghost use Rattle.iol_script.specs.RunLines.{access_of, devices_form, devices_named, hands_over_of, kind_form, limits_form, page_octets, param_form, queue_form, recalls_of};
+ghost use Rattle.iol_script.specs.RunLines.{access_of, devices_form, devices_named, hands_over_of, kind_form, limits_form, page_octets, param_form, pulses_form, queue_form, recalls_of};
 ghost use Rattle.iol_script.specs.declared.setting.Setting.{Setting};
 ghost use Rattle.iol_script.specs.Text.{words_left};
 
@@ -26,6 +26,8 @@ pub enum Setting {
     Other(Page),
     /// The kind of the device.
     Kind(Kind),
+    /// The device may miss the pulse of a wake-up request.
+    MissesPulses,
     /// For which devices the port is opened.
     Devices(Devices),
     /// What the port is opened with.
@@ -100,6 +102,17 @@ fn recalls_of(word: &[u8]) -> Option<Recalls>
     } else {
         None
     }
+}
+
+/// The word behind `pulses`: the device may miss those of wake-up requests.
+///
+/// Rule WIRE-3.
+pub(crate) fn pulses_of(mut words: Words) -> Option<()>
+    ensures { option_map (λ _. Setting.MissesPulses) result ≡ pulses_form (words_left words.entry) }
+{
+    let word = words.next()?;
+    end_of(words)?;
+    is(word, b"missed").then_some(())
 }
 
 /// The word behind `devices`: for which the port is opened.

@@ -36,6 +36,7 @@ Reads standard input to its end, a line at a time. First the device and the port
   page OCTET ..                           direct parameter page 1 of the device, 0x02 to 0x0B
   other OCTET ..                          that of a second device, not plugged in, with the same parameters
   kind first|last keeps|forgets           its kind: when it hands a request over, and how long it knows the answer
+  pulses missed                           it may miss the pulse of a wake-up request, and hear the test read alone
   devices own|any                         for which devices the port is opened: our own, as it is, or any
   limits BUSY JOURNAL [QUEUE]             the busy replies that end a request, the entries of the journal, the tickets
   param INDEX SUB ro H                    a parameter that is read; rw: and written

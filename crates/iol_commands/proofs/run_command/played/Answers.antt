@@ -1,10 +1,9 @@
-use Rattle.std.proofs.Common.{◌≡◌, Some, rules}
-use Rattle.iol_far.specs.Far as device
-use Rattle.iol_script.specs.Script.{ScriptValue}
+use Rattle.std.proofs.Common.{◌≡◌, rules}
+use Rattle.iol_script.specs.Script.{ScriptValue, value_of}
 use Rattle.iol_sim.specs.Sim.{has_one_device}
 use Rattle.std.specs.String.{string_bytes}
 use Rattle.iol_script.specs.Text.{numbered_lines}
-use Rattle.iol_commands.specs.RunPlayed.{HasItsDevice}
+use Rattle.iol_commands.specs.RunPlayed.{HasItsDevice, first_far}
 use Rattle.iol_commands.proofs.RunLemmas.{has_lossy_line, opens_well, opened_first, script_printed}
 use Rattle.iol_commands.proofs.run_command.played.Goals as goal
 
@@ -14,21 +13,13 @@ returns-clause-printed g c =
     let wire = c.in_ok-wire.wire in
     let opening = c.in-Ok.ensures.opening in
     let quiet = c.in_ok-wire.ensures.silence in
-    let value : ScriptValue = record {
-      page = script.page;
-      other = script.other;
-      kind = script.kind;
-      params = script.params.items;
-      devices = script.devices;
-      limits = script.limits;
-      steps = script.steps.items;
-    } in
-    let first = device.opened_as script.kind script.page (Some 1000) in
+    let value : ScriptValue = value_of script in
+    let first = first_far script.kind script.misses_pulses script.page in
     let new : wire.device.far ≡ first = c.in_ok-wire.ensures.far in
     let stands = λ (has : HasItsDevice value). c.in-Ok.ensures.stands
     (opens_well c.in-Ok.port.opening script.devices script.limits wire wire.device.far
-    wire.silence (has_one_device wire) script.kind script.page opening
-    (has_lossy_line value wire c.in_ok-wire.ensures.whole has) new has.for_it) in
+    wire.silence (has_one_device wire) script.misses_pulses script.kind script.page opening
+    (has_lossy_line value wire c.in_ok-wire.ensures.whole has) new has.for_it has.sees) in
     let more = c.in_ok-play_lines.ensures in
     script_printed c.in-Ok.port.parts c.play_lines.new.port.parts _ c.in-Ok.port.opening wire
     c.wire.result.now (numbered_lines c.args.input.now) _ more.0

@@ -1,3 +1,4 @@
+use Rattle.iol_script.specs.Script.{value_of}
 use Rattle.iol_commands.proofs.TraceLemmas.{script_traced}
 use Rattle.iol_commands.proofs.trace_command.trace.Goals as goal
 
@@ -7,14 +8,6 @@ returns-clause-printed g c =
     script_traced c.traced.result (g.W.Write.contents c.args.writer.now)
     (g.W.Write.contents c.traced.new.writer) (g.R.Read.remaining c.args.reader.now)
     c.in_ok-input.input.items c.as_slice.result.now c.as_slice-2.result.now
-    (record {
-      page = script.page;
-      other = script.other;
-      kind = script.kind;
-      params = script.params.items;
-      devices = script.devices;
-      limits = script.limits;
-      steps = script.steps.items;
-    }) c.in_ok-input.ensures.all
+    (value_of script) c.in_ok-input.ensures.all
     c.as_slice.ensures.value c.as_slice-2.ensures.value c.in_ok-script.ensures.script
     c.traced.ensures.printed

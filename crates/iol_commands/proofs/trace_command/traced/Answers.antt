@@ -1,13 +1,12 @@
-use Rattle.std.proofs.Common.{◌≡◌, ℕ, List, Some, None, ◌++◌, ap, ◌∙◌}
+use Rattle.std.proofs.Common.{◌≡◌, ℕ, List, None, ◌++◌, ap, ◌∙◌}
 use Rattle.std.specs.String.{string_bytes}
-use Rattle.iol_far.specs.Far as device
 use Rattle.iol_port.specs.Run.{opened}
-use Rattle.iol_script.specs.Script.{ScriptValue, calls_in}
+use Rattle.iol_script.specs.Script.{ScriptValue, calls_in, value_of}
 use Rattle.iol_script.specs.Text.{numbered_lines}
 use Rattle.iol_sim.specs.Sim.{Simulated, has_one_device}
 use Rattle.iol_sim.specs.declared.params.Entry.{Entry}
 use Rattle.iol_tap.specs.Tapped.{Tapped}
-use Rattle.iol_commands.specs.RunPlayed.{HasItsDevice, records_text}
+use Rattle.iol_commands.specs.RunPlayed.{HasItsDevice, first_far as device_far, records_text}
 use Rattle.iol_commands.specs.TracePrinted.{TracesOut, first_tap}
 use Rattle.iol_commands.proofs.RunLemmas.{has_lossy_line, opens_well, opened_first}
 use Rattle.iol_commands.proofs.TraceLemmas.{traced_out, whole_written}
@@ -16,19 +15,11 @@ use Rattle.iol_commands.proofs.trace_command.traced.Goals as goal
 pub returns-clause-printed : goal.returns-clause-printed
 returns-clause-printed g c =
     let given = c.args.script in
-    let script : ScriptValue = record {
-      page = given.page;
-      other = given.other;
-      kind = given.kind;
-      params = given.params.items;
-      devices = given.devices;
-      limits = given.limits;
-      steps = given.steps.items;
-    } in
+    let script : ScriptValue = value_of given in
     let wire = c.in_ok-wire_of.field-0 in
     let tap = c.new-wire.result in
     let port = c.in-Ok.port in
-    let first_far = device.opened_as given.kind given.page (Some 1000) in
+    let first_far = device_far given.kind given.misses_pulses given.page in
     let new : tap.wire.device.far ≡ first_far =
     ap (λ (t : Tapped (Simulated (List Entry))). t.wire.device.far) c.new-wire.ensures
     ∙ c.in_ok-wire_of.ensures.far in
@@ -39,9 +30,10 @@ returns-clause-printed g c =
     c.in_ok-wire_of.ensures.whole in
     let stands = λ (has : HasItsDevice script). c.in-Ok.ensures.stands
     (opens_well port.opening given.devices given.limits tap tap.wire.device.far
-    tap.wire.silence (has_one_device tap.wire) given.kind given.page c.in-Ok.ensures.opening
+    tap.wire.silence (has_one_device tap.wire) given.misses_pulses given.kind given.page
+    c.in-Ok.ensures.opening
     (has_lossy_line script tap.wire (ap (λ (t : Tapped (Simulated (List Entry))). t.wire) first)
-    has) new has.for_it) in
+    has) new has.for_it has.sees) in
     let wire_is = c.wire-2.ensures ∙ ap (λ (t : Tapped (Simulated (List Entry))). t.wire)
     c.wire.ensures in
     let followed = c.in_ok-follow.ensures.traced in
