@@ -1,8 +1,8 @@
-pub mod Opening
 pub mod Calls
 pub mod Shown
 pub mod LineCalls
 pub mod RequestCalls
 pub mod StateCalls
 pub mod JournalCalls
+pub mod Opening
 pub mod DeviceCalls

@@ -1,10 +1,14 @@
 -- What C opens a port with.
-use Rattle.std.specs.Prelude.{ℕ, nat_eq, if◌then◌else◌, Option, Some, None}
+use Rattle.std.specs.Prelude.{◌≡◌, ℕ, true, nat_eq, if◌then◌else◌, Option, Some, None, IfSome, IsSome, IsTrue, IsFalse}
 use Rattle.iol_book.specs.declared.entries.Limits.{Limits}
 use Rattle.iol_book.specs.BookModel.{AreLimits}
 use Rattle.iol_book.specs.Queue.{IsQueueLimit}
 use Rattle.iol_mode.specs.declared.configuration.Devices.{Devices}
 use Rattle.iol_mode.specs.declared.configuration.Devices.TheVariants.{Own, Any}
+use Rattle.iol_port.specs.CorePort.{IsNewFor, CoreOpensFor}
+use Rattle.iolink_port_c.specs.declared.held.IolPort.{IolPort}
+use Rattle.iolink_port_c.specs.Calls.{parts_of}
+use Rattle.iolink_port_c.specs.JournalCalls.{KeepsNone}
 
 -- the entries of the journal, the busy replies, the tickets outstanding, the last ticket given
 abbrev pub limits_of : ℕ → ℕ → ℕ → ℕ → Limits
@@ -20,3 +24,18 @@ AreInRange limits = AreLimits limits × IsQueueLimit limits.queue
 abbrev pub devices_of : ℕ → Option Devices
 devices_of number =
     if nat_eq number 0 then Some Own else if nat_eq number 1 then Some Any else None
+
+-- What an opening answers and leaves: 253 where the handle is open, 254 where no devices have that
+-- number or a limit isn't in its range, 24 where there is no memory, else 0
+pub record Opens (devices : Option Devices) (limits : Limits) (old : IolPort) (number : ℕ)
+    (new : IolPort) : Type 0 where
+  pub once : IsTrue old.is_open → (number ≡ 253) × (new ≡ old)
+  pub unknown : IsFalse old.is_open → devices ≡ None → (number ≡ 254) × (new ≡ old)
+  pub range : IsFalse old.is_open → ¬ AreInRange limits → (number ≡ 254) × (new ≡ old)
+  pub lacks : IsFalse old.is_open → IsSome devices → AreInRange limits → ¬ (number ≡ 0)
+      → number ≡ 24
+  pub refused : ¬ (number ≡ 0) → new ≡ old
+  pub opened : number ≡ 0 → new.is_open ≡ true
+  pub parts : number ≡ 0 → IfSome devices (λ those. IsNewFor those limits (parts_of new))
+  pub opens : number ≡ 0 → IfSome devices (λ those. CoreOpensFor those limits (parts_of new))
+  pub journal : number ≡ 0 → KeepsNone new

@@ -1,9 +1,8 @@
 //! Opening and closing.
-ghost use Rattle.std.specs.Prelude.{◌≡◌, None, true, false, IsTrue, IsFalse, IfSome, IsSome};
-ghost use Rattle.iol_port.specs.CorePort.{IsNew, IsNewFor, CoreOpens, CoreOpensFor};
-ghost use Rattle.iolink_port_c.specs.Calls.{parts_of, IsRefused};
-ghost use Rattle.iolink_port_c.specs.Opening.{AreInRange, devices_of, limits_of};
-ghost use Rattle.iolink_port_c.specs.JournalCalls.{KeepsNone};
+ghost use Rattle.std.specs.Prelude.{◌≡◌, Some, false, IsTrue, IsFalse};
+ghost use Rattle.iol_mode.specs.declared.configuration.Devices.TheVariants.{Own};
+ghost use Rattle.iolink_port_c.specs.Calls.{IsRefused};
+ghost use Rattle.iolink_port_c.specs.Opening.{Opens, devices_of, limits_of};
 
 use crate::held::{IolPort, Master};
 use core::mem::replace_with;
@@ -40,20 +39,7 @@ pub extern "C" fn iol_port_open(
     queue: u8,
     given: u64,
 ) -> u8
-    ensures once { IsTrue handle.old.is_open → (result ≡ 253) × (handle.new ≡ handle.old) }
-    ensures range { IsFalse handle.old.is_open →
-        ¬ AreInRange (limits_of journal busy queue given) →
-        (result ≡ 254) × (handle.new ≡ handle.old) }
-    ensures lacks { IsFalse handle.old.is_open →
-        AreInRange (limits_of journal busy queue given) →
-        ¬ (result ≡ 0) → result ≡ 24 }
-    ensures refused { ¬ (result ≡ 0) → handle.new ≡ handle.old }
-    ensures opened { result ≡ 0 → handle.new.is_open ≡ true }
-    ensures parts { result ≡ 0 →
-        IsNew (limits_of journal busy queue given) (parts_of handle.new) }
-    ensures opens { result ≡ 0 →
-        CoreOpens (limits_of journal busy queue given) (parts_of handle.new) }
-    ensures journal { result ≡ 0 → KeepsNone handle.new }
+    ensures { Opens (Some Own) (limits_of journal busy queue given) handle.old result handle.new }
 {
     open_for(alloc, handle, Devices::Own, journal, busy, queue, given)
 }
@@ -70,23 +56,8 @@ pub extern "C" fn iol_port_open_for(
     queue: u8,
     given: u64,
 ) -> u8
-    ensures once { IsTrue handle.old.is_open → (result ≡ 253) × (handle.new ≡ handle.old) }
-    ensures devices { IsFalse handle.old.is_open → devices_of devices ≡ None →
-        (result ≡ 254) × (handle.new ≡ handle.old) }
-    ensures range { IsFalse handle.old.is_open →
-        ¬ AreInRange (limits_of journal busy queue given) →
-        (result ≡ 254) × (handle.new ≡ handle.old) }
-    ensures lacks { IsFalse handle.old.is_open → IsSome (devices_of devices) →
-        AreInRange (limits_of journal busy queue given) →
-        ¬ (result ≡ 0) → result ≡ 24 }
-    ensures refused { ¬ (result ≡ 0) → handle.new ≡ handle.old }
-    ensures opened { result ≡ 0 → handle.new.is_open ≡ true }
-    ensures parts { result ≡ 0 → IfSome (devices_of devices) (λ those.
-        IsNewFor those (limits_of journal busy queue given) (parts_of handle.new)) }
-    ensures opens { result ≡ 0 →
-        IfSome (devices_of devices) (λ those.
-        CoreOpensFor those (limits_of journal busy queue given) (parts_of handle.new)) }
-    ensures journal { result ≡ 0 → KeepsNone handle.new }
+    ensures { Opens (devices_of devices) (limits_of journal busy queue given)
+        handle.old result handle.new }
 {
     if handle.is_open {
         return IS_OPEN;
@@ -107,20 +78,8 @@ fn open_for(
     queue: u8,
     given: u64,
 ) -> u8
-    ensures once { IsTrue handle.old.is_open → (result ≡ 253) × (handle.new ≡ handle.old) }
-    ensures range { IsFalse handle.old.is_open →
-        ¬ AreInRange (limits_of journal busy queue given) →
-        (result ≡ 254) × (handle.new ≡ handle.old) }
-    ensures lacks { IsFalse handle.old.is_open →
-        AreInRange (limits_of journal busy queue given) →
-        ¬ (result ≡ 0) → result ≡ 24 }
-    ensures refused { ¬ (result ≡ 0) → handle.new ≡ handle.old }
-    ensures opened { result ≡ 0 → handle.new.is_open ≡ true }
-    ensures parts { result ≡ 0 →
-        IsNewFor devices (limits_of journal busy queue given) (parts_of handle.new) }
-    ensures opens { result ≡ 0 →
-        CoreOpensFor devices (limits_of journal busy queue given) (parts_of handle.new) }
-    ensures journal { result ≡ 0 → KeepsNone handle.new }
+    ensures { Opens (Some devices) (limits_of journal busy queue given)
+        handle.old result handle.new }
 {
     if handle.is_open {
         return IS_OPEN;

@@ -1,23 +1,28 @@
 -- The port that the handle holds is the one that was opened.
-use Rattle.std.proofs.Common.{ℕ, sym, subst, ◌∙◌}
+use Rattle.std.proofs.Common.{ℕ, refl, sym, subst, ◌∙◌, rules}
 use Rattle.iol_book.specs.declared.entries.Limits.{Limits}
 use Rattle.iol_port.specs.CorePort.{IsNewFor, CoreOpensFor}
 use Rattle.iolink_port_c.specs.Opening.{limits_of}
 use Rattle.iolink_port_c.specs.declared.held.Master.{Master}
 use Rattle.iolink_port_c.proofs.port.open_for.Goals as goal
 
-pub returns-in-Ok-new-clause-parts : goal.returns-in-Ok-new-clause-parts
-returns-in-Ok-new-clause-parts c e =
+pub returns-in-Ok-new : goal.returns-in-Ok-new
+returns-in-Ok-new c =
     let limits : ℕ → Limits = λ queue. limits_of c.args.journal c.args.busy queue c.args.given in
-    subst (λ (m : Master). IsNewFor c.args.devices (limits c.args.queue) m.port)
-    (sym (c.of.ensures.value ∙ c.in-Ok-new.ensures.ok))
-    (subst (λ (queue : ℕ). IsNewFor c.args.devices (limits queue) c.in-Ok.port)
-    c.in-Some.ensures.value c.in-Ok.ensures.parts)
-
-pub returns-in-Ok-new-clause-opens : goal.returns-in-Ok-new-clause-opens
-returns-in-Ok-new-clause-opens c e =
-    let limits : ℕ → Limits = λ queue. limits_of c.args.journal c.args.busy queue c.args.given in
-    subst (λ (m : Master). CoreOpensFor c.args.devices (limits c.args.queue) m.port)
-    (sym (c.of.ensures.value ∙ c.in-Ok-new.ensures.ok))
-    (subst (λ (queue : ℕ). CoreOpensFor c.args.devices (limits queue) c.in-Ok.port)
-    c.in-Some.ensures.value c.in-Ok.ensures.opens)
+    let held = sym (c.of.ensures.value ∙ c.in-Ok-new.ensures.ok) in
+    record {
+      once = search rules;
+      unknown = search rules;
+      range = search rules;
+      lacks = λ closed some ranges not_zero. absurd (not_zero refl);
+      refused = λ not_zero. absurd (not_zero refl);
+      opened = search rules;
+      parts = λ zero. subst (λ (m : Master). IsNewFor c.args.devices (limits c.args.queue) m.port)
+          held (subst (λ (queue : ℕ). IsNewFor c.args.devices (limits queue) c.in-Ok.port)
+          c.in-Some.ensures.value c.in-Ok.ensures.parts);
+      opens = λ zero. subst (λ (m : Master).
+          CoreOpensFor c.args.devices (limits c.args.queue) m.port)
+          held (subst (λ (queue : ℕ). CoreOpensFor c.args.devices (limits queue) c.in-Ok.port)
+          c.in-Some.ensures.value c.in-Ok.ensures.opens);
+      journal = search rules;
+    }
