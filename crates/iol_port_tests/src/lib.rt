@@ -35,7 +35,6 @@ mod limits;
 #[cfg(test)]
 mod links;
 #[cfg(test)]
-mod missed_pulse;
 #[cfg(test)]
 mod ports;
 #[cfg(test)]
