@@ -1,18 +1,14 @@
 -- The texts of a request (IEC 61131-9, A.5.1 to A.5.6).
 use Rattle.std.specs.Prelude.{◌≡◌, ℕ, ◌+◌, ◌/◌, ◌%◌, ◌<◌, ◌≤◌, Bool, ◌==◌, nat_lt, nat_le, ◌&&◌, ◌||◌, if◌then◌else◌, List, [], ◌∷◌, ◌++◌, length}
+use Rattle.iol_isdu.specs.declared.service.Form.{Form}
+use Rattle.iol_isdu.specs.declared.service.Form.TheVariants.{Index, IndexSub, WideIndexSub}
 use Rattle.iol_isdu.specs.declared.values.Place.{Place}
 use Rattle.iol_isdu.specs.declared.values.Request.{Request}
 use Rattle.iol_isdu.specs.declared.values.Request.TheVariants.{Read, Write}
 use Rattle.iol_isdu.specs.Frame.{IsFrame}
 
--- how a text says a place: an 8-bit index, that and a subindex, or a 16-bit index and a subindex
--- ISDU-5
-pub data Form : Type 0 where
-  Index : Form
-  IndexSub : Form
-  WideIndexSub : Form
-
--- the services of the writes are 1 to 3, those of the reads 9 to 11, in the order of their forms
+-- how a text says a place is a `Form`: an 8-bit index, that and a subindex, or a 16-bit index and a
+-- subindex. The services of the writes are 1 to 3, those of the reads 9 to 11, in this order
 -- ISDU-3
 abbrev pub form_number : Form → ℕ
 form_number Index = 0

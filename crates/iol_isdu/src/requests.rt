@@ -2,9 +2,10 @@
 ghost use Rattle.std.specs.Prelude.{◌≡◌, ◌+◌, ◌++◌, ◌∷◌, [], IfOk, OnOk, OnSome, IsOk, IsSome, Ok, Some, is_some, nat_le, length};
 ghost use Rattle.std.specs.Result.{result_err, result_ok};
 ghost use Rattle.iol_isdu.specs.Frame.{text_at, isdu_fault, total_of};
-ghost use Rattle.iol_isdu.specs.Requests.{WideIndexSub, Holds, index_part, BeginsWithRequest, IsRequestBody, IsRequestText, IsShortText, request_accepts};
+ghost use Rattle.iol_isdu.specs.Requests.{Holds, index_part, BeginsWithRequest, IsRequestBody, IsRequestText, IsShortText, request_accepts};
 ghost use Rattle.iol_isdu.specs.Texts.{request_text};
 ghost use Rattle.iol_isdu.specs.Parse.{request_of};
+ghost use Rattle.iol_isdu.specs.declared.service.Form.TheVariants.{WideIndexSub};
 ghost use Rattle.iol_isdu.specs.declared.values.Request.{Request};
 
 use crate::fault::IsduFault;

@@ -1,6 +1,6 @@
 //! The services of texts, and the total lengths of each (IEC 61131-9, A.5.2).
 ghost use Rattle.std.specs.Prelude.{◌≡◌, ◌<◌, ℕ, false, IfSome, IfNone};
-ghost use Rattle.iol_isdu.specs.Services.{form_of, service_number};
+ghost use Rattle.iol_isdu.specs.Services.{service_number};
 ghost use Rattle.iol_isdu.specs.Requests.{Holds, index_part, shortest, request_accepts};
 ghost use Rattle.iol_isdu.specs.Answers.{answer_accepts};
 
@@ -86,8 +86,8 @@ impl Form {
     ///
     /// Rule ISDU-6.
     pub fn shortest(place: &Place) -> Form
-        ensures value { form_of result ≡ shortest place.now }
-        ensures holds { Holds (form_of result) place.now }
+        ensures value { result ≡ shortest place.now }
+        ensures holds { Holds result place.now }
     {
         match (place.index, place.sub) {
             (0..=0xFF, 0) => Form::Index,
@@ -100,8 +100,8 @@ impl Form {
     ///
     /// Rule ISDU-5.
     pub fn index_part(self, place: &Place) -> ArrayVec<u8, 3>
-        requires { Holds (form_of self) place.now }
-        ensures { result.items ≡ index_part (form_of self) place.now }
+        requires { Holds self place.now }
+        ensures { result.items ≡ index_part self place.now }
     {
         let [high, low] = place.index.to_be_bytes();
         let mut part = ArrayVec::new();

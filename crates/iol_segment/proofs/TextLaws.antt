@@ -1,129 +1,78 @@
--- The laws of segments joined.
-use Rattle.std.proofs.Common.{◌≡◌, ℕ, zero, suc, ◌+◌, ◌-◌, ◌*◌, ◌%◌, ◌<◌, ◌≤◌, Bool, true, false, nat_lt, nat_le, ◌==◌, ◌&&◌, if◌then◌else◌, List, [], ◌∷◌, ◌++◌, length, take, drop, replicate, get_or, refl, sym, ap, ◌∙◌, length-append, length-drop, append_assoc, arith, Result, Ok, Err}
-use Rattle.std.proofs.lemmas.Bool.{le-leb}
+-- The laws of segments joined, of `texts_join`: begin at `text_laws`.
+use Rattle.std.proofs.Common.{◌≡◌, ℕ, zero, suc, ◌+◌, ◌-◌, ◌*◌, ◌<◌, ◌≤◌, Bool, false, ◌==◌, List, [], ◌∷◌, ◌++◌, length, take, drop, replicate, get_or, refl, sym, ap, ◌∙◌, length-drop, append_assoc, arith, Ok}
 use Rattle.std.proofs.lemmas.Bool.Decides.{nat_tests}
-use Rattle.std.proofs.lemmas.List.{take-append-le, take-append-drop, length-take-le, get_or-take, get_or_append_left}
-use Rattle.std.proofs.Math.Seq.{take-append_seam, take-add}
-use Rattle.iol_isdu.specs.declared.fault.IsduFault.{IsduFault}
-use Rattle.iol_isdu.specs.declared.fault.IsduFault.TheVariants as isdu
+use Rattle.std.proofs.lemmas.Grind.{common_steps}
+use Rattle.std.proofs.lemmas.List.{take-append-drop}
+use Rattle.std.proofs.Math.Seq.{take-append-add, take-add}
 use Rattle.iol_isdu.specs.declared.values.Answer.{Answer}
-use Rattle.iol_isdu.specs.declared.values.Answer.TheVariants.{Read, Written, Refused}
-use Rattle.iol_isdu.specs.Answers.{answer_service, answer_body}
 use Rattle.iol_isdu.specs.Frame.{total_at}
 use Rattle.iol_isdu.specs.Texts.{FitsAnswer, request_text, answer_front, answer_text}
 use Rattle.iol_isdu.specs.Laws.{OneShortText, RequestHoldsLength, AnswerHoldsLength, EachTextIsFound, NoAnswerIsRefused}
 use Rattle.iol_isdu.specs.Requests.{shortest, place_of}
 use Rattle.iol_segment.specs.Cut.{segment}
-use Rattle.iol_segment.specs.Join.{Open, Complete, stage_by, stage}
+use Rattle.iol_segment.specs.Join.{Open, Complete, stage}
 use Rattle.iol_segment.specs.TextLaws.{HoldsLength, joined, IsBefore, IsLast, TextLaws}
 use Rattle.iol_segment.proofs.CutLaws.{segments-low, segments-past}
-use Rattle.iol_segment.proofs.Pieces.{segment-is}
-use Rattle.iol_segment.proofs.Growing.{total_at-more, total-bounds}
-
-short-open : (n : ℕ) (r : Result ℕ IsduFault) (xs : List ℕ) → r ≡ Ok n → length xs < n
-    → stage_by r xs ≡ Open
-short-open n (Ok m) xs e less =
-    let same : m ≡ n = ap ok_in e in
-    let short : nat_le m (length xs) ≡ false = grind (arith, nat_tests) in
-    rw short refl
-  where
-    ok_in : Result ℕ IsduFault → ℕ
-    ok_in (Ok n) = n
-    ok_in (Err fault) = 0
-short-open n (Err fault) xs e less = absurd cc
-
-first-open : (a b n : ℕ) (xs : List ℕ) → total_at (a ∷ b ∷ xs) ≡ Ok n → 1 < n
-    → stage (a ∷ []) ≡ Open
-first-open a b n xs e less = first-by a b n (a % 16 == 0) (a % 16 == 1)
-    (nat_le 17 b && nat_le b 238) e less
-  where
-    first-by : (a b n : ℕ) (p q r : Bool)
-        → (if p then Err isdu.BadIsduLength else
-        (if q then (if r then Ok b else Err isdu.BadIsduLength) else Ok (a % 16))) ≡ Ok n
-        → 1 < n
-        → stage_by (if p then Err isdu.BadIsduLength else
-        (if q then Err isdu.Truncated else Ok (a % 16))) (a ∷ []) ≡ Open
-    first-by a b n true q r e less = absurd cc
-    first-by a b n false true r e less = refl
-    first-by a b n false false r e less = short-open n (Ok (a % 16)) (a ∷ []) e less
+use Rattle.iol_segment.proofs.Growing.{total-bounds}
 
 -- a front of a text is open
 pub front-open : (text : List ℕ) (n k : ℕ) → total_at text ≡ Ok n → k < n → k ≤ length text
-    → n ≤ length text → stage (take k text) ≡ Open
-front-open text n zero e less fits whole = refl
-front-open [] n (suc k) e less fits whole = absurd (omega arith)
-front-open (a ∷ []) n (suc k) e less fits whole = absurd (omega arith)
-front-open (a ∷ b ∷ xs) n (suc zero) e less fits whole = first-open a b n xs e less
-front-open (a ∷ b ∷ xs) n (suc (suc k)) e less fits whole =
-    let size : length (take (suc (suc k)) (a ∷ b ∷ xs)) ≡ suc (suc k) =
-    length-take-le (suc (suc k)) (a ∷ b ∷ xs) fits in
-    short-open n (total_at (a ∷ b ∷ xs)) (take (suc (suc k)) (a ∷ b ∷ xs)) e
-    (omega (arith, size, less))
+    → stage (take k text) ≡ Open
+front-open text n zero e less fits = refl
+front-open [] n (suc k) e less fits = absurd (omega arith)
+front-open (a ∷ []) n (suc k) e less fits = grind (arith, nat_tests, common_steps)
+front-open (a ∷ b ∷ xs) n (suc zero) e less fits = grind (arith, nat_tests, common_steps)
+front-open (a ∷ b ∷ xs) n (suc (suc k)) e less fits = grind (arith, nat_tests, common_steps)
 
 -- octets behind a whole text change nothing
-whole-complete : (text more : List ℕ) → total_at text ≡ Ok (length text)
-    → stage (text ++ more) ≡ Complete text
-whole-complete text more e =
-    let low = (total-bounds text (length text) e).0 in
-    let long : length text ≤ length (text ++ more) = omega (arith, length-append text more) in
-    rw (total_at-more text more low ∙ e, le-leb (length text) (length (text ++ more)) long)
-    (ap Complete (take-append_seam text more))
+whole-complete : (text more : List ℕ) → HoldsLength text → stage (text ++ more) ≡ Complete text
+whole-complete text more e = grind (arith, nat_tests, common_steps, total-bounds text)
 
-product : (i size : ℕ) → suc i * size ≡ i * size + size
-product i size = omega arith
-
--- a full segment, and the last one
+-- a full segment
 segment-full : (size : ℕ) (text : List ℕ) (i : ℕ) → suc i * size ≤ length text
     → segment size text i ≡ take size (drop (i * size) text)
-segment-full size text i h =
-    let room : size ≤ length (drop (i * size) text) =
-    omega (arith, length-drop (i * size) text, product i size) in
-    segment-is size text i ∙ take-append-le size (drop (i * size) text) _ room
-
-zero_times : (size : ℕ) → zero ≡ 0 * size
-zero_times size = omega arith
+unfolding segment
+segment-full size text i h = grind (arith, nat_tests, common_steps)
 
 -- the segments before the i-th are the octets before it
-pub joined-is : (size : ℕ) (text : List ℕ) (i : ℕ) → i * size ≤ length text
-    → joined size text i ≡ take (i * size) text ++ segment size text i
-joined-is size text zero h = ap (λ n. take n text ++ segment size text 0) (zero_times size)
-joined-is size text (suc i) h =
-    let fits : i * size ≤ length text = omega arith in
-    ap (λ xs. xs ++ segment size text (suc i))
-    (joined-is size text i fits ∙ ap (λ xs. take (i * size) text ++ xs)
-    (segment-full size text i h) ∙ sym (take-add (i * size) size text)
-    ∙ ap (λ n. take n text) (sym (product i size)))
-
 pub joined-front : (size : ℕ) (text : List ℕ) (i : ℕ) → suc i * size ≤ length text
     → joined size text i ≡ take (suc i * size) text
-joined-front size text i h =
-    joined-is size text i (omega arith)
-    ∙ ap (λ xs. take (i * size) text ++ xs) (segment-full size text i h)
-    ∙ sym (take-add (i * size) size text) ∙ ap (λ n. take n text) (sym (product i size))
+joined-front size text zero h = grind (arith, common_steps, segment-full size text 0 h)
+joined-front size text (suc i) h =
+    rw (joined-front size text i (omega arith), segment-full size text (suc i) h)
+    (sym (take-add (suc i * size) size text) ∙ ap (λ n. take n text) (omega arith))
+
+pub joined-is : (size : ℕ) (text : List ℕ) (i : ℕ) → i * size ≤ length text
+    → joined size text i ≡ take (i * size) text ++ segment size text i
+joined-is size text zero h = grind (arith, common_steps)
+joined-is size text (suc i) h = rw (joined-front size text i h) refl
 
 -- the last segment ends the text, with zeros behind it
+segment-last : (size : ℕ) (text : List ℕ) (i : ℕ) → length text ≤ suc i * size
+    → segment size text i
+    ≡ drop (i * size) text ++ take (size - length (drop (i * size) text)) (replicate size 0)
+unfolding segment
+segment-last size text i high =
+    let rest : List ℕ = drop (i * size) text in
+    let room : size ≡ length rest + (size - length rest) = simp length-drop (omega arith) in
+    ap (λ n. take n (rest ++ replicate size 0)) room ∙ take-append-add rest _ _
+
 pub joined-whole : (size : ℕ) (text : List ℕ) (i : ℕ) → i * size ≤ length text
     → length text ≤ suc i * size → (more : List ℕ) × (joined size text i ≡ text ++ more)
 joined-whole size text i low high =
-    let rest = drop (i * size) text in
-    let zeros = rest ++ replicate size 0 in
-    let short : length rest + (size - length rest) ≡ size =
-    omega (arith, length-drop (i * size) text, product i size, high) in
-    let more = take (size - length rest) (drop (length rest) zeros) in
-    let last : segment size text i ≡ rest ++ more =
-    segment-is size text i ∙ ap (λ n. take n zeros) (sym short)
-    ∙ take-add (length rest) (size - length rest) zeros
-    ∙ ap (λ xs. xs ++ more) (take-append_seam rest (replicate size 0)) in (
+    let front : List ℕ = take (i * size) text in
+    let rest : List ℕ = drop (i * size) text in
+    let more : List ℕ = take (size - length rest) (replicate size 0) in (
       more,
-      joined-is size text i low ∙ ap (λ xs. take (i * size) text ++ xs) last
-          ∙ sym (append_assoc (take (i * size) text) rest more)
-          ∙ ap (λ xs. xs ++ more) (take-append-drop (i * size) text),
+      rw (joined-is size text i low, segment-last size text i high)
+          (sym (append_assoc front rest more)
+          ∙ ap (λ xs. xs ++ more) (take-append-drop (i * size) text)),
     )
 
 pub grows : (size : ℕ) (text : List ℕ) (i : ℕ) → HoldsLength text → IsBefore size text i
     → stage (joined size text i) ≡ Open
-grows size text i e before = ap stage (joined-front size text i (omega (arith, before)))
-    ∙ front-open text (length text) (suc i * size) e before (omega (arith, before)) (omega arith)
+grows size text i e before = rw (joined-front size text i (omega arith))
+    (front-open text (length text) (suc i * size) e before (omega arith))
 
 pub ends : (size : ℕ) (text : List ℕ) (i : ℕ) → HoldsLength text → IsLast size text i
     → stage (joined size text i) ≡ Complete text
@@ -131,33 +80,15 @@ ends size text i e last =
     let whole = joined-whole size text i (omega (arith, last.0)) last.1 in
     ap stage whole.1 ∙ whole-complete text whole.0 e
 
--- an answer's first octet is that of its service
-service-first : (read : Bool) (a : Answer) → 4 ≤ answer_service read a
-service-first read (Read octets) = omega arith
-service-first read Written = omega arith
-service-first true (Refused error additional) = omega arith
-service-first false (Refused error additional) = omega arith
-
-head-first : (short : Bool) (service size : ℕ) (body rest : List ℕ) → 4 ≤ service
-    → 64 ≤ get_or (((if short then (16 * service + (size + 2)) ∷ [] else (16 * service + 1) ∷
-    (size + 3) ∷ []) ++ body) ++ rest) 0 0
-head-first true service size body rest h = omega (arith, h)
-head-first false service size body rest h = omega (arith, h)
-
+-- an answer's first octet is that of its service, and its first segment begins with it
 answer-first : (read : Bool) (a : Answer) → 64 ≤ get_or (answer_text read a) 0 0
 unfolding answer_front
-answer-first read a = head-first (nat_lt (length (answer_body a)) 14) (answer_service read a)
-    (length (answer_body a)) (answer_body a) _ (service-first read a)
+answer-first read a = grind (arith, nat_tests, common_steps)
 
--- the first segment begins with the text's first octet
 segment-first : (size : ℕ) (text : List ℕ) → 1 ≤ size → 2 ≤ length text
     → get_or (segment size text 0) 0 0 ≡ get_or text 0 0
-segment-first size text low some =
-    let whole : drop (0 * size) text ≡ text = ap (λ n. drop n text) (sym (zero_times size)) in
-    ap (λ xs. get_or xs 0 0) (segment-is size text 0)
-    ∙ get_or-take size (drop (0 * size) text ++ replicate size 0) 0 0 (omega (arith, low))
-    ∙ ap (λ xs. get_or (xs ++ replicate size 0) 0 0) whole
-    ∙ get_or_append_left text (replicate size 0) 0 0 (omega (arith, some))
+unfolding segment
+segment-first size text low some = grind (arith, nat_tests, common_steps)
 
 not_small : (n small : ℕ) → 64 ≤ n → small < 64 → (n == small) ≡ false
 not_small n small h l = grind (arith, nat_tests)
@@ -186,6 +117,5 @@ text_laws short requests answers found accepted size low =
         → 64 ≤ get_or (segment size (answer_text read a) 0) 0 0
     large read a h =
         let text = answer_text read a in
-        let first = segment-first size text low
-        (total-bounds text (length text) (answers read a h)).0 in
-        omega (arith, first, answer-first read a)
+        rw (segment-first size text low (total-bounds text (length text) (answers read a h)).0)
+        (answer-first read a)
