@@ -1,4 +1,4 @@
--- Thirty-two octets in four pieces of eight.
+-- Thirty-two octets in four pieces of eight: `words_of` and `image_in` need these.
 use Rattle.std.proofs.Common.{◌≡◌, ℕ, ◌≤◌, List, ◌++◌, length, take, drop, sym, refl, ap, ◌∙◌, arith, min, true, false, [], ◌∷◌, zero, suc, Some, Result, Ok, Err, IfOk, IsOk}
 use Rattle.std.specs.Int.{to_le_bytes, w64}
 use Rattle.std.specs.Result.{result_ok}
@@ -7,23 +7,16 @@ use Rattle.std.proofs.lemmas.List.{length-append, length-drop, length-take, take
 use Rattle.iol_image.specs.Image.{IsImage}
 use Rattle.iol_cell.specs.Packing.{with_padding, octets_of, image_or_none, image_of}
 
-four_pieces : (octets : List ℕ) → length octets ≡ 32
-    → take 8 (drop 0 octets) ++ take 8 (drop 8 octets) ++ take 8 (drop 16 octets)
-    ++ take 8 (drop 24 octets) ≡ octets
-four_pieces octets full =
-    ap (λ (l : List ℕ). (l ++ take 8 (drop 16 octets)) ++ take 8 (drop 24 octets))
-    (sym (take-add 8 8 octets))
-    ∙ ap (λ (l : List ℕ). l ++ take 8 (drop 24 octets)) (sym (take-add 16 8 octets))
-    ∙ sym (take-add 24 8 octets)
-    ∙ ap (λ n. take n octets) (sym full)
-    ∙ take-length octets
-
 joined_pieces : (first second third fourth octets : List ℕ) → length octets ≡ 32
     → first ≡ take 8 (drop 0 octets) → second ≡ take 8 (drop 8 octets)
     → third ≡ take 8 (drop 16 octets) → fourth ≡ take 8 (drop 24 octets)
     → first ++ second ++ third ++ fourth ≡ octets
 joined_pieces first second third fourth octets full at_0 at_8 at_16 at_24 =
-    rw (at_0, at_8, at_16, at_24) (four_pieces octets full)
+    let two : take 16 octets ≡ take 8 octets ++ take 8 (drop 8 octets) = take-add 8 8 octets in
+    let three : take 24 octets ≡ take 16 octets ++ take 8 (drop 16 octets) = take-add 16 8 octets in
+    let four : take 32 octets ≡ take 24 octets ++ take 8 (drop 24 octets) = take-add 24 8 octets in
+    let all : take 32 octets ≡ octets = ap (λ n. take n octets) (sym full) ∙ take-length octets in
+    cc
 
 length-with_padding : (octets : List ℕ) → length octets ≤ 32 → length (with_padding octets) ≡ 32
 length-with_padding octets fits = simp (length-append, length-drop) (omega arith)
@@ -64,11 +57,10 @@ pub image_of_first : {E : Type 0} (made : Result (List ℕ) E) (n : ℕ) (octets
     → result_ok made ≡ image_or_none n octets
 image_of_first (Ok image) zero octets first full taken same only when =
     let few : length first ≡ 0 = ap length taken in absurd (omega (arith, (only refl).some_octet))
-image_of_first (Err fault) zero octets first full taken same only when = refl
 image_of_first (Ok image) (suc n) octets first full taken same only when =
     ap Some (same ∙ taken ∙ take_up_to_32 (suc n) octets full)
+image_of_first (Err fault) zero octets first full taken same only when = refl
 image_of_first (Err fault) (suc n) octets first full taken same only when =
-    let size : length first ≡ min (suc n) 32 =
-    ap length (taken ∙ take_up_to_32 (suc n) octets full) ∙ length-take (suc n) octets
-    ∙ ap (λ (m : ℕ). min (suc n) m) full in
+    let size : length first ≡ min (min (suc n) 32) 32 =
+    ap length taken ∙ length-take (min (suc n) 32) octets ∙ ap (min (min (suc n) 32)) full in
     let bad : false ≡ true = when record { some_octet = omega arith; fits = omega arith } in cc

@@ -1,5 +1,6 @@
--- A cell with the handle of its allocator fits into memory.
-use Rattle.std.proofs.Common.{◌≡◌, ℕ, ◌+◌, ◌<◌, sym, subst, max, ⊎_elim, lit<}
+-- A cell with the handle of its allocator fits into memory: each call that takes or frees it needs
+-- `has_room`.
+use Rattle.std.proofs.Common.{ℕ, ◌+◌, ◌<◌, max, inl, inr, lit<}
 use prog.Memory.{up}
 use Rattle.iol_cell.specs.Handle.{IsNoneOrAddress}
 
@@ -15,9 +16,7 @@ abbrev pub HasRoom : ℕ → ℕ → Type 0
 HasRoom octets alignment = cell_size octets alignment < 9223372036854775808
 
 pub has_room : (octets alignment : ℕ) → IsNoneOrAddress octets alignment → HasRoom octets alignment
-has_room octets alignment is = ⊎_elim
-    (λ (none : (octets ≡ 0) × (alignment ≡ 1)). subst (λ n. HasRoom n alignment) (sym none.0)
-    (subst (λ n. HasRoom 0 n) (sym none.1) (lit< tt)))
-    (λ (address : (octets ≡ 8) × (alignment ≡ 8)). subst (λ n. HasRoom n alignment)
-    (sym address.0) (subst (λ n. HasRoom 8 n) (sym address.1) (lit< tt)))
-    is
+has_room octets alignment (inl none) =
+    let size = none.0 in let unit = none.1 in rw (size, unit) (lit< tt)
+has_room octets alignment (inr address) =
+    let size = address.0 in let unit = address.1 in rw (size, unit) (lit< tt)

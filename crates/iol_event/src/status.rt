@@ -20,6 +20,7 @@ pub(crate) type Places = ArrayVec<u8, 6>;
 /// The StatusCode that marks the first `count` places.
 ///
 /// Rule EVT-4.
+#[tactic(auto, using(crate::proofs::Places::bit_or_status))]
 pub(crate) fn status_with(count: usize) -> u8
     requires { count ≤ 6 }
     ensures { result ≡ 128 + (2 ^ count - 1) }

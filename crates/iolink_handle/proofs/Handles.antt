@@ -1,8 +1,8 @@
 -- The struct of C in which a library holds a box: one pointer, which owns the box where the flag
--- says so. Each library
--- has its own, since such a struct takes no type parameter; they differ in names alone, so what
--- makes one of a `Loose`,
--- and takes the `Loose` out again, is proved here, once. Assumes `Logic`.
+-- says so. Each library has its own, since such a struct takes no type parameter; they differ in
+-- names alone, so what makes one of a `Loose`, and takes the `Loose` out again, is proved here,
+-- once.
+-- Assumes `Logic`.
 pub mod Steps
 use Steps.*
 use Rattle.iolink_handle.specs.contracts.loose.Loose as loose

@@ -1,12 +1,9 @@
 -- What the walks of this crate cite; and of a struct of one pointer its machine value and what its
--- field owns, which is
--- had for nothing. Assumes `Logic`.
+-- field owns, which is had for nothing. Assumes `Logic`.
 pub use Rattle.std.proofs.Common.{◌≡◌, List, [], ◌∷◌, ◌++◌, refl, sym, ap, ◌∙◌, subst, Bool, true, false}
 pub use lib.Dec.{T, lit<}
 pub use seplogic.Ra.Ura.{Ura}
-pub use mir.Syntax.{Sym, Ty, Fn, Local, Body, Callee, Dict, ty_ptr, local, value_local}
-pub use mir.Syntax.{seq, assign, place, field, rv_opd, copy, aggregate, int, w64, return}
-pub use mir.Syntax.{a_type, impl, tcons, tnil, dcons, dnil}
+pub use mir.Syntax.{Sym, Ty, Fn, Local, Body, Callee, Dict, ty_ptr, local, value_local, seq, assign, place, field, rv_opd, copy, aggregate, int, w64, return, a_type, impl, tcons, tnil, dcons, dnil}
 pub use mir.Val.{Val, vstruct, vcons, vnil, has_ty, WT}
 pub use mir.MapTy.{inst_fn}
 pub use mir.Raw.{raw as bare}
@@ -16,8 +13,7 @@ pub use base.Fml.{Fml, ftrue, fsep, flft}
 pub use prog.Wp.{Calls, Loops, Closed, WpFn}
 pub use prog.Model.{Model}
 pub use types.Logic.{Logic}
-pub use types.Kit.{‵, raw, ◌⊛◌, some, later, at_ret, ◌$◌, ◌∵◌, !, qed, by, move, keep, drop, split, split3, join}
-pub use types.Kit.{fsplit, fjoin, fjoin3, fpack, feq_i, feq_l, pick, await, rewrite, use0, use1}
+pub use types.Kit.{‵, raw, ◌⊛◌, some, later, at_ret, ◌$◌, ◌∵◌, !, qed, by, move, keep, drop, split, split3, join, fsplit, fjoin, fjoin3, fpack, feq_i, feq_l, pick, await, rewrite, use0, use1}
 pub use types.Part.{whole, sub, agg}
 pub use types.Run.{stop, fld, of_opd, lit, no_more, and_then, first, blocks, exec, returns, enter}
 pub use types.ByLocal.{alloc_all, pass_all, free_all, look_at, get, get_in, sets, lands_as, lands_last, env}

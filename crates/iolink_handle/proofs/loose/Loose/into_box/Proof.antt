@@ -1,13 +1,5 @@
 -- `into_box` adds a handle of the C library's allocator.
-use Rattle.iolink_handle.proofs.Handles.Steps as steps
-use steps.{List, [], ◌∷◌, refl, a_type, dcons, dnil, Val, inst_fn, full_share, id⊢, ftrue, flft, fsep, ‵, raw, ◌⊛◌}
-use steps.{some, later, at_ret, ◌$◌, ◌∵◌, !, qed, by, move, keep, drop, split, split3, join, fsplit, fjoin, pick}
-use steps.{use1, await, feq_i, sub, whole, stop, fld, of_opd, no_more, and_then, first, blocks, exec, returns, enter}
-use steps.{alloc_all, pass_all, free_all, look_at, get, get_in, sets, lands_last, env, fact, ◌⊑◌, ⊑_refl, tables, no}
-use steps.{yes, plain, ptr_val, param, bounded, param_laws, glues, Is, shows, nothing, peeks, RawPtr-laws}
-use steps.{Tells-lowered, Lasts, lasts, triple_of, calls_at_last, Stays, stay_dropped, walk_of, Goes-dropped}
-use steps.{Goes-blank, after, fm, ghosts, dict, passed, proved, leaves, Heap, heap_laws, undropped, word, ptr_fits}
-use steps.{word_fits, known, also, ◌≡◌}
+use Rattle.iolink_handle.proofs.Handles.Steps.{List, [], ◌∷◌, refl, a_type, dcons, dnil, Val, inst_fn, full_share, id⊢, ftrue, flft, fsep, ‵, raw, ◌⊛◌, some, later, at_ret, ◌$◌, ◌∵◌, !, qed, by, move, keep, drop, split, split3, join, fsplit, fjoin, pick, use1, await, feq_i, sub, whole, stop, fld, of_opd, no_more, and_then, first, blocks, exec, returns, enter, alloc_all, pass_all, free_all, look_at, get, get_in, sets, lands_last, env, fact, ◌⊑◌, ⊑_refl, tables, no, yes, plain, ptr_val, param, bounded, param_laws, glues, Is, shows, nothing, peeks, RawPtr-laws, Tells-lowered, Lasts, lasts, triple_of, calls_at_last, Stays, stay_dropped, walk_of, Goes-dropped, Goes-blank, after, fm, ghosts, dict, passed, proved, leaves, Heap, heap_laws, undropped, word, ptr_fits, word_fits, known, also, ◌≡◌}
 use Rattle.std.specs.contracts.alloc.Global as global
 use Rattle.std.proofs.alloc.Global.TheLaws as global_laws
 use Rattle.std_alloc.specs.contracts.boxed.Box as box

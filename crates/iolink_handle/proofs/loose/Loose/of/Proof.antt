@@ -1,12 +1,5 @@
 -- `of` keeps the pointer alone: the allocator is the C library's, and any of its handles frees.
-use Rattle.iolink_handle.proofs.Handles.Steps as steps
-use steps.{List, [], ◌∷◌, ◌++◌, refl, sym, ap, subst, a_type, dcons, dnil, Val, inst_fn, full_share, ent, id⊢, ftrue}
-use steps.{flft, fsep, WpFn, ‵, raw, ◌⊛◌, some, later, ◌$◌, ◌∵◌, !, qed, by, move, keep, drop, split, split3, join}
-use steps.{fjoin, pick, use1, await, feq_l, agg, of_opd, no_more, and_then, returns, enter, alloc_all, pass_all}
-use steps.{free_all, look_at, get, sets, lands_as, fact, fact_i, emp, ◌⊑◌, ⊑_refl, tables, no, plain, Ptr, RawPtr}
-use steps.{param, layout, bounded, param_laws, glues, only, nothing, triple_of, calls_at, Stays, stay_dropped}
-use steps.{walk_of, Goes-blank, fm, one, ghosts, dict, passed, box_owns, proved_at, leaves, block, Heap, heap_laws}
-use steps.{undropped, Lasts, lasts, word, ptr_fits, word_fits, inside, known, also, ◌≡◌}
+use Rattle.iolink_handle.proofs.Handles.Steps.{List, [], ◌∷◌, ◌++◌, refl, sym, ap, subst, a_type, dcons, dnil, Val, inst_fn, full_share, ent, id⊢, ftrue, flft, fsep, WpFn, ‵, raw, ◌⊛◌, some, later, ◌$◌, ◌∵◌, !, qed, by, move, keep, drop, split, split3, join, fjoin, pick, use1, await, feq_l, agg, of_opd, no_more, and_then, returns, enter, alloc_all, pass_all, free_all, look_at, get, sets, lands_as, fact, fact_i, emp, ◌⊑◌, ⊑_refl, tables, no, plain, Ptr, RawPtr, param, layout, bounded, param_laws, glues, only, nothing, triple_of, calls_at, Stays, stay_dropped, walk_of, Goes-blank, fm, one, ghosts, dict, passed, box_owns, proved_at, leaves, block, Heap, heap_laws, undropped, Lasts, lasts, word, ptr_fits, word_fits, inside, known, also, ◌≡◌}
 use Rattle.std.specs.contracts.alloc.Global as global
 use Rattle.std.proofs.alloc.Global.TheLaws as global_laws
 use Rattle.std_alloc.specs.contracts.boxed.Box as box
