@@ -569,7 +569,7 @@ impl<R: Record> FarEnd<R> {
     /// The process data in.
     ///
     /// Rules DEV-16, DEV-17.
-    #[tactic(auto, using(crate::proofs::Pages::input_sized))]
+    #[tactic(auto, using(std::proofs::lemmas::Bool::Decides::nat_tests))]
     pub fn set_input(&mut self, image: &Image) -> Result<(), DeviceFault>
         ensures far { self.new ≡ local self.old (LocalStep.Input image.now) }
         ensures fits { IsOk result ↔ IsTrue (is_input self.old image.now) }

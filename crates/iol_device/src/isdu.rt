@@ -451,7 +451,6 @@ fn append_segment(cutter: &Cutter<Reaction>, size: u8, octets: &mut Message)
 }
 
 /// The flow of the last segment given.
-#[tactic(auto, using(crate::proofs::Sending::sent_flow_valid))]
 fn sent_flow(cutter: &Cutter<Reaction>) -> Option<Flow>
     requires { IsSent cutter.now.size
         (answer_text cutter.now.source.request cutter.now.source.answer) cutter.now.given }

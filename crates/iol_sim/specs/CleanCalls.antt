@@ -1,6 +1,6 @@
 -- Each call of a clean wire is clean, and leaves it so.
-use Rattle.std.proofs.Common.{◌≡◌, ℕ, Bool, true, false, List, [], ◌∷◌, ap, subst, Option}
-use Rattle.std.specs.Prelude.{None, Some, IsTrue, MatchBool}
+use Rattle.std.proofs.Common.{◌≡◌, ℕ, Bool, true, false, List, [], ap, subst, Option}
+use Rattle.std.specs.Prelude.{None, Some, IsTrue, MatchBool, not, ◌&&◌}
 use Rattle.arrayvec.specs.ArrayVec.{ArrayVec}
 use Rattle.iol_isdu.specs.declared.values.Answer.{Answer}
 use Rattle.iol_isdu.specs.declared.values.Request.{Request}
@@ -14,7 +14,7 @@ use Rattle.iol_link.specs.Honest.{CleanExchange}
 use Rattle.iol_link.specs.declared.wire.Rate.{Rate}
 use Rattle.iol_sim.specs.declared.script.Step.{Step}
 use Rattle.iol_sim.specs.Script.{Devices, IsWorked}
-use Rattle.iol_sim.specs.Sim.{Simulated, is_clean, IsWake, IsExchange}
+use Rattle.iol_sim.specs.Sim.{Simulated, is_ended, is_clean, IsWake, IsExchange}
 
 never : {A : Type 0} → false ≡ true → A
 never e = absurd (cc)
@@ -37,29 +37,31 @@ module _ {P : Type 0} (gives : Gives P) where
       by_room true h = (h.0, h.2, h.3)
       by_room false h = h.0
 
-  exchange_by : (device : Running P) (away : Option (Running P)) (steps : List Step)
-      (auto silent : Bool) (silence : ℕ) (sent : List ℕ) (answer : Option (ArrayVec ℕ))
-      (new : Simulated P)
-      → is_clean
-      (record {
+  -- what holds of each clean wire holds of every wire that is clean
+  by_clean : (Q : Simulated P → Type 0)
+      → ((device : Running P) (away : Option (Running P)) (silence : ℕ) → Q (record {
         device = device;
         away = away;
-        steps = steps;
-        auto = auto;
-        silent = silent;
+        steps = [];
+        auto = true;
+        silent = false;
         silence = silence;
-      }) ≡ true
-      → IsExchange gives
-      (record {
-        device = device;
-        away = away;
-        steps = steps;
-        auto = auto;
-        silent = silent;
-        silence = silence;
-      }) sent answer new
-      → CleanExchange device.far sent (octets_in answer) new.device.far × IsTrue (is_clean new)
-  exchange_by device away [] true false silence sent answer new clean x =
+      })) → (old : Simulated P) → IsTrue (is_clean old) → Q old
+  by_clean Q holds old clean = by old.steps old.auto old.silent clean
+    where
+      by : (steps : List Step) (auto silent : Bool)
+          → (is_ended steps && auto && not silent) ≡ true
+          → Q (record old { steps = steps; auto = auto; silent = silent })
+      by [] true false e = holds old.device old.away old.silence
+      by steps auto silent e = never e
+
+  pub exchanges_cleanly : (old : Simulated P) (sent : List ℕ) (answer : Option (ArrayVec ℕ))
+      (new : Simulated P) → IsTrue (is_clean old) → IsExchange gives old sent answer new
+      → CleanExchange old.device.far sent (octets_in answer) new.device.far × IsTrue (is_clean new)
+  exchanges_cleanly old sent answer new clean =
+      by_clean (λ (s : Simulated P). IsExchange gives s sent answer new
+      → CleanExchange s.device.far sent (octets_in answer) new.device.far
+      × IsTrue (is_clean new)) (λ device away silence x.
       let worked : IsWorked gives (record { device = device; away = away }) x.ready =
       subst (λ (d : Devices P). IsWorked gives d x.ready) x.ready_is.steps x.ready_is.work in (
         record {
@@ -71,45 +73,10 @@ module _ {P : Type 0} (gives : Gives P) where
           answer_is = x.answer_is;
         },
         ap (λ (s : Simulated P). is_clean s) x.new_is,
-      )
-  exchange_by device away [] true true silence sent answer new clean x = never clean
-  exchange_by device away [] false silent silence sent answer new clean x = never clean
-  exchange_by device away (step ∷ steps) auto silent silence sent answer new clean x = never clean
-
-  wake_by : (device : Running P) (away : Option (Running P)) (steps : List Step)
-      (auto silent : Bool) (silence : ℕ) (answer : Option Rate) (new : Simulated P)
-      → is_clean
-      (record {
-        device = device;
-        away = away;
-        steps = steps;
-        auto = auto;
-        silent = silent;
-        silence = silence;
-      }) ≡ true
-      → IsWake gives
-      (record {
-        device = device;
-        away = away;
-        steps = steps;
-        auto = auto;
-        silent = silent;
-        silence = silence;
-      }) answer new → IsTrue (is_clean new)
-  wake_by device away [] true false silence answer new clean x =
-      ap (λ (s : Simulated P). is_clean s) x.new_is
-  wake_by device away [] true true silence answer new clean x = never clean
-  wake_by device away [] false silent silence answer new clean x = never clean
-  wake_by device away (step ∷ steps) auto silent silence answer new clean x = never clean
-
-  pub exchanges_cleanly : (old : Simulated P) (sent : List ℕ) (answer : Option (ArrayVec ℕ))
-      (new : Simulated P) → IsTrue (is_clean old) → IsExchange gives old sent answer new
-      → CleanExchange old.device.far sent (octets_in answer) new.device.far × IsTrue (is_clean new)
-  exchanges_cleanly old sent answer new clean x =
-      exchange_by old.device old.away old.steps old.auto old.silent old.silence sent answer new
-      clean x
+      )) old clean
 
   pub wakes_cleanly : (old : Simulated P) (answer : Option Rate) (new : Simulated P)
       → IsTrue (is_clean old) → IsWake gives old answer new → IsTrue (is_clean new)
-  wakes_cleanly old answer new clean x =
-      wake_by old.device old.away old.steps old.auto old.silent old.silence answer new clean x
+  wakes_cleanly old answer new clean =
+      by_clean (λ (s : Simulated P). IsWake gives s answer new → IsTrue (is_clean new))
+      (λ device away silence x. ap (λ (s : Simulated P). is_clean s) x.new_is) old clean

@@ -1,7 +1,9 @@
-use Rattle.iol_device.proofs.Flows.{flow_of_address}
+use Rattle.std.proofs.Common.{arith}
+use Rattle.std.proofs.lemmas.Bool.Decides.{nat_tests}
+use Rattle.std.proofs.lemmas.Grind.{common_steps}
+use Rattle.iol_far.specs.Codec.{flow_of}
 use Rattle.iol_device.proofs.data.flow_of.Goals as goal
 
--- src/data.rt:21:1
 pub returns : goal.returns
-returns c = flow_of_address c.from_address.result c.args.mc.address c.from_address.ensures.valid
-    c.from_address.ensures.address
+unfolding flow_of
+returns c = grind (arith, nat_tests, common_steps)

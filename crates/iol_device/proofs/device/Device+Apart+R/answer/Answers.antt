@@ -1,7 +1,7 @@
-use Rattle.iol_device.proofs.Following.{follows_answered}
+use Rattle.std.proofs.Common.{arith}
+use Rattle.std.proofs.lemmas.Grind.{common_steps}
+use Rattle.iol_device.proofs.Following.{follows_more}
 use Rattle.iol_device.proofs.device.Device+Apart+R.answer.Goals as goal
 
 pub invariant_of-self : goal.invariant_of-self
-invariant_of-self g c = follows_answered _ c.self.inside.app_then.value c.self.inside.far
-    c.answer.new.self c.args.answer c.self.inside.app (λ request. tt) c.answer.ensures.far
-    c.self.invariant
+invariant_of-self g c = grind (arith, common_steps, follows_more)

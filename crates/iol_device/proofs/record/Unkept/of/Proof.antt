@@ -1,6 +1,5 @@
 -- `of` makes a value of no octets, whose ghost field is what the caller names.
 use mathlib.Core.Path.{refl, sym, subst}
-use Prim.Native.Nat.{ℕ}
 use mathlib.Core.List.{List, [], ◌∷◌, ◌++◌}
 use seplogic.Ra.Ura.{Ura}
 use mir.Syntax.{Fn, a_type}
@@ -59,41 +58,32 @@ module _ (Y : RattleType) (L : Laws Y) {M : Type 1} {𝓤 : Ura M} (𝓛 : Logic
     abbrev At : List Val → (walk_of 𝓛 (ended Y) (stayed Y) held).Ghost
     At us = ((z.0.0, z.0.1, z.0.2, z.0.3, (us, tt)), z.1)
 
-    abbrev Post : List Val → Val → SProp 𝓤
-    Post us = (walk_of 𝓛 (ended Y) (stayed Y) held).post (At us)
-
     abbrev Goes : List Val → Type 1
     Goes us = ent 𝓤 ((walk_of 𝓛 (ended Y) (stayed Y) held).pre (At us))
-        (WpFn 𝓤 H C Λ (function Y) (us ++ []) (Post us))
+        (WpFn 𝓤 H C Λ (function Y) (us ++ [])
+        ((walk_of 𝓛 (ended Y) (stayed Y) held).post (At us)))
 
-    abbrev b : ℕ
-    b = z.0.3.0.ref_ptr.0
+    abbrev given : List Val
+    given = vptr z.0.3.0.ref_ptr.0 z.0.3.0.ref_ptr.1 ∷ []
 
-    abbrev o : ℕ
-    o = z.0.3.0.ref_ptr.1
-
-    abbrev toks : SProp 𝓤
-    toks = alive 𝓛 (ended Y).signature z.0.0 z.0.1
-
-    abbrev passed : Fml
-    passed = owns (types_at (ended Y).signature.params z.0.0) z.0.3 (vptr b o ∷ [], tt)
-
-    walks : Goes (vptr b o ∷ [])
+    walks : Goes given
     walks =
         let v : Val = vstruct (vcons (vstruct vnil) vnil) in
         let r : denote.Triple.Entry.Res (ended Y).signature z.0.0 =
         record { marker = record {}; pairs = z.1 } in
         let O : Fml = (type_at (ended Y).signature.result z.0.0).own_val r (v ∷ []) in
-        qed 𝓛 ((raw toks ⊛ ‵ passed) ∷ raw ((held z.0.0 z.0.3).requires z.1) ∷ []) ∵ split ! $
+        qed 𝓛 ((raw (alive 𝓛 (ended Y).signature z.0.0 z.0.1)
+        ⊛ ‵ (owns (types_at (ended Y).signature.params z.0.0) z.0.3 (given, tt))) ∷ raw
+        ((held z.0.0 z.0.3).requires z.1) ∷ []) ∵ split ! $
         keep ! (0 ∷ []) $
-        enter ! C Λ (function Y) (vptr b o ∷ []) _ $ alloc_all !
+        enter ! C Λ (function Y) given _ $ alloc_all !
         (λ l. pass_all ! refl ((tt, tt), tt) $
         sets ! (agg ! (no_more !)) refl (tt, tt) $ sets !
         (agg ! (and_then ! (get ! refl) (no_more !))) refl (tt, (tt, tt)) $
         returns ! (look_at ! 0 refl) $ free_all ! refl $
         use0 𝓛 (‵ O) (makes_shadow 𝓛 O ((λ vss. (tt, ((λ uss. (tt, tt)), tt))), tt)
         (((vstruct vnil ∷ [], tt), (refl, ((tt, (refl, tt)), tt))), tt)) $
-        suffices ! _ (ends_at 𝓛 (ended Y) (stayed Y) held (At (vptr b o ∷ [])) v r (tt, tt)
+        suffices ! _ (ends_at 𝓛 (ended Y) (stayed Y) held (At given) v r (tt, tt)
         (tt, tt)) $ says ! refl $
         nothing ! $ nothing ! $ fjoin ! $ join ! $ move ! (1 ∷ 0 ∷ []) $ join ! $ done !)
 
@@ -121,7 +111,6 @@ module _ (Y : RattleType) (L : Laws Y) {M : Type 1} {𝓤 : Ura M} (𝓛 : Logic
 pub of_spec : {M : Type 1} → stated.statement M
 unfolding tables_of
 of_spec 𝓤 𝓛 𝓜 𝓡 wired Y laws =
-    let A = 𝓛.A in
     let 𝓣 : Tables 𝓤 𝓛.H = tables_of 𝓤 𝓛.H 𝓜 (tables 𝓤 𝓛.H 𝓜 𝓡 𝓡.env) in
     entered 𝓤 𝓛.H (triple_of 𝓛 (ended Y).signature
     (closing 𝓛 (ended Y) (clauses Y 𝓛 𝓜.mem 𝓡.returns))) 𝓣.C 𝓣.Λ
