@@ -2,5 +2,4 @@ pub mod LineLemmas
 pub mod FairLemmas
 pub mod ReadLemmas
 pub mod OctetLemmas
-pub mod WatchLemmas
 pub mod TextLemmas

@@ -1,5 +1,6 @@
 -- A whole text, told to a judge line by line.
 use Rattle.std.specs.Prelude.{ℕ, Result, Ok, Err, List, [], ◌++◌, fold}
+use Rattle.std.specs.Result.{result_map_both}
 use Rattle.iol_judge.specs.declared.verdict.Odd.{Odd}
 use Rattle.iol_script.specs.Text.{lines_of}
 use Rattle.iol_capture.specs.declared.fault.LineFault.{LineFault}
@@ -22,8 +23,8 @@ new_reading form odd = record { lines = 0; telling = new_telling form odd }
 
 -- the line of this number was told
 abbrev pub read_as : ℕ → Result Telling LineFault → Result Reading CaptureFault
-read_as number (Ok telling) = Ok (record { lines = number; telling = telling })
-read_as number (Err fault) = Err (Line number fault)
+read_as number told =
+    result_map_both (λ telling. record { lines = number; telling = telling }) (Line number) told
 
 -- the capture after one more line, or the first bad line
 abbrev pub line_read : Result Reading CaptureFault → List ℕ → Result Reading CaptureFault
@@ -33,12 +34,9 @@ line_read (Err fault) line = Err fault
 -- A text
 
 -- the end stands for a line
-abbrev pub ended_as : ℕ → Result Judging LineFault → Result Judging CaptureFault
-ended_as number (Ok judging) = Ok judging
-ended_as number (Err fault) = Err (Line number fault)
-
 abbrev pub ended : Result Reading CaptureFault → Result Judging CaptureFault
-ended (Ok reading) = ended_as (one_more reading.lines) (whole reading.telling)
+ended (Ok reading) = result_map_both (λ judging. judging) (Line (one_more reading.lines))
+    (whole reading.telling)
 ended (Err fault) = Err fault
 
 -- what a judge makes of lines

@@ -1,5 +1,6 @@
 -- A judge, told the lines of a trace.
 use Rattle.std.specs.Prelude.{ℕ, ◌+◌, ◌-◌, ◌^◌, min, Bool, true, false, ◌==◌, ◌||◌, nat_lt, Option, Some, None, is_some, Result, Ok, Err, List, [], ◌∷◌, ◌++◌, length, if◌then◌else◌}
+use Rattle.std.specs.Result.{result_map_both}
 use Rattle.iol_far.specs.Octets.{octets_in}
 use Rattle.iol_judge.specs.declared.reason.Reason.{Reason}
 use Rattle.iol_judge.specs.declared.verdict.Odd.{Odd}
@@ -95,14 +96,6 @@ wake_told judging wake = record judging {
   watching = wake_watched judging.watching wake;
 }
 
-abbrev pub woken : WakeAnswer → Result Judging LineFault → Result Judging LineFault
-woken wake (Ok judging) = Ok (wake_told judging wake)
-woken wake (Err fault) = Err fault
-
-abbrev pub sending : List ℕ → Result Judging LineFault → Result Judging LineFault
-sending octets (Ok judging) = Ok (record judging { sent = Some octets })
-sending octets (Err fault) = Err fault
-
 -- an odd exchange is noted, while there is room
 abbrev pub with_odd : List OddExchange → ℕ → Option Reason → List OddExchange
 with_odd odd call None = odd
@@ -139,8 +132,11 @@ paged judging octets = if judging.call == 0 then page_told judging octets else j
 abbrev pub told : Judging → TraceLine → Result Judging LineFault
 told judging Other = Ok judging
 told judging (Page octets) = Ok (paged judging octets)
-told judging (Wake number answer) = woken answer (begun judging number)
-told judging (Sent number octets) = sending octets.items (begun judging number)
+told judging (Wake number answer) = result_map_both
+    (λ (new : Judging). wake_told new answer) (λ (fault : LineFault). fault) (begun judging number)
+told judging (Sent number octets) = result_map_both
+    (λ (new : Judging). record new { sent = Some octets.items }) (λ (fault : LineFault). fault)
+    (begun judging number)
 told judging (Came number came) = came_to judging.sent judging number (octets_in came)
 
 -- What a splitter tells

@@ -1,9 +1,9 @@
 -- A judge, told what a decoder shows.
 use Rattle.std.specs.Prelude.{ℕ, nat_le, Option, Some, None, Result, Ok, Err, List, length, if◌then◌else◌}
+use Rattle.std.specs.Result.{result_map_both}
 use Rattle.iol_judge.specs.declared.verdict.Odd.{Odd}
 use Rattle.iol_judge.specs.declared.verdict.Wake.TheVariants.{Unanswered}
 use Rattle.iol_link.specs.declared.wire.Rate.{Rate}
-use Rattle.iol_splitter.specs.declared.fault.SplitFault.{SplitFault}
 use Rattle.iol_splitter.specs.declared.octet_line.OctetLine.{OctetLine}
 use Rattle.iol_splitter.specs.declared.octet_line.OctetLine.TheVariants as line
 use Rattle.iol_splitter.specs.declared.passed.Passed.{Passed}
@@ -39,27 +39,18 @@ abbrev pub passed_by_request : Judging → Option Passed → Judging
 passed_by_request judging None = judging
 passed_by_request judging (Some passed) = passed_next judging passed
 
-abbrev pub octet_heard : Judging → Splitting → Result (Option Passed) SplitFault
-    → Result Hearing LineFault
-octet_heard judging splitting (Ok passed) =
-    Ok (record { splitting = splitting; judging = passed_by_octet judging passed })
-octet_heard judging splitting (Err fault) = Err (Split fault)
-
-abbrev pub request_heard : Judging → Splitting → Result (Option Passed) SplitFault
-    → Result Hearing LineFault
-request_heard judging splitting (Ok passed) =
-    Ok (record { splitting = splitting; judging = passed_by_request judging passed })
-request_heard judging splitting (Err fault) = Err (Split fault)
+-- the judge is told so what a step tells
+abbrev pub step_heard : (Option Passed → Judging) → Step → Result Hearing LineFault
+step_heard judged step = result_map_both
+    (λ passed. record { splitting = step.state; judging = judged passed }) Split step.told
 
 -- what a line shows
 abbrev pub shown : Hearing → OctetLine → Result Hearing LineFault
 shown hearing line.Other = Ok hearing
 shown hearing (line.Octet time octet) =
-    let step = octet_split hearing.splitting time octet in
-    octet_heard hearing.judging step.state step.told
+    step_heard (passed_by_octet hearing.judging) (octet_split hearing.splitting time octet)
 shown hearing (line.Wake time) =
-    let step = wake_split hearing.splitting time in
-    request_heard hearing.judging step.state step.told
+    step_heard (passed_by_request hearing.judging) (wake_split hearing.splitting time)
 
 abbrev pub shown_as : Hearing → Option OctetLine → Result Hearing LineFault
 shown_as hearing None = Err BadForm

@@ -11,6 +11,7 @@ use iol_splitter::octets_are_never_blamed;
 /// something in it is odd.
 ///
 /// Rules WIRE-1 to WIRE-3.
+#[tactic(auto, using(crate::proofs::FairLemmas::captures))]
 pub fn honest_captures_are_never_blamed()
     ensures { CapturesNeverBlamed }
 {
@@ -32,7 +33,7 @@ pub fn honest_octets_are_never_blamed()
 /// read of one.
 ///
 /// Rule LINK-1.
-#[tactic(auto, using(crate::proofs::WatchLemmas::unseen_wakes))]
+#[tactic(auto, unfolding(iol_octets::specs::Checksum::has_checksum, iol_octets::specs::Checksum::checksum_of, iol_octets::specs::Checksum::compressed, iol_octets::specs::Control::control_of))]
 pub fn unseen_wakes_are_fair()
     ensures { UnseenWakesAreFair }
 {}

@@ -61,6 +61,7 @@ impl Opened {
     }
 
     /// One more octet is read.
+    #[tactic(auto, using(crate::proofs::LineLemmas::lines_ended, crate::proofs::ReadLemmas::overfull))]
     fn take_octet(&mut self, octet: u8) -> Result<(), CaptureFault>
         ensures good { OnOk result ((rest : List ℕ)
             → judged_with self.old (octet ∷ rest) ≡ judged_with self.new rest) }
@@ -96,6 +97,7 @@ impl Opened {
     }
 
     /// The text has ended.
+    #[tactic(auto, using(crate::proofs::ReadLemmas::end_line))]
     pub(crate) fn finish(mut self) -> Result<Judgement, CaptureFault>
         ensures { result ≡ judged_with self [] }
     {

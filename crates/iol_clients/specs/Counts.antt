@@ -1,9 +1,9 @@
 -- What is counted of a port.
-use Rattle.std.specs.Prelude.{◌≡◌, ℕ, ◌+◌, ◌==◌, if◌then◌else◌, List, [], ◌∷◌, ⊤, Result, Ok, Err}
+use Rattle.std.specs.Prelude.{◌≡◌, ℕ, ◌+◌, ◌==◌, if◌then◌else◌, List, [], ◌∷◌, ⊤, Result, Ok}
 use Rattle.std.specs.List.{FoldsTo}
 use Rattle.iol_link.specs.WireFacts.{WireFacts}
 use Rattle.iol_book.specs.declared.entries.Outcome.{Outcome}
-use Rattle.iol_book.specs.declared.entries.Outcome.TheVariants.{Done, Unknown, Withdrawn, NoIsdu}
+use Rattle.iol_book.specs.declared.entries.Outcome.TheVariants.{Done, Unknown}
 use Rattle.iol_book.specs.declared.entries.Ticket.{Ticket}
 use Rattle.iol_port.specs.declared.call.Call.TheVariants as call
 use Rattle.iol_port.specs.declared.fault.PortFault.{PortFault}
@@ -26,9 +26,7 @@ AddsUp c = c.tickets ≡ c.done + c.unknown + c.waiting
 abbrev pub noted : Counted → Result Outcome PortFault → Counted
 noted c (Ok (Done answer)) = record c { tickets = c.tickets + 1; done = c.done + 1 }
 noted c (Ok (Unknown cause)) = record c { tickets = c.tickets + 1; unknown = c.unknown + 1 }
-noted c (Ok Withdrawn) = record c { tickets = c.tickets + 1; waiting = c.waiting + 1 }
-noted c (Ok NoIsdu) = record c { tickets = c.tickets + 1; waiting = c.waiting + 1 }
-noted c (Err why) = record c { tickets = c.tickets + 1; waiting = c.waiting + 1 }
+noted c other = record c { tickets = c.tickets + 1; waiting = c.waiting + 1 }
 
 -- no ticket
 abbrev pub none : Counted

@@ -3,7 +3,7 @@ pub mod Cycles
 pub mod Decimals
 pub mod FieldsLemmas
 pub mod FitsLemmas
-pub mod LinesLemmas
+pub mod LinesRead
 pub mod OctetsLemmas
 pub mod PairsLemmas
 pub mod PlanLemmas

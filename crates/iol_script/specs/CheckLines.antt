@@ -2,7 +2,7 @@
 use Rattle.std.specs.Prelude.{ℕ, Option, Some, None, is_some, option_map, option_and_then, List, [], ◌∷◌, if◌then◌else◌, codes}
 use Rattle.std.specs.Str.{bytes_eq}
 use Rattle.iol_script.specs.Text.{line_words}
-use Rattle.iol_script.specs.Numerals.{octets_of, number_in, within}
+use Rattle.iol_script.specs.Numerals.{of_three, octets_of, number_in, within}
 use Rattle.iol_script.specs.declared.check_line.LayoutLine.{LayoutLine}
 use Rattle.iol_script.specs.declared.check_line.LayoutLine.TheVariants.{Startup, Preoperate, Operate}
 use Rattle.iol_script.specs.declared.check_line.CheckLine.{CheckLine}
@@ -34,11 +34,7 @@ preoperate_form _ = None
 -- the words behind `operate`: a code, and how many octets go in and out
 abbrev pub operate_form : List (List ℕ) → Option LayoutLine
 operate_form (code ∷ input ∷ output ∷ []) =
-    operated (number_in 0 255 code) (number_in 0 255 input) (number_in 0 255 output)
-  where
-    operated : Option ℕ → Option ℕ → Option ℕ → Option LayoutLine
-    operated (Some c) (Some i) (Some o) = Some (Operate c i o)
-    operated _ _ _ = None
+    of_three Operate (number_in 0 255 code) (number_in 0 255 input) (number_in 0 255 output)
 operate_form _ = None
 
 -- the words behind `layout`

@@ -4,6 +4,16 @@ use Rattle.std.specs.Str.{bytes_eq}
 use Rattle.std.specs.Str.Parse.{digits_value}
 use Rattle.std.specs.Fmt.{decimal}
 
+-- what two values make, where there are both
+abbrev pub of_both : {X Y Z : Type 0} → (X → Y → Z) → Option X → Option Y → Option Z
+of_both make (Some x) (Some y) = Some (make x y)
+of_both make _ _ = None
+
+-- what three values make, where there are all of them
+abbrev pub of_three : {X Y Z V : Type 0} → (X → Y → Z → V) → Option X → Option Y → Option Z
+    → Option V
+of_three make x y z = of_both (λ more value. more value) (of_both make x y) z
+
 -- Octets
 
 -- a hexadecimal digit's value, in both cases
@@ -14,16 +24,11 @@ digit_of c = if nat_le 48 c && nat_le c 57 then Some (c - 48)
 
 -- the octet of two digits
 abbrev pub octet_of : ℕ → ℕ → Option ℕ
-octet_of high low = digits_octet (digit_of high) (digit_of low)
-  where
-    digits_octet : Option ℕ → Option ℕ → Option ℕ
-    digits_octet (Some h) (Some l) = Some (h * 16 + l)
-    digits_octet _ _ = None
+octet_of high low = of_both (λ h l. h * 16 + l) (digit_of high) (digit_of low)
 
 -- one more octet before what the rest gives
 abbrev pub before : Option ℕ → Option (List ℕ) → Option (List ℕ)
-before (Some octet) (Some octets) = Some (octet ∷ octets)
-before _ _ = None
+before = of_both (λ octet octets. octet ∷ octets)
 
 -- the octet of a word of two digits
 abbrev pub word_octet : List ℕ → Option ℕ
@@ -53,11 +58,8 @@ within least most octets =
 
 -- the number of a word of four digits
 abbrev pub word_code : List ℕ → Option ℕ
-word_code (a ∷ b ∷ c ∷ d ∷ []) = octets_code (octet_of a b) (octet_of c d)
-  where
-    octets_code : Option ℕ → Option ℕ → Option ℕ
-    octets_code (Some high) (Some low) = Some (high * 256 + low)
-    octets_code _ _ = None
+word_code (a ∷ b ∷ c ∷ d ∷ []) =
+    of_both (λ high low. high * 256 + low) (octet_of a b) (octet_of c d)
 word_code _ = None
 
 -- Decimal numbers

@@ -1,10 +1,9 @@
 -- The lines of `many`, one after the other.
 use Rattle.std.specs.Prelude.{ℕ, ◌+◌, ◌*◌, Option, Some, None, option_map, option_and_then, Result, Ok, Err, List, [], ◌∷◌, length, fold, nat_le, if◌then◌else◌, codes}
 use Rattle.std.specs.Str.{bytes_eq}
-use Rattle.std.specs.Option.{ok_or}
 use Rattle.iol_script.specs.Numerals.{number_in}
 use Rattle.iol_script.specs.PlanRanges.{ArePlanned}
-use Rattle.iol_script.specs.Text.{line_words}
+use Rattle.iol_script.specs.Text.{line_words, line_read}
 use Rattle.iol_script.specs.declared.plan.Plan.{Plan}
 use Rattle.iol_script.specs.declared.plan.Shown.{Shown}
 use Rattle.iol_script.specs.declared.plan.Shown.TheVariants.{Tickets, Counters}
@@ -46,8 +45,7 @@ draft_after draft line = option_and_then (words_after draft) (line_words line)
 
 -- the draft after a line with its number, or the number of the first bad line
 abbrev pub planned_after : Result PlanDraft ℕ → ℕ × List ℕ → Result PlanDraft ℕ
-planned_after (Err bad) line = Err bad
-planned_after (Ok draft) line = ok_or (draft_after draft line.1) line.0
+planned_after = line_read draft_after
 
 -- the numbers of a plan, and what it shows
 pub record PlanNumbers : Type 0 where

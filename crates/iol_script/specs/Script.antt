@@ -1,6 +1,6 @@
 -- What the lines of `run` make, one after the other.
-use Rattle.std.specs.Prelude.{ℕ, ◌+◌, Bool, true, false, Option, Some, None, is_none, unwrap_or, option_map, option_and_then, Result, Ok, Err, List, [], ◌∷◌, ◌++◌, length, replicate, fold, flat_map, nat_le, nat_lt, ◌&&◌, if◌then◌else◌}
-use Rattle.std.specs.Option.{ok_or, option_map_or}
+use Rattle.std.specs.Prelude.{ℕ, ◌+◌, Bool, true, false, Option, Some, None, is_none, unwrap_or, option_map, option_and_then, Result, Ok, List, [], ◌∷◌, ◌++◌, length, replicate, fold, flat_map, nat_le, nat_lt, ◌&&◌, if◌then◌else◌}
+use Rattle.std.specs.Option.{option_map_or}
 use Rattle.std.specs.Result.{result_ok, result_err}
 use Rattle.iol_book.specs.declared.entries.Limits.{Limits}
 use Rattle.iol_far.specs.declared.kind.Kind.{Kind}
@@ -12,6 +12,7 @@ use Rattle.iol_sim.specs.Params.{number_of}
 use Rattle.iol_sim.specs.declared.params.Entry.{Entry}
 use Rattle.iol_sim.specs.declared.script.Step.{Step}
 use Rattle.iol_sim.specs.declared.script.Step.TheVariants.{Fate, Swap}
+use Rattle.iol_script.specs.Text.{line_read}
 use Rattle.iol_script.specs.RunLines.{run_form}
 use Rattle.iol_port.specs.declared.call.Call.{Call}
 use Rattle.iol_port.specs.declared.call.Call.TheVariants.{Turn}
@@ -123,8 +124,7 @@ script_after draft (line.Call call) =
 -- the draft after a line with its number, or the number of the first bad line: it
 -- fits no form, or is refused in its place
 abbrev pub draft_after : Result Draft ℕ → ℕ × List ℕ → Result Draft ℕ
-draft_after (Err bad) line = Err bad
-draft_after (Ok draft) line = ok_or (option_and_then (script_after draft) (run_form line.1)) line.0
+draft_after = line_read (λ draft line. option_and_then (script_after draft) (run_form line))
 
 -- the draft of lines, or the number of the first bad one
 abbrev pub draft_of : List (ℕ × List ℕ) → Result Draft ℕ

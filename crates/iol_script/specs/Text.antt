@@ -1,6 +1,7 @@
 -- The lines of a text, and the words of a line.
-use Rattle.std.specs.Prelude.{ℕ, ◌+◌, Option, Some, None, List, [], ◌∷◌, length, nat_le, ◌==◌, if◌then◌else◌}
+use Rattle.std.specs.Prelude.{ℕ, ◌+◌, Option, Some, None, Result, Ok, Err, List, [], ◌∷◌, length, nat_le, ◌==◌, if◌then◌else◌}
 use Rattle.std.specs.Borrow.{Bor}
+use Rattle.std.specs.Option.{ok_or}
 use Rattle.std.specs.List.{slice_split, onto_first, enumerate_from}
 use Rattle.iol_script.specs.declared.parts.Lines.{Lines}
 use Rattle.iol_script.specs.declared.parts.Words.{Words}
@@ -38,3 +39,9 @@ words_left words = words_in words.left
     words_in : Option (Bor (List ℕ)) → List (List ℕ)
     words_in None = []
     words_in (Some text) = words_of text.now
+
+-- what is read after one more line with its number, or the number of the first bad line
+abbrev pub line_read : {D : Type 0} → (D → List ℕ → Option D) → Result D ℕ → ℕ × List ℕ
+    → Result D ℕ
+line_read after (Err bad) line = Err bad
+line_read after (Ok draft) line = ok_or (after draft line.1) line.0

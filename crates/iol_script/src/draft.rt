@@ -5,8 +5,8 @@ ghost use Rattle.std.specs.Vec.{vec_len};
 ghost use Rattle.iol_book.specs.BookModel.{AreLimits};
 ghost use Rattle.iol_page.specs.Page.{layouts_of};
 ghost use Rattle.iol_script.specs.declared.fault.ScriptFault.TheVariants.{Line};
-ghost use Rattle.iol_script.specs.DraftLines.{after_call, after_page, after_setting, after_turns, after_wire, after_words, with_calls};
-ghost use Rattle.iol_script.specs.RunLines.{call_form, devices_form, kind_form, limits_form, other_form, page_form, page_line, param_form, pulses_form, turns_form, wire_form};
+ghost use Rattle.iol_script.specs.DraftLines.{after_form, after_line, with_calls};
+ghost use Rattle.iol_script.specs.RunLines.{call_form, devices_form, kind_form, limits_form, one_call, other_form, page_form, page_line, param_form, pulses_form, run_words, turns_form, wire_form};
 ghost use Rattle.iol_script.specs.Text.{words_left};
 ghost use Rattle.iol_sim.specs.Params.{number_of};
 
@@ -113,9 +113,10 @@ impl<A: Allocator> Draft<A> {
     /// One more line is read, by its words. Each kind has a function of its own, and
     /// no line is built as a value: of a call it is only asked whether the words fit.
     fn take_words(&mut self, number: u64, mut words: Words) -> Result<(), ScriptFault>
-        ensures good { OnOk result (after_words self.old (words_left words.entry) ≡ Some self.new) }
+        ensures good { OnOk result (after_line self.old (run_words (words_left words.entry))
+            ≡ Some self.new) }
         ensures bad { (n : ℕ) → result ≡ Err (Line n) → (n ≡ number)
-            × (after_words self.old (words_left words.entry) ≡ None) }
+            × (after_line self.old (run_words (words_left words.entry)) ≡ None) }
     {
         let bad = ScriptFault::Line(number);
         let Some(name) = words.next() else {
@@ -147,7 +148,7 @@ impl<A: Allocator> Draft<A> {
     /// The words behind `page`: with none it is the call.
     fn take_page_line(&mut self, words: Words) -> Option<()>
         ensures { option_map (λ _. self.new) result
-            ≡ after_page self.old (page_line (words_left words.entry)) }
+            ≡ after_line self.old (page_line (words_left words.entry)) }
     {
         if end_of(words).is_some() {
             self.add_calls(1)
@@ -159,7 +160,7 @@ impl<A: Allocator> Draft<A> {
     /// The words behind `page`, where there are some.
     fn take_page(&mut self, words: Words) -> Option<()>
         ensures { option_map (λ _. self.new) result
-            ≡ after_setting self.old (page_form (words_left words.entry)) }
+            ≡ after_form RunLine.Setting self.old (page_form (words_left words.entry)) }
     {
         let page = page_of(words)?;
         if self.begun || self.page.is_some() {
@@ -172,7 +173,7 @@ impl<A: Allocator> Draft<A> {
     /// The words behind `other`.
     fn take_other(&mut self, words: Words) -> Option<()>
         ensures { option_map (λ _. self.new) result
-            ≡ after_setting self.old (other_form (words_left words.entry)) }
+            ≡ after_form RunLine.Setting self.old (other_form (words_left words.entry)) }
     {
         let page = page_of(words)?;
         if self.begun || self.other.is_some() {
@@ -185,7 +186,7 @@ impl<A: Allocator> Draft<A> {
     /// The words behind `kind`.
     fn take_kind(&mut self, words: Words) -> Option<()>
         ensures { option_map (λ _. self.new) result
-            ≡ after_setting self.old (kind_form (words_left words.entry)) }
+            ≡ after_form RunLine.Setting self.old (kind_form (words_left words.entry)) }
     {
         let kind = kind_of(words)?;
         if self.begun || self.kind.is_some() {
@@ -198,7 +199,7 @@ impl<A: Allocator> Draft<A> {
     /// The words behind `pulses`.
     fn take_pulses(&mut self, words: Words) -> Option<()>
         ensures { option_map (λ _. self.new) result
-            ≡ after_setting self.old (pulses_form (words_left words.entry)) }
+            ≡ after_form RunLine.Setting self.old (pulses_form (words_left words.entry)) }
     {
         pulses_of(words)?;
         if self.begun || self.misses_pulses {
@@ -211,7 +212,7 @@ impl<A: Allocator> Draft<A> {
     /// The words behind `devices`.
     fn take_devices(&mut self, words: Words) -> Option<()>
         ensures { option_map (λ _. self.new) result
-            ≡ after_setting self.old (devices_form (words_left words.entry)) }
+            ≡ after_form RunLine.Setting self.old (devices_form (words_left words.entry)) }
     {
         let devices = devices_of(words)?;
         if self.begun || self.devices.is_some() {
@@ -224,7 +225,7 @@ impl<A: Allocator> Draft<A> {
     /// The words behind `limits`.
     fn take_limits(&mut self, words: Words) -> Option<()>
         ensures { option_map (λ _. self.new) result
-            ≡ after_setting self.old (limits_form (words_left words.entry)) }
+            ≡ after_form RunLine.Setting self.old (limits_form (words_left words.entry)) }
     {
         let limits = limits_of(words)?;
         if self.begun || self.limits.is_some() {
@@ -236,10 +237,10 @@ impl<A: Allocator> Draft<A> {
 
     /// The words behind `param`.
     fn take_param(&mut self, number: u64, words: Words) -> Result<(), ScriptFault>
-        ensures good { OnOk result (after_setting self.old (param_form (words_left words.entry))
-            ≡ Some self.new) }
+        ensures good { OnOk result (after_form RunLine.Setting self.old
+            (param_form (words_left words.entry)) ≡ Some self.new) }
         ensures bad { (n : ℕ) → result ≡ Err (Line n) → (n ≡ number)
-            × (after_setting self.old (param_form (words_left words.entry)) ≡ None) }
+            × (after_form RunLine.Setting self.old (param_form (words_left words.entry)) ≡ None) }
     {
         let param = param_of(words).ok_or(ScriptFault::Line(number))?;
         if self.begun || !self.takes_param(param.place) {
@@ -265,10 +266,10 @@ impl<A: Allocator> Draft<A> {
 
     /// The words behind `wire`.
     fn take_wire(&mut self, number: u64, words: Words) -> Result<(), ScriptFault>
-        ensures good { OnOk result (after_wire self.old (wire_form (words_left words.entry))
-            ≡ Some self.new) }
+        ensures good { OnOk result (after_form RunLine.Wire self.old
+            (wire_form (words_left words.entry)) ≡ Some self.new) }
         ensures bad { (n : ℕ) → result ≡ Err (Line n) → (n ≡ number)
-            × (after_wire self.old (wire_form (words_left words.entry)) ≡ None) }
+            × (after_form RunLine.Wire self.old (wire_form (words_left words.entry)) ≡ None) }
     {
         let line = parse_wire(words).ok_or(ScriptFault::Line(number))?;
         self.add_steps(number, line)
@@ -277,7 +278,7 @@ impl<A: Allocator> Draft<A> {
     /// The words behind `turn`.
     fn take_turns(&mut self, words: Words) -> Option<()>
         ensures { option_map (λ _. self.new) result
-            ≡ after_turns self.old (turns_form (words_left words.entry)) }
+            ≡ after_form RunLine.Call self.old (turns_form (words_left words.entry)) }
     {
         let count = turns_of(words)?;
         self.add_calls(count)
@@ -286,7 +287,7 @@ impl<A: Allocator> Draft<A> {
     /// The words of one call.
     fn take_call(&mut self, name: &[u8], words: Words) -> Option<()>
         ensures { option_map (λ _. self.new) result
-            ≡ after_call self.old (call_form name.now (words_left words.entry)) }
+            ≡ after_form one_call self.old (call_form name.now (words_left words.entry)) }
     {
         if !fits_call(name, words) {
             return None;

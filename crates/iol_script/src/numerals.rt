@@ -52,6 +52,7 @@ pub fn hexadecimal_code(word: &[u8]) -> Option<u16>
 }
 
 /// The octets of pairs of hexadecimal digits, up to `N`.
+#[tactic(auto, using(crate::proofs::OctetsLemmas::behind_whole))]
 fn pairs_of<const N: usize>(word: &[u8]) -> Option<ArrayVec<u8, N>>
     ensures { option_map (λ octets. octets.items) result
         ≡ option_and_then (within 0 N) (pairs_of word.now) }
@@ -115,6 +116,7 @@ fn are_digits(word: &[u8]) -> bool
 }
 
 /// The octets of words of two hexadecimal digits each, up to `N`.
+#[tactic(auto, using(crate::proofs::OctetsLemmas::behind_whole))]
 pub fn parted_octets<const N: usize>(words: Words) -> Option<ArrayVec<u8, N>>
     ensures { option_map (λ octets. octets.items) result
         ≡ option_and_then (within 0 N) (octets_of (words_left words.entry)) }

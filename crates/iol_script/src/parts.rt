@@ -1,6 +1,6 @@
 //! A text in its lines, and a line in its words.
 ghost use Rattle.std.specs.Prelude.{◌≡◌, ◌+◌, ◌^◌, ◌<◌, ◌∷◌, ◌==◌, [], length, IfSome, IfNone};
-ghost use Rattle.std.specs.List.{position, slice_split};
+ghost use Rattle.std.specs.List.{after_first, before_first, position, slice_split};
 ghost use Rattle.std.specs.Option.{option_map, option_map_or};
 
 use memchr::memchr;
@@ -11,10 +11,9 @@ const LONGEST: usize = 1024;
 /// The first line of a text, and what stands behind its line feed if there is one. A line may
 /// be long, so many bytes are looked at at once.
 fn first_line(text: &[u8]) -> (&[u8], Option<&[u8]>)
-    ensures parts { slice_split (λ b. b == 10) text.now
-        ≡ result.0.now
-        ∷ option_map_or (λ later. slice_split (λ b. b == 10) later.now) result.1 [] }
-    ensures whole { IfNone result.1 (result.0.now ≡ text.now) }
+    ensures line { result.0.now ≡ before_first (λ b. b == 10) text.now }
+    ensures rest { option_map_or (λ later. later.now) result.1 []
+        ≡ after_first (λ b. b == 10) text.now }
     ensures shorter { IfSome result.1 (λ later. length result.0.now + length later.now + 1
         ≡ length text.now) }
 {
@@ -36,7 +35,6 @@ fn first_word(line: &[u8]) -> (&[u8], Option<&[u8]>)
     ensures parts { slice_split (λ b. b == 32) line.now
         ≡ result.0.now
         ∷ option_map_or (λ later. slice_split (λ b. b == 32) later.now) result.1 [] }
-    ensures whole { IfNone result.1 (result.0.now ≡ line.now) }
     ensures shorter { IfSome result.1 (λ later. length result.0.now + length later.now + 1
         ≡ length line.now) }
 {
@@ -80,6 +78,7 @@ impl<'a> Iterator for Lines<'a> {
 
     ghost remaining = { item_count lines_left };
 
+    #[tactic(auto, using(crate::proofs::Cutting::first_line_is))]
     fn next(&mut self) -> Option<(u64, &'a [u8])> {
         if self.left.is_empty() {
             return None;

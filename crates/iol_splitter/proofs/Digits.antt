@@ -1,4 +1,4 @@
--- Digits behind what is no number.
+-- Digits behind what is no number. `digits_behind` needs `bad_ends`.
 use Rattle.std.proofs.Common.{◌≡◌, ℕ, ◌<◌, suc, List, [], ◌∷◌, length, drop, get_or, refl, ap, ◌∙◌, drop-cons}
 use Rattle.std.specs.Prelude.{Some, None, fold}
 use Rattle.iol_splitter.specs.OctetLines.{digit_behind}

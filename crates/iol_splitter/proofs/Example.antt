@@ -1,4 +1,4 @@
--- The example is written by the rules.
+-- The example is written by the rules: `some_are_written`, for the law `what_is_written_is_split`.
 use Rattle.std.proofs.Common.{◌≡◌, ℕ, ◌<◌, List, [], ◌∷◌, ◌++◌, length, arith, refl, ap, subst, length-append}
 use Rattle.iol_octets.specs.Checksum.{checksum_of, compressed, has_checksum}
 use Rattle.iol_octets.specs.Control.{control_of}
@@ -17,45 +17,21 @@ parts_of_two state a b begun rest is some more =
 parts_of_three : (state : Splitting) (a b c : ℕ) → IsPart state (a ∷ b ∷ [])
     → (begun rest : List ℕ) → a ∷ b ∷ c ∷ [] ≡ begun ++ rest → 1 < length begun
     → 0 < length rest → IsPart state begun
-parts_of_three state a b c part [] rest is some more = absurd (omega arith)
-parts_of_three state a b c part (x ∷ []) rest is some more = absurd (omega arith)
 parts_of_three state a b c part (x ∷ y ∷ []) rest is some more =
-    let first : a ≡ x = cc in
-    let second : b ≡ y = cc in
-    subst (λ u. IsPart state (u ∷ y ∷ [])) first
-    (subst (λ v. IsPart state (a ∷ v ∷ [])) second part)
-parts_of_three state a b c part (x ∷ y ∷ z ∷ begun) rest is some more =
-    absurd (omega (arith, ap length is, length-append (x ∷ y ∷ z ∷ begun) rest))
+    let same : a ∷ b ∷ [] ≡ x ∷ y ∷ [] = cc in
+    subst (λ (begun : List ℕ). IsPart state begun) same part
+parts_of_three state a b c part begun rest is some more =
+    absurd (omega (arith, ap length is, length-append begun rest))
 
 pub some_are_written : SomeAreWritten
 unfolding control_of has_checksum checksum_of compressed
 some_are_written = (
   omega arith,
   omega arith,
-  record {
-    check = record { soonest = omega arith; latest = omega arith };
-    value = record { soonest = omega arith; latest = omega arith };
-    status = record { soonest = omega arith; latest = omega arith };
-    reply = refl;
-  },
+  search arith,
   (
     startup_shape,
-    record {
-      speaks = tt;
-      message = record {
-        spoken = refl;
-        whole = refl;
-        parts = parts_of_two _ 0xA3 0x11;
-        most = omega arith;
-      };
-      sent = (omega arith, (record { soonest = omega arith; latest = omega arith }, tt));
-      reply = omega arith;
-      most = omega arith;
-      answer = (
-        record { soonest = omega arith; latest = omega arith },
-        (record { soonest = omega arith; latest = omega arith }, tt),
-      );
-    },
+    search (arith, parts_of_two),
     (
       startup_shape,
       record {
@@ -67,13 +43,7 @@ some_are_written = (
               (record { layout = startup_shape; spoken = refl; part = refl });
           most = omega arith;
         };
-        sent = (
-          omega arith,
-          (
-            record { soonest = omega arith; latest = omega arith },
-            (record { soonest = omega arith; latest = omega arith }, tt),
-          ),
-        );
+        sent = search arith;
         reply = omega arith;
         most = omega arith;
         answer = tt;

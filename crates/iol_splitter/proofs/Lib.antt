@@ -1,4 +1,3 @@
 pub mod Digits
-mod Gaps
 pub mod Splits
 pub mod Example

@@ -1,6 +1,5 @@
 -- A capture that is written by the rules, so that the law says something: a start at COM3, a read
--- of
--- page address 0x03, and a mode command to which no reply comes.
+-- of page address 0x03, and a mode command to which no reply comes.
 use Rattle.std.specs.Prelude.{ℕ, List, [], ◌∷◌}
 use Rattle.iol_link.specs.declared.wire.Rate.TheVariants.{Com3}
 use Rattle.iol_splitter.specs.State.{new_splitter}

@@ -105,9 +105,11 @@ abbrev pub learned : Splitting → Splitting
 learned state = learned_as state (master_in state.layout state.sent)
 
 -- it is whole
+abbrev pub rested : Splitting → Splitting
+rested state = cleared (record (learned state) { phase = Rest })
+
 abbrev pub concluded : Splitting → Step
-concluded state =
-    told (cleared (record (learned state) { phase = Rest })) (Some (exchange_of state))
+concluded state = told (rested state) (Some (exchange_of state))
 
 abbrev pub answered_with : Splitting → Step
 answered_with state =

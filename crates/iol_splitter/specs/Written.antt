@@ -15,7 +15,7 @@ use Rattle.iol_splitter.specs.Lengths.{meaning_in, reply_length, test_read}
 use Rattle.iol_splitter.specs.State.{Splitting, new_splitter}
 use Rattle.iol_splitter.specs.Steps.{Step}
 use Rattle.iol_splitter.specs.Waking.{is_test_reply, woken}
-use Rattle.iol_splitter.specs.Splitting.{cleared, ended, layout_begun, learned, octet_split, requested, some_octets, wake_split}
+use Rattle.iol_splitter.specs.Splitting.{ended, layout_begun, octet_split, requested, rested, some_octets, wake_split}
 
 -- an octet, and when it begins
 pub record Timed : Type 0 where
@@ -78,11 +78,14 @@ abbrev pub shortest_pause : Phase → ℕ
 shortest_pause Rest = 4
 shortest_pause phase = 11
 
+abbrev pub IsBehindPause : Splitting → ℕ → Type 0
+IsBehindPause state time =
+    state.last + (frame + shortest_pause state.phase) * bit_time state.rate ≤ time
+
 abbrev pub IsSentBehind : Splitting → List Timed → Type 0
 IsSentBehind state [] = ⊥
 IsSentBehind state (t ∷ timed) =
-    (state.last + (frame + shortest_pause state.phase) * bit_time state.rate ≤ t.time)
-    × Follow state.rate 1 t.time timed
+    IsBehindPause state t.time × Follow state.rate 1 t.time timed
 
 -- a reply begins 1 to 10 T_BIT behind the message, if any comes
 abbrev pub IsAnswerBehind : Rate → ℕ → List Timed → Type 0
@@ -130,8 +133,7 @@ IsSpeaking phase = ⊥
 -- once a message went over the line, and this came back
 abbrev pub exchanged_with : Splitting → Splitting
 exchanged_with state =
-    if length state.answer == reply_length state.layout state.sent
-    then cleared (record (learned state) { phase = Rest }) else state
+    if length state.answer == reply_length state.layout state.sent then rested state else state
 
 abbrev pub exchanged : Splitting → Shape → Written → Splitting
 exchanged state layout w = exchanged_with (record state {
@@ -183,11 +185,7 @@ pub record IsOther (state : Splitting) : Type 0 where
 abbrev pub IsUnshown : Phase → Splitting → ℕ → Type 0
 IsUnshown Asleep state time =
     (state.last ≤ time) × (state.sent ≡ []) × (state.answer ≡ [])
-IsUnshown Rest state time =
-    (state.last + (frame + shortest_pause Rest) * bit_time state.rate ≤ time) × IsOther state
-IsUnshown Reply state time =
-    (state.last + (frame + shortest_pause Reply) * bit_time state.rate ≤ time) × IsOther state
-IsUnshown phase state time = ⊥
+IsUnshown phase state time = IsSpeaking phase × IsBehindPause state time × IsOther state
 
 -- Captures
 

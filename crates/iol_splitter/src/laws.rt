@@ -15,6 +15,7 @@ use iol_judge::honest_lines_are_never_blamed;
 /// a read of page address 0x02 as well, both are told, the request as unanswered.
 ///
 /// Rules MSG-3, MSG-4, DEV-3, DEV-4.
+#[tactic(auto, using(crate::proofs::Splits::written_is_split, crate::proofs::Example::some_are_written))]
 pub fn what_is_written_is_split()
     ensures split { WrittenIsSplit }
     ensures some { SomeAreWritten }

@@ -105,6 +105,7 @@ fn nanoseconds(whole: &[u8], fraction: &[u8]) -> Option<u64>
 }
 
 /// The number with more decimal digits behind its own, below 2^64.
+#[tactic(auto, using(crate::proofs::Digits::bad_ends))]
 fn digits_behind(number: u64, digits: &[u8]) -> Option<u64>
     ensures { result ≡ digits_behind (Some number) digits.now }
 {

@@ -201,25 +201,26 @@ mode_entered master command = record master {
       if is_some command && not (in_operate master.phase) then Quiet else master.transfer;
 }
 
+-- the good reply to a read of events, or to the confirm of them
+-- EVT-6, EVT-7, EVT-8
+abbrev pub events_on : Master → Bool → List ℕ → Master
+events_on master read octets = record master {
+  events = record master.events {
+    reading = read_on read (slice_index octets 0) master.events.reading;
+  };
+}
+
 abbrev pub read_from : Channel → Master → MasterMsg → List ℕ → Master
 read_from Process master message octets = master
 read_from Page master message octets =
     record master { seen = page_noted master.seen message.mc.address (slice_index octets 0) }
-read_from Diagnosis master message octets = record master {
-  events = record master.events {
-    reading = read_on true (slice_index octets 0) master.events.reading;
-  };
-}
+read_from Diagnosis master message octets = events_on master true octets
 read_from Isdu master message octets =
     record master { transfer = told master.transfer octets }
 
 abbrev pub written_to : Channel → Master → MasterMsg → List ℕ → Master
 written_to Page master message octets = mode_entered master (command_in message)
-written_to Diagnosis master message octets = record master {
-  events = record master.events {
-    reading = read_on false (slice_index octets 0) master.events.reading;
-  };
-}
+written_to Diagnosis master message octets = events_on master false octets
 written_to channel master message octets = master
 
 abbrev pub answered : Master → MasterMsg → List ℕ → Master
@@ -252,14 +253,6 @@ heard_as master octets (Some message) answer =
 abbrev pub heard : Master → List ℕ → Option (List ℕ) → Master
 heard master octets answer =
     heard_as master octets (master_in (phase_layout master.phase) octets) answer
-
--- whether a message is a write to page address 0x00
-abbrev pub is_command_at : Bool → Channel → ℕ → Bool
-is_command_at false Page address = address == 0
-is_command_at read channel address = false
-
-abbrev pub is_command : MasterMsg → Bool
-is_command message = is_command_at message.mc.read message.mc.channel message.mc.address
 
 -- The watch
 

@@ -5,7 +5,7 @@ ghost use Rattle.iol_watch.specs.Laws.{FaultsStay, RepeatsAreFair, WakesAreFair}
 /// that is sent again, a wake-up request; the first fault, whatever comes behind it.
 ///
 /// Rules LINK-1, LINK-2.
-#[tactic(auto, using(crate::proofs::Fair::repeats_are_fair, crate::proofs::Fair::wakes_are_fair, crate::proofs::Fair::faults_stay))]
+#[tactic(auto, using(crate::proofs::Fair::repeats_are_fair))]
 pub fn repeats_and_wakes_are_fair()
     ensures repeats { RepeatsAreFair }
     ensures wakes { WakesAreFair }

@@ -10,10 +10,10 @@ loop-client-preserved g c =
     let is = c.client-item.is in
     record {
       up = collect.up;
-      tickets = summed _ _ _ is c.loop-client-test.true
-          (λ client. accepted_at c.args.port client.desk) _ _ before.tickets collect.tickets;
+      tickets = summed _ _ _ _ is c.loop-client-test.true (λ client.
+          accepted_at c.args.port client.desk) _ _ before.tickets collect.tickets;
       few = omega (arith, before.few, collect.tickets, collect.few);
-      counted = mapped _ _ _ is c.loop-client-test.true _ _ _
+      counted = mapped _ _ _ _ is c.loop-client-test.true _ _ _
           (Collected g.W.Wire.facts c.args.port)
           (λ client. seen client.desk client.tickets.items) before.counted
           (rw c.deref_mut.ensures.value at collect.collected);

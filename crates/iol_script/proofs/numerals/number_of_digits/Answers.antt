@@ -1,4 +1,4 @@
-use Rattle.std.proofs.Common.{rules, arith, sym, ap, ◌+◌, ◌*◌, ◌∙◌}
+use Rattle.std.proofs.Common.{rules, arith, sym, ap, ◌+◌, ◌*◌, ◌∙◌, add-one}
 use Rattle.std.specs.Char.{digit_value}
 use Rattle.std.proofs.Common.{get_or}
 use Rattle.std.proofs.lemmas.Int.Digits.{digits_value_more}
@@ -17,7 +17,8 @@ loop-digit-preserved c =
     let digit = get_or word i 0 in
     let read = c.in_ok-number.ensures in
     record {
-      digits = more_digits i word c.loop-digit-test.true c.loop-digit.invariant.digits read.0.0;
+      digits = rw add-one (more_digits i word c.loop-digit-test.true
+          c.loop-digit.invariant.digits read.0.0);
       value = read.1
           ∙ ap (λ n. n * 10 + digit_value digit) c.loop-digit.invariant.value
           ∙ sym (digits_value_more 10 word i c.loop-digit-test.true);

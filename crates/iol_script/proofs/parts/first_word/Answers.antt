@@ -1,16 +1,11 @@
 use Rattle.std.proofs.Common.{◌==◌, sym}
 use Rattle.std.proofs.lemmas.List.{take_rest}
-use Rattle.std.proofs.lemmas.List.Quantifiers.{position-Some}
 use Rattle.iol_script.proofs.Cutting.{word_at, last_word}
 use Rattle.iol_script.proofs.parts.first_word.Goals as goal
 
 pub returns-in-Some-clause-parts : goal.returns-in-Some-clause-parts
 returns-in-Some-clause-parts c =
-    let line = c.args.line.now in
-    let place = c.in-Some.place in
-    let at = sym c.in-Some.ensures in
-    let within = (position-Some (λ b. b == 32) line place 0 at).0 in
-    rw take_rest (word_at (λ b. b == 32) line place at within)
+    rw take_rest (word_at (λ b. b == 32) c.args.line.now c.in-Some.place (sym c.in-Some.ensures))
 
 pub returns-in-None-clause-parts : goal.returns-in-None-clause-parts
 returns-in-None-clause-parts c =

@@ -1,30 +1,25 @@
 use Rattle.std.proofs.Common.{◌≡◌, ◌+◌, ◌<◌, ℕ, List, get_or, take, length, refl, arith}
-use Rattle.std.specs.Prelude.{Result, Ok, Err}
+use Rattle.std.specs.Prelude.{Result, Ok}
 use Rattle.std.specs.List.{FoldsTo}
-use Rattle.std.proofs.lemmas.Fn.{FoldsTo-push}
-use Rattle.std.proofs.lemmas.List.{take_more}
 use Rattle.iol_book.specs.declared.entries.Outcome.{Outcome}
-use Rattle.iol_book.specs.declared.entries.Outcome.TheVariants.{Done, Unknown, Withdrawn, NoIsdu}
+use Rattle.iol_book.specs.declared.entries.Outcome.TheVariants.{Done}
 use Rattle.iol_port.specs.declared.fault.PortFault.{PortFault}
 use Rattle.iol_clients.specs.declared.counts.Counted.{Counted}
 use Rattle.iol_clients.specs.Counts.{noted, Notes}
+use Rattle.iol_clients.proofs.Folds.{folded}
 use Rattle.iol_clients.proofs.client.Client.collect.Goals as goal
 
 one_noted : (c : Counted) (answer : Result Outcome PortFault)
     → (noted c answer).tickets ≡ c.tickets + 1
 one_noted c (Ok (Done answer)) = refl
-one_noted c (Ok (Unknown cause)) = refl
-one_noted c (Ok Withdrawn) = refl
-one_noted c (Ok NoIsdu) = refl
-one_noted c (Err why) = refl
+one_noted c answer = refl
 
 module _ {P A : Type 0} (R : P → A → P → Type 0) (p q u : P) (xs ys : List A) (i : ℕ)
     (same : ys ≡ xs) where
   one_more : (d : A) → i < length ys → FoldsTo R p (take i xs) q → R q (get_or ys i d) u
       → FoldsTo R p (take (i + 1) xs) u
   one_more d below before step =
-      rw (take_more xs i d (rw same at below))
-      (FoldsTo-push R p (take i xs) q (get_or xs i d) u before (rw same at step))
+      folded xs i (get_or ys i d) d (rw same refl) (rw same at below) p q u R before step
 
 pub loop-ticket-preserved : goal.loop-ticket-preserved
 loop-ticket-preserved g c =
@@ -38,11 +33,7 @@ loop-ticket-preserved g c =
       noted = one_more (Notes g.W.Wire.facts) _ (c.loop-ticket.held, c.loop-ticket.counted) _ _ _ _
           c.deref-ticket-items.ensures.value _ c.loop-ticket-test.true before.noted (
             c.collect.result,
-            record {
-              does = collect.does;
-              gives = collect.gives;
-              rest = collect.rest;
-            },
+            record { does = collect.does; gives = collect.gives; rest = collect.rest },
             c.note.ensures.noted,
           );
     }

@@ -1,19 +1,18 @@
 use Rattle.std.proofs.Common.{◌≡◌, Ok, Err, length, inl, refl, ap, arith, rules}
-use Rattle.iol_script.specs.Plan.{planned_after}
-use Rattle.iol_script.specs.Text.{lines_left, numbered_lines}
-use Rattle.iol_script.proofs.PlanLemmas.{plan-bad, few_lines}
+use Rattle.iol_script.specs.Plan.{draft_after, planned_after, whole_plan}
+use Rattle.iol_script.proofs.LinesRead.{read-bad}
+use Rattle.iol_script.proofs.PlanLemmas.{few_lines}
 use Rattle.iol_script.proofs.plan.Plan.read.Goals as goal
 
 pub returns-in_default-clause-bad_line : goal.returns-in_default-clause-bad_line
 returns-in_default-clause-bad_line c =
     let number = c.in-Some.number in
-    let line = c.in-Some.line.now in
-    let bad : planned_after (Ok c.loop-number.draft) (number, line) ≡ Err number = search rules in (
+    let bad : planned_after (Ok c.loop-number.draft) (number, c.in-Some.line.now) ≡ Err number =
+    search rules in (
       number,
       refl,
-      plan-bad (numbered_lines c.args.input.now) (lines_left c.loop-number.number-iterator)
-          (lines_left c.next.new.self) c.loop-number.draft number line number
-          c.loop-number.invariant.1 c.in-Some.ensures.steps bad,
+      ap (whole_plan _) (read-bad draft_after _ c.loop-number.draft _ _ _ number
+          c.loop-number.invariant.1 c.in-Some.ensures.steps bad),
     )
 
 pub count-requires-clause-fits : goal.count-requires-clause-fits
