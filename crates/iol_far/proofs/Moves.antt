@@ -67,6 +67,15 @@ still_base : (size : ℕ) (base : List Carried) (h : HandsOver) (r : Request) (s
     → IsWritten h size base r 0 s n carried → carried ≡ base
 still_base size base h r s n carried given given2 = grind (arith, common_steps)
 
+-- only a Begin hands a request over
+abbrev pub Begins : Move → Type 0
+Begins (Begin r) = Unit {0}
+Begins what = ⊥
+
+pub begins_whole : (h : HandsOver) (size : ℕ) (what : Move) → hands_whole h size what ≡ true
+    → Begins what
+begins_whole h size what whole = grind (arith, common_steps)
+
 -- What is known where a question found nothing, after so many tries
 module _ (k : Recalls) (base : List Carried) where
   abbrev pub Unheard : ℕ → Request → List Carried → Type 0
@@ -253,9 +262,10 @@ module _ (kind : Kind) (size : ℕ) (texts : TextLaws size) (laws : SegmentLaws 
         → carried ≡ base → Left known tries p c read f od s n carried (Begin r)
     has_begun r move needs same =
         let b = begins_by size p r c read f od move in
-        let w = begun kind.recalls size laws base kind.hands_over r
-        (recalled kind.recalls size s) n carried b.4 same in
-        rw (needs, b.1, b.2, b.3, b.5) (record { mid = (b.4, w); stood = (b.4, w) })
+        let w = λ (now : List Carried). begun kind.recalls size laws now kind.hands_over r
+        (recalled kind.recalls size s) n carried b.4 in
+        rw (needs, b.1, b.2, b.3, b.5)
+        (record { mid = (b.4, w base same); stood = (b.4, w carried refl) })
 
   -- the first hearing of a message
   pub first_hear : (known : Bool) (tries : ℕ) (p : Progress) (c : Channel) (read : Bool) (f : Flow)
@@ -308,6 +318,17 @@ module _ (kind : Kind) (size : ℕ) (texts : TextLaws size) (laws : SegmentLaws 
                 (a, f, g, t_is, more, inl sent);
           })
   first_hear known tries p c read f od s n carried what m needs st = absurd m
+
+  -- the only segment of a request that it hands over: whatever it held, it has that now
+  pub whole_hear : (known : Bool) (tries : ℕ) (p : Progress) (c : Channel) (read : Bool) (f : Flow)
+      (od : List ℕ) (s : IsduState) (n : Option ℕ) (carried : List Carried) (what : Move)
+      → hands_whole kind.hands_over size what ≡ true
+      → IsMove size what p c read f od → Needs known what → carried ≡ base
+      → Left known tries p c read f od s n carried what
+  whole_hear known tries p c read f od s n carried (Begin r) whole m needs same =
+      has_begun known tries p c read f od s n carried r m needs same
+  whole_hear known tries p c read f od s n carried what whole m needs same =
+      absurd (begins_whole kind.hands_over size what whole)
 
   -- and a later one
   pub again_hear : (known : Bool) (tries : ℕ) (p : Progress) (c : Channel) (read : Bool) (f : Flow)

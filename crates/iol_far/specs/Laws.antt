@@ -127,7 +127,9 @@ pub record ReplySays (page : List ℕ) (kind : Kind) (recalls : Recalls) (tries 
   pub before : IsBefore page kind size (base_after what base heard.far.carried)
       (turned page link octets message)
       (after recalls tries progress what (isdu_data size heard.far.isdu)) heard.far
-  pub grown : IsGrown base progress heard.far.carried
+  -- where it handed no request over a second time
+  pub grown : IsOutOnce kind.hands_over size what (suc tries)
+      → IsGrown base progress heard.far.carried
   pub reply_is : heard.reply
       ≡ Some (octets_of
       (reply_to heard.far (layout_in page (turned page link octets message).mode) message))
@@ -135,12 +137,11 @@ pub record ReplySays (page : List ℕ) (kind : Kind) (recalls : Recalls) (tries 
 pub record LevelLaws (size : ℕ) : Type 0 where
   pub stays : (page : List ℕ) (kind : Kind) (base : List Carried) (link : Link)
       (progress : Progress) (octets : List ℕ) → LevelStays page kind size base link progress octets
-  -- a good reply, to a message that hands no request over a second time
+  -- a good reply
   pub replies : (page : List ℕ) (kind : Kind) (base : List Carried) (link : Link)
       (progress : Progress) (octets : List ℕ) (message : MasterMsg) (what : Move)
       → IsSent page size link progress octets message what
-      → (most : ℕ) → IsOutOnce kind.hands_over size what (suc most)
-      → (recalls : Recalls) → RecallsAtLeast recalls kind.recalls
+      → (most : ℕ) → (recalls : Recalls) → RecallsAtLeast recalls kind.recalls
       → (far : Far) → IsLevel page kind size base link progress octets most far
       → (reply : List ℕ) → (hear far octets).reply ≡ Some reply
       → ReplySays page kind recalls most size base link progress octets message what

@@ -121,9 +121,11 @@ pub data Move : Type 0 where
   -- nothing on the ISDU channel
   Other : Move
 
--- the record that the next request begins with
+-- the record that the request under way began with, or the next one begins with: with a request's
+-- first segment it is the one of now
 abbrev pub base_after : Move → List Carried → List Carried → List Carried
 base_after Leave base carried = carried
+base_after (Begin request) base carried = carried
 base_after any base carried = base
 
 -- What a reply says

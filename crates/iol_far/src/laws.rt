@@ -62,12 +62,16 @@ pub fn requests_are_received()
     texts_join();
 }
 
-/// What a master may conclude of a device of any kind, where it asks before it repeats: while a
-/// message is out, and from one good reply. From one good reply to IDLE or ABORT to the next such
-/// the record gains a request under way at most once.
+/// What a master may conclude of a device of any kind: while a message is out, and from one good
+/// reply. From one good reply to IDLE or ABORT to the next such the record gains a request under
+/// way at most once, unless a message that hands the whole of it over was out more than once.
 ///
-/// A request of one segment is sent to a device that surely holds nothing. Where no good reply
-/// comes, a START read goes out in place of the repeat, whose reply says whether it was heard.
+/// A master that never lets that be sends such a request to a device that surely holds nothing.
+/// Where no good reply comes, a START read goes out in place of the repeat, whose reply says
+/// whether it was heard. One that repeats it knows with the good reply that the device has it now,
+/// however often it carried it out before.
+///
+/// Rule DEV-20.
 pub fn ends_stay_level()
     ensures { (size : ℕ) → 1 ≤ size → LevelLaws size }
 {

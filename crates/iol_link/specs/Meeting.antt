@@ -53,7 +53,8 @@ pub record LinkExchanges : Type 0 where
 -- The request and the record too
 
 -- the state before the next message, for a master that trusts a device to recall its answers so
--- long, after so many tries in vain
+-- long, after so many tries in vain; and what the record has gained, where the message handed no
+-- request over a second time
 pub record LevelMet (page : List ℕ) (recalls : Recalls) (tries size : ℕ) (base : List Carried)
     (link : Link) (progress : Progress) (octets : List ℕ) (message : MasterMsg) (what : Move)
     (layout : Shape) (silence : ℕ) (far : Far) (reply : Reply) : Type 0 where
@@ -61,16 +62,17 @@ pub record LevelMet (page : List ℕ) (recalls : Recalls) (tries size : ℕ) (ba
   pub before : IsBefore far.page far.kind size (base_after what base far.carried)
       (turned page link octets message)
       (after recalls tries progress what (isdu_data size far.isdu)) far
-  pub grown : IsGrown base progress far.carried
+  pub grown : IsOutOnce far.kind.hands_over size what (suc tries)
+      → IsGrown base progress far.carried
   pub reply_is : reply ≡ reply_to far layout message
 
 pub record LevelMissed (size : ℕ) (base : List Carried) (link : Link) (progress : Progress)
     (octets : List ℕ) (what : Move) (tries silence : ℕ) (far : Far) : Type 0 where
   pub few : tries + 1 ≤ silence
   pub level : IsLevel far.page far.kind size base link progress octets (tries + 1) far
-  pub grown : IsGrown base (under_way far.kind.hands_over size progress what) far.carried
+  pub grown : IsOutOnce far.kind.hands_over size what (suc tries)
+      → IsGrown base (under_way far.kind.hands_over size progress what) far.carried
 
--- A message that hands a request over was not out before
 pub record LevelExchanges (size : ℕ) : Type 0 where
   pub met : (far : Far) (silence : ℕ) (octets : List ℕ) (answer : Option (List ℕ)) (far_new : Far)
       (silence_new : ℕ) → HonestExchange far silence octets answer far_new silence_new
@@ -78,7 +80,6 @@ pub record LevelExchanges (size : ℕ) : Type 0 where
       → IsOut far.page link octets message layout
       → (base : List Carried) (progress : Progress) (what : Move)
       → IsSent far.page size link progress octets message what
-      → IsOutOnce far.kind.hands_over size what (suc tries)
       → (recalls : Recalls) → RecallsAtLeast recalls far.kind.recalls
       → IsLevel far.page far.kind size base link progress octets tries far
       → (reply : Reply) → good_reply layout message answer ≡ Some reply
@@ -91,7 +92,6 @@ pub record LevelExchanges (size : ℕ) : Type 0 where
       → IsOut far.page link octets message layout
       → (base : List Carried) (progress : Progress) (what : Move)
       → IsSent far.page size link progress octets message what
-      → IsOutOnce far.kind.hands_over size what (suc tries)
       → IsLevel far.page far.kind size base link progress octets tries far
       → tries < 3 → tries ≤ silence → good_reply layout message answer ≡ None
       → LevelMissed size base link progress octets what tries silence_new far_new
