@@ -1,7 +1,8 @@
 -- A request is begun, and an abort is let wait, in OPERATE.
 use Rattle.std.proofs.lemmas.Grind.{common_steps}
 use Rattle.std.proofs.Common.{arith, ◌≡◌, inl, ℕ, suc, Bool, true, false, List, refl, sym, ap, ◌∙◌, subst}
-use Rattle.std.specs.Prelude.{Option, Some, None, IfSome, IsSome, IsTrue}
+use Rattle.std.specs.Prelude.{Option, Some, None, IfSome, IsSome, IsTrue, unwrap_or}
+use Rattle.std.specs.Option.{option_map}
 use Rattle.iol_mseq.specs.declared.master.MasterMsg.{MasterMsg}
 use Rattle.iol_page.specs.Page.{knows_isdu}
 use Rattle.iol_page.specs.declared.page.Layouts.{Layouts}
@@ -12,12 +13,13 @@ use Rattle.iol_far.specs.Far.{Far}
 use Rattle.iol_mseq.specs.Shape.{Shape}
 use Rattle.iol_mseq.specs.Texts.{master_text}
 use Rattle.iol_far.specs.declared.kind.Kind.{Kind}
+use Rattle.iol_far.specs.declared.kind.HandsOver.{HandsOver}
 use Rattle.iol_far.specs.Level.{Progress, Move, Link, IsIdle, IsOutOnce, IsSent, IsBefore, IsLevel}
 use Rattle.iol_link.specs.Attempts.{Sending}
 use Rattle.iol_mode.specs.declared.states.Operate.{Operate}
 use Rattle.iol_mode.specs.Next.{message_out}
 use Rattle.iol_steps.specs.Session.{MaySession}
-use Rattle.iol_steps.specs.Step.{Image, Moment, Deny}
+use Rattle.iol_steps.specs.Step.{Image, Moment, Deny, repeats_at, doubts_at}
 use Rattle.iol_steps.specs.Bridge.{Hidden, IsOpen}
 use Rattle.iol_steps.specs.Station.{Reading, AnswerFits}
 use Rattle.iol_steps.specs.Exchange.{MayAbort}
@@ -34,7 +36,7 @@ use Rattle.iol_app.specs.Ends.{BusySeen, AbortAt, OperateLink}
 use Rattle.iol_app.specs.State.{SessionState, IsOutBy, OutSuits, od_size}
 use Rattle.iol_app.proofs.Moving.{resting_idle, sent_busy}
 use Rattle.iol_app.proofs.Shown.{shown_as}
-use Rattle.iol_app.specs.Core.{Ghost, Stands, BeginGives, Work, work_of, progress_in, vain_by, vain_in, AgainBy, OutBy, LevelOut, operate_core, begun_ghost, asking_ghost, session_in, reading_in}
+use Rattle.iol_app.specs.Core.{Ghost, Stands, BeginGives, Work, work_of, repeats_in, progress_in, vain_by, vain_in, AgainBy, OutBy, LevelOut, operate_core, begun_ghost, asking_ghost, session_in, reading_in}
 
 -- where one may follow, the progress stays as it is
 begun_progress : (devices : Devices) (clear : Bool) (size : ℕ) (request : Request)
@@ -42,15 +44,15 @@ begun_progress : (devices : Devices) (clear : Bool) (size : ℕ) (request : Requ
     ≡ progress_of devices clear None
 begun_progress devices clear size request follows = grind (arith, common_steps)
 
-pub waiting_at : (devices : Devices) (limit busy : ℕ) (asked : Bool) (cause : Cause)
-    (abort : Option Cause) → AbortAt devices limit abort busy asked
-    → MayAbort devices limit busy asked cause
-    → AbortAt devices limit (waiting abort cause) busy asked
-waiting_at devices limit busy asked cause abort h may = grind (arith, common_steps)
+pub waiting_at : (doubts : Bool) (limit busy : ℕ) (asked : Bool) (cause : Cause)
+    (abort : Option Cause) → AbortAt doubts limit abort busy asked
+    → MayAbort doubts limit busy asked cause
+    → AbortAt doubts limit (waiting abort cause) busy asked
+waiting_at doubts limit busy asked cause abort h may = grind (arith, common_steps)
 
-pub marked_at : (devices : Devices) (limit busy : ℕ) (asked : Bool) (abort : Option Cause)
-    → AbortAt devices limit abort busy asked → AbortAt devices limit abort busy true
-marked_at devices limit busy asked abort h = grind (arith, common_steps)
+pub marked_at : (doubts : Bool) (limit busy : ℕ) (asked : Bool) (abort : Option Cause)
+    → AbortAt doubts limit abort busy asked → AbortAt doubts limit abort busy true
+marked_at doubts limit busy asked abort h = grind (arith, common_steps)
 
 -- what a message is for stays, where its request changes in nothing but that
 pub record SameFor (devices : Devices) (old new : Option Current) (e : Exchange) : Type 0 where
@@ -94,10 +96,10 @@ module _ (t : SessionState) (old new : Option Current)
             (progress_in (at (Some x) new)) o out.message m) is.move
             (subst (λ (p : Progress). IsSent page layouts.run.od link p o out.message
             (move_for x old)) progress h.goes);
-        once = subst (λ (m : Move). IsOutOnce kind.hands_over layouts.run.od m
+        once = λ any. subst (λ (m : Move). IsOutOnce kind.hands_over layouts.run.od m
             (suc (vain_by t.configuration.devices x new out.tries))) is.move
             (subst (λ (k : ℕ). IsOutOnce kind.hands_over layouts.run.od (move_for x old)
-            (suc k)) (is.vain out.tries) h.once);
+            (suc k)) (is.vain out.tries) (h.once any));
         again = is.again out.tries h.again;
         goes_on = λ k. is.goes_on k (h.goes_on k);
         confirm = h.confirm;
@@ -144,8 +146,9 @@ module _ (t : SessionState) (old new : Option Current)
       → (IsTrue fresh
       → IsIdle (progress_of t.configuration.devices t.clear new) × (handed far.isdu ≡ None))
       → hidden.late ≡ None → IsOpen far.isdu (request_in new) hidden
-      → AnswerFits g.request.base (request_in new) hidden far.carried
-      → BusySeen t.configuration.devices t.limit new busy asked
+      → (repeats_in g.kind.hands_over s.layouts.run.od (at t.exchange new) ≡ false
+      → AnswerFits g.request.base (request_in new) hidden far.carried)
+      → BusySeen (doubts_at t.configuration.devices g.kind.recalls) t.limit new busy asked
       → (IsSome (request_in new) → IsTrue (knows_isdu g.page))
       → Stands (operate_core s t new) (record g {
         request = record g.request { hidden = hidden; busy = busy; asked = asked };
@@ -154,7 +157,6 @@ module _ (t : SessionState) (old new : Option Current)
   stands_same s g far n hidden busy asked fresh h same idle late opens answer seen known = record {
     page = h.page;
     kind = h.kind;
-    for_it = h.for_it;
     sees = h.sees;
     fits = h.fits;
     link = h.link;
@@ -186,6 +188,12 @@ module _ (t : SessionState) (old new : Option Current)
 
 -- Begun
 
+-- where none is under way nothing hands one over
+unbegun : (devices : Devices) (hands_over : HandsOver) (size : ℕ) (e : Option Exchange)
+    → unwrap_or (option_map (λ x. repeats_at devices hands_over size (move_for x None)) e) false
+    ≡ false
+unbegun devices hands_over size e = grind (arith, common_steps)
+
 opened : (state : IsduState) (h : Hidden) (r : Request) → IsOpen state None h → h.late ≡ None
     → IsOpen state (Some r) (record { answer = None; late = None }) × (handed state ≡ None)
 opened state h r opens late = grind (arith, common_steps)
@@ -213,8 +221,13 @@ begin_gives s t g far n request h suits known follows =
       stands = stands_same t None next (sym stays) (λ k. refl) s g far n
           (record { answer = None; late = None }) 0 false true h same
           (λ k. (subst IsIdle (sym stays) (resting_idle devices t.clear), opens.1)) refl opens.0
-          (inl (refl, h.request.answer)) (
-            sent_busy devices (record { source = request; size = od_size t.layout; given = 0 })
+          (λ once. inl (
+            refl,
+            h.request.answer (unbegun t.configuration.devices g.kind.hands_over
+                s.layouts.run.od t.exchange),
+          )) (
+            sent_busy (doubts_at devices g.kind.recalls)
+                (record { source = request; size = od_size t.layout; given = 0 })
                 _ 0 refl,
             tt,
           ) (λ k. has);
@@ -237,13 +250,27 @@ denies s t g far n moment ticket h none page = (
 
 -- An abort waits
 
+aborted_once : (devices : Devices) (hands_over : HandsOver) (size : ℕ) (cause : Cause)
+    (current : Current) (e : Option Exchange)
+    → unwrap_or (option_map (λ x. repeats_at devices hands_over size
+    (move_for x (Some (aborted cause current)))) e) false ≡ false
+    → unwrap_or (option_map (λ x. repeats_at devices hands_over size
+    (move_for x (Some current))) e) false ≡ false
+aborted_once devices hands_over size cause current None once = refl
+aborted_once devices hands_over size cause current (Some x) once =
+    ap (repeats_at devices hands_over size)
+    (aborted_same devices cause current x).move ∙ once
+
 pub aborts_by : (cause : Cause) (asks : Bool) (s : Operate) (t : SessionState)
     (current : Current) (g : Ghost) (far : Far) (n : ℕ)
     → Stands (operate_core s t (Some current)) g far n
-    → AbortAt t.configuration.devices t.limit (waiting current.abort cause) g.request.busy asks
+    → AbortAt (doubts_at t.configuration.devices g.kind.recalls) t.limit
+    (waiting current.abort cause) g.request.busy asks
     → Stands (operate_core s t (Some (aborted cause current))) (asking_ghost asks g) far n
 aborts_by cause asks s t current g far n h may =
     stands_same t (Some current) (Some (aborted cause current)) refl (λ k. k) s g far n
     g.request.hidden g.request.busy asks g.fresh h
     (λ x k. aborted_same t.configuration.devices cause current x) h.fresh h.request.late
-    h.request.opens h.request.answer (h.request.busy.0, may) h.request.known
+    h.request.opens (λ once. h.request.answer (aborted_once t.configuration.devices
+    g.kind.hands_over s.layouts.run.od cause current t.exchange once)) (h.request.busy.0, may)
+    h.request.known

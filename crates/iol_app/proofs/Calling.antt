@@ -23,15 +23,15 @@ use Rattle.iol_steps.specs.Exchange.{hidden_lost}
 use Rattle.iol_app.proofs.KindsSession.{lost_opens}
 use Rattle.iol_app.specs.Requests.{request_in}
 use Rattle.iol_app.specs.State.{SessionState, wanting}
-use Rattle.iol_mode.specs.Kinds.{IsFor, SeesPulses}
+use Rattle.iol_mode.specs.Kinds.{SeesPulses}
 use Rattle.iol_app.specs.StationState.{StateFits as Joined}
 use Rattle.iol_app.specs.Core.{Core, Ghost, Stands, RequestStands, work_of, session_in, opened_core, opened_ghost, wanting_core, restarted_core, restarted_ghost}
 
 pub opens : (devices : Devices) (limit : ℕ) (far : Far) (silence : ℕ) (told : Bool)
     (due : Event × List Event)
-    → IsFor devices far.kind → SeesPulses devices far
+    → SeesPulses devices far
     → Stands (opened_core devices limit) (opened_ghost far told due) far silence
-opens devices limit far silence told due for_it sees = grind (arith, common_steps)
+opens devices limit far silence told due sees = grind (arith, common_steps)
 
 joined_want : (state : State) (t : SessionState) (image : Option (List ℕ)) → Joined state t
     → Joined state (wanting image t)

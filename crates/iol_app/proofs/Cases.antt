@@ -1,35 +1,34 @@
 -- The good replies of OPERATE, kind by kind, by the code's own data.
 use Rattle.std.proofs.lemmas.Grind.{common_steps}
-use Rattle.std.proofs.Common.{◌≡◌, inl, inr, ℕ, zero, suc, ◌+◌, ◌*◌, ◌%◌, ◌<◌, min, Bool, true, false, ◌==◌, not, ◌&&◌, List, [], ◌∷◌, ◌++◌, length, refl, sym, ap, ◌∙◌, subst, arith, Option, Some, None}
+use Rattle.std.proofs.Common.{◌≡◌, inl, inr, ℕ, zero, suc, ◌+◌, ◌*◌, ◌%◌, ◌<◌, min, Bool, true, false, ◌==◌, not, ◌&&◌, List, [], ◌∷◌, ◌++◌, length, refl, sym, ap, ◌∙◌, subst, arith, Option, Some, None, ◌⊎◌}
 use Rattle.std.specs.Prelude.{IfSome, IsTrue, is_some, if◌then◌else◌, nat_lt, slice_index, MatchOption, bytes_eq, replicate}
 use Rattle.std.proofs.lemmas.Bool.Decides.{nat_tests}
 use Rattle.arrayvec.specs.ArrayVec.{ArrayVec}
 use Rattle.iol_octets.specs.declared.control.Channel.{Channel}
 use Rattle.iol_octets.specs.declared.flow_control.Flow.{Flow}
 use Rattle.iol_octets.specs.declared.flow_control.Flow.TheVariants.{Count}
-use Rattle.iol_mseq.specs.Texts.{master_text}
-use Rattle.iol_isdu.specs.Answers.{is_read}
+use Rattle.iol_isdu.specs.Answers.{is_read, answer_fault}
 use Rattle.iol_isdu.specs.declared.values.Request.{Request}
 use Rattle.iol_isdu.specs.declared.values.Answer.{Answer}
 use Rattle.iol_isdu.specs.declared.values.Cause.{Cause}
 use Rattle.iol_isdu.specs.declared.values.Cause.TheVariants.{BusyTooLong, Protocol}
 use Rattle.iol_segment.specs.Cut.{Cutting, last_given}
-use Rattle.iol_segment.specs.Join.{Joining, Stage, Taken, stage, staged, taken as taken_by}
+use Rattle.iol_segment.specs.Join.{Joining, Stage, Taken, stage, staged, taken as taken_by, Open, Complete, Wrong}
 use Rattle.iol_segment.specs.TextLaws.{joined as joined_octets}
 use Rattle.iol_far.specs.declared.carried.Carried.{Carried}
 use Rattle.iol_far.specs.Codec.{flow_of}
 use Rattle.iol_far.specs.Far.{Far}
 use Rattle.iol_far.specs.Isdu.{answer_text, isdu_data}
+use Rattle.iol_far.specs.declared.kind.HandsOver.{HandsOver}
 use Rattle.iol_far.specs.declared.kind.Recalls.{Recalls}
 use Rattle.iol_far.specs.declared.kind.Recalls.TheVariants.{UntilSent}
-use Rattle.iol_far.specs.Level.{Progress, Clear, Busy as IsBusy, Had as IsHad, Unsure, Stands as FarStands, Move, Ask, Next, Leave, Other, IsMove, IsIdle, is_open, asked as level_asked, may_be_none, after, base_after, IsBefore}
+use Rattle.iol_far.specs.Level.{Progress, Clear, Busy as IsBusy, Had as IsHad, Unsure, Stands as FarStands, Move, Ask, Next, Leave, Other, IsMove, IsIdle, is_open, asked as level_asked, may_be_none, after, base_after, IsBefore, IsSettled, grown_by}
 use Rattle.iol_mode.specs.declared.configuration.Devices.{Devices}
 use Rattle.iol_mode.specs.declared.configuration.Devices.TheVariants.{Own, Any}
 use Rattle.iol_mode.specs.Kinds.{trusted}
-use Rattle.iol_link.specs.Honest.{Clean}
 use Rattle.iol_mode.specs.Stands.{operate_link}
 use Rattle.iol_steps.specs.declared.said.Said.TheVariants.{Busy as SaidBusy, Answered, Cut as SaidCut, Reported}
-use Rattle.iol_steps.specs.Step.{Busy, Done, Unknown, Report, ShowImage, Exchanged}
+use Rattle.iol_steps.specs.Step.{repeats_at, Busy, Done, Unknown, Report, ShowImage, Exchanged, misreads_at, doubts_at}
 use Rattle.iol_steps.specs.Kinds.{WasBusy, WasAnswered, WasAborted, WasReported, quiet_said}
 use Rattle.iol_steps.specs.Exchange.{IsAnswerOf, ReadsAnswer, TextNamesAnswer}
 use Rattle.iol_app.proofs.Given.{Laws}
@@ -37,15 +36,14 @@ use Rattle.iol_app.proofs.EventReading.{ReaderLaws, undue}
 use Rattle.iol_steps.specs.Station.{frozen_of}
 use Rattle.iol_event.specs.declared.event.Event.{Event}
 use Rattle.iol_event.specs.Reading.{taken as taken_octet}
-use Rattle.iol_app.proofs.Clash.{exchange_before, calm_exchange}
-use Rattle.iol_app.proofs.KindsSession.{busy_session, answered_session, aborted_session, busy_base, busy_unanswered, had_answer}
+use Rattle.iol_app.proofs.KindsSession.{busy_session, answered_session, aborted_session, busy_base, busy_unanswered, had_answer, grown_answered}
 use Rattle.iol_app.proofs.Moves.{asks_data, answers_base}
 use Rattle.iol_app.specs.declared.request.Current.{Current}
 use Rattle.iol_app.specs.declared.request.Progress.{Progress as Cursor}
 use Rattle.iol_app.specs.declared.request.Progress.TheVariants.{Sending as Cut, Doubting, Asking, Receiving, Refused}
 use Rattle.iol_app.specs.declared.session.Exchange.{Exchange}
 use Rattle.iol_app.specs.declared.session.Exchange.TheVariants.{Abort, ReadEvent, ConfirmEvents, Request as NextMessage, Idle}
-use Rattle.iol_app.specs.Requests.{text_of, sending, sent_on, sent_anew, one_more, waited, waiting, refused, are_zeros, forgotten_by, Outcome, GoesOn, HasText, asked, doubted, joined, received, replied, replied_at, going, current_after, IsOutcomeSaid, IsJoining, Suits, request_in}
+use Rattle.iol_app.specs.Requests.{text_of, sending, sent_on, sent_anew, one_more, waited, waiting, refused, are_zeros, forgotten_by, Outcome, GoesOn, HasText, asked, doubted, joined, received, replied, replied_at, going, current_after, IsOutcomeSaid, IsJoining, Suits, request_in, finished}
 use Rattle.iol_app.specs.Moves.{move_for, before_last, progress_of, segment_move, move_at, next_segment, octets_had, IsReading, is_forgotten, IsTakenUp, AnswersAreTakenUp}
 use Rattle.iol_app.specs.Ends.{BusyAt, AbortAt}
 use Rattle.iol_app.specs.EventReading.{reader_of, list_read}
@@ -55,18 +53,30 @@ use Rattle.iol_app.proofs.Joining.{taken_next}
 use Rattle.iol_app.proofs.Sessions.{text_some}
 use Rattle.iol_app.proofs.StartExchange.{resting_quiet}
 use Rattle.iol_app.specs.Core.{vain_by, AgainBy, reading_in, moment_of, seen_in, core_out}
-use Rattle.iol_app.proofs.Had.{Good, Replied, Reads, Comes, keeps, rests, took, goes_on, tied, before, settled, reached, text, od_is, told_now, there, told, h}
+use Rattle.iol_app.proofs.Had.{Good, Replied, Reads, Comes, before_brought, before_busy, keeps, rests, took, goes_on, tied, before, settled, reached, text, od_is, told_now, there, told, h}
 use Rattle.iol_app.proofs.ReadingOn.{Took}
+use Rattle.iol_steps.specs.Session.{MayTell}
+use Rattle.iol_app.proofs.Exchanging.{repeats_out}
+use Rattle.iol_isdu.specs.declared.fault.IsduFault.{IsduFault}
 
 first_idle : (devices : Devices) (source : Request) (given : ℕ)
     → segment_move source given ≡ Leave → IsIdle (before_last devices source given)
 first_idle devices source given e = grind (arith, common_steps)
 
-busy_waits : (devices : Devices) (limit busy : ℕ) (cancels : Bool) (abort : Option Cause)
-    (counted : ℕ) → counted ≡ min busy 65535 → AbortAt devices limit abort busy cancels
-    → AbortAt devices limit
+busy_waits : (doubts : Bool) (limit busy : ℕ) (cancels : Bool) (abort : Option Cause)
+    (counted : ℕ) → counted ≡ min busy 65535 → AbortAt doubts limit abort busy cancels
+    → AbortAt doubts limit
     (if one_more counted == limit then waiting abort BusyTooLong else abort) (busy + 1) cancels
-busy_waits devices limit busy cancels abort counted e k = grind (arith, common_steps)
+busy_waits doubts limit busy cancels abort counted e k = grind (arith, common_steps)
+
+-- a question hands nothing over
+asks_once : (devices : Devices) (hands_over : HandsOver) (size : ℕ) (what : Move)
+    → ReadsAnswer what → repeats_at devices hands_over size what ≡ false
+asks_once devices hands_over size what asks = grind (arith, common_steps)
+
+other_hands : (devices : Devices) (hands_over : HandsOver) (size : ℕ)
+    → repeats_at devices hands_over size Other ≡ false
+other_hands devices hands_over size = grind (arith, common_steps)
 
 asks_none : (size : ℕ) (p : Progress) (channel : Channel) (read : Bool) (flow : Flow)
     (sent : List ℕ) → IsIdle p → IsMove size Ask p channel read flow sent → ⊥
@@ -74,24 +84,19 @@ asks_none size p channel read flow sent idle move = grind (arith, common_steps)
 
 -- At a port for any device
 
--- only there something is in doubt, or no text of an answer
-any_doubts : (devices : Devices) (busy : ℕ) → BusyAt devices Doubting busy
-    → (devices ≡ Any) × (busy ≡ 0)
-any_doubts devices busy h = grind (arith, common_steps)
-
 any_again : (devices : Devices) → (devices ≡ Own → ⊥) → devices ≡ Any
 any_again devices other = grind (arith, common_steps)
 
-refused_waits : (devices : Devices) (limit busy : ℕ) (cancels : Bool) (abort : Option Cause)
-    → devices ≡ Any → AbortAt devices limit abort busy cancels
-    → BusyAt devices Refused busy × AbortAt devices limit (waiting abort Protocol) busy cancels
-refused_waits devices limit busy cancels abort any h = grind (arith, common_steps)
+refused_waits : (doubts : Bool) (limit busy : ℕ) (cancels : Bool) (abort : Option Cause)
+    → IsTrue doubts → AbortAt doubts limit abort busy cancels
+    → BusyAt doubts Refused busy × AbortAt doubts limit (waiting abort Protocol) busy cancels
+refused_waits doubts limit busy cancels abort may h = grind (arith, common_steps)
 
 -- the one segment goes out anew
-anew_busy : (devices : Devices) (cutter : Cutting Request) (busy : ℕ) → busy ≡ 0
+anew_busy : (doubts : Bool) (cutter : Cutting Request) (busy : ℕ) → busy ≡ 0
     → cutter.given ≡ 1
-    → BusyAt devices (sending (last_given cutter.size (text_of cutter) cutter.given)) busy
-anew_busy devices cutter busy e one = grind (arith, nat_tests, common_steps, text_some)
+    → BusyAt doubts (sending (last_given cutter.size (text_of cutter) cutter.given)) busy
+anew_busy doubts cutter busy e one = grind (arith, nat_tests, common_steps, text_some)
 
 anew_clear : (clear : Bool) (cutter : Cutting Request) (abort : Option Cause)
     → cutter.given ≡ 1 → progress_of Any clear (Some (sent_anew cutter abort)) ≡ Clear
@@ -157,10 +162,71 @@ none_refused size had cutter abort joining od k h e =
     (staged_refused cutter abort (had + 1) (Some (suc had % 16)) (joining.text ++ od) od
     (stage (joining.text ++ od)) (zeros od ∙ both.0) closed)
 
-trusts_any : (devices : Devices) (vain : ℕ) (text od : List ℕ)
-    → may_be_none (trusted devices) vain text od ≡ true
-    → (devices ≡ Any) × (k : ℕ) × (vain ≡ suc k)
-trusts_any devices vain text od e = grind (arith, common_steps)
+finished_ends : (cutter : Cutting Request) (abort : Option Cause) (text : List ℕ)
+    (fault : Option IsduFault) → let outcome : Outcome = finished cutter abort text fault in
+    (outcome ≡ GoesOn (refused cutter abort)) ⊎ ((other : List ℕ) × (outcome ≡ HasText other))
+finished_ends cutter abort text None = inr (text, refl)
+finished_ends cutter abort text (Some fault) = inl refl
+
+joined_ends : (cutter : Cutting Request) (abort : Option Cause) (had : ℕ) (count : Option ℕ)
+    (octets : List ℕ) (at : Stage) → is_open at ≡ false → let outcome : Outcome =
+    joined cutter abort had (staged false count octets at).took
+    (staged false count octets at).joining in
+    (outcome ≡ GoesOn (refused cutter abort)) ⊎ ((text : List ℕ) × (outcome ≡ HasText text))
+joined_ends cutter abort had count octets Open closed =
+    absurd (let z : true ≡ false = closed in cc)
+joined_ends cutter abort had count octets (Complete text) closed =
+    finished_ends cutter abort text (answer_fault (is_read cutter.source) text)
+joined_ends cutter abort had count octets Wrong closed = inl refl
+
+staged_ends : (again : Bool) (cutter : Cutting Request) (abort : Option Cause) (had : ℕ)
+    (count : Option ℕ) (octets od : List ℕ) (at : Stage) → is_open at ≡ false
+    → let outcome : Outcome =
+    (if again && forgotten_by (staged false count octets at).took od then GoesOn (refused cutter
+    abort) else joined cutter abort had (staged false count octets at).took
+    (staged false count octets at).joining) in
+    (outcome ≡ GoesOn (refused cutter abort)) ⊎ ((text : List ℕ) × (outcome ≡ HasText text))
+staged_ends again cutter abort had count octets od at closed = split
+    (again && forgotten_by (staged false count octets at).took od)
+  where
+    split : (b : Bool) → let outcome : Outcome =
+        (if b then GoesOn (refused cutter abort) else joined cutter abort had
+        (staged false count octets at).took (staged false count octets at).joining) in
+        (outcome ≡ GoesOn (refused cutter abort)) ⊎ ((text : List ℕ) × (outcome ≡ HasText text))
+    split true = inl refl
+    split false = joined_ends cutter abort had count octets at closed
+
+-- where they end a text, it is refused, or an answer's
+none_ends : (size had : ℕ) (cutter : Cutting Request) (abort : Option Cause)
+    (joining : Joining) (od : List ℕ) (k : ℕ) (again : Bool) → IsJoining size had joining
+    → may_be_none UntilSent (suc k) joining.text od ≡ true
+    → let outcome : Outcome = received again cutter abort joining (had + 1) od in
+    (outcome ≡ GoesOn (refused cutter abort)) ⊎ ((text : List ℕ) × (outcome ≡ HasText text))
+none_ends size had cutter abort joining od k again h e =
+    let both = and_both (bytes_eq od (replicate (length od) 0))
+    (not (is_open (stage (joining.text ++ od)))) e in
+    rw (taken_next size had joining od h)
+    (staged_ends again cutter abort (had + 1) (Some (suc had % 16)) (joining.text ++ od) od
+    (stage (joining.text ++ od)) (not_true (is_open (stage (joining.text ++ od))) both.1))
+
+trusts_none : (devices : Devices) (recalls : Recalls) (vain : ℕ) (text od : List ℕ)
+    → may_be_none (trusted devices recalls) vain text od ≡ true
+    → ((devices ≡ Any) ⊎ IsTrue (misreads_at devices recalls))
+    × ((k : ℕ) × (vain ≡ suc k) × (may_be_none UntilSent (suc k) text od ≡ true))
+trusts_none devices recalls vain text od e = grind (arith, common_steps)
+
+-- where it is told by zeros, something may be in doubt
+doubts_of : (devices : Devices) (recalls : Recalls)
+    → (devices ≡ Any) ⊎ IsTrue (misreads_at devices recalls) → IsTrue (doubts_at devices recalls)
+doubts_of devices recalls h = grind (arith, common_steps)
+
+-- a START read that brought nothing: an answer that is recalled begins otherwise
+asked_nothing : (devices : Devices) (recalls : Recalls) (source : Request) (od : List ℕ)
+    → (slice_index od 0 == 1) ≡ false → (slice_index od 0 == 0) ≡ true
+    → (level_asked (trusted devices recalls) source od ≡ IsHad source 0 od)
+    ⊎ ((level_asked (trusted devices recalls) source od ≡ Unsure source)
+    × IsTrue (doubts_at devices recalls))
+asked_nothing devices recalls source od other none = grind (arith, common_steps)
 
 not_zero : (octet : ℕ) → (octet == 1) ≡ true → (octet == 0) ≡ false
 not_zero octet e = grind (arith, nat_tests)
@@ -185,7 +251,10 @@ module _ (names : TextNamesAnswer) (taken : AnswersAreTakenUp)
   devices = t.configuration.devices
 
   abbrev trust : Recalls
-  trust = trusted devices
+  trust = trusted devices g.kind.recalls
+
+  abbrev doubts : Bool
+  doubts = doubts_at devices g.kind.recalls
 
   -- the far end behind it, and how both ends are level
   abbrev far' : Far
@@ -241,21 +310,21 @@ module _ (names : TextNamesAnswer) (taken : AnswersAreTakenUp)
       (Some (sent_on cutter abort)) refl (first_idle devices cutter.source cutter.given)
       (inl (sym (sent_follows trust (vain_by devices NextMessage (Some current) w.tries) devices
       false cutter abort flow piece od cutter.given refl a.valid.current.progress))) (
-        sent_busy devices cutter (nat_lt (cutter.given * cutter.size) (length (text_of cutter)))
+        sent_busy doubts cutter (nat_lt (cutter.given * cutter.size) (length (text_of cutter)))
             g.request.busy a.stands.request.busy.0,
         a.stands.request.busy.1,
       ) refl refl says
 
   -- what came is none of an answer, or can't be known to be one
-  refuses : (current : Current) (a : For NextMessage (Some current)) → devices ≡ Any
+  refuses : (current : Current) (a : For NextMessage (Some current)) → IsTrue doubts
       → (move_at current.cutter current.progress ≡ Leave → ⊥)
       → After current ≡ Unsure current.cutter.source → said ≡ SaidBusy
       → Had_by NextMessage (Some current) a (Some (refused current.cutter current.abort))
-  refuses current a any stays is says =
+  refuses current a may stays is says =
       goes_on laws readers turn NextMessage (Some current) a
       (keeps laws readers turn NextMessage (Some current) a refl refl)
       (Some (refused current.cutter current.abort)) refl (λ k. absurd (stays k)) (inl is)
-      (refused_waits devices t.limit g.request.busy g.request.asked current.abort any
+      (refused_waits doubts t.limit g.request.busy g.request.asked current.abort may
       a.stands.request.busy.1) refl refl says
 
   -- a START read answered busy
@@ -279,7 +348,9 @@ module _ (names : TextNamesAnswer) (taken : AnswersAreTakenUp)
       subst (λ (m : Move). LevelAt (base_after m base far'.carried) (IsBusy source)) asks
       (subst (LevelAt (base_after (move_at current.cutter current.progress) base far'.carried))
       follows (before laws readers turn NextMessage (Some current) a)) in
-      let answer = (tied laws readers turn NextMessage (Some current) a).1 in
+      let once = asks_once devices g.kind.hands_over layouts.run.od
+      (move_at current.cutter current.progress) (subst ReadsAnswer (sym asks) tt) in
+      let answer = tied laws readers turn NextMessage (Some current) a once in
       let sends : od ≡ isdu_data layouts.run.od far'.isdu =
       od_is laws readers turn NextMessage (Some current) a
       ∙ asks_data layouts.run.od progress w.message.mc.channel w.message.mc.read
@@ -300,9 +371,8 @@ module _ (names : TextNamesAnswer) (taken : AnswersAreTakenUp)
           images = ((tt, ((refl, refl), tt)), refl);
           book = rw says refl;
           reports = rw says refl;
-          apart = calm_exchange source far steps Clean
-              (master_text layouts.run w.message) g.request.hidden (Busy ∷ ShowImage ∷ []) none
-              refl refl;
+          apart = before_busy laws readers turn NextMessage (Some current) a source refl once none
+              (Busy ∷ ShowImage ∷ []) refl refl;
           calm = λ k. absurd (asks_none layouts.run.od progress w.message.mc.channel
               w.message.mc.read (flow_of w.message.mc.address) w.message.od.items
               (a.stands.fresh k).0 move);
@@ -312,11 +382,51 @@ module _ (names : TextNamesAnswer) (taken : AnswersAreTakenUp)
           answer = answer;
           busy_is = (
             omega (arith, count),
-            busy_waits devices t.limit g.request.busy g.request.asked
+            busy_waits doubts t.limit g.request.busy g.request.asked
                 current.abort counted count a.stands.request.busy.1,
           );
           sure = refl;
           known = λ k. k;
+        };
+      }
+
+  -- what is said of what a reply came to
+  abbrev Said_of : Current → Outcome → Type 0
+  Said_of current outcome = IsOutcomeSaid (is_read current.cutter.source) outcome said
+
+  -- the request has its answer, and none is under way
+  told_answer : (current : Current) (a : For NextMessage (Some current)) (p : Progress) (x : Answer)
+      → IsSettled p → After current ≡ p
+      → MayTell (moment_of (core_out layouts w t NextMessage (Some current)) g n
+      (Exchanged true)).terms x (h laws readers turn NextMessage (Some current) a).answer
+      → said ≡ Answered x → Had_by NextMessage (Some current) a None
+  told_answer current a p x over had tells says =
+      let source = current.cutter.source in
+      let reads = keeps laws readers turn NextMessage (Some current) a refl refl in
+      let h' = h laws readers turn NextMessage (Some current) a in
+      record {
+        reads = reads;
+        kind = WasAnswered x;
+        busy = g.request.busy;
+        brings = record {
+          session = answered_session (moment_of (core_out layouts w t NextMessage (Some current)) g
+              n (Exchanged true)) (seen_in (core_out layouts w t NextMessage (Some current)) g) h'
+              far'.carried source x refl tells;
+          frozen = ((tt, (tt, tt)), reads.same refl);
+          images = ((tt, ((refl, refl), tt)), refl);
+          book = rw says refl;
+          reports = rw says refl;
+          apart = before_brought laws readers turn NextMessage (Some current) a
+              (Done x ∷ ShowImage ∷ []) refl refl refl;
+          calm = λ k. refl;
+          once = refl;
+          base = far'.carried;
+          level = subst (LevelAt far'.carried) (sym (resting_quiet devices false refl))
+              (settled laws readers turn NextMessage (Some current) a p over had);
+          answer = refl;
+          busy_is = tt;
+          sure = tt;
+          known = λ k. absurd (let z : false ≡ true = k in cc);
         };
       }
 
@@ -328,7 +438,6 @@ module _ (names : TextNamesAnswer) (taken : AnswersAreTakenUp)
       → Had_by NextMessage (Some current) a None
   answered current a i octets x asks had names_it says =
       let source = current.cutter.source in
-      let reads = keeps laws readers turn NextMessage (Some current) a refl refl in
       let h' = h laws readers turn NextMessage (Some current) a in
       let level = before laws readers turn NextMessage (Some current) a in
       let stands : FarStands g.kind.hands_over layouts.run.od g.request.base
@@ -342,33 +451,25 @@ module _ (names : TextNamesAnswer) (taken : AnswersAreTakenUp)
       let answer : h'.answer ≡ Some x =
       had_answer g.kind.hands_over layouts.run.od g.request.base source i octets far'.isdu
       far'.counted far'.carried h' x stands
-      (tied laws readers turn NextMessage (Some current) a).1 names_it in
-      record {
-        reads = reads;
-        kind = WasAnswered x;
-        busy = g.request.busy;
-        brings = record {
-          session = answered_session (moment_of (core_out layouts w t NextMessage (Some current)) g
-              n (Exchanged true)) (seen_in (core_out layouts w t NextMessage (Some current)) g) h'
-              far'.carried source x refl answer;
-          frozen = ((tt, (tt, tt)), reads.same refl);
-          images = ((tt, ((refl, refl), tt)), refl);
-          book = rw says refl;
-          reports = rw says refl;
-          apart = exchange_before (Some source) far steps Clean
-              (master_text layouts.run w.message) (Done x ∷ ShowImage ∷ []) refl refl refl;
-          calm = λ k. refl;
-          once = refl;
-          base = far'.carried;
-          level = subst (LevelAt far'.carried) (sym (resting_quiet devices false refl))
-              (settled laws readers turn NextMessage (Some current) a (IsHad source i octets) tt
-              had);
-          answer = refl;
-          busy_is = tt;
-          sure = tt;
-          known = λ k. absurd (let z : false ≡ true = k in cc);
-        };
-      }
+      (tied laws readers turn NextMessage (Some current) a (asks_once devices g.kind.hands_over
+      layouts.run.od (move_at current.cutter current.progress) asks)) names_it in
+      told_answer current a (IsHad source i octets) x tt had (inl answer) says
+
+  -- the device has forgotten its answer, and zeros were taken for the end of it
+  misread : (current : Current) (a : For NextMessage (Some current)) (text : List ℕ)
+      (given : Answer) → IsTrue (misreads_at devices g.kind.recalls)
+      → repeats_out layouts t g NextMessage (Some current) ≡ false
+      → After current ≡ Unsure current.cutter.source
+      → far'.carried ≡ grown_by g.request.base current.cutter.source given
+      → Said_of current (HasText text) → Had_by NextMessage (Some current) a None
+  misread current a text given may once is grown says =
+      let (x, begins, told) = says.found in
+      told_answer current a (Unsure current.cutter.source) x tt is (inr (
+        may,
+        grown_answered g.request.base current.cutter.source given
+            (h laws readers turn NextMessage (Some current) a) far'.carried
+            (tied laws readers turn NextMessage (Some current) a once) grown,
+      )) told
 
   answer_segment : (current : Current) (a : For NextMessage (Some current))
       → IsReading current.progress → ReadsAnswer (move_at current.cutter current.progress)
@@ -409,10 +510,6 @@ module _ (names : TextNamesAnswer) (taken : AnswersAreTakenUp)
           had (names layouts.run.od current.cutter.source (next_segment current.progress)
           (octets_had current.progress od) x up.1) (says.only x up.0)
 
-  -- what a START read came to
-  abbrev Said_of : Current → Outcome → Type 0
-  Said_of current outcome = IsOutcomeSaid (is_read current.cutter.source) outcome said
-
   abbrev Had_as : (current : Current) → For NextMessage (Some current) → Outcome → Type 0
   Had_as current a outcome = Had_by NextMessage (Some current) a (going outcome)
 
@@ -442,20 +539,20 @@ module _ (names : TextNamesAnswer) (taken : AnswersAreTakenUp)
           ≡ IsHad cutter.source 0 od → Had_as current a (asked cutter abort counted t.limit od)
       had f is = answer_segment current a tt tt refl (follows ∙ is) says
 
-      none : (slice_index od 0 == 1) ≡ false → (slice_index od 0 == 0) ≡ true → (d : Devices)
-          → devices ≡ d → Had_as current a (asked cutter abort counted t.limit od)
-      none f z Own is = had f (ap (λ (d : Devices). level_asked (trusted d) cutter.source od) is
-          ∙ rw (f, z) refl)
-      none f z Any is =
+      none : (slice_index od 0 == 1) ≡ false → (slice_index od 0 == 0) ≡ true
+          → (level_asked trust cutter.source od ≡ IsHad cutter.source 0 od)
+          ⊎ ((level_asked trust cutter.source od ≡ Unsure cutter.source) × IsTrue doubts)
+          → Had_as current a (asked cutter abort counted t.limit od)
+      none f z (inl is) = had f is
+      none f z (inr (is, may)) =
           comes_to current a (asked cutter abort counted t.limit od)
           (GoesOn (refused cutter abort)) (rw (f, z) refl)
-          (refuses current a is (λ k. let q : Path Move Ask Leave = k in cc)
-          (follows ∙ ap (λ (d : Devices). level_asked (trusted d) cutter.source od) is
-          ∙ rw (f, z) refl)) says
+          (refuses current a may (λ k. let q : Path Move Ask Leave = k in cc) (follows ∙ is)) says
 
       by_nothing : (slice_index od 0 == 1) ≡ false → (b : Bool) → (slice_index od 0 == 0) ≡ b
           → Had_as current a (asked cutter abort counted t.limit od)
-      by_nothing f true z = none f z devices refl
+      by_nothing f true z =
+          none f z (asked_nothing devices g.kind.recalls cutter.source od f z)
       by_nothing f false z = had f (rw (f, z) refl)
 
       by_first : (b : Bool) → (slice_index od 0 == 1) ≡ b
@@ -476,8 +573,15 @@ module _ (names : TextNamesAnswer) (taken : AnswersAreTakenUp)
       current : Current
       current = cursor cutter Doubting again abort
 
+      -- only at a port for any device something is asked so
       any : (devices ≡ Any) × (g.request.busy ≡ 0)
-      any = any_doubts devices g.request.busy a.stands.request.busy.0
+      any = (
+        any_again devices (λ own. let z : true ≡ false = (a.valid.sure own).1 in cc),
+        a.stands.request.busy.0,
+      )
+
+      may : IsTrue doubts
+      may = doubts_of devices g.kind.recalls (inl any.0)
 
       none_counted : 0 ≡ min g.request.busy 65535
       none_counted = rw any.1 refl
@@ -495,7 +599,7 @@ module _ (names : TextNamesAnswer) (taken : AnswersAreTakenUp)
           (keeps laws readers turn NextMessage (Some current) a refl refl)
           (Some (sent_anew cutter abort)) refl
           (λ k. absurd (let q : Path Move Ask Leave = k in cc)) (inl is) (
-            anew_busy devices cutter g.request.busy any.1 a.valid.current.progress.0,
+            anew_busy doubts cutter g.request.busy any.1 a.valid.current.progress.0,
             a.stands.request.busy.1,
           ) refl refl) says
 
@@ -505,7 +609,7 @@ module _ (names : TextNamesAnswer) (taken : AnswersAreTakenUp)
           let k = vain_again devices current w.tries any.0 a.stands.request.out.again twice in
           comes_to current a (doubted again cutter abort t.limit od)
           (GoesOn (refused cutter abort)) (rw (twice, z, f) refl)
-          (refuses current a any.0 (λ k. let q : Path Move Ask Leave = k in cc)
+          (refuses current a may (λ k. let q : Path Move Ask Leave = k in cc)
           (rw (f, z, k.1) refl)) says
 
       by_again : (slice_index od 0 == 1) ≡ false → (slice_index od 0 == 0) ≡ true → (b : Bool)
@@ -562,37 +666,64 @@ module _ (names : TextNamesAnswer) (taken : AnswersAreTakenUp)
           let any = twice_any twice in
           let k = vain_again devices current w.tries any a.stands.request.out.again twice in
           let is : may_be_none trust vain joining.text od ≡ true =
-          ap (λ (d : Devices). may_be_none (trusted d) vain joining.text od) any
+          ap (λ (d : Devices). may_be_none (trusted d g.kind.recalls) vain joining.text od) any
           ∙ ap (λ (v : ℕ). may_be_none UntilSent v joining.text od) k.1
           ∙ forgotten_none cutter.size last joining od k.0 joins forgot in
           let z : true ≡ false = sym is ∙ none in cc)
 
-      refuse : (devices ≡ Any) → (k : ℕ) → vain ≡ suc k
-          → may_be_none trust vain joining.text od ≡ true → again ≡ true
+      once : repeats_out layouts t g NextMessage (Some current) ≡ false
+      once = asks_once devices g.kind.hands_over layouts.run.od Next tt
+
+      grown : (given : Answer) × (far'.carried ≡ grown_by g.request.base cutter.source given)
+      grown = a.says.grown (a.once once)
+
+      -- what came is none of an answer, or is taken for one that the device has forgotten
+      unsure : may_be_none trust vain joining.text od ≡ true
+          → After current ≡ Unsure cutter.source
+      unsure none = ap (λ (b : Bool). if b then Unsure cutter.source
+          else IsHad cutter.source (suc last) (joining.text ++ od)) none
+
+      refuse : IsTrue doubts → may_be_none trust vain joining.text od ≡ true
+          → received again cutter abort joining (last + 1) od ≡ GoesOn (refused cutter abort)
           → Had_as current a (received again cutter abort joining (last + 1) od)
-      refuse any k is none twice =
-          let none_any : may_be_none UntilSent (suc k) joining.text od ≡ true =
-          sym (ap (λ (d : Devices). may_be_none (trusted d) vain joining.text od) any
-          ∙ ap (λ (v : ℕ). may_be_none UntilSent v joining.text od) is) ∙ none in
+      refuse may none is =
           comes_to current a (received again cutter abort joining (last + 1) od)
-          (GoesOn (refused cutter abort))
-          (ap (λ (b : Bool). received b cutter abort joining (last + 1) od) twice
-          ∙ none_refused cutter.size last cutter abort joining od k joins none_any)
-          (refuses current a any (λ k. let q : Path Move Next Leave = k in cc)
-          (ap (λ (b : Bool). if b then Unsure cutter.source
-          else IsHad cutter.source (suc last) (joining.text ++ od)) none)) says
+          (GoesOn (refused cutter abort)) is
+          (refuses current a may (λ k. let q : Path Move Next Leave = k in cc) (unsure none)) says
 
       by_again : (devices ≡ Any) → (k : ℕ) → vain ≡ suc k
+          → may_be_none UntilSent (suc k) joining.text od ≡ true
           → may_be_none trust vain joining.text od ≡ true → (b : Bool) → again ≡ b
           → Had_as current a (received again cutter abort joining (last + 1) od)
-      by_again any k is none true twice = refuse any k is none twice
-      by_again any k is none false once = absurd (vain_none once k any is)
+      by_again any k is none here true twice =
+          refuse (doubts_of devices g.kind.recalls (inl any)) here
+          (ap (λ (b : Bool). received b cutter abort joining (last + 1) od) twice
+          ∙ none_refused cutter.size last cutter abort joining od k joins none)
+      by_again any k is none here false once = absurd (vain_none once k any is)
+
+      -- a port for our own takes the zeros for the text's end
+      by_outcome : IsTrue (misreads_at devices g.kind.recalls)
+          → may_be_none trust vain joining.text od ≡ true
+          → (received again cutter abort joining (last + 1) od ≡ GoesOn (refused cutter abort))
+          ⊎ ((text : List ℕ) × (received again cutter abort joining (last + 1) od ≡ HasText text))
+          → Had_as current a (received again cutter abort joining (last + 1) od)
+      by_outcome may none (inl is) = refuse (doubts_of devices g.kind.recalls (inr may)) none is
+      by_outcome may none (inr (text, is)) =
+          comes_to current a (received again cutter abort joining (last + 1) od) (HasText text) is
+          (misread current a text grown.0 may once (unsure none) grown.1) says
+
+      by_reason : ((devices ≡ Any) ⊎ IsTrue (misreads_at devices g.kind.recalls))
+          × ((k : ℕ) × (vain ≡ suc k) × (may_be_none UntilSent (suc k) joining.text od ≡ true))
+          → may_be_none trust vain joining.text od ≡ true
+          → Had_as current a (received again cutter abort joining (last + 1) od)
+      by_reason (inl any, (k, is, none)) here = by_again any k is none here again refl
+      by_reason (inr may, (k, is, none)) here = by_outcome may here
+          (none_ends cutter.size last cutter abort joining od k again joins none)
 
       by_none : (b : Bool) → may_be_none trust vain joining.text od ≡ b
           → Had_as current a (received again cutter abort joining (last + 1) od)
       by_none true none =
-          let k = trusts_any devices vain joining.text od none in
-          by_again k.0 k.1 k.2 none again refl
+          by_reason (trusts_none devices g.kind.recalls vain joining.text od none) none
       by_none false none =
           answer_segment current a tt tt (kept none)
           (ap (λ (b : Bool). if b then Unsure cutter.source
@@ -613,14 +744,14 @@ module _ (names : TextNamesAnswer) (taken : AnswersAreTakenUp)
           session = aborted_session (moment_of (core_out layouts w t Abort (Some current)) g n
               (Exchanged true)) (seen_in (core_out layouts w t Abort (Some current)) g) h'
               far'.carried source cause refl
-              (subst (λ (c : Option Cause). AbortAt devices t.limit c g.request.busy
+              (subst (λ (c : Option Cause). AbortAt doubts t.limit c g.request.busy
               g.request.asked) waits a.stands.request.busy.1);
           frozen = ((tt, (tt, tt)), reads.same refl);
           images = ((tt, ((refl, refl), tt)), refl);
           book = rw says refl;
           reports = rw says refl;
-          apart = exchange_before (Some source) far steps Clean
-              (master_text layouts.run w.message) (Unknown cause ∷ ShowImage ∷ []) refl refl refl;
+          apart = before_brought laws readers turn Abort (Some current) a
+              (Unknown cause ∷ ShowImage ∷ []) refl refl refl;
           calm = λ k. refl;
           once = refl;
           base = far'.carried;
@@ -697,13 +828,14 @@ module _ (names : TextNamesAnswer) (taken : AnswersAreTakenUp)
           images = ((tt, ((refl, refl), tt)), refl);
           book = rw says refl;
           reports = rw says refl;
-          apart = exchange_before (request_in current) far steps Clean
-              (master_text layouts.run w.message) (Report l ∷ ShowImage ∷ []) refl refl refl;
+          apart = before_brought laws readers turn ReadEvent current a
+              (Report l ∷ ShowImage ∷ []) refl refl refl;
           calm = λ k. refl;
           once = refl;
           base = g.request.base;
           level = before laws readers turn ReadEvent current a;
-          answer = (tied laws readers turn ReadEvent current a).1;
+          answer = tied laws readers turn ReadEvent current a
+              (other_hands devices g.kind.hands_over layouts.run.od);
           busy_is = a.stands.request.busy;
           sure = other_once devices ReadEvent w.tries current
               (λ k. let z : Path Exchange ReadEvent NextMessage = k in cc)

@@ -11,13 +11,14 @@ use Rattle.iol_link.specs.Honest.{Passage, OutLost}
 use Rattle.iol_far.specs.Isdu.{IsduState, Handed, fits}
 use Rattle.iol_far.specs.Far.{Far, accepted, worked, output_of}
 use Rattle.iol_far.specs.Local.{LocalStep, local, locals, has_room, Carry as OwnCarry}
-use Rattle.iol_steps.specs.Step.{Step, Carry, LateCarry, Freeze, Confirm, Make, OutputOn, OutputOff, Input, PowerLoss, Busy, Image, clash, is_clash_free, is_for_book, is_report, no_make}
-use Rattle.iol_steps.specs.Bridge.{Hidden, carry_step, carry_steps, own_step, own_steps, hidden_carried, hidden_carry, hidden_after, hidden_through, release_steps, event_steps, output_steps, confirms_by, heard_steps_as, passed_steps, exchange_steps, woken_steps, wake_steps}
+use Rattle.iol_steps.specs.Step.{Step, Carry, Again, LateCarry, Freeze, Confirm, Make, OutputOn, OutputOff, Input, PowerLoss, Busy, Image, clash, is_clash_free, is_for_book, is_report, no_make}
+use Rattle.iol_steps.specs.Bridge.{Hidden, again_by, again_steps, carry_step, carry_steps, own_step, own_steps, hidden_carried, hidden_carry, hidden_after, hidden_through, release_steps, event_steps, output_steps, confirms_by, heard_steps_as, passed_steps, exchange_steps, woken_steps, wake_steps}
 
 -- a step of the far end but the confirm
 abbrev pub is_own : Step → Bool
 is_own (Carry a) = true
 is_own (LateCarry a) = true
+is_own Again = true
 is_own (Freeze e) = true
 is_own (Input i) = true
 is_own PowerLoss = true
@@ -178,6 +179,10 @@ passed_before : (passage : Passage) (far : Far) (o : List ℕ) (ys : List Step)
 passed_before OutLost far o ys once free = before_none ys free
 passed_before other far o ys once free = heard_before_as (accepted far o) o ys once free
 
+-- none of these clashes with a busy reply
+abbrev pub no_clash : List Step → Type 0
+no_clash xs = list_all (λ step. not (clash Busy step)) xs ≡ true
+
 -- an exchange before what it brought, where that is no busy reply
 pub exchange_before : (request : Option Request) (far : Far) (steps : List LocalStep)
     (passage : Passage) (o : List ℕ) (ys : List Step) → no_busy ys ≡ true → no_confirm ys ≡ true
@@ -186,6 +191,41 @@ pub exchange_before : (request : Option Request) (far : Far) (steps : List Local
 exchange_before request far steps passage o ys calm once free =
     own_before (own_steps request far steps) (passed_steps passage (locals far steps) o) ys
     (own_all request steps far) calm (passed_before passage (locals far steps) o ys once free)
+
+-- A request that is handed over again stands beside each step
+pub record BesideAgain (again ys : List Step) : Type 0 where
+  pub busy : no_busy ys ≡ true → no_busy (again ++ ys) ≡ true
+  pub confirm : no_confirm ys ≡ true → no_confirm (again ++ ys) ≡ true
+  pub make : no_make ys ≡ true → no_make (again ++ ys) ≡ true
+  pub free : IsTrue (is_clash_free ys) → IsTrue (is_clash_free (again ++ ys))
+  pub calm : no_clash ys → no_clash (again ++ ys)
+  pub book : filter is_for_book (again ++ ys) ≡ filter is_for_book ys
+  pub reports : filter is_report (again ++ ys) ≡ filter is_report ys
+
+again_at : (answer : Option Answer) (ys : List Step) → BesideAgain (again_by answer) ys
+again_at None ys = record {
+  busy = λ k. k;
+  confirm = λ k. k;
+  make = λ k. k;
+  free = λ k. k;
+  calm = λ k. k;
+  book = refl;
+  reports = refl;
+}
+again_at (Some answer) ys = record {
+  busy = λ k. k;
+  confirm = λ k. k;
+  make = λ k. k;
+  free = λ k. (before_calm Again [] ys refl (λ y. refl) (before_none ys k)).free;
+  calm = λ k. k;
+  book = refl;
+  reports = refl;
+}
+
+pub beside_again : (request : Option Request) (state : IsduState) (h : Hidden) (ys : List Step)
+    → BesideAgain (again_steps request state h) ys
+beside_again (Some request) (Handed held) h ys = again_at h.answer ys
+beside_again request state h ys = again_at None ys
 
 -- and a wake
 woken_before : (wakes : Bool) (far : Far) (ys : List Step) → no_busy ys ≡ true
@@ -273,9 +313,6 @@ calm_exchange r far steps passage o h ys n once free =
     (own_calm r steps far h n) (passed_before passage (locals far steps) o ys once free)
 
 -- In the turn of a fresh request nothing stands that a busy reply or a taking would clash with
-
-abbrev pub no_clash : List Step → Type 0
-no_clash xs = list_all (λ step. not (clash Busy step)) xs ≡ true
 
 pub no_clash-append : (xs ys : List Step) → no_clash xs → no_clash ys → no_clash (xs ++ ys)
 no_clash-append [] ys h k = k

@@ -8,11 +8,11 @@ use Rattle.iol_image.specs.Image.{IsImage}
 use Rattle.iol_mode.specs.declared.states.Operate.{Operate}
 use Rattle.iol_mode.specs.declared.configuration.Configuration.{Configuration}
 use Rattle.iol_mode.specs.declared.configuration.Devices.{Devices}
-use Rattle.iol_mode.specs.Kinds.{IsFor, SeesPulses}
+use Rattle.iol_mode.specs.Kinds.{SeesPulses}
 use Rattle.iol_mode.specs.declared.states.State.{State}
 use Rattle.iol_mode.specs.declared.states.State.TheVariants.{Down as AtDown, Operate as AtOperate}
 use Rattle.iol_steps.specs.declared.mode.Mode.TheVariants.{Operate as ModeOperate}
-use Rattle.iol_steps.specs.Step.{Image, Deny}
+use Rattle.iol_steps.specs.Step.{Image, Deny, doubts_at}
 use Rattle.iol_steps.specs.Session.{MaySession, cancelling, session_through}
 use Rattle.iol_steps.specs.Kinds.{restart_steps}
 use Rattle.iol_app.specs.declared.request.Current.{Current}
@@ -27,10 +27,9 @@ use Rattle.iol_app.specs.Seen.{NewSteps, BeginSteps, DenySteps, AbortSteps, Canc
 pub new_steps : (devices : Devices) (busy : ℕ) (new : Core) → new ≡ opened_core devices busy
     → NewSteps new
 unfolding NewSteps
-new_steps devices busy new e = λ far for_it sees n told due. subst
+new_steps devices busy new e = λ far sees n told due. subst
     (λ (c : Core). Stands c (opened_ghost far told due) far n) (sym e)
     (opens devices busy far n told due
-    (subst (λ (c : Core). IsFor c.session.configuration.devices far.kind) e for_it)
     (subst (λ (c : Core). SeesPulses c.session.configuration.devices far) e sees))
 
 -- in OPERATE with no request under way
@@ -95,7 +94,8 @@ module _ (old new : Core) (cause : Cause) (some : IsSome old.session.current)
       → Stands (record c { session = aborted_in BusyTooLong c.session }) g far n)
       old.state old.session stands.joined some (λ s current k.
       aborts_by BusyTooLong g.request.asked s old.session current g far n k
-      (waiting_at old.session.configuration.devices old.session.limit g.request.busy
+      (waiting_at (doubts_at old.session.configuration.devices g.kind.recalls) old.session.limit
+      g.request.busy
       g.request.asked BusyTooLong current.abort
       k.request.busy.1 low)) stands)
 
@@ -110,9 +110,11 @@ module _ (old new : Core) (cause : Cause) (some : IsSome old.session.current)
             (asking_ghost true g) far n)
             old.state old.session stands.joined some (λ s current k.
             aborts_by Cancelled true s old.session current g far n k
-            (waiting_at old.session.configuration.devices old.session.limit g.request.busy true
+            (waiting_at (doubts_at old.session.configuration.devices g.kind.recalls)
+            old.session.limit g.request.busy true
             Cancelled current.abort
-            (marked_at old.session.configuration.devices old.session.limit g.request.busy
+            (marked_at (doubts_at old.session.configuration.devices g.kind.recalls)
+            old.session.limit g.request.busy
             g.request.asked current.abort
             k.request.busy.1) refl)) stands,
         at_request (λ (c : Core). cancelling (session_in c g far)

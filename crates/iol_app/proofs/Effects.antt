@@ -12,7 +12,7 @@ use Rattle.iol_link.specs.Honest.{Passage, far_after}
 use Rattle.iol_mode.specs.declared.configuration.Configuration.{Configuration}
 use Rattle.iol_mode.specs.declared.states.State.{State}
 use Rattle.iol_mode.specs.declared.why.Why.{Why}
-use Rattle.iol_mode.specs.Kinds.{IsFor, SeesPulses}
+use Rattle.iol_mode.specs.Kinds.{SeesPulses}
 use Rattle.iol_mode.specs.Stands.{StateStands}
 use Rattle.iol_mode.specs.States.{InDown, StateFits, is_reset}
 use Rattle.iol_steps.specs.declared.mode.Mode.TheVariants.{Down as ModeDown, Operate as ModeOperate}
@@ -242,8 +242,6 @@ module _ (c : Core) (g : Ghost) (far : Far) where
           stands = record {
             page = effect.page ∙ stands.page;
             kind = effect.kind ∙ stands.kind;
-            for_it = subst (λ (k : Configuration). IsFor k.devices g.kind) (sym e.configuration)
-                stands.for_it;
             sees = subst (λ (k : Configuration). SeesPulses k.devices far') (sym e.configuration)
                 (sees_kept c.session.configuration.devices far far' effect.misses stands.sees);
             fits = fits;

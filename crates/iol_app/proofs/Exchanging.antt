@@ -1,5 +1,6 @@
 -- An exchange in OPERATE: what every outcome needs; a miss, and a loss.
-use Rattle.std.proofs.Common.{◌≡◌, ℕ, suc, ◌+◌, ◌≤◌, min, Bool, true, false, List, [], ◌++◌, filter, refl, sym, ◌∙◌, ap, subst}
+use Rattle.std.proofs.Common.{◌≡◌, ℕ, suc, ◌+◌, ◌≤◌, min, Bool, true, false, List, [], ◌++◌, filter, refl, sym, ◌∙◌, ap, subst, arith}
+use Rattle.std.proofs.lemmas.Grind.{common_steps}
 use Rattle.std.specs.Prelude.{Option, Some, None, IsTrue, IfSome, if◌then◌else◌}
 use Rattle.iol_mseq.specs.Shape.{Shape}
 use Rattle.iol_mseq.specs.Texts.{master_text}
@@ -7,13 +8,15 @@ use Rattle.iol_page.specs.Page.{layouts_of}
 use Rattle.iol_page.specs.declared.page.Layouts.{Layouts}
 use Rattle.iol_isdu.specs.declared.values.Request.{Request}
 use Rattle.iol_far.specs.declared.mode.Mode.TheVariants.{Operate as FarOperate}
+use Rattle.iol_far.specs.declared.kind.HandsOver.{HandsOver}
 use Rattle.iol_far.specs.Codec.{layout_in}
+use Rattle.iol_far.specs.Isdu.{IsduState}
 use Rattle.iol_far.specs.Far.{Far, output_of}
 use Rattle.iol_far.specs.Local.{LocalStep, locals}
 use Rattle.iol_mseq.specs.Master.{HasMasterParts}
 use Rattle.iol_mseq.specs.declared.master.MasterMsg.{MasterMsg}
 use Rattle.iol_far.specs.Linked.{TextsAreHeard}
-use Rattle.iol_far.specs.Level.{Progress, IsLevel, taken}
+use Rattle.iol_far.specs.Level.{Progress, Begin, IsLevel, taken}
 use Rattle.iol_far.specs.Laws.{confirms as octets_confirm}
 use Rattle.iol_link.specs.Attempts.{Sending}
 use Rattle.iol_link.specs.Honest.{Passage, OutLost, far_after}
@@ -22,19 +25,19 @@ use Rattle.iol_mode.specs.States.{InDown, StateFits}
 use Rattle.iol_mode.specs.declared.why.Why.TheVariants.{Lost}
 use Rattle.iol_steps.specs.declared.mode.Mode.TheVariants.{Down as ModeDown, Operate as ModeOperate}
 use Rattle.iol_steps.specs.declared.said.Said.{Said}
-use Rattle.iol_steps.specs.Step.{Step, WireCall, Exchanged, silence_by, CallFits, is_for_book, is_report, book_said, reports_said, no_make}
-use Rattle.iol_steps.specs.Bridge.{Hidden, IsOpen, hidden_through, told_through, exchange_steps, told_exchanged}
+use Rattle.iol_steps.specs.Step.{Step, repeats_at, doubts_at, is_clash_free, WireCall, Exchanged, silence_by, CallFits, is_for_book, is_report, book_said, reports_said, no_make}
+use Rattle.iol_steps.specs.Bridge.{Hidden, IsOpen, hidden_through, hidden_again, again_steps, told_through, exchange_steps, told_exchanged}
 use Rattle.iol_steps.specs.Kinds.{lost_steps, quiet_said, lost_said}
-use Rattle.iol_steps.specs.Station.{Reading, is_due, images_of, session_of}
+use Rattle.iol_steps.specs.Station.{Reading, AnswerFits, is_due, images_of, session_of}
 use Rattle.iol_steps.specs.Exchange.{hidden_lost, told_by}
 use Rattle.iol_steps.specs.Turn.{ImageIsLast}
 use Rattle.iol_app.proofs.Given.{Laws, page_locals, page_after, kind_after, level_locals, level_after, sees_kept, misses_passed}
-use Rattle.iol_app.proofs.OwnSession.{SessionRuns, session_runs-append, exchange_session}
-use Rattle.iol_app.proofs.FrozenPart.{FrozenRuns, frozen_runs-append, exchange_frozen}
-use Rattle.iol_app.proofs.ImagesPart.{ImagesRuns, OutputsSent, images_runs-append, exchange_images}
+use Rattle.iol_app.proofs.OwnSession.{SessionRuns, MayAgain, session_runs-append, exchange_session, again_session}
+use Rattle.iol_app.proofs.FrozenPart.{FrozenRuns, frozen_runs-append, exchange_frozen, again_frozen}
+use Rattle.iol_app.proofs.ImagesPart.{ImagesRuns, OutputsSent, images_runs-append, exchange_images, again_images}
 use Rattle.iol_app.specs.Ends.{OutputTold, EventsTold, output_for, SentSeen}
-use Rattle.iol_app.proofs.OpenLevel.{IsTied, tied_locals, hear_carried}
-use Rattle.iol_app.proofs.Clash.{Before, exchange_before, no_clash}
+use Rattle.iol_app.proofs.OpenLevel.{IsTied, tied_locals, late_locals, again_late, hear_carried}
+use Rattle.iol_app.proofs.Clash.{Before, exchange_before, beside_again, no_busy, no_confirm, no_clash}
 use Rattle.iol_app.proofs.Fresh.{fresh_turn}
 use Rattle.iol_app.proofs.KindsSession.{lost_session, lost_opens}
 use Rattle.iol_app.proofs.Told.{told_locals, told_exchange, confirms_told}
@@ -44,7 +47,7 @@ use Rattle.iol_app.proofs.Shown.{shown_as}
 use Rattle.iol_app.specs.declared.request.Current.{Current}
 use Rattle.iol_app.specs.declared.session.Exchange.{Exchange}
 use Rattle.iol_app.specs.Requests.{request_in}
-use Rattle.iol_app.specs.Moves.{progress_of, confirms_events}
+use Rattle.iol_app.specs.Moves.{progress_of, move_for, confirms_events}
 use Rattle.iol_app.specs.Messages.{question}
 use Rattle.iol_app.specs.State.{SessionState, IsSession, od_size, doubts, missed_by}
 use Rattle.iol_app.specs.StationState.{StateFits as Joined, mode_in}
@@ -55,16 +58,44 @@ use Rattle.iol_app.proofs.Doubts.{missed_request_by}
 use Rattle.iol_app.proofs.Missing.{Stays, sent_again, asked_for, busy_missed}
 use Rattle.iol_app.proofs.Telling.{told_layout}
 use Rattle.iol_app.specs.Core.{Core, Ghost, OfRequest, OfEvents, Stands, ReceiveGives, work_of, vain_by, after_missed, OperateRequest, RequestStands, EventsStand, OutputStands, CalmAt, ShownStands, core_out, reading_in, ordered_by, moment_of, seen_in, shown_in, images_in, settled_core}
-use Rattle.iol_mode.specs.Kinds.{IsFor, SeesPulses}
+use Rattle.iol_mode.specs.Kinds.{SeesPulses}
 use Rattle.iol_mode.specs.declared.configuration.Configuration.{Configuration}
+use Rattle.iol_mode.specs.declared.configuration.Devices.{Devices}
+
+-- what goes out again hands over what it did
+repeats_missed : (devices : Devices) (hands_over : HandsOver) (size : ℕ) (e : Exchange)
+    (current : Option Current)
+    → repeats_at devices hands_over size (move_for e (missed_by devices (Some e) current)) ≡ false
+    → repeats_at devices hands_over size (move_for e current) ≡ false
+repeats_missed devices hands_over size e current once = grind (arith, common_steps)
 
 -- what the far end's own part is, however far the message came
+-- whether the message hands the device its request with each hearing
+abbrev pub repeats_out : Layouts → SessionState → Ghost → Exchange → Option Current → Bool
+repeats_out layouts t g e current =
+    repeats_at t.configuration.devices g.kind.hands_over layouts.run.od (move_for e current)
+
+-- the ISDU state that it leaves, and what is hidden of the request behind the device's own steps
+abbrev pub state_passed : Layouts → Sending → Far → List LocalStep → Passage → IsduState
+state_passed layouts w far steps passage =
+    (far_after passage (locals far steps) (master_text layouts.run w.message)).isdu
+
+abbrev pub hidden_own : Ghost → Far → List LocalStep → Option Current → Hidden
+hidden_own g far steps current = hidden_through (request_in current) far steps g.request.hidden
+
 pub record Passes (layouts : Layouts) (w : Sending) (t : SessionState) (g : Ghost) (far : Far)
     (steps : List LocalStep) (passage : Passage) (e : Exchange)
     (current : Option Current) : Type 0 where
-  pub opens : IsOpen (far_after passage (locals far steps)
-      (master_text layouts.run w.message)).isdu (request_in current)
-      (hidden_through (request_in current) far steps g.request.hidden)
+  pub opens : IsOpen (state_passed layouts w far steps passage) (request_in current)
+      (hidden_again (request_in current) (state_passed layouts w far steps passage)
+      (hidden_own g far steps current))
+  -- the answer is taken back only where the device may carry the request out again
+  pub again : MayAgain (λ r. repeats_at t.configuration.devices g.kind.hands_over
+      (layout_in g.page FarOperate).od (Begin r)) (request_in current)
+      (state_passed layouts w far steps passage) (hidden_own g far steps current)
+  pub kept : repeats_out layouts t g e current ≡ false
+      → hidden_again (request_in current) (state_passed layouts w far steps passage)
+      (hidden_own g far steps current) ≡ hidden_own g far steps current
   pub outputs : OutputTold g.sent (output_for e ≡ None) t.output.told
       (far_after passage (locals far steps) (master_text layouts.run w.message))
   pub sends : OutputsSent g.sent (locals far steps) (master_text layouts.run w.message)
@@ -92,10 +123,20 @@ module _ (laws : Laws) (layouts : Layouts) (w : Sending) (t : SessionState) (g :
     request = request_in current
 
     abbrev h : Hidden
-    h = hidden_through request far steps g.request.hidden
+    h = hidden_own g far steps current
 
     abbrev xs : List Step
     xs = exchange_steps request far steps passage o
+
+    -- where the device is handed the request again, it has no answer any more
+    abbrev back : List Step
+    back = again_steps request passed.isdu h
+
+    abbrev h' : Hidden
+    h' = hidden_again request passed.isdu h
+
+    abbrev repeats : Bool
+    repeats = repeats_out layouts t g e current
 
     abbrev up : OperateRequest (record { out = Some w; layouts = layouts }) (work_of c.session) R
         g far
@@ -131,18 +172,29 @@ module _ (laws : Laws) (layouts : Layouts) (w : Sending) (t : SessionState) (g :
     level' = level_after laws g.page g.kind layouts.run.od some_od g.request.base up.link
         progress o vain passage (locals far steps) level_here
 
-    tied_here : IsTied g.request.base request h (locals far steps).carried
-    tied_here = tied_locals g.request.base request steps far g.request.hidden up.opens
-        (up.late, up.answer)
+    pub late' : h.late ≡ None
+    late' = late_locals request steps far g.request.hidden up.late
 
-    tied_by : (q : Passage) → IsTied g.request.base request h
+    tied_here : repeats ≡ false → IsTied g.request.base request h (locals far steps).carried
+    tied_here once = tied_locals g.request.base request steps far g.request.hidden up.opens
+        (up.late, up.answer once)
+
+    tied_by : repeats ≡ false → (q : Passage) → IsTied g.request.base request h
         (far_after q (locals far steps) o).carried
-    tied_by OutLost = tied_here
-    tied_by other = subst (IsTied g.request.base request h)
-        (sym (hear_carried (locals far steps) o)) tied_here
+    tied_by once OutLost = tied_here once
+    tied_by once other = subst (IsTied g.request.base request h)
+        (sym (hear_carried (locals far steps) o)) (tied_here once)
 
-    pub tied' : IsTied g.request.base request h passed.carried
-    tied' = tied_by passage
+    pub tied' : repeats ≡ false → AnswerFits g.request.base request h passed.carried
+    tied' once = (tied_by once passage).1
+
+    -- the steps stand before those of an outcome
+    pub before_ends : (ys : List Step) → no_busy ys ≡ true → no_confirm ys ≡ true
+        → IsTrue (is_clash_free ys) → Before xs (back ++ ys)
+    before_ends ys busy confirm free =
+        let b = beside_again request passed.isdu h ys in
+        exchange_before request far steps passage o (back ++ ys) (b.busy busy)
+        (b.confirm confirm) (b.free free)
 
     pub confirms : octets_confirm o ≡ confirms_events e
     confirms = sym (confirms_of (layout_in g.page (taken up.link o).mode) o w.message
@@ -172,12 +224,12 @@ module _ (laws : Laws) (layouts : Layouts) (w : Sending) (t : SessionState) (g :
         where
           pub limit : next.session.limit ≡ t.limit
           pub configuration : next.session.configuration ≡ t.configuration
-          pub session : SessionRuns (moment_of c g n call) (seen_in c g) h passed.carried ys
+          pub session : SessionRuns (moment_of c g n call) (seen_in c g) h' passed.carried ys
               (seen_in next (ended of_request of_events)) of_request.hidden passed.carried
           pub frozen : FrozenRuns passed.events.frozen told ys passed.events.frozen of_events.told
           pub images : ImagesRuns (moment_of c g n call) (images_of (shown_in t g.sent) passed) ys
               (images_in next (ended of_request of_events) passed)
-          pub apart : Before xs ys
+          pub apart : Before xs (back ++ ys)
           pub calm : IsTrue g.fresh → no_clash ys
           pub once : no_make ys ≡ true
           pub book : filter is_for_book ys ≡ book_said said
@@ -203,42 +255,48 @@ module _ (laws : Laws) (layouts : Layouts) (w : Sending) (t : SessionState) (g :
           → ReceiveGives c g far n said next far' n'
       gives call next of_request of_events ys b fits silent link state_fits joined calm =
           let m = moment_of c g n call in
+          let beside = beside_again request passed.isdu h ys in
           let after : Ghost = ended of_request of_events in
           subst (λ (f : Far). ReceiveGives c g far n said next f n') (sym far_is) (record {
-            unmade = b.apart.make b.once;
+            unmade = b.apart.make (beside.make b.once);
             given = record {
               call = call;
-              steps = xs ++ ys;
+              steps = xs ++ (back ++ ys);
               after = after;
               fits = fits;
               silent = silent;
               terms = (b.limit, refl, b.configuration, refl);
               clash_free = b.apart.free;
-              fresh = λ k. fresh_turn request far steps passage o ys (stands.fresh k).1 (b.calm k);
-              said_book = b.apart.book ∙ b.book;
-              said_reports = b.apart.reports ∙ b.reports;
+              fresh = λ k. fresh_turn request far steps passage o (back ++ ys)
+                  (stands.fresh k).1 (beside.calm (b.calm k));
+              said_book = b.apart.book ∙ beside.book ∙ b.book;
+              said_reports = b.apart.reports ∙ beside.reports ∙ b.reports;
               session = session_runs-append m (seen_in c g) (seen_in c g) (seen_in next after)
                   g.request.hidden h after.request.hidden far.carried passed.carried
-                  passed.carried xs ys (exchange_session m (seen_in c g) g.request.hidden
-                  far steps passage o up.opens) b.session;
+                  passed.carried xs (back ++ ys) (exchange_session m (seen_in c g)
+                  g.request.hidden far steps passage o up.opens)
+                  (session_runs-append m (seen_in c g) (seen_in c g) (seen_in next after) h h'
+                  after.request.hidden passed.carried passed.carried passed.carried back ys
+                  (again_session m (seen_in c g) h passed.isdu passed.carried p.again) b.session);
               frozen = frozen_runs-append far.events.frozen passed.events.frozen
-                  passed.events.frozen g.events.told told after.events.told xs ys
+                  passed.events.frozen g.events.told told after.events.told xs (back ++ ys)
                   (exchange_frozen request far steps passage o g.events.told
                   (confirms_told laws.events o R due (locals far steps)
                   (told_through far steps g.events.told)
                   (told_locals laws.events R (octets_confirm o) steps far
-                  g.events.told told_before))) b.frozen;
+                  g.events.told told_before))) (again_frozen request passed.isdu h
+                  passed.events.frozen passed.events.frozen told after.events.told ys b.frozen);
               images = images_runs-append m (images_in c g far)
-                  (images_of (shown_in t g.sent) passed) (images_in next after passed) xs ys
-                  (exchange_images m request (shown_in t g.sent) far steps passage o
-                  p.sends) b.images;
+                  (images_of (shown_in t g.sent) passed) (images_in next after passed) xs
+                  (back ++ ys) (exchange_images m request (shown_in t g.sent) far steps passage o
+                  p.sends) (again_images m request passed.isdu h
+                  (images_of (shown_in t g.sent) passed) (images_in next after passed) ys
+                  b.images);
               image_is_last = b.last;
               output_is_wanted = λ k. b.wanted k.2;
               stands = record {
                 page = page';
                 kind = kind';
-                for_it = subst (λ (k : Configuration). IsFor k.devices g.kind)
-                    (sym b.configuration) stands.for_it;
                 sees = subst (λ (k : Configuration). SeesPulses k.devices passed)
                     (sym b.configuration) (sees_kept t.configuration.devices far passed
                     (misses_passed laws.much passage steps far o) stands.sees);
@@ -259,7 +317,10 @@ module _ (laws : Laws) (layouts : Layouts) (w : Sending) (t : SessionState) (g :
       -- No good reply
 
       abbrev unheard : OfRequest
-      unheard = record g.request { hidden = h }
+      unheard = record g.request { hidden = h' }
+
+      late_now : h'.late ≡ None
+      late_now = again_late request passed.isdu h ∙ late'
 
       abbrev away : OfEvents
       away = record g.events { told = told }
@@ -310,14 +371,20 @@ module _ (laws : Laws) (layouts : Layouts) (w : Sending) (t : SessionState) (g :
         request_out : (m : MasterMsg) → AgainStays m
             → Requests (record { message = m; tries = w.tries + 1 })
         request_out m k = record {
-          late = tied'.0;
+          late = late_now;
           opens = rw same_request p.opens;
           link = up.link;
           linked = k.linked;
           level = k.level;
           out = k.out;
-          answer = rw same_request tied'.1;
-          busy = busy_missed t.configuration.devices t.limit e current g.request.busy
+          answer = λ once.
+              let still : repeats ≡ false = repeats_missed t.configuration.devices
+              g.kind.hands_over layouts.run.od e current once in
+              subst (λ (q : Hidden). AnswerFits g.request.base
+              (request_in (missed_by t.configuration.devices (Some e) current)) q passed.carried)
+              (sym (p.kept still)) (rw same_request (tied' still));
+          busy = busy_missed t.configuration.devices
+              (doubts_at t.configuration.devices g.kind.recalls) t.limit e current g.request.busy
               g.request.asked up.busy;
           known = rw same_request up.known;
         }
@@ -331,7 +398,7 @@ module _ (laws : Laws) (layouts : Layouts) (w : Sending) (t : SessionState) (g :
         request_by false is = request_out w.message
             (sent_again laws heard g.page g.kind layouts g.request.base up.link w R g.sent
             t.clear t.limit carried at some_od parts carries passed t.configuration.devices e
-            current stands.for_it valid.current sized is up.out up.linked level')
+            current valid.current sized is up.out up.linked level')
 
         pub misses : said ≡ quiet_said request → Ends (Exchanged false) missed_core unheard away []
         misses says = record {
@@ -339,12 +406,12 @@ module _ (laws : Laws) (layouts : Layouts) (w : Sending) (t : SessionState) (g :
           configuration = refl;
           session = (
             tt,
-            ap (λ (r : Option Request). session_of (record (seen_in c g) { request = r }) h
+            ap (λ (r : Option Request). session_of (record (seen_in c g) { request = r }) h'
                 passed.carried) (sym same_request),
           );
           frozen = (tt, refl);
           images = (tt, refl);
-          apart = exchange_before request far steps passage o [] refl refl refl;
+          apart = before_ends [] refl refl refl;
           calm = λ k. refl;
           once = refl;
           book = rw says (sym (quiet_book request).0);
@@ -361,14 +428,14 @@ module _ (laws : Laws) (layouts : Layouts) (w : Sending) (t : SessionState) (g :
 
       pub loses : said ≡ lost_said request → 3 ≤ min 3 (n + 1)
           → Ends (Exchanged false) (settled_core (InDown (record { why = Some Lost }))
-          c.session) (record g.request { hidden = hidden_lost request h }) away
+          c.session) (record g.request { hidden = hidden_lost request h' }) away
           (lost_steps request)
       loses says third =
           let f = fit request in
           record {
             limit = refl;
             configuration = refl;
-            session = lost_session (moment_of c g n (Exchanged false)) (seen_in c g) h
+            session = lost_session (moment_of c g n (Exchanged false)) (seen_in c g) h'
                 passed.carried (λ k. absurd (let z : ModeOperate ≡ ModeDown = k in cc)) third;
             frozen = f.1;
             images = f.2;
@@ -383,7 +450,7 @@ module _ (laws : Laws) (layouts : Layouts) (w : Sending) (t : SessionState) (g :
               (λ k l. absurd (let z : ModeDown ≡ ModeOperate = l in cc)),
             );
             wanted = λ k. absurd (more_silence n k);
-            request_is = lost_opens passed.isdu request h p.opens;
+            request_is = lost_opens passed.isdu request h' p.opens;
             events = tt;
             output = tt;
             sent = stands.sent;
@@ -391,8 +458,8 @@ module _ (laws : Laws) (layouts : Layouts) (w : Sending) (t : SessionState) (g :
                 stands.shown.no_form;
           }
         where
-          fit : (r : Option Request) → Before (exchange_steps request far steps passage o)
-              (lost_steps r) × FrozenRuns passed.events.frozen told (lost_steps r)
+          fit : (r : Option Request) → Before xs (back ++ lost_steps r)
+              × FrozenRuns passed.events.frozen told (lost_steps r)
               passed.events.frozen told
               × ImagesRuns (moment_of c g n (Exchanged false))
               (images_of (shown_in t g.sent) passed) (lost_steps r)
@@ -401,8 +468,7 @@ module _ (laws : Laws) (layouts : Layouts) (w : Sending) (t : SessionState) (g :
               × (filter is_report (lost_steps r) ≡ reports_said (lost_said r))
               × no_clash (lost_steps r) × (no_make (lost_steps r) ≡ true)
           fit None = (
-            exchange_before request far steps passage o (lost_steps None) refl refl
-                refl,
+            before_ends (lost_steps None) refl refl refl,
             ((tt, (tt, tt)), refl),
             ((tt, (tt, tt)), refl),
             refl,
@@ -411,8 +477,7 @@ module _ (laws : Laws) (layouts : Layouts) (w : Sending) (t : SessionState) (g :
             refl,
           )
           fit (Some r) = (
-            exchange_before request far steps passage o (lost_steps (Some r)) refl
-                refl refl,
+            before_ends (lost_steps (Some r)) refl refl refl,
             ((tt, (tt, (tt, tt))), refl),
             ((tt, (tt, (tt, tt))), refl),
             refl,

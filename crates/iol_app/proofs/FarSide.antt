@@ -9,17 +9,18 @@ use Rattle.iol_mseq.specs.declared.master.MasterMsg.{MasterMsg}
 use Rattle.iol_mseq.specs.declared.reply.Reply.{Reply}
 use Rattle.iol_page.specs.declared.master_command.MasterCommand.{MasterCommand}
 use Rattle.iol_page.specs.declared.master_command.MasterCommand.TheVariants.{ProcessDataOutputOperate}
-use Rattle.iol_link.specs.Honest.{Passage, OutLost, Clean, far_after, HonestExchange, IsUnread, IsAnswer, brought, silence_after}
+use Rattle.iol_link.specs.Honest.{Passage, OutLost, BackLost, Clean, far_after, HonestExchange, IsUnread, IsAnswer, brought, silence_after}
 use Rattle.iol_link.specs.Attempts.{good_reply}
 use Rattle.iol_far.specs.declared.carried.Carried.{Carried}
 use Rattle.iol_far.specs.declared.mode.Mode as device
 use Rattle.iol_far.specs.declared.mode.Mode.TheVariants.{Operate as FarOperate}
-use Rattle.iol_far.specs.Codec.{layout_in, message_in, octets_of}
+use Rattle.iol_far.specs.Isdu.{IsduState}
+use Rattle.iol_far.specs.Codec.{layout_in, message_in, octets_of, flow_of}
 use Rattle.iol_far.specs.Far.{Far, WaitingCommand, layout_of, accepted, moved, hear, heard_as, worked, reply_to, output_of, command_in, valid_after, out_after, waits_after, mode_asked, known_mode, is_mode}
 use Rattle.iol_far.specs.Local.{locals}
 use Rattle.iol_far.specs.declared.kind.Kind.{Kind}
 use Rattle.iol_far.specs.declared.kind.Recalls.{Recalls}
-use Rattle.iol_far.specs.Level.{Link, Progress, Move, Begin, taken as taken_link, IsOutOnce, RecallsAtLeast, IsSent, IsLevel}
+use Rattle.iol_far.specs.Level.{Link, Progress, Move, Begin, taken as taken_link, IsOutOnce, IsIdle, RecallsAtLeast, IsSent, IsLevel}
 use Rattle.iol_far.specs.Laws.{IsSized, ReplySays}
 use Rattle.iol_steps.specs.declared.mode.Mode.{Mode}
 use Rattle.iol_steps.specs.declared.mode.Mode.TheVariants.{Operate}
@@ -27,8 +28,9 @@ use Rattle.iol_steps.specs.Step.{Image}
 use Rattle.iol_steps.specs.Station.{far_mode, output_by, WaitsElsewhere, AnswerFits, ProgressFits}
 use Rattle.iol_steps.specs.Exchange.{told_by}
 use Rattle.iol_isdu.specs.declared.values.Request.{Request}
-use Rattle.iol_steps.specs.Bridge.{Hidden, IsOpen}
-use Rattle.iol_app.proofs.OpenLevel.{replied_opens}
+use Rattle.iol_steps.specs.Bridge.{Hidden, IsOpen, hidden_again}
+use Rattle.iol_app.proofs.OpenLevel.{replied_opens, open_again}
+use Rattle.iol_app.proofs.Moves.{begins_idle}
 use Rattle.iol_app.proofs.Given.{Laws, level_locals, sized_locals}
 use Rattle.iol_app.proofs.Accepted.{accepted_as}
 use Rattle.iol_app.proofs.ImagesPart.{OutputsSent}
@@ -91,7 +93,6 @@ pub record Goes : Type 0 where
 
 pub record IsGoing (x : Goes) : Type 0 where
   pub sent_at : IsSent x.page x.run.od x.link x.progress x.o x.message x.what
-  pub once : IsOutOnce x.kind.hands_over x.run.od x.what (suc x.vain)
   pub trusts : RecallsAtLeast x.trust x.kind.recalls
   pub at_mode : (taken_link x.link x.o).mode ≡ far_mode x.mode
   pub layout : layout_in x.page (far_mode x.mode) ≡ x.run
@@ -140,7 +141,7 @@ module _ (laws : Laws) (going : Goes) (sending : IsGoing going) where
       → ReplySays page kind trust vain run.od base link progress o message what (hear far o)
   says_of far level reply e =
       (laws.level run.od some).replies page kind base link progress o message what
-      sending.sent_at vain sending.once trust sending.trusts far level reply e
+      sending.sent_at vain trust sending.trusts far level reply e
 
   -- whatever it accepts there is the message, in the layout of the mode
   pub accepts_as : (far : Far) → far.page ≡ page
@@ -397,16 +398,33 @@ module _ (laws : Laws) (going : Goes) (sending : IsGoing going) where
   module _ (g : Far) (level : Level g)
       (request : Option Request) (h : Hidden) (fits : ProgressFits progress request)
       (begins : (q : Request) → what ≡ Begin q → request ≡ Some q)
-      (before : IsOpen g.isdu request h)
-      (answer : AnswerFits base request h (hear g o).far.carried) where
+      (before : IsOpen g.isdu request h) where
+    -- with the answer that it had taken back; and as it is, where no request is handed over again
+    abbrev OpensAs : IsduState → Type 0
+    OpensAs state = IsOpen state request (hidden_again request state h)
+        × (IsOutOnce kind.hands_over run.od what (suc vain)
+        → AnswerFits base request h (hear g o).far.carried → IsOpen state request h)
+
+    begins_from : (q : Request) → what ≡ Begin q → (request ≡ Some q) × IsIdle progress
+    begins_from q k = (
+      begins q k,
+      begins_idle run.od what progress message.mc.channel message.mc.read
+          (flow_of message.mc.address) message.od.items q sending.sent_at.move k,
+    )
+
+    opens_still : OpensAs g.isdu
+    opens_still = ((open_again g.isdu request h before).0, λ once answer. before)
+
     opens_heard : (q : Option (Far × MasterMsg)) → accepted g o ≡ q
-        → IsOpen (heard_as g o q).far.isdu request h
-    opens_heard None k = before
+        → OpensAs (heard_as g o q).far.isdu
+    opens_heard None k = opens_still
     opens_heard (Some (there, m)) k =
         let r = accepts_reply g o there m k in
-        subst (λ (q : Option (Far × MasterMsg)). IsOpen (heard_as g o q).far.isdu request h) k
+        subst (λ (q : Option (Far × MasterMsg)). OpensAs (heard_as g o q).far.isdu) k
         (replied_opens page kind trust vain run.od base link progress o message what (hear g o)
-        request h (says_of g level r.0 r.1) fits begins answer)
+        request h (says_of g level r.0 r.1) fits begins_from)
 
-    pub opens_after : (passage : Passage) → IsOpen (far_after passage g o).isdu request h
-    opens_after passage = grind (arith, common_steps, opens_heard)
+    pub opens_after : (passage : Passage) → OpensAs (far_after passage g o).isdu
+    opens_after OutLost = opens_still
+    opens_after BackLost = opens_heard (accepted g o) refl
+    opens_after Clean = opens_heard (accepted g o) refl

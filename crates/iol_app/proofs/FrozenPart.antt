@@ -2,19 +2,21 @@
 -- far end's memory says.
 use Rattle.std.proofs.lemmas.Grind.{common_steps}
 use Rattle.std.proofs.Common.{◌≡◌, ℕ, Bool, true, List, [], ◌∷◌, ◌++◌, refl, sym, ◌∙◌, ap, subst, arith}
-use Rattle.std.specs.Prelude.{Option, None}
+use Rattle.std.specs.Prelude.{Option, Some, None}
 use Rattle.iol_mseq.specs.declared.master.MasterMsg.{MasterMsg}
 use Rattle.iol_isdu.specs.declared.values.Request.{Request}
+use Rattle.iol_isdu.specs.declared.values.Answer.{Answer}
 use Rattle.iol_event.specs.declared.event.Event.{Event}
 use Rattle.iol_event.specs.Memory.{Events, released}
 use Rattle.iol_link.specs.Honest.{Passage, OutLost, far_after}
 use Rattle.iol_far.specs.Codec.{layout_in}
+use Rattle.iol_far.specs.Isdu.{IsduState, Handed}
 use Rattle.iol_far.specs.Far.{Far, moved, hear, heard_as, worked, output_of, events_after}
 use Rattle.iol_far.specs.Local.{LocalStep, local, locals}
 use Rattle.iol_far.specs.Laws.{confirms as octets_confirm}
 use Rattle.iol_steps.specs.Step.{Step, Image}
 use Rattle.iol_steps.specs.FrozenEvents.{Frozen, frozen_through, MayFrozenAll}
-use Rattle.iol_steps.specs.Bridge.{own_step, own_steps, told_after, told_through, release_steps, event_steps, output_steps, confirms_by, worked_steps, heard_steps_as, heard_steps, told_released, told_worked, told_heard_as, told_heard, passed_steps, told_passed, exchange_steps, told_exchanged, woken_steps, told_woken, wake_steps, told_wake}
+use Rattle.iol_steps.specs.Bridge.{Hidden, again_by, again_steps, own_step, own_steps, told_after, told_through, release_steps, event_steps, output_steps, confirms_by, worked_steps, heard_steps_as, heard_steps, told_released, told_worked, told_heard_as, told_heard, passed_steps, told_passed, exchange_steps, told_exchanged, woken_steps, told_woken, wake_steps, told_wake}
 use Rattle.iol_steps.specs.Station.{frozen_of}
 use Rattle.iol_app.proofs.Accepted.{by_accepted}
 use Rattle.iol_app.proofs.FirstOctet.{confirms_of}
@@ -144,3 +146,14 @@ wake_frozen far steps wakes t =
     (told_wake far steps wakes t)
     (own_steps None far steps) (woken_steps wakes (locals far steps))
     (own_frozen None steps far t) (woken_frozen wakes (locals far steps) (told_through far steps t))
+
+-- a request that is handed over again is no event's business
+pub again_frozen : (request : Option Request) (state : IsduState) (h : Hidden)
+    (f f' : List Event) (told told' : Bool) (ys : List Step) → FrozenRuns f told ys f' told'
+    → FrozenRuns f told (again_steps request state h ++ ys) f' told'
+again_frozen (Some r) (Handed q) h f f' told told' ys k = by_answer h.answer
+  where
+    by_answer : (answer : Option Answer) → FrozenRuns f told (again_by answer ++ ys) f' told'
+    by_answer None = k
+    by_answer (Some a) = ((tt, k.0), k.1)
+again_frozen request state h f f' told told' ys k = k

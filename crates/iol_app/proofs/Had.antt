@@ -1,6 +1,7 @@
 -- A good reply in OPERATE: once for all kinds, over what a kind has to bring.
 use Rattle.std.proofs.lemmas.Grind.{common_steps}
-use Rattle.std.proofs.Common.{◌≡◌, ◌≢◌, ◌⊎◌, inl, inr, ℕ, ◌*◌, ◌≤◌, ◌<◌, Bool, true, false, not, ◌&&◌, List, [], ◌∷◌, filter, length, refl, sym, ◌∙◌, ap, subst, arith}
+use Rattle.std.proofs.lemmas.Bool.Decides.{nat_tests}
+use Rattle.std.proofs.Common.{◌≡◌, ◌≢◌, ◌⊎◌, inl, inr, ℕ, suc, ◌*◌, ◌≤◌, ◌<◌, Bool, true, false, not, ◌&&◌, List, [], ◌∷◌, ◌++◌, filter, length, refl, sym, ◌∙◌, ap, subst, arith}
 use Rattle.std.specs.Prelude.{Option, Some, None, IsTrue, IsSome, IfSome, if◌then◌else◌, slice_index, nat_lt}
 use Rattle.iol_mseq.specs.Shape.{Shape}
 use Rattle.iol_mseq.specs.Texts.{master_text}
@@ -15,11 +16,12 @@ use Rattle.iol_event.specs.Reading.{next_address, taken as taken_octet}
 use Rattle.iol_far.specs.declared.mode.Mode.TheVariants.{Operate as FarOperate}
 use Rattle.iol_far.specs.declared.carried.Carried.{Carried}
 use Rattle.iol_far.specs.Codec.{layout_in, flow_of}
-use Rattle.iol_far.specs.Isdu.{isdu_data, answer_text, fits}
+use Rattle.iol_far.specs.declared.kind.HandsOver.{HandsOver}
+use Rattle.iol_far.specs.Isdu.{IsduState, Handed, isdu_data, answer_text, fits}
 use Rattle.iol_far.specs.Far.{Far, hear, data_of, reply_to, output_of}
 use Rattle.iol_far.specs.Local.{LocalStep, locals, input_size}
 use Rattle.iol_far.specs.declared.kind.Recalls.{Recalls}
-use Rattle.iol_far.specs.Level.{Progress, Quiet, Clear, Had as IsHad, Stands as FarStands, Move, Leave, Link, after, base_after, turned, IsIdle, IsSettled, IsBefore, IsGrown}
+use Rattle.iol_far.specs.Level.{Progress, Quiet, Clear, Written, Had as IsHad, Stands as FarStands, Move, Begin, Leave, IsOutOnce, Link, after, base_after, turned, IsIdle, IsSettled, IsBefore}
 use Rattle.iol_far.specs.Laws.{IsRegular, IsSized, ReplySays, confirms as octets_confirm}
 use Rattle.iol_segment.specs.TextLaws.{joined}
 use Rattle.iol_link.specs.Attempts.{Sending}
@@ -28,8 +30,8 @@ use Rattle.iol_mode.specs.Stands.{StateStands, operate_link, IsAccepted}
 use Rattle.iol_mode.specs.States.{Outcome, InOperate, StateFits, state_of}
 use Rattle.iol_steps.specs.declared.mode.Mode.TheVariants.{Operate as ModeOperate}
 use Rattle.iol_steps.specs.declared.said.Said.{Said}
-use Rattle.iol_steps.specs.Step.{Step, ShowImage, Exchanged, Moment, is_for_book, is_report, book_said, reports_said, Image, no_make}
-use Rattle.iol_steps.specs.Bridge.{Hidden, hidden_through, told_through, exchange_steps, told_exchanged}
+use Rattle.iol_steps.specs.Step.{Step, repeats_at, doubts_at, is_clash_free, ShowImage, Exchanged, Moment, is_for_book, is_report, book_said, reports_said, Image, no_make}
+use Rattle.iol_steps.specs.Bridge.{Hidden, hidden_again, again_steps, hidden_through, told_through, exchange_steps, told_exchanged}
 use Rattle.iol_steps.specs.Kinds.{Brought, Had, brought_steps, quiet_said}
 use Rattle.iol_steps.specs.Station.{Reading, Due, is_due, wants_octet, session_of, images_of, frozen_of, AnswerFits, ProgressFits, EventsFit}
 use Rattle.iol_steps.specs.Exchange.{ReadsAnswer, reading_kept, reading_flagged, image_had, told_by}
@@ -40,9 +42,9 @@ use Rattle.iol_app.proofs.Told.{told_locals}
 use Rattle.iol_app.proofs.OwnSession.{SessionRuns}
 use Rattle.iol_app.proofs.FrozenPart.{FrozenRuns}
 use Rattle.iol_app.proofs.ImagesPart.{ImagesRuns}
-use Rattle.iol_app.proofs.OpenLevel.{IsTied, stands_open}
-use Rattle.iol_app.proofs.Clash.{Before, exchange_before, no_clash}
-use Rattle.iol_app.proofs.Moves.{answers_data, data_after, answer_after}
+use Rattle.iol_app.proofs.OpenLevel.{again_late, stands_open}
+use Rattle.iol_app.proofs.Clash.{Before, calm_exchange, beside_again, no_busy, no_confirm, no_clash}
+use Rattle.iol_app.proofs.Moves.{answers_data, data_after, answer_after, idle_base, begins_idle, whole_begins}
 use Rattle.iol_app.proofs.TextHad.{had_text}
 use Rattle.iol_app.proofs.Missed.{quiet_book}
 use Rattle.iol_app.specs.declared.event_work.Reading as app
@@ -61,8 +63,9 @@ use Rattle.iol_app.specs.StationState.{StateFits as Joined}
 use Rattle.iol_app.specs.declared.output.Output.{Output}
 use Rattle.iol_app.specs.Core.{Core, Ghost, Stands, ReceiveGives, work_of, vain_by, OperateRequest, core_out, reading_at, reading_in, moment_of, seen_in, shown_in, settled_core}
 use Rattle.iol_app.proofs.ReadingOn.{Took, reads_next}
-use Rattle.iol_app.proofs.SmallFacts.{confirms_is, same_output, input_is, input_hear, input_locals, image_octets, HasOctets}
-use Rattle.iol_app.proofs.Exchanging.{Passes, gives, at, some_od as least, tied', confirms, told'}
+use Rattle.iol_app.proofs.SmallFacts.{begins_request, confirms_is, same_output, input_is, input_hear, input_locals, image_octets, HasOctets}
+use Rattle.iol_app.proofs.Exchanging.{Passes, repeats_out, hidden_own, before_ends, gives, at, some_od as least, late', tied', confirms, told'}
+use Rattle.iol_app.proofs.KindsSession.{more_grown}
 
 pub progress_fits : (devices : Devices) (clear : Bool) (current : Option Current)
     → ProgressFits (progress_of devices clear current) (request_in current)
@@ -73,9 +76,18 @@ left_clear : (trust : Recalls) (vain : ℕ) (p : Progress) (what : Move) (x : Li
     → what ≡ Leave → after trust vain p what x ≡ Clear
 left_clear trust vain p what x e = grind (arith, common_steps)
 
-idle_base : (base carried : List Carried) (p : Progress) → IsIdle p → IsGrown base p carried
-    → carried ≡ base
-idle_base base carried p idle grown = grind (arith, common_steps)
+-- a device that takes a request with its only segment has it once it heard that
+whole_handed : (devices : Devices) (hands_over : HandsOver) (size : ℕ) (r : Request)
+    (s : IsduState) (counted : Option ℕ) (c : List Carried)
+    → repeats_at devices hands_over size (Begin r) ≡ true
+    → FarStands hands_over size c (Written r 0) s counted c → s ≡ Handed r
+whole_handed devices hands_over size r s counted c whole stands =
+    grind (arith, nat_tests, common_steps, more_grown)
+
+handed_now : (base : List Carried) (request : Option Request) (r : Request) (s : IsduState)
+    (h : Hidden) (c : List Carried) → request ≡ Some r → base ≡ c → s ≡ Handed r
+    → AnswerFits base request (hidden_again request s h) c
+handed_now base request r s h c named same held = rw (named, same, held) (inl (refl, refl))
 
 -- a reading that is under way goes on
 kept_at : (reading : app.Reading) (flag event : Bool) (due : Event × List Event)
@@ -124,10 +136,13 @@ module _ (laws : Laws) (readers : ReaderLaws) (turn : Good) where
     pub replies : (hear (locals far steps) o).reply ≡ Some octets
     pub far_is : far' ≡ there
     pub reply_is : r ≡ reply_to there layouts.run w.message
-    pub says : ReplySays g.page g.kind (trusted t.configuration.devices)
+    pub says : ReplySays g.page g.kind (trusted t.configuration.devices g.kind.recalls)
         (vain_by t.configuration.devices e current w.tries) layouts.run.od g.request.base
         stands.request.link (progress_of t.configuration.devices t.clear current) o w.message
         (move_for e current) (hear (locals far steps) o)
+    pub once : repeats_out layouts t g e current ≡ false
+        → IsOutOnce g.kind.hands_over layouts.run.od (move_for e current)
+        (suc (vain_by t.configuration.devices e current w.tries))
     pub told_as : there.valid ≡ told_by (output_for e) t.output.told
     pub out_is : there.out ≡ w.message.out.items
     pub accepted : IsAccepted layouts g.page stands.request.link w.message
@@ -141,11 +156,21 @@ module _ (laws : Laws) (readers : ReaderLaws) (turn : Good) where
     abbrev pub request : Option Request
     request = request_in current
 
+    abbrev h0 : Hidden
+    h0 = hidden_own g far steps current
+
+    -- where the device is handed the request again, it has no answer any more
     abbrev pub h : Hidden
-    h = hidden_through request far steps g.request.hidden
+    h = hidden_again request there.isdu h0
 
     abbrev pub xs : List Step
     xs = exchange_steps request far steps Clean o
+
+    abbrev back : List Step
+    back = again_steps request there.isdu h0
+
+    abbrev repeats : Bool
+    repeats = repeats_out layouts t g e current
 
     abbrev m : Moment
     m = moment_of c g n (Exchanged true)
@@ -158,7 +183,11 @@ module _ (laws : Laws) (readers : ReaderLaws) (turn : Good) where
     devices = t.configuration.devices
 
     abbrev trust : Recalls
-    trust = trusted devices
+    trust = trusted devices g.kind.recalls
+
+    -- whether it may be in doubt what the device made of a request
+    abbrev pub doubts : Bool
+    doubts = doubts_at devices g.kind.recalls
 
     abbrev pub vain : ℕ
     vain = vain_by devices e current w.tries
@@ -227,11 +256,23 @@ module _ (laws : Laws) (readers : ReaderLaws) (turn : Good) where
         by_progress Clear idle = subst (LevelBy base_now) left before
         by_progress p idle = absurd idle
 
-    pub tied : IsTied g.request.base request h there.carried
-    tied = tied' laws layouts w t g far n steps Clean e current a.stands
+    late : h.late ≡ None
+    late = again_late request there.isdu h0
+        ∙ late' laws layouts w t g far n steps Clean e current a.stands
 
-    quiet_base : IsIdle progress → there.carried ≡ g.request.base
-    quiet_base idle = idle_base g.request.base there.carried progress idle a.says.grown
+    pub tied : repeats ≡ false → AnswerFits g.request.base request h there.carried
+    tied once = subst (λ (q : Hidden). AnswerFits g.request.base request q there.carried)
+        (sym (a.passes.kept once)) (tied' laws layouts w t g far n steps Clean e current a.stands
+        once)
+
+    quiet_base : repeats ≡ false → IsIdle progress → there.carried ≡ g.request.base
+    quiet_base once idle = idle_base g.request.base there.carried progress idle
+        (a.says.grown (a.once once))
+
+    -- the steps of the exchange stand before those of what it brought
+    pub before_brought : (ys : List Step) → no_busy ys ≡ true → no_confirm ys ≡ true
+        → IsTrue (is_clash_free ys) → Before xs (back ++ ys)
+    before_brought = before_ends laws layouts w t g far n steps Clean e current a.stands
 
     -- the segments of an answer, the last of which has octets of its text
     pub text : ReadsAnswer what → (q : Request) (i : ℕ) (octets : List ℕ)
@@ -251,6 +292,18 @@ module _ (laws : Laws) (readers : ReaderLaws) (turn : Good) where
         (od_is ∙ answers_data layouts.run.od what progress w.message.mc.channel
         w.message.mc.read (flow_of w.message.mc.address) w.message.od.items
         w.message.mc.address there k up.out.goes.move) is
+
+    -- also before a busy reply, where it has no answer
+    pub before_busy : (r : Request) → request ≡ Some r → repeats ≡ false → h.answer ≡ None
+        → (ys : List Step) → no_confirm ys ≡ true → IsTrue (is_clash_free ys)
+        → Before xs (back ++ ys)
+    before_busy r named once none ys confirm free =
+        let b = beside_again request there.isdu h0 ys in
+        subst (λ (q : Option Request). Before (exchange_steps q far steps Clean o) (back ++ ys))
+        (sym named) (calm_exchange r far steps Clean o g.request.hidden (back ++ ys)
+        (subst (λ (q : Option Request). (hidden_through q far steps g.request.hidden).answer ≡ None)
+        named (ap (λ (q : Hidden). q.answer) (sym (a.passes.kept once)) ∙ none))
+        (b.confirm confirm) (b.free free))
 
     -- The events
 
@@ -396,13 +449,13 @@ module _ (laws : Laws) (readers : ReaderLaws) (turn : Good) where
           (record (shown_in t g.sent) { image = there.input }) there)
       pub book : filter is_for_book (brought_steps kind request) ≡ book_said said
       pub reports : filter is_report (brought_steps kind request) ≡ reports_said said
-      pub apart : Before xs (brought_steps kind request)
+      pub apart : Before xs (back ++ brought_steps kind request)
       pub calm : IsTrue g.fresh → no_clash (brought_steps kind request)
       pub once : no_make (brought_steps kind request) ≡ true
       pub base : List Carried
       pub level : LevelBy base (progress_of devices clear next)
       pub answer : AnswerFits base (request_in next) h there.carried
-      pub busy_is : BusySeen devices t.limit next busy g.request.asked
+      pub busy_is : BusySeen doubts t.limit next busy g.request.asked
       pub sure : IfSome next (λ c. c.again ≡ false)
       pub known : IsSome (request_in next) → IsSome request
 
@@ -445,7 +498,7 @@ module _ (laws : Laws) (readers : ReaderLaws) (turn : Good) where
           last = ((λ k. image), (λ k. absurd (k refl)), (λ k l. absurd (unlast k)));
           wanted = λ k. ordered_now;
           request_is = record {
-            late = tied.0;
+            late = late;
             opens = stands_open g.kind.hands_over layouts.run.od b.base
                 (progress_of devices clear (current_after e t.limit od current)) there.isdu
                 there.counted there.carried
@@ -455,7 +508,7 @@ module _ (laws : Laws) (readers : ReaderLaws) (turn : Good) where
             linked = inr refl;
             level = b.level;
             out = b.sure;
-            answer = b.answer;
+            answer = λ once. b.answer;
             busy = b.busy_is;
             known = λ k. up.known (b.known k);
           };
@@ -496,10 +549,36 @@ module _ (laws : Laws) (readers : ReaderLaws) (turn : Good) where
       pub busy : ℕ
       pub brings : Brings reads kind next busy
 
+    -- the answer fits the record that the request began with, or was handed over with last
+    answer_now : (what ≡ Leave → IsIdle progress) → AnswerFits base_now request h there.carried
+    answer_now leaves = by_repeats repeats refl
+      where
+        idle : (q : Request) → what ≡ Begin q → IsIdle progress
+        idle q = begins_idle layouts.run.od what progress w.message.mc.channel w.message.mc.read
+            (flow_of w.message.mc.address) w.message.od.items q up.out.goes.move
+
+        by_repeats : (b : Bool) → repeats ≡ b → AnswerFits base_now request h there.carried
+        by_repeats false once = answer_after what g.request.base there.carried request h
+            (λ k. quiet_base once (leaves k)) (λ q k. quiet_base once (idle q k)) (tied once)
+        by_repeats true whole =
+            let (q, is) = whole_begins devices g.kind.hands_over layouts.run.od what whole in
+            let named : request ≡ Some q = begins_request e current q is in
+            let begun : base_now ≡ there.carried =
+            ap (λ (m : Move). base_after m g.request.base there.carried) is in
+            let stands : FarStands g.kind.hands_over layouts.run.od there.carried (Written q 0)
+            there.isdu there.counted there.carried =
+            subst (λ (m : Move). FarStands g.kind.hands_over layouts.run.od
+            (base_after m g.request.base there.carried) (after trust vain progress m od) there.isdu
+            there.counted there.carried) is before.stands in
+            handed_now base_now request q there.isdu h0 there.carried named begun
+            (whole_handed devices g.kind.hands_over layouts.run.od q there.isdu there.counted
+            there.carried (subst (λ (m : Move). repeats_at devices g.kind.hands_over
+            layouts.run.od m ≡ true) is whole) stands)
+
     -- a request goes on, or none is under way
     pub goes_on : (reads : Reads) (next : Option Current) → request_in next ≡ request
         → (what ≡ Leave → IsIdle progress) → Reaches next
-        → BusySeen devices t.limit next g.request.busy g.request.asked
+        → BusySeen doubts t.limit next g.request.busy g.request.asked
         → IfSome next (λ c. c.again ≡ false)
         → list_read e od t.events.reading ≡ None → said ≡ quiet_said request → Comes next
     goes_on reads next same leaves is busy once none says = record {
@@ -516,15 +595,13 @@ module _ (laws : Laws) (readers : ReaderLaws) (turn : Good) where
         images = (((refl, refl), tt), refl);
         book = rw says (sym (quiet_book request).0);
         reports = rw says (sym (quiet_book request).1);
-        apart = exchange_before request far steps Clean o (ShowImage ∷ []) refl refl refl;
+        apart = before_brought (ShowImage ∷ []) refl refl refl;
         calm = λ k. refl;
         once = refl;
         base = base_now;
         level = reached next is;
         answer = subst (λ (q : Option Request). AnswerFits
-            base_now q h there.carried) (sym same)
-            (answer_after what g.request.base there.carried request h
-            (λ k. quiet_base (leaves k)) tied.1);
+            base_now q h there.carried) (sym same) (answer_now (λ k. leaves k));
         busy_is = busy;
         sure = once;
         known = subst (λ (q : Option Request). IsSome (request_in next) → IsSome q) same (λ k. k);

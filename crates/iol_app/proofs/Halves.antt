@@ -3,6 +3,7 @@
 use Rattle.std.proofs.Common.{◌≡◌, ◌∷◌, ◌++◌, List, ℕ, true, Option, sym, ap, ◌∙◌, subst, filter, Bool}
 use Rattle.std.specs.Prelude.{IsTrue}
 use Rattle.iol_far.specs.Far.{Far}
+use Rattle.iol_far.specs.declared.kind.Kind.{Kind}
 use Rattle.iol_mode.specs.declared.configuration.Configuration.{Configuration}
 use Rattle.iol_steps.specs.declared.mode.Mode.{Mode}
 use Rattle.iol_mode.specs.States.{is_reset}
@@ -16,12 +17,13 @@ use Rattle.iol_app.specs.StationState.{mode_in}
 use Rattle.iol_app.specs.Core.{Core, Ghost, SendGives, CallGives, ordered, moment_of, session_in, images_in}
 use Rattle.iol_app.proofs.Clash.{make_apart}
 
-abbrev moment_by : ℕ → List ℕ → Configuration → Mode → ℕ → WireCall → Moment
-moment_by limit page k began n call = record {
+abbrev moment_by : ℕ → List ℕ → Kind → Configuration → Mode → ℕ → WireCall → Moment
+moment_by limit page kind k began n call = record {
   terms = record {
     devices = k.devices;
     busy_limit = limit;
     page = page;
+    kind = kind;
     expected = k.expected;
   };
   began = began;
@@ -35,14 +37,16 @@ pub turn_of : (c mid next : Core) (g after : Ghost) (far far' : Far) (n n' : ℕ
 turn_of c mid next g after far far' n n' said s r unmade =
     let m : Moment = moment_of c g n r.call in
     let at : moment_of mid after n r.call ≡ m =
-    ap (λ (l : ℕ). moment_by l after.page mid.session.configuration (mode_in mid.state) n r.call)
-    s.terms.0
-    ∙ ap (λ (p : List ℕ). moment_by c.session.limit p mid.session.configuration
+    ap (λ (l : ℕ). moment_by l after.page after.kind mid.session.configuration
+    (mode_in mid.state) n r.call) s.terms.0
+    ∙ ap (λ (p : List ℕ). moment_by c.session.limit p after.kind mid.session.configuration
     (mode_in mid.state) n r.call) s.terms.1
-    ∙ ap (λ (k : Configuration). moment_by c.session.limit g.page k (mode_in mid.state) n r.call)
-    s.terms.2
-    ∙ ap (λ (b : Mode). moment_by c.session.limit g.page c.session.configuration b n r.call)
-    s.mode in
+    ∙ ap (λ (q : Kind). moment_by c.session.limit g.page q mid.session.configuration
+    (mode_in mid.state) n r.call) s.terms.3
+    ∙ ap (λ (k : Configuration). moment_by c.session.limit g.page g.kind k (mode_in mid.state) n
+    r.call) s.terms.2
+    ∙ ap (λ (b : Mode). moment_by c.session.limit g.page g.kind c.session.configuration b n
+    r.call) s.mode in
     let images : images_after m Make (images_in c g far) ≡ images_in mid after far =
     s.images r.call in
     let last : ImageIsLast m (mode_in next.state) (images_in mid after far)

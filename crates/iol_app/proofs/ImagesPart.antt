@@ -8,12 +8,12 @@ use Rattle.iol_isdu.specs.declared.values.Request.{Request}
 use Rattle.iol_isdu.specs.declared.values.Answer.{Answer}
 use Rattle.iol_event.specs.Memory.{Events}
 use Rattle.iol_link.specs.Honest.{Passage, OutLost, far_after}
-use Rattle.iol_far.specs.Isdu.{IsduState, fits}
+use Rattle.iol_far.specs.Isdu.{IsduState, Handed, fits}
 use Rattle.iol_far.specs.Far.{Far, accepted, moved, hear, heard_as, worked, output_of}
 use Rattle.iol_far.specs.Local.{LocalStep, local, locals, carried_by}
 use Rattle.iol_steps.specs.Step.{Step, Image, Moment}
 use Rattle.iol_steps.specs.Images.{Images, images_through, MayImagesAll}
-use Rattle.iol_steps.specs.Bridge.{carry_steps, own_step, own_steps, release_steps, worked_steps, heard_steps_as, heard_steps, passed_steps, exchange_steps, woken_steps, wake_steps}
+use Rattle.iol_steps.specs.Bridge.{Hidden, again_by, again_steps, carry_steps, own_step, own_steps, release_steps, worked_steps, heard_steps_as, heard_steps, passed_steps, exchange_steps, woken_steps, wake_steps}
 use Rattle.iol_steps.specs.Station.{Shown, images_of}
 use Rattle.iol_app.proofs.Accepted.{by_accepted}
 use Rattle.iol_app.proofs.OwnSession.{woken_if}
@@ -125,3 +125,14 @@ wake_images m s far steps wakes =
     (images_of s (woken_if wakes (locals far steps))) (own_steps None far steps)
     (woken_steps wakes (locals far steps))
     (own_images m None s steps far) (woken_images m s wakes (locals far steps))
+
+-- nor an image's
+pub again_images : (m : Moment) (request : Option Request) (state : IsduState) (h : Hidden)
+    (i i' : Images) (ys : List Step) → ImagesRuns m i ys i'
+    → ImagesRuns m i (again_steps request state h ++ ys) i'
+again_images m (Some r) (Handed q) h i i' ys k = by_answer h.answer
+  where
+    by_answer : (answer : Option Answer) → ImagesRuns m i (again_by answer ++ ys) i'
+    by_answer None = k
+    by_answer (Some a) = ((tt, k.0), k.1)
+again_images m request state h i i' ys k = k

@@ -1,7 +1,7 @@
 -- The session's part of an exchange, kind by kind.
 use Rattle.std.proofs.Common.{◌≡◌, ℕ, ◌+◌, ◌≤◌, Bool, true, List, refl, arith}
 use Rattle.std.proofs.lemmas.Grind.{common_steps}
-use Rattle.std.specs.Prelude.{Option, Some, None, ◌==◌, IsTrue, slice_index, replicate}
+use Rattle.std.specs.Prelude.{Option, Some, None, ◌==◌, IsTrue, slice_index, replicate, IsSome}
 use Rattle.iol_isdu.specs.declared.values.Request.{Request}
 use Rattle.iol_isdu.specs.declared.values.Answer.{Answer}
 use Rattle.iol_isdu.specs.declared.values.Cause.{Cause}
@@ -9,17 +9,18 @@ use Rattle.iol_segment.specs.TextLaws.{joined}
 use Rattle.iol_far.specs.declared.carried.Carried.{Carried}
 use Rattle.iol_far.specs.declared.kind.HandsOver.{HandsOver}
 use Rattle.iol_far.specs.Isdu.{IsduState, fits, answer_text, isdu_data}
-use Rattle.iol_far.specs.Level.{Busy as IsBusy, Had as IsHad, Stands as FarStands}
+use Rattle.iol_far.specs.Level.{Busy as IsBusy, Had as IsHad, Stands as FarStands, grown_by}
 use Rattle.iol_steps.specs.declared.mode.Mode.{Mode}
 use Rattle.iol_steps.specs.declared.mode.Mode.TheVariants.{Down}
 use Rattle.iol_mode.specs.declared.why.Why.{Why}
 use Rattle.iol_mode.specs.declared.why.Why.TheVariants.{Lost}
-use Rattle.iol_steps.specs.Step.{Moment, silence_left}
+use Rattle.iol_steps.specs.Step.{Moment, silence_left, doubts_at}
 use Rattle.iol_steps.specs.Bridge.{Hidden, IsOpen}
 use Rattle.iol_steps.specs.Kinds.{Seen, Gone, WasBusy, WasAnswered, WasAborted, lost_steps, brought_steps}
 use Rattle.iol_steps.specs.Station.{AnswerFits}
 use Rattle.iol_steps.specs.Exchange.{MayAbort, hidden_lost}
 use Rattle.iol_app.proofs.OwnSession.{SessionRuns}
+use Rattle.iol_steps.specs.Session.{MayTell}
 
 -- What each kind leaves of the fields seen, and of the choices
 
@@ -33,14 +34,15 @@ pub busy_session : (m : Moment) (seen : Seen) (h : Hidden) (c : List Carried) (r
 busy_session m seen h c r under none = rw (under, none) ((refl, (tt, tt)), refl)
 
 pub answered_session : (m : Moment) (seen : Seen) (h : Hidden) (c : List Carried) (r : Request)
-    (a : Answer) → seen.request ≡ Some r → h.answer ≡ Some a →
+    (a : Answer) → seen.request ≡ Some r → MayTell m.terms a h.answer →
     SessionRuns m seen h c (brought_steps (WasAnswered a) seen.request) (freed seen) h c
-answered_session m seen h c r a under is = rw (under, is) ((refl, (tt, tt)), refl)
+answered_session m seen h c r a under tells = rw under ((tells, (tt, tt)), refl)
 
 -- whether it had an answer or not
 pub aborted_session : (m : Moment) (seen : Seen) (h : Hidden) (c : List Carried) (r : Request)
     (cause : Cause) → seen.request ≡ Some r
-    → MayAbort m.terms.devices m.terms.busy_limit seen.busy seen.asked cause →
+    → MayAbort (doubts_at m.terms.devices m.terms.kind.recalls) m.terms.busy_limit seen.busy
+    seen.asked cause →
     SessionRuns m seen h c (brought_steps (WasAborted cause) seen.request) (freed seen) h c
 aborted_session m seen h c r cause under may = grind (arith, common_steps)
 
@@ -87,6 +89,14 @@ busy_base hands_over size base r s counted c h e = grind (arith, common_steps, n
 pub busy_unanswered : (base : List Carried) (r : Request) (h : Hidden) (c : List Carried)
     → AnswerFits base (Some r) h c → c ≡ base → h.answer ≡ None
 busy_unanswered base r h c given given2 = grind (arith, common_steps)
+
+pub more_grown : (base : List Carried) (r : Request) (a : Answer) → base ≡ grown_by base r a → ⊥
+more_grown base r a e = grind (arith, common_steps)
+
+-- where the record has grown, the device has answered
+pub grown_answered : (base : List Carried) (r : Request) (a : Answer) (h : Hidden)
+    (c : List Carried) → AnswerFits base (Some r) h c → c ≡ grown_by base r a → IsSome h.answer
+grown_answered base r a h c fits grown = grind (arith, common_steps, more_grown)
 
 pub had_answer : (hands_over : HandsOver) (size : ℕ) (base : List Carried) (r : Request) (i : ℕ)
     (text : List ℕ) (s : IsduState) (counted : Option ℕ) (c : List Carried) (h : Hidden)

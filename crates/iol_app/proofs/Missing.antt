@@ -26,7 +26,6 @@ use Rattle.iol_far.specs.Linked.{TextsAreHeard}
 use Rattle.iol_link.specs.Attempts.{Sending}
 use Rattle.iol_mode.specs.declared.configuration.Devices.{Devices}
 use Rattle.iol_mode.specs.declared.configuration.Devices.TheVariants.{Any}
-use Rattle.iol_mode.specs.Kinds.{IsFor}
 use Rattle.iol_mode.specs.Stands.{operate_link}
 use Rattle.iol_steps.specs.Step.{Image}
 use Rattle.iol_steps.specs.Station.{Reading}
@@ -67,10 +66,11 @@ module _ (d : Devices) (e : Exchange) (current : Option Current)
   still_on h = grind (arith, common_steps)
 
 -- busy replies were counted as before
-pub busy_missed : (d : Devices) (limit : ℕ) (e : Exchange) (current : Option Current) (busy : ℕ)
-    (asked : Bool) → BusySeen d limit current busy asked
-    → BusySeen d limit (missed_by d (Some e) current) busy asked
-busy_missed d limit e current busy asked h = grind (arith, common_steps)
+pub busy_missed : (d : Devices) (doubts : Bool) (limit : ℕ) (e : Exchange)
+    (current : Option Current) (busy : ℕ) (asked : Bool)
+    → BusySeen doubts limit current busy asked
+    → BusySeen doubts limit (missed_by d (Some e) current) busy asked
+busy_missed d doubts limit e current busy asked h = grind (arith, common_steps)
 
 -- a segment that hands a request over is the whole text, so that it doesn't go out again
 first_given : (size : ℕ) (text : List ℕ) (given : ℕ) (piece : ArrayVec ℕ)
@@ -82,12 +82,11 @@ not_handed : (kind : Kind) (c : Current) (p : Cursor) → ProgressFits c.cutter 
     → hands_whole kind.hands_over c.cutter.size (move_at c.cutter p) ≡ false
 not_handed kind c p fits part = grind (arith, nat_tests, common_steps)
 
-none_handed : (d : Devices) (kind : Kind) (size : ℕ) (e : Exchange) (current : Option Current)
-    → IsFor d kind → IfSome current IsCurrent → IfSome current (λ c. c.cutter.size ≡ size)
-    → doubts_by d (Some e) current ≡ false
+none_handed : (kind : Kind) (size : ℕ) (e : Exchange) (current : Option Current)
+    → IfSome current IsCurrent → IfSome current (λ c. c.cutter.size ≡ size)
+    → doubts_by Any (Some e) current ≡ false
     → hands_whole kind.hands_over size (move_for e current) ≡ false
-none_handed d kind size e current for_it valid same sure =
-    grind (arith, common_steps, not_handed)
+none_handed kind size e current valid same sure = grind (arith, common_steps, not_handed)
 
 -- The question
 
@@ -137,14 +136,14 @@ module _ (laws : Laws) (heard : TextsAreHeard) (page : List ℕ) (kind : Kind) (
         (work d e current) R page kind link sent
     pub linked : OperateLink layouts (progress_of d clear current) link
 
-  pub sent_again : (d : Devices) (e : Exchange) (current : Option Current) → IsFor d kind
+  pub sent_again : (d : Devices) (e : Exchange) (current : Option Current)
       → IfSome current IsCurrent → IfSome current (λ c. c.cutter.size ≡ run.od)
       → doubts_by d (Some e) current ≡ false
       → OutStands layouts w e (work d e current) R page kind link sent
       → OperateLink layouts (progress_of d clear current) link
       → LevelAt (progress_of d clear current) w.message (suc (vain_by d e current w.tries))
       → Stays d e (missed_by d (Some e) current) w.message
-  sent_again d e current for_it valid same sure out linked level =
+  sent_again d e current valid same sure out linked level =
       let next : Option Current = missed_by d (Some e) current in
       let p : progress_of d clear next ≡ progress_of d clear current =
       same_progress d e current sure clear in
@@ -161,8 +160,9 @@ module _ (laws : Laws) (heard : TextsAreHeard) (page : List ℕ) (kind : Kind) (
               w.message (move_for e next)) (sym p)
               (subst (λ (m : Move). IsSent page run.od link (progress_of d clear current)
               (master_text run w.message) w.message m) (sym move) out.goes);
-          once = λ hands. absurd (let z : false ≡ true =
-              sym (none_handed d kind run.od e current for_it valid same sure)
+          once = λ any hands. absurd (let z : false ≡ true =
+              sym (none_handed kind run.od e current valid same
+              (subst (λ (q : Devices). doubts_by q (Some e) current ≡ false) any sure))
               ∙ ap (hands_whole kind.hands_over run.od) (sym move) ∙ hands in cc);
           again = noted d e current sure w.tries out.again;
           goes_on = λ k. still_on d e current sure (out.goes_on k);
@@ -219,7 +219,7 @@ module _ (laws : Laws) (heard : TextsAreHeard) (page : List ℕ) (kind : Kind) (
               (ap (λ (l : Link). l.waits) link_is)
               (suc (vain_by Any NextMessage (Some c) w.tries))
               (subst (λ (m : Move). IsOutOnce kind.hands_over run.od m
-              (suc (vain_by Any NextMessage (Some c) w.tries))) move out.once) far
+              (suc (vain_by Any NextMessage (Some c) w.tries))) move (out.once refl)) far
               (subst (λ (q : Progress). LevelAt q w.message
               (suc (vain_by Any NextMessage (Some c) w.tries))) p level) o;
           out = record {
@@ -232,7 +232,7 @@ module _ (laws : Laws) (heard : TextsAreHeard) (page : List ℕ) (kind : Kind) (
               idle = subst (λ (l : Link). IfSome l.waits (λ command. IsIdle (Perhaps r)))
                   (sym link_is) tt;
             };
-            once = λ hands. absurd (asks_whole kind.hands_over run.od hands);
+            once = λ any hands. absurd (asks_whole kind.hands_over run.od hands);
             again = λ k. absurd (let z : false ≡ true = k in cc);
             goes_on = λ k. refl;
             confirm = λ k. absurd (let z : Path Exchange NextMessage ConfirmEvents = k in cc);

@@ -1,5 +1,5 @@
 -- What a move says of the message's channel, and of the request.
-use Rattle.std.proofs.Common.{◌≡◌, ℕ, suc, ◌*◌, ◌<◌, Bool, List, [], length, arith}
+use Rattle.std.proofs.Common.{◌≡◌, ℕ, suc, ◌*◌, ◌<◌, Bool, true, List, [], length, refl, sym, subst, arith}
 use Rattle.std.proofs.lemmas.Grind.{common_steps}
 use Rattle.std.specs.Prelude.{Option, if◌then◌else◌, IsTrue}
 use Rattle.iol_octets.specs.declared.control.Channel.{Channel}
@@ -11,7 +11,10 @@ use Rattle.iol_far.specs.declared.carried.Carried.{Carried}
 use Rattle.iol_far.specs.declared.kind.Recalls.{Recalls}
 use Rattle.iol_far.specs.Isdu.{fits, answer_text, isdu_data}
 use Rattle.iol_far.specs.Far.{Far, data_of}
-use Rattle.iol_far.specs.Level.{Progress, Had as IsHad, Move, Ask, Next, Leave, after, IsMove, base_after}
+use Rattle.iol_far.specs.Level.{Progress, Had as IsHad, Move, Begin, Ask, Next, Leave, after, IsMove, base_after, IsIdle, IsGrown}
+use Rattle.iol_far.specs.declared.kind.HandsOver.{HandsOver}
+use Rattle.iol_mode.specs.declared.configuration.Devices.{Devices}
+use Rattle.iol_steps.specs.Step.{repeats_at}
 use Rattle.iol_steps.specs.Bridge.{Hidden}
 use Rattle.iol_steps.specs.Station.{AnswerFits}
 use Rattle.iol_steps.specs.Exchange.{ReadsAnswer}
@@ -45,6 +48,22 @@ pub next_wants : (size : ℕ) (r : Request) (i : ℕ) (t : List ℕ) (channel : 
     t ≡ joined size (answer_text r a) i → suc i * size < length (answer_text r a)
 next_wants size r i t channel read flow sent a given given2 given3 = grind (arith, common_steps)
 
+-- where none is under way the record has grown by nothing
+pub idle_base : (base carried : List Carried) (p : Progress) → IsIdle p → IsGrown base p carried
+    → carried ≡ base
+idle_base base carried p idle grown = grind (arith, common_steps)
+
+-- a request is begun where none is under way
+pub begins_idle : (size : ℕ) (what : Move) (p : Progress) (channel : Channel) (read : Bool)
+    (flow : Flow) (sent : List ℕ) (q : Request) → IsMove size what p channel read flow sent
+    → what ≡ Begin q → IsIdle p
+begins_idle size what p channel read flow sent q move e = grind (arith, common_steps)
+
+-- only a request's first segment hands it over
+pub whole_begins : (devices : Devices) (hands_over : HandsOver) (size : ℕ) (what : Move)
+    → repeats_at devices hands_over size what ≡ true → (q : Request) × (what ≡ Begin q)
+whole_begins devices hands_over size what whole = grind (arith, common_steps)
+
 -- the base stays while the answer is read
 pub answers_base : (what : Move) (base carried : List Carried) → ReadsAnswer what
     → base_after what base carried ≡ base
@@ -52,6 +71,11 @@ answers_base what base carried given = grind (arith, common_steps)
 
 -- and the record is the base still, or again
 pub answer_after : (what : Move) (base carried : List Carried) (request : Option Request)
-    (h : Hidden) → (what ≡ Leave → carried ≡ base) → AnswerFits base request h carried
+    (h : Hidden) → (what ≡ Leave → carried ≡ base)
+    → ((q : Request) → what ≡ Begin q → carried ≡ base) → AnswerFits base request h carried
     → AnswerFits (base_after what base carried) request h carried
-answer_after what base c request h leaves answer = grind (arith, common_steps)
+answer_after Leave base c request h leaves begins answer =
+    subst (λ (b : List Carried). AnswerFits b request h c) (sym (leaves refl)) answer
+answer_after (Begin q) base c request h leaves begins answer =
+    subst (λ (b : List Carried). AnswerFits b request h c) (sym (begins q refl)) answer
+answer_after what base c request h leaves begins answer = answer

@@ -141,10 +141,10 @@ messages_are_moves fit laws s layout exchange h told =
 -- A segment of the request was written
 
 -- busy replies are counted from here
-pub sent_busy : (devices : Devices) (cutter : Cutting Request) (b : Bool) (busy : ℕ) → busy ≡ 0
-    → BusyAt devices (sending (if b then Some (pair cutter.size (text_of cutter) cutter.given) else
+pub sent_busy : (doubts : Bool) (cutter : Cutting Request) (b : Bool) (busy : ℕ) → busy ≡ 0
+    → BusyAt doubts (sending (if b then Some (pair cutter.size (text_of cutter) cutter.given) else
     None)) busy
-sent_busy devices cutter b busy e = grind (arith, common_steps)
+sent_busy doubts cutter b busy e = grind (arith, common_steps)
 
 pub sent_follows : (trust : Recalls) (vain : ℕ) (devices : Devices) (clear : Bool)
     (cutter : Cutting Request) (abort : Option Cause) (flow : Flow) (piece : ArrayVec ℕ)

@@ -1,5 +1,5 @@
 -- What the two ends' level says of the request that may still be carried out, and of its answer.
-use Rattle.std.proofs.Common.{◌≡◌, ℕ, List, [], ◌∷◌, refl, ◌∙◌, subst, arith}
+use Rattle.std.proofs.Common.{◌≡◌, ℕ, suc, List, [], ◌∷◌, refl, subst, arith}
 use Rattle.std.proofs.lemmas.Grind.{common_steps}
 use Rattle.std.specs.Prelude.{Option, Some, None}
 use Rattle.iol_mseq.specs.declared.master.MasterMsg.{MasterMsg}
@@ -11,11 +11,12 @@ use Rattle.iol_far.specs.Local.{LocalStep, local, locals}
 use Rattle.iol_far.specs.declared.kind.Kind.{Kind}
 use Rattle.iol_far.specs.declared.kind.HandsOver.{HandsOver}
 use Rattle.iol_far.specs.declared.kind.Recalls.{Recalls}
-use Rattle.iol_far.specs.Level.{Progress, IsWritten, Stands as FarStands, Move, Begin, Leave, after, base_after, Link}
+use Rattle.iol_far.specs.Level.{Progress, IsWritten, Stands as FarStands, Move, Begin, Leave, after, base_after, Link, IsIdle, IsGrown, IsOutOnce}
 use Rattle.iol_far.specs.Laws.{ReplySays}
-use Rattle.iol_steps.specs.Bridge.{Hidden, open_request, IsOpen, hidden_after, hidden_through}
+use Rattle.iol_steps.specs.Bridge.{Hidden, open_request, IsOpen, hidden_after, hidden_through, hidden_again, again_steps}
 use Rattle.iol_steps.specs.Station.{AnswerFits, ProgressFits}
 use Rattle.iol_app.proofs.Accepted.{by_accepted}
+use Rattle.iol_app.proofs.Moves.{idle_base}
 use Rattle.iol_app.proofs.OwnSession.{own_open_step}
 
 pub handed_opens : (base : List Carried) (request : Option Request) (h : Hidden)
@@ -24,9 +25,21 @@ pub handed_opens : (base : List Carried) (request : Option Request) (h : Hidden)
     → open_request request h ≡ Some q
 handed_opens base request h carried q given given2 given3 = grind (arith, common_steps)
 
+late_step : (request : Option Request) (far : Far) (step : LocalStep) (h : Hidden)
+    → h.late ≡ None → (hidden_after request far step h).late ≡ None
+late_step request far step h none = grind (arith, common_steps)
+
 -- own steps keep the record tied to the answer
 abbrev pub IsTied : List Carried → Option Request → Hidden → List Carried → Type 0
 IsTied base request h carried = (h.late ≡ None) × AnswerFits base request h carried
+
+-- and none is late that wasn't
+pub late_locals : (request : Option Request) (steps : List LocalStep) (far : Far) (h : Hidden)
+    → h.late ≡ None → (hidden_through request far steps h).late ≡ None
+late_locals request [] far h none = none
+late_locals request (step ∷ steps) far h none =
+    late_locals request steps (local far step) (hidden_after request far step h)
+    (late_step request far step h none)
 
 tied_step : (base : List Carried) (request : Option Request) (h : Hidden) (far : Far)
     (step : LocalStep) → IsOpen far.isdu request h → IsTied base request h far.carried →
@@ -70,6 +83,20 @@ stands_open hands_over size base p (Handed q) counted c request h stands fits an
     handed_opens base request h c q (there.0 request fits) there.1 answer
 stands_open hands_over size base p state counted c request h stands fits answer = tt
 
+-- what is handed once more has no answer any more
+pub again_opens : (request : Option Request) (q : Request) (h : Hidden) → request ≡ Some q
+    → IsOpen (Handed q) request (hidden_again request (Handed q) h)
+again_opens request q h e = grind (arith, common_steps)
+
+pub open_again : (state : IsduState) (request : Option Request) (h : Hidden)
+    → IsOpen state request h → IsOpen state request (hidden_again request state h)
+    × (hidden_again request state h ≡ h) × (again_steps request state h ≡ [])
+open_again state request h opens = grind (arith, common_steps)
+
+pub again_late : (request : Option Request) (state : IsduState) (h : Hidden)
+    → (hidden_again request state h).late ≡ h.late
+again_late request state h = grind (arith, common_steps)
+
 -- the progress behind a reply is that of the request too
 fits_after : (trust : Recalls) (vain : ℕ) (p : Progress) (what : Move) (x : List ℕ)
     (request : Option Request) → ProgressFits p request
@@ -78,19 +105,23 @@ fits_after : (trust : Recalls) (vain : ℕ) (p : Progress) (what : Move) (x : Li
 fits_after trust vain p what x request fits begins = grind (arith, common_steps)
 
 -- where that isn't over, the record that it began with is that of before
-base_kept : (what : Move) (base c : List Carried) → (what ≡ Leave → ⊥)
-    → base_after what base c ≡ base
-base_kept what base c other = grind (arith, common_steps)
+base_kept : (what : Move) (base c : List Carried) (p : Progress) → (what ≡ Leave → ⊥)
+    → ((q : Request) → what ≡ Begin q → IsIdle p) → IsGrown base p c → c ≡ base_after what base c
+    → c ≡ base
+base_kept (Begin q) base c p other idle grown e = idle_base base c p (idle q refl) grown
+base_kept what base c p other idle grown e = grind (arith, common_steps)
 
 -- the far end once it heard a message that it replies to
 pub replied_opens : (page : List ℕ) (kind : Kind) (trust : Recalls) (vain size : ℕ)
     (base : List Carried) (link : Link) (p : Progress) (o : List ℕ) (m : MasterMsg) (what : Move)
     (heard : Heard) (request : Option Request) (h : Hidden)
     → ReplySays page kind trust vain size base link p o m what heard → ProgressFits p request
-    → ((q : Request) → what ≡ Begin q → request ≡ Some q)
-    → AnswerFits base request h heard.far.carried → IsOpen heard.far.isdu request h
-replied_opens page kind trust vain size base link p o m what heard request h says fits begins
-    answer = by_state heard.far.isdu refl
+    → ((q : Request) → what ≡ Begin q → (request ≡ Some q) × IsIdle p)
+    → IsOpen heard.far.isdu request (hidden_again request heard.far.isdu h)
+    × (IsOutOnce kind.hands_over size what (suc vain)
+    → AnswerFits base request h heard.far.carried → IsOpen heard.far.isdu request h)
+replied_opens page kind trust vain size base link p o m what heard request h says fits begins =
+    by_state heard.far.isdu refl
   where
     p' : Progress
     p' = after trust vain p what (isdu_data size heard.far.isdu)
@@ -100,7 +131,9 @@ replied_opens page kind trust vain size base link p o m what heard request h say
         heard.far.counted heard.far.carried → ⊥
     left q e = grind (arith, common_steps)
 
-    by_state : (s : IsduState) → heard.far.isdu ≡ s → IsOpen s request h
+    by_state : (s : IsduState) → heard.far.isdu ≡ s → IsOpen s request (hidden_again request s h)
+        × (IsOutOnce kind.hands_over size what (suc vain)
+        → AnswerFits base request h heard.far.carried → IsOpen s request h)
     by_state (Handed q) e =
         let stands : FarStands kind.hands_over size (base_after what base heard.far.carried) p'
         (Handed q) heard.far.counted heard.far.carried =
@@ -109,8 +142,11 @@ replied_opens page kind trust vain size base link p o m what heard request h say
         says.before.stands in
         let there = stands_handed kind.hands_over size (base_after what base heard.far.carried) p' q
         heard.far.counted heard.far.carried stands in
-        handed_opens base request h heard.far.carried q
-        (there.0 request (fits_after trust vain p what (isdu_data size heard.far.isdu) request
-        fits begins))
-        (there.1 ∙ base_kept what base heard.far.carried (λ k. left q k stands)) answer
-    by_state s e = tt
+        let named : request ≡ Some q = there.0 request (fits_after trust vain p what
+        (isdu_data size heard.far.isdu) request fits (λ r k. (begins r k).0)) in (
+          again_opens request q h named,
+          λ once answer. handed_opens base request h heard.far.carried q named
+              (base_kept what base heard.far.carried p (λ k. left q k stands)
+              (λ r k. (begins r k).1) (says.grown once) there.1) answer,
+        )
+    by_state s e = (tt, λ once answer. tt)

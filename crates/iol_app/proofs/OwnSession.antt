@@ -2,17 +2,19 @@
 -- record and the choices say.
 use Rattle.std.proofs.Common.{◌≡◌, ℕ, Bool, true, false, not, ◌&&◌, List, [], ◌∷◌, ◌++◌, take, refl, sym, ◌∙◌, ap, subst, arith}
 use Rattle.std.proofs.lemmas.Grind.{common_steps}
-use Rattle.std.specs.Prelude.{Option, None, if◌then◌else◌}
+use Rattle.std.specs.Prelude.{Option, Some, None, if◌then◌else◌, IsSome, IsTrue, ⊤}
 use Rattle.iol_mseq.specs.declared.master.MasterMsg.{MasterMsg}
 use Rattle.iol_isdu.specs.declared.values.Request.{Request}
+use Rattle.iol_isdu.specs.declared.values.Answer.{Answer}
 use Rattle.iol_event.specs.Memory.{Events, is_empty}
 use Rattle.iol_link.specs.Honest.{Passage, OutLost, far_after}
 use Rattle.iol_far.specs.declared.carried.Carried.{Carried}
+use Rattle.iol_far.specs.Isdu.{IsduState, Handed}
 use Rattle.iol_far.specs.Far.{Far, moved, hear, heard_as}
 use Rattle.iol_far.specs.Local.{LocalStep, local, locals, woken}
-use Rattle.iol_steps.specs.Step.{Step, Freeze, OutputOff, Moment}
+use Rattle.iol_steps.specs.Step.{Step, Freeze, OutputOff, Moment, may_repeat}
 use Rattle.iol_steps.specs.Session.{Session, session_through, MaySessionAll}
-use Rattle.iol_steps.specs.Bridge.{Hidden, IsOpen, own_step, own_steps, hidden_after, hidden_through, release_steps, worked_steps, heard_steps_as, heard_steps, passed_steps, exchange_steps, woken_steps, wake_steps}
+use Rattle.iol_steps.specs.Bridge.{Hidden, IsOpen, again_by, again_steps, hidden_again, own_step, own_steps, hidden_after, hidden_through, release_steps, worked_steps, heard_steps_as, heard_steps, passed_steps, exchange_steps, woken_steps, wake_steps}
 use Rattle.iol_steps.specs.Kinds.{Seen}
 use Rattle.iol_steps.specs.Station.{session_of}
 use Rattle.iol_app.proofs.Accepted.{by_accepted}
@@ -120,6 +122,30 @@ exchange_session m seen h far steps passage o opens =
     (own_session m seen h steps far opens)
     (passed_session m seen (hidden_through seen.request far steps h) passage
     (locals far steps) o)
+
+-- the device may carry out again what it is handed
+abbrev pub MayAgain : (Request → Bool) → Option Request → IsduState → Hidden → Type 0
+MayAgain repeats (Some request) (Handed held) h = IsSome h.answer → IsTrue (repeats request)
+MayAgain repeats request state h = ⊤
+
+-- so that its answer is taken back
+pub again_session : (m : Moment) (seen : Seen) (h : Hidden) (state : IsduState) (c : List Carried)
+    → MayAgain (may_repeat m.terms) seen.request state h
+    → SessionRuns m seen h c (again_steps seen.request state h) seen
+    (hidden_again seen.request state h) c
+again_session m seen h state c may = by_request seen.request refl state may
+  where
+    by_answer : (r : Request) → seen.request ≡ Some r → (answer : Option Answer)
+        → h.answer ≡ answer → (IsSome answer → IsTrue (may_repeat m.terms r))
+        → SessionRuns m seen h c (again_by answer) seen (record h { answer = None }) c
+    by_answer r is None e may = grind (arith, common_steps)
+    by_answer r is (Some a) e may = grind (arith, common_steps)
+
+    by_request : (request : Option Request) → seen.request ≡ request → (state : IsduState)
+        → MayAgain (may_repeat m.terms) request state h
+        → SessionRuns m seen h c (again_steps request state h) seen (hidden_again request state h) c
+    by_request (Some r) is (Handed held) may = by_answer r is h.answer refl may
+    by_request request is state may = (tt, refl)
 
 -- a wake that takes effect, or doesn't
 abbrev pub woken_if : Bool → Far → Far

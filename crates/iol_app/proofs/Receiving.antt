@@ -1,17 +1,24 @@
 -- What comes back in OPERATE: from the wire's own words.
-use Rattle.std.proofs.Common.{◌≡◌, ℕ, ◌+◌, ◌≤◌, ◌<◌, min, Bool, true, false, ◌==◌, List, refl, sym, ◌∙◌, ap, subst, arith}
+use Rattle.std.proofs.Common.{◌≡◌, ℕ, suc, ◌+◌, ◌≤◌, ◌<◌, min, Bool, true, false, ◌==◌, List, refl, sym, ◌∙◌, ap, subst, arith}
 use Rattle.std.proofs.lemmas.Bool.Decides.{nat_tests}
+use Rattle.std.proofs.lemmas.Grind.{common_steps}
 use Rattle.std.specs.Prelude.{Option, Some, None, if◌then◌else◌}
+use Rattle.iol_isdu.specs.declared.values.Request.{Request}
+use Rattle.iol_far.specs.declared.kind.HandsOver.{HandsOver}
+use Rattle.iol_far.specs.declared.mode.Mode.TheVariants.{Operate as FarOperate}
+use Rattle.iol_far.specs.Codec.{layout_in}
+use Rattle.iol_far.specs.Isdu.{IsduState, Handed}
 use Rattle.iol_mseq.specs.Texts.{master_text}
 use Rattle.iol_mseq.specs.declared.reply.Reply.{Reply}
 use Rattle.iol_page.specs.declared.page.Layouts.{Layouts}
 use Rattle.iol_event.specs.declared.event.Event.{Event}
 use Rattle.iol_event.specs.Laws.{MemoryStaysValid, WaitsForAll, GivesFrozen}
-use Rattle.iol_far.specs.Far.{Far, command_in}
+use Rattle.iol_far.specs.Far.{Far, hear, command_in}
 use Rattle.iol_far.specs.Local.{LocalStep, locals}
 use Rattle.iol_far.specs.Linked.{TextsAreHeard}
-use Rattle.iol_far.specs.Level.{Progress, Link, IsLevel}
+use Rattle.iol_far.specs.Level.{Progress, Link, Move, Begin, IsOutOnce, IsLevel}
 use Rattle.iol_mode.specs.declared.configuration.Devices.{Devices}
+use Rattle.iol_mode.specs.declared.configuration.Devices.TheVariants.{Own, Any}
 use Rattle.iol_mode.specs.Kinds.{trusted}
 use Rattle.iol_mode.specs.Exchanges.{StandsOn}
 use Rattle.iol_far.specs.Laws.{RepliesAreRead, InputStaysSized, MuchStays, LevelLaws, EventLaws, ModesHaveLayouts}
@@ -23,13 +30,15 @@ use Rattle.iol_mode.specs.States.{Outcome, StateFits, state_of, operate_by, coun
 use Rattle.iol_mode.specs.Turns.{IsMet}
 use Rattle.iol_steps.specs.declared.mode.Mode.TheVariants.{Operate as ModeOperate}
 use Rattle.iol_steps.specs.declared.said.Said.{Said}
-use Rattle.iol_steps.specs.Step.{Exchanged}
-use Rattle.iol_steps.specs.Bridge.{hidden_through}
-use Rattle.iol_steps.specs.Station.{output_by}
+use Rattle.iol_steps.specs.Step.{Exchanged, repeats_at}
+use Rattle.iol_steps.specs.Bridge.{Hidden, IsOpen, hidden_again}
+use Rattle.iol_steps.specs.Station.{AnswerFits, output_by}
 use Rattle.iol_steps.specs.Exchange.{TextNamesAnswer, told_by}
 use Rattle.iol_app.proofs.Given.{Laws, all_laws, page_locals}
 use Rattle.iol_app.proofs.EventReading.{ReaderLaws}
-use Rattle.iol_app.proofs.OwnSession.{own_open}
+use Rattle.iol_app.proofs.OwnSession.{MayAgain, own_open}
+use Rattle.iol_app.proofs.Moves.{whole_begins}
+use Rattle.iol_app.proofs.OpenLevel.{open_again}
 use Rattle.iol_app.specs.Ends.{OutputTold, output_for}
 use Rattle.iol_app.proofs.Outputs.{outputs_locals}
 use Rattle.iol_app.specs.declared.request.Current.{Current}
@@ -46,9 +55,36 @@ use Rattle.iol_app.specs.Core.{Core, Ghost, Stands, ReceiveGives, Receives, vain
 use Rattle.iol_app.proofs.SmallFacts.{operating, third_time, begins_request}
 use Rattle.iol_app.proofs.StartExchange.{trusts}
 use Rattle.iol_app.proofs.FarSide.{Goes, IsGoing, silent, replied, says_of, outputs_sent, outputs_after, opens_after, replied_told, replied_out}
-use Rattle.iol_app.proofs.Exchanging.{Passes, gives, misses, loses, at, level_here, tied'}
+use Rattle.iol_app.proofs.Exchanging.{Passes, repeats_out, state_passed, hidden_own, gives, misses, loses, at, level_here, tied'}
 use Rattle.iol_app.proofs.Had.{Good, Replied, progress_fits, had}
 use Rattle.iol_app.proofs.Cases.{message}
+
+unrepeated : (devices : Devices) (hands_over : HandsOver) (size : ℕ) (what : Move) (times : ℕ)
+    → (devices ≡ Any → IsOutOnce hands_over size what times)
+    → repeats_at devices hands_over size what ≡ false → IsOutOnce hands_over size what times
+unrepeated Any hands_over size what times once still = once refl
+unrepeated Own hands_over size what times once still =
+    λ hands. absurd (let z : false ≡ true = sym still ∙ hands in cc)
+
+-- where the answer is taken back, the request may be carried out again
+may_open : (repeats : Request → Bool) (state : IsduState) (request : Option Request) (h : Hidden)
+    → IsOpen state request h → MayAgain repeats request state h
+may_open repeats state request h opens = grind (arith, common_steps)
+
+may_whole : (devices : Devices) (hands_over : HandsOver) (size : ℕ) (what : Move)
+    (request : Option Request) (state : IsduState) (h : Hidden)
+    → repeats_at devices hands_over size what ≡ true
+    → ((q : Request) → what ≡ Begin q → request ≡ Some q)
+    → MayAgain (λ r. repeats_at devices hands_over size (Begin r)) request state h
+may_whole devices hands_over size what request state h whole begins =
+    let (q, is) = whole_begins devices hands_over size what whole in
+    rw (begins q is) (by_state q is state)
+  where
+    by_state : (q : Request) → what ≡ Begin q → (s : IsduState)
+        → MayAgain (λ r. repeats_at devices hands_over size (Begin r)) (Some q) s h
+    by_state q is (Handed held) =
+        λ answered. ap (repeats_at devices hands_over size) (sym is) ∙ whole
+    by_state q is s = tt
 
 module _ (laws : Laws) (layouts : Layouts) (w : Sending) (t : SessionState) (g : Ghost)
     (far : Far) (n : ℕ) (steps : List LocalStep) (e : Exchange) (current : Option Current)
@@ -78,7 +114,7 @@ module _ (laws : Laws) (layouts : Layouts) (w : Sending) (t : SessionState) (g :
     message = w.message;
     o = o;
     what = move_for e current;
-    trust = trusted devices;
+    trust = trusted devices g.kind.recalls;
     vain = vain_by devices e current w.tries;
     mode = ModeOperate;
     sent = g.sent;
@@ -88,8 +124,7 @@ module _ (laws : Laws) (layouts : Layouts) (w : Sending) (t : SessionState) (g :
   goes : IsGoing going
   goes = record {
     sent_at = stands.request.out.goes;
-    once = stands.request.out.once;
-    trusts = trusts devices g.kind stands.for_it;
+    trusts = trusts devices g.kind.recalls;
     at_mode = stands.request.out.mode;
     layout = at laws layouts w t g far n steps Clean e current stands;
     carries = λ k. stands.request.out.carries;
@@ -110,18 +145,56 @@ module _ (laws : Laws) (layouts : Layouts) (w : Sending) (t : SessionState) (g :
       t.output.told steps far (subst (λ (c : Option Bool). OutputTold g.sent (c ≡ None)
       t.output.told far) (sym commands) stands.output)
 
+  -- where the device is handed no request with each hearing, none was handed a second time
+  pub once : repeats_out layouts t g e current ≡ false
+      → IsOutOnce g.kind.hands_over layouts.run.od (move_for e current)
+      (suc (vain_by devices e current w.tries))
+  once still = unrepeated devices g.kind.hands_over layouts.run.od (move_for e current)
+      (suc (vain_by devices e current w.tries)) stands.request.out.once still
+
   passes : (passage : Passage) → Passes layouts w t g far steps passage e current
   passes passage = record {
-    opens = opens_after laws going goes (locals far steps) level (request_in current)
-        (hidden_through (request_in current) far steps g.request.hidden)
-        (progress_fits devices t.clear current) (λ q k. begins_request e current q k)
-        (own_open (request_in current) g.request.hidden steps far stands.request.opens)
-        (tied' laws layouts w t g far n steps Clean e current stands).1 passage;
+    opens = opens.0;
+    kept = λ still. (open_again state request h (opened still)).1;
+    again = by_repeats (repeats_out layouts t g e current) refl;
     outputs = subst (λ (c : Option Bool). OutputTold g.sent (c ≡ None) t.output.told
         (far_after passage (locals far steps) o)) commands
         (outputs_after laws going goes passage (locals far steps) page_here level outputs_here);
     sends = outputs_sent laws going goes (locals far steps) page_here level outputs_here;
   }
+    where
+      request : Option Request
+      request = request_in current
+
+      h : Hidden
+      h = hidden_own g far steps current
+
+      state : IsduState
+      state = state_passed layouts w far steps passage
+
+      opens : IsOpen state request (hidden_again request state h)
+          × (IsOutOnce g.kind.hands_over layouts.run.od (move_for e current)
+          (suc (vain_by devices e current w.tries))
+          → AnswerFits g.request.base request h (hear (locals far steps) o).far.carried
+          → IsOpen state request h)
+      opens = opens_after laws going goes (locals far steps) level request h
+          (progress_fits devices t.clear current) (λ q k. begins_request e current q k)
+          (own_open request g.request.hidden steps far stands.request.opens) passage
+
+      opened : repeats_out layouts t g e current ≡ false → IsOpen state request h
+      opened still = opens.1 (once still)
+          (tied' laws layouts w t g far n steps Clean e current stands still)
+
+      by_repeats : (b : Bool) → repeats_out layouts t g e current ≡ b
+          → MayAgain (λ r. repeats_at devices g.kind.hands_over
+          (layout_in g.page FarOperate).od (Begin r)) request state h
+      by_repeats false still = may_open (λ r. repeats_at devices g.kind.hands_over
+          (layout_in g.page FarOperate).od (Begin r)) state request h (opened still)
+      by_repeats true whole = may_whole devices g.kind.hands_over
+          (layout_in g.page FarOperate).od (move_for e current) request state h
+          (subst (λ (l : Shape). repeats_at devices g.kind.hands_over l.od (move_for e current)
+          ≡ true) (sym (at laws layouts w t g far n steps Clean e current stands)) whole)
+          (λ q k. begins_request e current q k)
 
 module _ (names : TextNamesAnswer) (taken : AnswersAreTakenUp) (laws : Laws)
     (heard : TextsAreHeard) (readers : ReaderLaws) where
@@ -211,6 +284,7 @@ module _ (names : TextNamesAnswer) (taken : AnswersAreTakenUp) (laws : Laws)
             replies = is.replies;
             far_is = is.far_is;
             reply_is = is.reply_is;
+            once = once laws layouts w t g far n x.steps e t.current stands;
             says = says_of laws sending goes_out (locals far x.steps) level_now is.octets
                 is.replies;
             told_as = replied_told laws sending goes_out (locals far x.steps) here level_now outputs

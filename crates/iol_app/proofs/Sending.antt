@@ -206,7 +206,6 @@ module _ (levels : (size : ℕ) → 1 ≤ size → LevelLaws size) (modes : Mode
     stands = record {
       page = stands.page;
       kind = stands.kind;
-      for_it = stands.for_it;
       sees = stands.sees;
       fits = fits;
       link = linked;
@@ -230,7 +229,7 @@ module _ (levels : (size : ℕ) → 1 ≤ size → LevelLaws size) (modes : Mode
         out = record {
           mode = mode;
           goes = goes;
-          once = λ k. subst (λ (n : ℕ). suc n ≤ 1) (sym first) (omega arith);
+          once = λ any k. subst (λ (n : ℕ). suc n ≤ 1) (sym first) (omega arith);
           again = not_again devices e t.current stands.request.out;
           goes_on = λ k. not_over t.current valid.current (due.asks k);
           confirm = λ k. confirm_due t.events.reading t.events.flag g.events.due (due.confirm k);
@@ -240,7 +239,7 @@ module _ (levels : (size : ℕ) → 1 ≤ size → LevelLaws size) (modes : Mode
           tells = λ k. some_or t.output.wanted g.sent
               (tells_wanted t.output.wanted t.output.told (sym k ∙ due.output));
         };
-        answer = stands.request.answer;
+        answer = λ once. stands.request.answer refl;
         busy = stands.request.busy;
         known = stands.request.known;
       };

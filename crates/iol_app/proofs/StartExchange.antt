@@ -65,10 +65,11 @@ use Rattle.iol_app.proofs.StartMessages.{step_channel, sends_channel, preoperate
 use Rattle.iol_app.proofs.Telling.{startup_layout, told_layout, told_told, told_shown}
 use Rattle.iol_app.specs.Moves.{progress_of}
 use Rattle.iol_app.specs.Core.{Core, Ghost, Stands, CallGives, OutputOff, ShownStands, moment_of, seen_in, shown_in, settled_core}
-use Rattle.iol_mode.specs.Kinds.{IsFor, trusted}
+use Rattle.iol_mode.specs.Kinds.{trusted}
 use Rattle.iol_mode.specs.declared.configuration.Devices.{Devices}
 use Rattle.iol_mode.specs.Exchanges.{text_out}
 use Rattle.iol_app.proofs.FarSide.{Goes, IsGoing, outputs_sent, outputs_after, opens_after}
+use Rattle.iol_far.specs.declared.kind.Recalls.{Recalls}
 
 -- a start-up whose device was reset
 pub data Start : Type 0 where
@@ -130,9 +131,9 @@ page_once : (hands_over : HandsOver) (size times : ℕ) → IsOutOnce hands_over
 page_once hands_over size times e = grind (arith, common_steps)
 
 -- what a port trusts its device with
-pub trusts : (devices : Devices) (kind : Kind) → IsFor devices kind
-    → RecallsAtLeast (trusted devices) kind.recalls
-trusts devices kind h = grind (arith, common_steps)
+pub trusts : (devices : Devices) (recalls : Recalls)
+    → RecallsAtLeast (trusted devices recalls) recalls
+trusts devices recalls = grind (arith, common_steps)
 
 -- none is under way, and the device may hold an answer of before
 pub resting_quiet : (devices : Devices) (clear : Bool) → clear ≡ false
@@ -253,7 +254,6 @@ module _ (laws : Laws) (heard : TextsAreHeard) (start : Start) (session : Sessio
       begins = tt;
       idle = waits_idle k.link.waits;
     };
-    once = page_once far.kind.hands_over k.shape.od (suc k.tries);
     trusts = tt;
     at_mode = k.mode;
     layout = k.layout;
@@ -302,10 +302,11 @@ module _ (laws : Laws) (heard : TextsAreHeard) (start : Start) (session : Sessio
   tied = tied_locals far.carried None x.steps far g.request.hidden rests.opens (rests.late, refl)
 
   pub opens : IsOpen passed.isdu None h
-  opens = opens_after laws going goes (locals far x.steps) level None h tt
+  opens = (opens_after laws going goes (locals far x.steps) level None h tt
       (λ q e. absurd (let z : Path Move Other (Begin q) = e in cc))
-      (own_open None g.request.hidden x.steps far rests.opens)
-      (hear_carried (locals far x.steps) o ∙ tied.1) x.passage
+      (own_open None g.request.hidden x.steps far rests.opens) x.passage).1
+      (page_once far.kind.hands_over k.shape.od (suc k.tries))
+      (hear_carried (locals far x.steps) o ∙ tied.1)
 
   pub unconfirmed : octets_confirm o ≡ false
   unconfirmed = sym (confirms_of (layout_in far.page (taken k.link o).mode) o k.message
@@ -524,7 +525,7 @@ module _ (laws : Laws) (heard : TextsAreHeard) (start : Start) (session : Sessio
               (page_passed laws x.passage (locals far x.steps) o ∙ page_here ∙ stands.page)
               (at.before layouts.run.od)));
           out = tt;
-          answer = refl;
+          answer = λ still. refl;
           busy = tt;
           known = λ e. absurd (let z : false ≡ true = e in cc);
         };

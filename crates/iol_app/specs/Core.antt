@@ -10,6 +10,7 @@ use Rattle.iol_image.specs.Image.{IsImage}
 use Rattle.iol_far.specs.declared.carried.Carried.{Carried}
 use Rattle.iol_far.specs.declared.mode.Mode.TheVariants.{Operate as FarOperate}
 use Rattle.iol_far.specs.declared.kind.Kind.{Kind}
+use Rattle.iol_far.specs.declared.kind.HandsOver.{HandsOver}
 use Rattle.iol_far.specs.Level.{Link, Progress, IsBefore, IsLevel, IsSent, IsIdle, IsOutOnce, taken}
 use Rattle.iol_link.specs.Attempts.{Sending}
 use Rattle.iol_link.specs.Honest.{HonestWake, HonestExchange}
@@ -18,7 +19,7 @@ use Rattle.iol_mode.specs.declared.states.State.{State}
 use Rattle.iol_mode.specs.declared.states.State.TheVariants.{Down as AtDown, Startup as AtStartup, Preoperate as AtPreoperate, Operate as AtOperate}
 use Rattle.iol_mode.specs.declared.states.Operate.{Operate}
 use Rattle.iol_mode.specs.declared.configuration.Devices.TheVariants.{Any}
-use Rattle.iol_mode.specs.Kinds.{IsFor, SeesPulses}
+use Rattle.iol_mode.specs.Kinds.{SeesPulses}
 use Rattle.iol_mode.specs.States.{Outcome, OutcomeFits, StateFits, IsDown, state_of, is_behind, is_reset, is_starting, waked}
 use Rattle.iol_mode.specs.Exchanges.{StandsOn, text_out, judged}
 use Rattle.iol_mode.specs.Turns.{IsRisen, IsMet}
@@ -26,7 +27,7 @@ use Rattle.iol_mode.specs.Stands.{StateStands, IsOperating, IsAccepted}
 use Rattle.iol_steps.specs.declared.mode.Mode.TheVariants.{Operate as ModeOperate}
 use Rattle.iol_steps.specs.declared.said.Said.{Said}
 use Rattle.iol_steps.specs.declared.said.Said.TheVariants.{Idle}
-use Rattle.iol_steps.specs.Step.{Step, Make, Take, WireCall, Moment, Image, silence_by, CallFits, is_clash_free, no_make, is_for_book, is_report, book_said, reports_said, resets, output_length}
+use Rattle.iol_steps.specs.Step.{Step, repeats_at, doubts_at, Make, Take, WireCall, Moment, Image, silence_by, CallFits, is_clash_free, no_make, is_for_book, is_report, book_said, reports_said, resets, output_length}
 use Rattle.iol_steps.specs.Session.{Session, MaySession, MaySessionAll, session_after, session_through}
 use Rattle.iol_steps.specs.FrozenEvents.{Frozen, MayFrozenAll, frozen_through}
 use Rattle.iol_steps.specs.Images.{Images, MayImages, MayImagesAll, images_after, images_through, image_or}
@@ -161,6 +162,12 @@ LevelOut g run link w (Some sent) far =
     IsLevel g.page g.kind run.od g.request.base link (progress_in w)
     (master_text run sent.message) (vain_in w sent.tries) far
 
+-- whether what is out hands the device its request with each hearing
+abbrev pub repeats_in : HandsOver → ℕ → Work → Bool
+repeats_in hands_over size w = unwrap_or
+    (option_map (λ exchange. repeats_at w.devices hands_over size (move_for exchange w.current))
+    w.exchange) false
+
 abbrev pub command_out : Option Exchange → Option Bool
 command_out None = None
 command_out (Some exchange) = output_for exchange
@@ -178,9 +185,9 @@ pub record OutStands (layouts : Layouts) (out : Sending) (exchange : Exchange) (
   pub goes :
       IsSent page layouts.run.od link (progress_in w)
       (master_text layouts.run out.message) out.message (move_for exchange w.current)
-  -- one that hands a request over was not out before
-  pub once : IsOutOnce kind.hands_over layouts.run.od (move_for exchange w.current)
-      (suc (vain_by w.devices exchange w.current out.tries))
+  -- at a port for any device one that hands a request over was not out before
+  pub once : w.devices ≡ Any → IsOutOnce kind.hands_over layouts.run.od
+      (move_for exchange w.current) (suc (vain_by w.devices exchange w.current out.tries))
   pub again : IfSome w.current (AgainBy w.devices exchange out.tries)
   -- nothing goes out for a request that is over but for its abort
   pub goes_on : exchange ≡ NextMessage → IfSome w.current
@@ -209,10 +216,13 @@ pub record OperateRequest (s : Operate) (w : Work) (reading : Reading) (g : Ghos
   pub linked : OperateLink s.layouts (progress_in w) link
   pub level : LevelOut g s.layouts.run link w s.out far
   pub out : OutBy s.layouts s.out w.exchange w reading g.page g.kind link g.sent
-  -- the record has grown by the device's answer, once it has one
-  pub answer : AnswerFits g.request.base (request_in w.current) g.request.hidden far.carried
+  -- the record has grown by the device's answer, once it has one; it may have by more where the
+  -- device is handed the request with each hearing
+  pub answer : repeats_in g.kind.hands_over s.layouts.run.od w ≡ false
+      → AnswerFits g.request.base (request_in w.current) g.request.hidden far.carried
   -- the busy replies are counted, and an abort waits for what it may
-  pub busy : BusySeen w.devices w.limit w.current g.request.busy g.request.asked
+  pub busy : BusySeen (doubts_at w.devices g.kind.recalls) w.limit w.current g.request.busy
+      g.request.asked
   -- a request is under way only where the device has ISDU
   pub known : IsSome (request_in w.current) → IsTrue (knows_isdu g.page)
 
@@ -291,9 +301,7 @@ pub record ShownStands (c : Core) (page : List ℕ) : Type 0 where
 -- both ends stand together
 pub record Stands (c : Core) (g : Ghost) (far : Far) (silence : ℕ) : Type 0 where
   pub page : far.page ≡ g.page
-  -- the port is for devices of its kind
   pub kind : far.kind ≡ g.kind
-  pub for_it : IsFor c.session.configuration.devices g.kind
   pub sees : SeesPulses c.session.configuration.devices far
   -- the link's part is the lower crate's, word for word
   pub fits : StateFits c.state
@@ -339,6 +347,7 @@ moment_of c g silence call = record {
     devices = c.session.configuration.devices;
     busy_limit = c.session.limit;
     page = g.page;
+    kind = g.kind;
     expected = c.session.configuration.expected;
   };
   began = mode_in c.state;

@@ -1,5 +1,5 @@
 -- How parts of a session stand to the device, and to what nothing stores of them.
-use Rattle.std.specs.Prelude.{◌≡◌, ◌⊎◌, ◌&&◌, ℕ, min, Bool, true, false, List, Option, Some, None, IfSome, IsSome, ⊤}
+use Rattle.std.specs.Prelude.{◌≡◌, ◌⊎◌, ◌&&◌, ℕ, min, Bool, true, false, List, Option, Some, None, IfSome, IsSome, ⊤, IsTrue}
 use Rattle.std.specs.Option.{option_map}
 use Rattle.iol_mseq.specs.Shape.{Shape}
 use Rattle.iol_isdu.specs.declared.values.Cause.{Cause}
@@ -7,8 +7,6 @@ use Rattle.iol_page.specs.declared.page.Layouts.{Layouts}
 use Rattle.iol_far.specs.declared.mode.Mode.TheVariants.{Operate as FarOperate}
 use Rattle.iol_far.specs.Far.{Far}
 use Rattle.iol_far.specs.Level.{Progress, Quiet, Link}
-use Rattle.iol_mode.specs.declared.configuration.Devices.{Devices}
-use Rattle.iol_mode.specs.declared.configuration.Devices.TheVariants.{Any}
 use Rattle.iol_mode.specs.Stands.{entering_link, operate_link}
 use Rattle.iol_steps.specs.Step.{Image}
 use Rattle.iol_steps.specs.Station.{Shown, Reading, EventsFit, WaitsElsewhere, is_due}
@@ -20,24 +18,23 @@ use Rattle.iol_app.specs.declared.session.Exchange.{Exchange}
 use Rattle.iol_app.specs.declared.session.Exchange.TheVariants.{TellOutput, DropOutput}
 use Rattle.iol_app.specs.State.{SessionState}
 
--- so many busy replies: they are counted while the answer is asked for. Nothing is in doubt, and no
--- text of an answer was refused, but at a port for any device
-abbrev pub BusyAt : Devices → Cursor → ℕ → Type 0
-BusyAt devices (Sending flow segment) busy = busy ≡ 0
-BusyAt Any Doubting busy = busy ≡ 0
-BusyAt devices (Asking counted) busy = counted ≡ min busy 65535
-BusyAt devices (Receiving joining had) busy = ⊤
-BusyAt Any NoText busy = ⊤
-BusyAt devices cursor busy = ⊥
+-- so many busy replies: they are counted while the answer is asked for. No text of an answer was
+-- refused, unless it may be in doubt what the device made of a request
+abbrev pub BusyAt : Bool → Cursor → ℕ → Type 0
+BusyAt doubts (Sending flow segment) busy = busy ≡ 0
+BusyAt doubts Doubting busy = busy ≡ 0
+BusyAt doubts (Asking counted) busy = counted ≡ min busy 65535
+BusyAt doubts (Receiving joining had) busy = ⊤
+BusyAt doubts NoText busy = IsTrue doubts
 
 -- an abort waits for what it may
-abbrev pub AbortAt : Devices → ℕ → Option Cause → ℕ → Bool → Type 0
-AbortAt devices limit abort busy asked = IfSome abort (MayAbort devices limit busy asked)
+abbrev pub AbortAt : Bool → ℕ → Option Cause → ℕ → Bool → Type 0
+AbortAt doubts limit abort busy asked = IfSome abort (MayAbort doubts limit busy asked)
 
-abbrev pub BusySeen : Devices → ℕ → Option Current → ℕ → Bool → Type 0
-BusySeen devices limit None busy asked = ⊤
-BusySeen devices limit (Some current) busy asked = BusyAt devices current.progress busy
-    × AbortAt devices limit current.abort busy asked
+abbrev pub BusySeen : Bool → ℕ → Option Current → ℕ → Bool → Type 0
+BusySeen doubts limit None busy asked = ⊤
+BusySeen doubts limit (Some current) busy asked = BusyAt doubts current.progress busy
+    × AbortAt doubts limit current.abort busy asked
 
 -- DeviceOperate waits at the device, and no segment of a request had a good reply;
 -- or no command waits

@@ -10,6 +10,10 @@ pub enum Devices {
     /// Our own, which hand a request over at the first START read, recall the answer until the
     /// master leaves it, and are reset by each wake that they answer. A start-up begins with the
     /// page, and a message that had no good reply goes out again.
+    ///
+    /// At one that hands a request over with its last segment, a request of one START write may be
+    /// carried out more than once; at one that forgets its answer, another may be told. All else
+    /// holds there too, as long as it is reset by each wake that it answers.
     Own,
     /// Any by the standard. One that hands a request over with its last segment would do it again
     /// at a repeat: a START write of a whole request isn't repeated, but asked for. Where it can't

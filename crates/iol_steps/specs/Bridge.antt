@@ -11,7 +11,7 @@ use Rattle.iol_far.specs.Isdu.{IsduState, Handed, fits}
 use Rattle.iol_far.specs.Far.{Far, accepted, worked, is_confirm, output_of}
 use Rattle.iol_far.specs.Local.{LocalStep, local, locals, has_room, is_input, Carry as OwnCarry, Raise as OwnRaise, Input as OwnInput, NoInput as OwnNoInput, Power as OwnPower}
 use Rattle.iol_link.specs.Honest.{Passage, OutLost, BackLost, Clean}
-use Rattle.iol_steps.specs.Step.{Step, Carry, LateCarry, Freeze, Confirm, OutputOn, OutputOff, Input, PowerLoss, Image}
+use Rattle.iol_steps.specs.Step.{Step, Carry, Again, LateCarry, Freeze, Confirm, OutputOn, OutputOff, Input, PowerLoss, Image}
 use Rattle.iol_steps.specs.Session.{unanswered}
 
 -- the answer that the device gave to the request under way, and a request that was
@@ -76,6 +76,20 @@ abbrev pub hidden_through : Option Request → Far → List LocalStep → Hidden
 hidden_through request far [] hidden = hidden
 hidden_through request far (step ∷ steps) hidden =
     hidden_through request (local far step) steps (hidden_after request far step hidden)
+
+-- what the device is handed has no answer, even if it had one before
+
+abbrev pub again_by : Option Answer → List Step
+again_by None = []
+again_by (Some answer) = Again ∷ []
+
+abbrev pub again_steps : Option Request → IsduState → Hidden → List Step
+again_steps (Some request) (Handed held) hidden = again_by hidden.answer
+again_steps request state hidden = []
+
+abbrev pub hidden_again : Option Request → IsduState → Hidden → Hidden
+hidden_again (Some request) (Handed held) hidden = record hidden { answer = None }
+hidden_again request state hidden = hidden
 
 -- a list that is frozen now was not reported, nor is one after a power cycle
 abbrev pub told_after : Far → LocalStep → Bool → Bool

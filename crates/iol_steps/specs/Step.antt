@@ -10,11 +10,17 @@ use Rattle.iol_isdu.specs.declared.values.Request.{Request}
 use Rattle.iol_isdu.specs.declared.values.Answer.{Answer}
 use Rattle.iol_isdu.specs.declared.values.Cause.{Cause}
 use Rattle.iol_event.specs.declared.event.Event.{Event}
+use Rattle.iol_far.specs.declared.kind.Kind.{Kind}
+use Rattle.iol_far.specs.declared.kind.HandsOver.{HandsOver}
+use Rattle.iol_far.specs.declared.kind.Recalls.{Recalls}
+use Rattle.iol_far.specs.declared.kind.Recalls.TheVariants.{UntilSent}
 use Rattle.iol_far.specs.declared.mode.Mode.TheVariants.{Operate as FarOperate}
 use Rattle.iol_far.specs.Codec.{layout_in}
+use Rattle.iol_far.specs.Level.{Move as MasterMove, Begin, hands_whole}
 use Rattle.iol_steps.specs.declared.mode.Mode.{Mode}
 use Rattle.iol_steps.specs.declared.mode.Mode.TheVariants.{Down, Startup, Preoperate, Operate}
 use Rattle.iol_mode.specs.declared.configuration.Devices.{Devices}
+use Rattle.iol_mode.specs.declared.configuration.Devices.TheVariants.{Own, Any}
 use Rattle.iol_mode.specs.declared.why.Why.{Why}
 use Rattle.iol_mode.specs.Why.{why_of}
 use Rattle.iol_steps.specs.declared.said.Said.{Said}
@@ -32,6 +38,8 @@ pub data Step : Type 0 where
   Deny : ℕ → Step
   -- the device carries out the request under way, and answers this
   Carry : Answer → Step
+  -- it has answered the request under way, and is handed it once more
+  Again : Step
   -- the request under way has this answer, or is cut off
   Done : Answer → Step
   Unknown : Cause → Step
@@ -86,17 +94,46 @@ CallFits Operate (Exchanged replied) = ⊤
 CallFits mode call = ⊥
 
 -- what no turn changes: for which devices the port is, how many busy replies a request may have,
--- the page of the port's device, and the device that is expected
+-- the page and the kind of the port's device, and the device that is expected
 pub record Terms : Type 0 where
   pub devices : Devices
   pub busy_limit : ℕ
   pub page : List ℕ
+  pub kind : Kind
   pub expected : Option Identity
 
 -- the device is the one that is expected, if one is
 -- LINK-11
 abbrev pub is_right : Terms → Bool
 is_right terms = is_expected terms.expected terms.page
+
+-- a port for our own devices repeats the segment of a request that had no good reply, and one that
+-- hands it over with its last segment takes the repeat of a whole text for another request
+-- REQ-15
+abbrev pub repeats_at : Devices → HandsOver → ℕ → MasterMove → Bool
+repeats_at Own hands_over size what = hands_whole hands_over size what
+repeats_at Any hands_over size what = false
+
+-- whether the device may carry the request out more than once
+abbrev pub may_repeat : Terms → Request → Bool
+may_repeat terms request = repeats_at terms.devices terms.kind.hands_over
+    (layout_in terms.page FarOperate).od (Begin request)
+
+-- such a port trusts its device to know an answer until it is left: from one that doesn't it may
+-- take zeros for a part of it
+-- REQ-15
+abbrev pub misreads_at : Devices → Recalls → Bool
+misreads_at Own UntilSent = true
+misreads_at devices recalls = false
+
+-- whether an answer that is told may be another than the device's
+abbrev pub may_misread : Terms → Bool
+may_misread terms = misreads_at terms.devices terms.kind.recalls
+
+-- whether it may be in doubt what the device made of a request
+abbrev pub doubts_at : Devices → Recalls → Bool
+doubts_at Any recalls = true
+doubts_at Own recalls = misreads_at Own recalls
 
 -- how many octets the device takes as process data
 abbrev pub output_length : List ℕ → ℕ
