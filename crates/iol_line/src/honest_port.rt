@@ -325,8 +325,8 @@ impl<A: Allocator + Copy> HonestPort<A> {
 
     /// A law of each such port, without code: at every moment the journal says where each ticket
     /// stands; the port is a run, in pieces, of the one that was opened; and if when the port was
-    /// opened the device was one that the port is for, and had been handed no request, the
-    /// device's record fits the journal, and between requests both ends are level.
+    /// opened the device had been handed no request, and at a port for our own devices sees each
+    /// pulse of a wake, its record fits the journal, and between requests both ends are level.
     pub fn keeps_record(&self)
         ensures replayed { IsReplayed self.now.parts.book.state }
         ensures run { IsRun self.now }

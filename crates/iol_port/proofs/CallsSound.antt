@@ -10,20 +10,19 @@ use Rattle.iol_far.specs.Far.{Far}
 use Rattle.iol_book.specs.declared.entries.Ticket.{Ticket}
 use Rattle.iol_book.specs.declared.entries.Limits.{Limits}
 use Rattle.iol_book.specs.declared.entries.Outcome.{Outcome}
-use Rattle.iol_book.specs.declared.entries.Outcome.TheVariants as outcome
 use Rattle.iol_book.specs.declared.entries.Entry.{Entry}
 use Rattle.iol_book.specs.declared.entries.Entry.TheVariants.{Submitted, Collected, Withdrawn, Urgent}
 use Rattle.iol_book.specs.Replay.{same_ticket}
 use Rattle.iol_book.specs.BookModel.{BookState, IsReplayed, entered, submitted, next_ticket, collected, withdrawn, withdraw_refusal, may_archive, submitted_urgent, flight_refusal, submit_refusal}
-use Rattle.iol_book.specs.Takings.{ended, FitsTakings, FitsEnded, FitsJournal}
+use Rattle.iol_book.specs.Takings.{Allowance, ended, AreAgain, FitsEnded, FitsJournal}
 use Rattle.iol_steps.specs.Session.{Job, Session, MaySessionAll, cut_for, cancelling, session_through}
 use Rattle.iol_steps.specs.Kinds.{restart_steps}
 use Rattle.iol_port.specs.Steps.{MayBookAll, book_through}
 use Rattle.iol_steps.specs.declared.mode.Mode.TheVariants.{Down}
 use Rattle.iol_port.specs.declared.call.Answered.{Answered}
 use Rattle.iol_port.specs.Run.{PortState, CallOf, Piece, Whole, Send, Receive, PieceOf, Pieces, opened, moment_in, moment_by, request_of, restarted, expecting, Is, Turn, TurnsAll, TurnsWork, submit_of, LacksMemory}
-use Rattle.iol_port.specs.Sound.{Sound, IsSound, RecordFits, FitsOpen, pairs_from, request_taken, written}
-use Rattle.iol_port.proofs.Replaying.{entered_replayed, free_archive, BookLaws, taken_is, sound_book, sound_cut, sound_cancelling, sound_moved, sound_through}
+use Rattle.iol_port.specs.Sound.{Sound, IsSound, allowance_of, RecordFits, FitsOpen, pairs_from, request_taken, written}
+use Rattle.iol_port.proofs.Replaying.{Allows, allows_itself, entered_replayed, free_archive, BookLaws, taken_is, sound_book, sound_cut, late_ended, sound_cancelling, sound_moved, sound_through}
 use Rattle.iol_event.specs.declared.event.Event.{Event}
 use Rattle.iol_page.specs.declared.identity.Identity.{Identity}
 use Rattle.iol_steps.specs.Images.{Images}
@@ -209,15 +208,17 @@ module _ (laws : BookLaws) where
   -- a book in which an entry changes nothing of what was taken
   entry_sound : (a : PortState) (next : BookState) (entry : Entry) → next ≡ entered a.book entry
       → (entered a.book entry).standing.taken ≡ a.book.standing.taken
-      → ended next.journal ≡ ended a.book.journal → IsSound a → Sound next a.session a.base
+      → ended next.journal ≡ ended a.book.journal → IsSound a
+      → Sound (allowance_of a.terms) next a.session a.base
   entry_sound a next entry kept taken same sound =
-      sound_book a.book next a.session a.base
+      sound_book (allowance_of a.terms) a.book next a.session a.base
       (subst IsReplayed (sym kept) (entered_replayed a.book entry sound.replayed))
       (ap (λ x. x.standing.taken) kept ∙ taken) (ap (λ x. x.unsure) kept) same sound
 
-  archived_sound : (b : BookState) (s : Session) (base : ℕ) → may_archive b ≡ true
-      → Sound b s base → Sound (record b { journal = [] }) s (length s.carried)
-  archived_sound b s base may sound =
+  archived_sound : (allowance : Allowance) (b : BookState) (s : Session) (base : ℕ)
+      → may_archive b ≡ true → Sound allowance b s base
+      → Sound allowance (record b { journal = [] }) s (length s.carried)
+  archived_sound allowance b s base may sound =
       let (standing, sure) = free_archive b may in
       let free : s.job ≡ None = no_job s.job
       (sym sound.same ∙ ap (λ x. request_taken x.taken) standing) in
@@ -228,44 +229,51 @@ module _ (laws : BookLaws) where
         sure = sound.sure;
         alone = sound.alone;
         within = omega arith;
-        fits = subst (λ o. FitsOpen o s.late [] (pairs_from (length s.carried) s.carried))
+        fits = subst (λ o. FitsOpen allowance o s.late [] (pairs_from (length s.carried) s.carried))
             (sym free)
-            (subst (λ l. FitsOpen None l [] (pairs_from (length s.carried) s.carried)) (sym late)
-            (subst (λ xs. FitsEnded [] (map (λ pair. (pair.request, pair.answer)) xs))
-            (sym (drop-length s.carried)) laws.archived.0));
+            (subst (λ l. FitsOpen allowance None l [] (pairs_from (length s.carried) s.carried))
+            (sym late)
+            (subst (λ xs. FitsEnded allowance [] (map (λ pair. (pair.request, pair.answer)) xs))
+            (sym (drop-length s.carried)) (laws.archived allowance).0));
       }
 
-  restart_sound : (b : BookState) (s : Session) (job : Option Job) (base : ℕ)
-      → Sound b (record s { job = job }) base
-      → Sound (book_through (restart_steps (request_of job)) b)
+  restart_sound : (allowance : Allowance) (b : BookState) (s : Session) (job : Option Job)
+      (base : ℕ) → Sound allowance b (record s { job = job }) base
+      → Sound allowance (book_through (restart_steps (request_of job)) b)
       (session_through (restart_steps (request_of job)) (record s { job = job })) base
-  restart_sound b s None base sound =
-      sound_moved laws b (record s { job = None }) base Down None sound
-  restart_sound b s (Some job) base sound =
-      sound_moved laws _ (cut_for Restarted (record s { job = Some job })) base Down None
-      (sound_cut laws Restarted job b s base sound)
+  restart_sound allowance b s None base sound =
+      sound_moved laws allowance b (record s { job = None }) base Down None sound
+  restart_sound allowance b s (Some job) base sound =
+      sound_moved laws allowance _ (cut_for Restarted (record s { job = Some job })) base Down None
+      (sound_cut laws allowance Restarted job b s base sound)
 
   piece_sound : (a b : PortState) (c : Piece) (reply : Answered) → PieceOf a c reply b
       → IsSound a → IsSound b
   piece_sound a b c reply is sound = piece_leaves IsSound a b c reply is (record {
     stays = λ kept images. sound;
     expect = λ identity. sound;
-    submit = λ q e r. sound_book a.book (submitted a.book q) a.session a.base
+    submit = λ q e r. sound_book allowance a.book (submitted a.book q) a.session a.base
         (entered_replayed a.book (Submitted (next_ticket a.book) q) sound.replayed) refl refl
         (laws.submit a.book q).0 sound;
-    urgent = λ q e r. sound_book a.book (submitted_urgent a.book q) a.session a.base
+    urgent = λ q e r. sound_book allowance a.book (submitted_urgent a.book q) a.session a.base
         (entered_replayed a.book (Urgent (next_ticket a.book) q) sound.replayed) refl refl
         (laws.submit_urgent a.book q).0 sound;
     collect = λ t out e. entry_sound a (collected a.book t) (Collected t)
         (collected_kept a.book t out e) refl (laws.collect a.book t).0 sound;
     withdraw = λ t e. entry_sound a (withdrawn a.book t) (Withdrawn t)
         (withdrawn_kept a.book t e) refl (laws.withdraw a.book t).0 sound;
-    cancel = λ t e r free. sound_cancelling laws a.book a.session a.base a.session.job sound;
-    restart = restart_sound a.book a.session a.session.job a.base sound;
-    archive = λ may. archived_sound a.book a.session a.base may sound;
-    moves = λ m steps b w. rw (w.book, w.session, w.base)
-        (sound_through laws m steps a.book a.session a.base w.may_book w.may_session sound);
+    cancel = λ t e r free. sound_cancelling laws allowance a.book a.session a.base a.session.job
+        sound;
+    restart = restart_sound allowance a.book a.session a.session.job a.base sound;
+    archive = λ may. archived_sound allowance a.book a.session a.base may sound;
+    moves = λ m steps b w. rw (w.book, w.session, w.base, w.terms)
+        (sound_through laws allowance m steps a.book a.session a.base
+        (subst (Allows allowance) (sym w.at) (allows_itself a.terms))
+        w.may_book w.may_session sound);
   })
+    where
+      allowance : Allowance
+      allowance = allowance_of a.terms
 
   pub pieces_sound : (a b : PortState) (pieces : List Piece) (replies : List Answered)
       → Pieces a pieces replies b → IsSound a → IsSound b
@@ -273,35 +281,41 @@ module _ (laws : BookLaws) where
       pieces_keep IsSound piece_sound a b pieces replies run sound
 
   -- the request under way is in the record or not, a late one isn't yet
-  record_fits : (b : BookState) (s : Session) (base : ℕ) → Sound b s base
-      → FitsJournal b.journal (pairs_from base s.carried)
-  record_fits b s base sound = by_open s.job s.late sound.same sound.fits
+  record_fits : (allowance : Allowance) (b : BookState) (s : Session) (base : ℕ)
+      → Sound allowance b s base → FitsJournal allowance b.journal (pairs_from base s.carried)
+  record_fits allowance b s base sound = by_open s.job s.late sound.same sound.fits
     where
-      under_way : (q : Request) (answer : Option Answer) (earlier : List (Request × Answer))
-          → request_taken b.standing.taken ≡ Some q → FitsEnded b.journal earlier
-          → FitsJournal b.journal (earlier ++ written q answer)
-      under_way q None earlier is fits =
-          subst (λ xs. FitsJournal b.journal xs) (sym (append-nil earlier))
-          (laws.taken b earlier sound.replayed fits).0
-      under_way q (Some a) earlier is fits = let (t, taken) = taken_is b.standing.taken q is in
-          (laws.taken b earlier sound.replayed fits).1 (t, q) a taken
+      under_way : (q : Request) (answer : Option Answer) (earlier again : List (Request × Answer))
+          → request_taken b.standing.taken ≡ Some q → AreAgain allowance.repeats q again
+          → FitsEnded allowance b.journal earlier
+          → FitsJournal allowance b.journal (earlier ++ again ++ written q answer)
+      under_way q answer earlier again is are fits =
+          let (t, taken) = taken_is b.standing.taken q is in
+          by_answer answer
+          ((laws.taken allowance b earlier sound.replayed fits).1 (t, q) again taken are)
+        where
+          by_answer : (answer : Option Answer)
+              → FitsJournal allowance b.journal (earlier ++ again)
+              × ((a : Answer) → FitsJournal allowance b.journal (earlier ++ again ++ (q, a) ∷ []))
+              → FitsJournal allowance b.journal (earlier ++ again ++ written q answer)
+          by_answer None (without, with_pair) =
+              subst (λ xs. FitsJournal allowance b.journal xs) (sym (append-nil (earlier ++ again)))
+              without
+          by_answer (Some a) (without, with_pair) = with_pair a
 
       by_open : (job : Option Job) (late : Option Request)
           → request_taken b.standing.taken ≡ request_of job
-          → FitsOpen job late b.journal (pairs_from base s.carried)
-          → FitsJournal b.journal (pairs_from base s.carried)
-      by_open (Some job) late same (earlier, are, fits) =
-          subst (λ xs. FitsJournal b.journal xs) (sym are)
-          (under_way job.request job.answer earlier same fits)
-      by_open None (Some q) same (earlier, cause, is, fits) =
-          let ended_fits : FitsEnded b.journal (pairs_from base s.carried) =
-          subst (λ ts. FitsTakings ts (pairs_from base s.carried)) (sym is)
-          (laws.without earlier (q, Some (outcome.Unknown cause)) _ tt fits) in
-          (laws.taken b _ sound.replayed ended_fits).0
-      by_open None None same fits = (laws.taken b _ sound.replayed fits).0
+          → FitsOpen allowance job late b.journal (pairs_from base s.carried)
+          → FitsJournal allowance b.journal (pairs_from base s.carried)
+      by_open (Some job) late same (earlier, again, are, more, fits) =
+          subst (λ xs. FitsJournal allowance b.journal xs) (sym are)
+          (under_way job.request job.answer earlier again same more fits)
+      by_open None (Some q) same fits = (laws.taken allowance b _ sound.replayed
+          (late_ended laws allowance q b.journal (pairs_from base s.carried) fits).0).0
+      by_open None None same fits = (laws.taken allowance b _ sound.replayed fits).0
 
   pub sound_fits : (a : PortState) → IsSound a → RecordFits a
-  sound_fits a sound = record_fits a.book a.session a.base sound
+  sound_fits a sound = record_fits (allowance_of a.terms) a.book a.session a.base sound
 
   pub opened_sound : (devices : Devices) (limits : Limits) (far : Far) (silence : ℕ)
       → IsSound (opened devices limits far silence)
@@ -311,6 +325,9 @@ module _ (laws : BookLaws) where
     sure = λ _. refl;
     alone = inl refl;
     within = omega arith;
-    fits = subst (λ xs. FitsEnded [] (map (λ pair. (pair.request, pair.answer)) xs))
-        (sym (drop-length far.carried)) laws.archived.0;
+    fits = subst (λ xs. FitsEnded allowance [] (map (λ pair. (pair.request, pair.answer)) xs))
+        (sym (drop-length far.carried)) (laws.archived allowance).0;
   }
+    where
+      allowance : Allowance
+      allowance = allowance_of (opened devices limits far silence).terms

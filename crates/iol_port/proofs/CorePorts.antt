@@ -199,8 +199,8 @@ module _ (p : Bare) (far : Far) (n : ℕ) (base : ℕ) (g : Ghost) (k : Core) (b
             frozen = s.frozen ∙ frozen;
             kept = refl;
             silence = refl;
-            terms = terms_of _ _ _ _ _ _ (s.terms.0 ∙ terms.0) (s.terms.1 ∙ terms.1)
-                (s.terms.2 ∙ terms.2);
+            terms = terms_of _ _ _ _ _ _ _ _ (s.terms.0 ∙ terms.0) (s.terms.1 ∙ terms.1)
+                (s.terms.2 ∙ terms.2) (s.terms.3 ∙ terms.3);
             pending = refl;
           }),
         ),
@@ -365,7 +365,7 @@ receives p next base g out far far' n n' said shows r free posts keeps =
             fits = x.fits;
             silence = x.silent;
             clash_free = x.clash_free;
-            terms = terms_of _ _ _ _ _ _ x.terms.0 x.terms.1 x.terms.2;
+            terms = terms_of _ _ _ _ _ _ _ _ x.terms.0 x.terms.1 x.terms.2 x.terms.3;
           };
           work = record {
             may_book = MayBookAll-filter x.steps p.book.state
@@ -498,8 +498,8 @@ module _ {W : Type 0} (facts : WireFacts W) (wire : W) where
   pub opens_over : (devices : Devices) (limits : Limits) (p : Bare) → CoreOpensFor devices limits p
       → OpensWell (opening_for facts devices limits wire)
       → StandsFor facts (parts_over wire p) (opened devices limits (far wire) (silence wire))
-  opens_over devices limits p opens (is_honest, quiet, for_it, sees) =
-      over_wire p _ is_honest (opens (far wire) (silence wire) (refl, quiet, for_it, sees))
+  opens_over devices limits p opens (is_honest, quiet, sees) =
+      over_wire p _ is_honest (opens (far wire) (silence wire) (refl, quiet, sees))
 
   pub call_over : (p next : Bare) (c : Call) (reply : Answered) → CoreDoes p c reply next
       → Does facts (parts_over wire p) c reply (parts_over wire next)

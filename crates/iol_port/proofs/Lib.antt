@@ -21,6 +21,7 @@ pub mod CleanTurns
 pub mod Served
 pub mod CleanLevel
 pub mod Crosses
+pub mod Apart
 pub mod OwnedLists
 pub mod OwnedRuns
 pub mod WithoutIsdu

@@ -1,10 +1,11 @@
--- how often a ticket stands in lists: of what was carried out, and of what waits
-use Rattle.std.proofs.Common.{◌≡◌, ◌∷◌, ◌++◌, [], List, ℕ, ◌+◌, Bool, true, false, cond, ◌≤◌, nat_eq, nat_lt, Option, Some, None, append_assoc, refl, ap, sym, ◌∙◌, inl, inr, subst, arith, drop, append-nil}
+-- the ledger of a run: what was carried out, what is to come, and what each step does to them
+use Rattle.std.proofs.Common.{◌≡◌, ◌⊎◌, ◌∷◌, ◌++◌, [], List, ℕ, ◌+◌, Bool, true, false, cond, ◌≤◌, nat_eq, nat_lt, Option, Some, None, append_assoc, refl, ap, sym, ◌∙◌, inl, inr, subst, arith, drop, append-nil}
 use Rattle.std.proofs.Math.Nat.{lt_of_not-le}
 use Rattle.std.proofs.lemmas.Bool.{eq-eqb}
 use Rattle.std.proofs.lemmas.Bool.Decides.{nat_tests}
 use Rattle.std.proofs.lemmas.Grind.{common_steps}
 use Rattle.std.proofs.lemmas.List.{map-append}
+use Rattle.std.specs.Prelude.{IsTrue, IsSome}
 use Rattle.std.specs.Map.{remove_entry, lookup}
 use Rattle.indexmap.specs.IndexMap.{insert_entry}
 use Rattle.iol_isdu.specs.declared.values.Request.{Request}
@@ -12,15 +13,18 @@ use Rattle.iol_far.specs.declared.carried.Carried.{Carried}
 use Rattle.iol_book.specs.declared.entries.Ticket.{Ticket}
 use Rattle.iol_book.specs.Replay.{Standing, same_ticket, without, others_without}
 use Rattle.iol_book.specs.BookModel.{next_taken, others_behind, BookState, took, denied, posted, leaves_unsure, ended_with}
+use Rattle.iol_book.specs.Takings.{Allowance, IsToldAs}
 use Rattle.iol_port.specs.Steps.{ticket_of, MayBook, book_after}
-use Rattle.iol_port.specs.Owned.{Owned, pairs_of, AreApart, IsOneOf}
+use Rattle.iol_port.specs.Owned.{Owned, pairs_of, AreApart, IsOneOf, IsLastOf}
+use Rattle.iol_port.proofs.Replaying.{Allows, told_for}
+use Rattle.iol_port.proofs.Apart.{all_both, all_one, all_push, last_first, last_push, IsReady, ready_none, ready_push, apart_push}
 use Rattle.iol_isdu.specs.declared.values.Answer.{Answer}
 use Rattle.iol_isdu.specs.declared.values.Cause.{Cause}
 use Rattle.iol_isdu.specs.declared.values.Cause.TheVariants.{LinkLost, Restarted}
 use Rattle.iol_book.specs.declared.entries.Outcome.{Outcome}
 use Rattle.iol_book.specs.declared.entries.Outcome.TheVariants as outcome
-use Rattle.iol_steps.specs.Step.{Step, Take, Deny, Carry, Done, Unknown, LateCarry, Reset, Busy, Moment}
-use Rattle.iol_steps.specs.Session.{Job, Session, MaySession, session_after, carried_out, carried_late, cut_for, left_of, unanswered, marked, busy_once_more}
+use Rattle.iol_steps.specs.Step.{Step, Take, Deny, Carry, Again, Done, Unknown, LateCarry, Reset, Busy, Terms, Moment}
+use Rattle.iol_steps.specs.Session.{Job, Session, MayTell, MaySession, session_after, carried_out, carried_late, cut_for, left_of, unanswered, taken_back, marked, busy_once_more}
 
 -- Numbers
 
@@ -154,39 +158,6 @@ each_looked P (entry ∷ es) t x e each = grind (arith, common_steps, ticket_is,
 
 -- What was carried out
 
-abbrev pub owned_times : ℕ → List Owned → ℕ
-owned_times n owned = times (λ o. o.ticket.0) n owned
-
-pub one_counts : (o : Owned) (owned : List Owned) → IsOneOf o owned
-    → 1 ≤ owned_times o.ticket.0 owned
-one_counts o [] i = absurd i
-one_counts o (p ∷ owned) (inl is) = rw is (omega (arith, counted_itself o.ticket.0))
-one_counts o (p ∷ owned) (inr i) = omega (arith, one_counts o owned i)
-
-pub apart_of : (low : ℕ) (owned : List Owned) → ((n : ℕ) → owned_times n owned ≤ 1)
-    → ((n : ℕ) → n ≤ low → owned_times n owned ≡ 0) → AreApart low owned
-apart_of low [] once above = tt
-apart_of low (o ∷ owned) once above = (
-  lt_of_not-le (λ less. omega (arith, same, above o.ticket.0 less)),
-  λ p i is.
-      let there : 1 ≤ owned_times o.ticket.0 owned =
-      subst (λ (k : Ticket). 1 ≤ owned_times k.0 owned) is (one_counts p owned i) in
-      omega (arith, same, there, once o.ticket.0),
-  apart_of low owned (λ n. omega (arith, once n)) (λ n less. omega (arith, above n less)),
-)
-  where
-    same : counted o.ticket.0 o.ticket.0 ≡ 1
-    same = counted_itself o.ticket.0
-
-one_first : (o : Owned) (owned more : List Owned) → IsOneOf o owned → IsOneOf o (owned ++ more)
-one_first o [] more i = absurd i
-one_first o (p ∷ owned) more (inl same) = inl same
-one_first o (p ∷ owned) more (inr i) = inr (one_first o owned more i)
-
-one_last : (o : Owned) (owned : List Owned) → IsOneOf o (owned ++ o ∷ [])
-one_last o [] = inl refl
-one_last o (p ∷ owned) = inr (one_last o owned)
-
 record_push : (before carried : List Carried) (owned : List Owned) (o : Owned)
     → carried ≡ before ++ pairs_of owned
     → carried ++ record { request = o.request; answer = o.answer } ∷ [] ≡ before
@@ -194,102 +165,115 @@ record_push : (before carried : List Carried) (owned : List Owned) (o : Owned)
 record_push before carried owned o is = simp (is, map-append, append_assoc)
 
 -- The ledger of a run: what was carried out, and how often a number stands among what is to come,
--- and as the late request. Each number that the
+-- in it among what was never under way, and as the late request. Each number that the
 -- book has not given yet is to come too, so that no number is ever new
 
 pub record Tally : Type 0 where
   pub owned : List Owned
+  pub fresh : ℕ → ℕ
   pub coming : ℕ → ℕ
   pub late : ℕ → ℕ
 
--- what is carried out was to come, or was late, and is so no more
+-- what is carried out was to come, or was late, and was under way before
 pub record Grows (x y : Tally) : Type 0 where
   pub added : List Owned
   pub owned_is : y.owned ≡ x.owned ++ added
+  pub fewer : (n : ℕ) → y.fresh n ≤ x.fresh n
   pub less : (n : ℕ) → y.coming n ≤ x.coming n
-  pub spent : (n : ℕ) → owned_times n added + y.late n + y.coming n ≤ x.late n + x.coming n
+  pub both : (n : ℕ) → y.late n + y.coming n ≤ x.late n + x.coming n
+  pub was : (o : Owned) → IsOneOf o added → 1 ≤ x.late o.ticket.0 + x.coming o.ticket.0
+  pub used : (o : Owned) → IsOneOf o added → y.fresh o.ticket.0 ≡ 0
 
 -- where nothing is carried out
-grows_none : (x y : Tally) → y.owned ≡ x.owned → ((n : ℕ) → y.coming n ≤ x.coming n)
+grows_none : (x y : Tally) → y.owned ≡ x.owned → ((n : ℕ) → y.fresh n ≤ x.fresh n)
+    → ((n : ℕ) → y.coming n ≤ x.coming n)
     → ((n : ℕ) → y.late n + y.coming n ≤ x.late n + x.coming n) → Grows x y
-grows_none x y same less spent = record {
+grows_none x y same fewer less both = record {
   added = [];
   owned_is = same ∙ sym (append-nil x.owned);
+  fewer = fewer;
   less = less;
-  spent = λ n. omega (arith, spent n);
+  both = both;
+  was = λ o i. absurd i;
+  used = λ o i. absurd i;
 }
 
 -- as where nothing is to come or late that was not
-grows_less : (x y : Tally) → y.owned ≡ x.owned → ((n : ℕ) → y.coming n ≤ x.coming n)
-    → ((n : ℕ) → y.late n ≤ x.late n) → Grows x y
-grows_less x y same less late = grows_none x y same less (λ n. omega (arith, less n, late n))
-
--- where one is carried out
-grows_one : (x y : Tally) (o : Owned) → y.owned ≡ x.owned ++ o ∷ []
-    → ((n : ℕ) → y.coming n ≤ x.coming n)
-    → ((n : ℕ) → counted n o.ticket.0 + y.late n + y.coming n ≤ x.late n + x.coming n)
-    → Grows x y
-grows_one x y o is less spent = record
-    { added = o ∷ []; owned_is = is; less = less; spent = λ n. omega (arith, spent n) }
+grows_less : (x y : Tally) → y.owned ≡ x.owned → ((n : ℕ) → y.fresh n ≤ x.fresh n)
+    → ((n : ℕ) → y.coming n ≤ x.coming n) → ((n : ℕ) → y.late n ≤ x.late n) → Grows x y
+grows_less x y same fewer less late =
+    grows_none x y same fewer less (λ n. omega (arith, less n, late n))
 
 pub grows_then : (x y z : Tally) → Grows x y → Grows y z → Grows x z
 grows_then x y z one more = record {
   added = one.added ++ more.added;
   owned_is = more.owned_is ∙ ap (λ (os : List Owned). os ++ more.added) one.owned_is
       ∙ append_assoc x.owned one.added more.added;
+  fewer = λ n. omega (arith, one.fewer n, more.fewer n);
   less = λ n. omega (arith, one.less n, more.less n);
-  spent = λ n. omega (
-    arith,
-    one.spent n,
-    more.spent n,
-    times_both (λ o. o.ticket.0) n one.added
-        more.added,
-  );
+  both = λ n. omega (arith, one.both n, more.both n);
+  was = all_both (λ o. 1 ≤ x.late o.ticket.0 + x.coming o.ticket.0) one.added more.added
+      one.was (λ o i. omega (arith, more.was o i, one.both o.ticket.0));
+  used = all_both (λ o. z.fresh o.ticket.0 ≡ 0) one.added more.added
+      (λ o i. omega (arith, one.used o i, more.fewer o.ticket.0)) more.used;
 }
 
--- no number stands anywhere twice, and none of those that were given before stands there
+-- no number is to come or late twice, none of those that were given before is, and none under which
+-- something was carried out will be under way anew
 pub record IsOnce (given : ℕ) (x : Tally) : Type 0 where
-  pub once : (n : ℕ) → owned_times n x.owned + x.late n + x.coming n ≤ 1
-  pub above : (n : ℕ) → n ≤ given → owned_times n x.owned + x.late n + x.coming n ≡ 0
+  pub once : (n : ℕ) → x.late n + x.coming n ≤ 1
+  pub above : (n : ℕ) → n ≤ given → x.late n + x.coming n ≡ 0
+  pub used : (o : Owned) → IsOneOf o x.owned → x.fresh o.ticket.0 ≡ 0
 
 once_then : (given : ℕ) (x y : Tally) → Grows x y → IsOnce given x → IsOnce given y
 once_then given x y grows is = record {
-  once = λ n. omega (arith, is.once n, grows.spent n, total n);
-  above = λ n low. omega (arith, is.above n low, grows.spent n, total n);
+  once = λ n. omega (arith, is.once n, grows.both n);
+  above = λ n low. omega (arith, is.above n low, grows.both n);
+  used = subst (λ (os : List Owned). (o : Owned) → IsOneOf o os → y.fresh o.ticket.0 ≡ 0)
+      (sym grows.owned_is) (all_both (λ o. y.fresh o.ticket.0 ≡ 0) x.owned grows.added
+      (λ o i. omega (arith, is.used o i, grows.fewer o.ticket.0)) grows.used);
 }
-  where
-    total : (n : ℕ) → owned_times n y.owned ≡ owned_times n x.owned + owned_times n grows.added
-    total n = ap (owned_times n) grows.owned_is ∙ times_both (λ o. o.ticket.0) n x.owned grows.added
 
--- Outcomes: what is done was carried out, and what was cut off comes no more
+-- Outcomes: what is done was carried out, and neither that nor what was cut off comes any more
 
-abbrev pub HasAnswer : List Owned → Ticket → Answer → Type 0
-HasAnswer owned t a = (o : Owned) × IsOneOf o owned × (o.ticket ≡ t) × (o.answer ≡ a)
+abbrev pub HasAnswer : Bool → List Owned → Ticket → Answer → Type 0
+HasAnswer misreads owned t a =
+    (o : Owned) × IsLastOf o owned × (o.ticket ≡ t) × IsToldAs misreads a o.answer
 
-abbrev pub OutcomeStands : Tally → Ticket → Outcome → Type 0
-OutcomeStands x t (outcome.Done a) = HasAnswer x.owned t a
-OutcomeStands x t (outcome.Unknown cause) = (x.coming t.0 ≡ 0)
+abbrev pub OutcomeStands : Bool → Tally → Ticket → Outcome → Type 0
+OutcomeStands misreads x t (outcome.Done a) =
+    HasAnswer misreads x.owned t a × (x.late t.0 + x.coming t.0 ≡ 0)
+OutcomeStands misreads x t (outcome.Unknown cause) = (x.coming t.0 ≡ 0)
     × (leaves_unsure (outcome.Unknown cause) ≡ false → x.late t.0 ≡ 0)
-OutcomeStands x t outcome.Withdrawn = Unit {0}
-OutcomeStands x t outcome.NoIsdu = Unit {0}
+OutcomeStands misreads x t outcome.Withdrawn = Unit {0}
+OutcomeStands misreads x t outcome.NoIsdu = Unit {0}
 
-answer_then : (owned more : List Owned) (t : Ticket) (a : Answer) → HasAnswer owned t a
-    → HasAnswer (owned ++ more) t a
-answer_then owned more t a (o, i, same, answered) = (o, one_first o owned more i, same, answered)
+pub outcome_then : (misreads : Bool) (x y : Tally) → Grows x y → (t : Ticket) (out : Outcome)
+    → OutcomeStands misreads x t out → OutcomeStands misreads y t out
+outcome_then misreads x y grows t (outcome.Done a) ((o, last, same, answered), none) = (
+  (
+    o,
+    subst (IsLastOf o) (sym grows.owned_is) (last_first o x.owned grows.added
+        (λ p i is. omega (
+          arith,
+          none,
+          subst (λ (k : Ticket). 1 ≤ x.late k.0 + x.coming k.0) (is ∙ same) (grows.was p i),
+        ))
+        last),
+    same,
+    answered,
+  ),
+  omega (arith, none, grows.both t.0),
+)
+outcome_then misreads x y grows t (outcome.Unknown cause) (none, sure) =
+    (omega (arith, grows.less t.0, none), λ good. omega (arith, grows.both t.0, sure good, none))
+outcome_then misreads x y grows t _ stands = tt
 
-pub outcome_then : (x y : Tally) → Grows x y → (t : Ticket) (out : Outcome)
-    → OutcomeStands x t out → OutcomeStands y t out
-outcome_then x y grows t (outcome.Done a) has =
-    subst (λ (os : List Owned). HasAnswer os t a) (sym grows.owned_is)
-    (answer_then x.owned grows.added t a has)
-outcome_then x y grows t (outcome.Unknown cause) (none, sure) =
-    (omega (arith, grows.less t.0, none), λ good. omega (arith, grows.spent t.0, sure good, none))
-outcome_then x y grows t _ stands = tt
-
-outcomes_then : (x y : Tally) → Grows x y → (es : List (Ticket × Outcome))
-    → Each (OutcomeStands x) es → Each (OutcomeStands y) es
-outcomes_then x y grows es each =
-    each_more (OutcomeStands x) (OutcomeStands y) es (outcome_then x y grows) each
+outcomes_then : (misreads : Bool) (x y : Tally) → Grows x y → (es : List (Ticket × Outcome))
+    → Each (OutcomeStands misreads x) es → Each (OutcomeStands misreads y) es
+outcomes_then misreads x y grows es each =
+    each_more (OutcomeStands misreads x) (OutcomeStands misreads y) es
+    (outcome_then misreads x y grows) each
 
 -- The request under way, and the late one
 
@@ -304,28 +288,29 @@ busy_sent job = grind (arith, common_steps)
 pub marked_sent : (job : Option Job) → sent_of (marked job) ≡ sent_of job
 marked_sent job = grind (arith, common_steps)
 
--- it may yet be carried out where it has no answer
-abbrev pub unanswered_times : ℕ → Option Answer → Ticket → ℕ
-unanswered_times n None t = counted n t.0
-unanswered_times n (Some a) t = 0
-
+-- it may yet be carried out, for the first time or once more
 abbrev pub open_times : ℕ → Option (Request × Option Answer) → Option (Ticket × Request) → ℕ
 open_times n None taken = 0
 open_times n (Some sent) None = 0
-open_times n (Some sent) (Some p) = unanswered_times n sent.1 p.0
+open_times n (Some sent) (Some p) = counted n p.0.0
 
 -- and so may the late one, under this ticket
 abbrev pub late_times : ℕ → Ticket → Option Request → ℕ
 late_times n t None = 0
 late_times n t (Some q) = counted n t.0
 
+-- those that were never under way: they wait, or aren't given yet
+abbrev fresh_times : ℕ → Standing → ℕ → ℕ
+fresh_times n standing last =
+    ahead last n + waiting_times n standing.urgent + waiting_times n standing.waiting
+
 -- the ledger, where the late request has this ticket
 abbrev pub tally_of : List Owned → Ticket → Option Request → Option (Request × Option Answer)
     → Standing → ℕ → Tally
 tally_of owned t late sent standing last = record {
   owned = owned;
-  coming = λ n. ahead last n + waiting_times n standing.urgent + waiting_times n
-      standing.waiting + open_times n sent standing.taken;
+  fresh = λ n. fresh_times n standing last;
+  coming = λ n. fresh_times n standing last + open_times n sent standing.taken;
   late = λ n. late_times n t late;
 }
 
@@ -333,29 +318,32 @@ abbrev pub tally_in : List Owned → Ticket → BookState → Session → Tally
 tally_in owned t b s = tally_of owned t s.late (sent_of s.job) b.standing b.last
 
 late_of_unanswered : (n : ℕ) (answer : Option Answer) (t : Ticket) (q : Request)
-    → late_times n t (unanswered answer q) ≡ unanswered_times n answer t
+    → late_times n t (unanswered answer q) ≤ counted n t.0
 late_of_unanswered n answer t q = grind (arith, common_steps)
 
-module _ (given : ℕ) (before : List Carried) (Asked : Ticket → Request → Type 0) where
-  abbrev pub AnswerFits : List Owned → Ticket → Option Answer → Type 0
-  AnswerFits owned t None = Unit {0}
-  AnswerFits owned t (Some a) = HasAnswer owned t a
+module _ (allowance : Allowance) (given : ℕ) (before : List Carried) (Asked : Ticket
+    → Request → Type 0) where
+  -- without an answer it may be carried out next; with one, if it may be so more than once
+  abbrev pub AnswerFits : Request → List Owned → Ticket → Option Answer → Type 0
+  AnswerFits q owned t None = IsReady allowance.repeats t owned
+  AnswerFits q owned t (Some a) = HasAnswer false owned t a
+      × (IsTrue (allowance.repeats q) → IsReady allowance.repeats t owned)
 
   pub record UnderWay (q : Request) (answer : Option Answer) (taken : Option (Ticket × Request))
       (owned : List Owned) : Type 0 where
     pub ticket : Ticket
     pub taken_is : taken ≡ Some (ticket, q)
     pub asked : Asked ticket q
-    pub answered : AnswerFits owned ticket answer
+    pub answered : AnswerFits q owned ticket answer
 
   abbrev pub Fits : Option (Request × Option Answer) → Option (Ticket × Request) → List Owned
       → Type 0
   Fits None taken owned = Unit {0}
   Fits (Some sent) taken owned = UnderWay sent.0 sent.1 taken owned
 
-  abbrev pub LateFits : Ticket → Option Request → Type 0
-  LateFits t None = Unit {0}
-  LateFits t (Some q) = Asked t q
+  abbrev pub LateFits : List Owned → Ticket → Option Request → Type 0
+  LateFits owned t None = Unit {0}
+  LateFits owned t (Some q) = Asked t q × IsReady allowance.repeats t owned
 
   -- the ledger is that of the record, the session and the book
   pub record Owns (owned : List Owned) (ticket : Ticket) (carried : List Carried)
@@ -363,12 +351,16 @@ module _ (given : ℕ) (before : List Carried) (Asked : Ticket → Request → T
       (last : ℕ) : Type 0 where
     pub record_is : carried ≡ before ++ pairs_of owned
     pub once : IsOnce given (tally_of owned ticket late sent standing last)
+    pub apart : AreApart allowance.repeats given owned
     pub asked : (o : Owned) → IsOneOf o owned → Asked o.ticket o.request
     pub urgent : Each Asked standing.urgent
     pub waiting : Each Asked standing.waiting
     pub under_way : Fits sent standing.taken owned
-    pub late_asked : LateFits ticket late
-    pub outcomes : Each (OutcomeStands (tally_of owned ticket late sent standing last))
+    pub late_fits : LateFits owned ticket late
+    -- where a request is under way, none is late
+    pub one_open : (sent ≡ None) ⊎ (late ≡ None)
+    pub outcomes : Each (OutcomeStands allowance.misreads
+        (tally_of owned ticket late sent standing last))
         standing.outcomes
 
   abbrev pub OwnsAll : List Owned → Ticket → BookState → Session → Type 0
@@ -402,13 +394,15 @@ module _ (given : ℕ) (before : List Carried) (Asked : Ticket → Request → T
       {late : Option Request} {sent : Option (Request × Option Answer)} {standing : Standing}
       {last : ℕ}
       → IsOnce given x → Grows x (tally_of owned u late sent standing last)
-      → carried ≡ before ++ pairs_of owned
+      → carried ≡ before ++ pairs_of owned → AreApart allowance.repeats given owned
       → ((o : Owned) → IsOneOf o owned → Asked o.ticket o.request)
       → Each Asked standing.urgent → Each Asked standing.waiting
-      → Fits sent standing.taken owned → LateFits u late
-      → Each (OutcomeStands (tally_of owned u late sent standing last)) standing.outcomes
+      → Fits sent standing.taken owned → LateFits owned u late → (sent ≡ None) ⊎ (late ≡ None)
+      → Each (OutcomeStands allowance.misreads (tally_of owned u late sent standing last))
+      standing.outcomes
       → Goes x carried late sent standing last
-  goes_by x owned u once grows record_is asked urgent waiting under_way late_asked outcomes =
+  goes_by x owned u once grows record_is apart asked urgent waiting under_way late_fits
+      one_open outcomes =
       record {
         owned = owned;
         ticket = u;
@@ -416,24 +410,38 @@ module _ (given : ℕ) (before : List Carried) (Asked : Ticket → Request → T
         owns = record {
           record_is = record_is;
           once = once_then given x _ grows once;
+          apart = apart;
           asked = asked;
           urgent = urgent;
           waiting = waiting;
           under_way = under_way;
-          late_asked = late_asked;
+          late_fits = late_fits;
+          one_open = one_open;
           outcomes = outcomes;
         };
       }
 
-  asked_push : (owned : List Owned) (o : Owned)
-      → ((p : Owned) → IsOneOf p owned → Asked p.ticket p.request) → Asked o.ticket o.request
-      → (p : Owned) → IsOneOf p (owned ++ o ∷ []) → Asked p.ticket p.request
-  asked_push [] o all this p i = grind (arith, common_steps)
-  asked_push (x ∷ owned) o all this p i = grind (arith, common_steps, asked_push owned o)
+  -- Where one is carried out that was under way or late, and may be the next
+  module _ (x : Tally) (o : Owned) (once : IsOnce given x)
+      (was : 1 ≤ x.late o.ticket.0 + x.coming o.ticket.0) where
+    grows_one : (y : Tally) → y.owned ≡ x.owned ++ o ∷ [] → ((n : ℕ) → y.fresh n ≤ x.fresh n)
+        → ((n : ℕ) → y.coming n ≤ x.coming n) → ((n : ℕ) → y.late n ≤ x.late n)
+        → y.fresh o.ticket.0 ≡ 0 → Grows x y
+    grows_one y is fewer less late used = record {
+      added = o ∷ [];
+      owned_is = is;
+      fewer = fewer;
+      less = less;
+      both = λ n. omega (arith, less n, late n);
+      was = all_one (λ p. 1 ≤ x.late p.ticket.0 + x.coming p.ticket.0) o was;
+      used = all_one (λ p. y.fresh p.ticket.0 ≡ 0) o used;
+    }
 
-  fits_more : (sent : Option (Request × Option Answer)) (taken : Option (Ticket × Request))
-      (owned : List Owned) (o : Owned) → Fits sent taken owned → Fits sent taken (owned ++ o ∷ [])
-  fits_more sent taken owned o fits = grind (arith, common_steps, one_first)
+    apart_one : IsReady allowance.repeats o.ticket x.owned
+        → AreApart allowance.repeats given x.owned
+        → AreApart allowance.repeats given (x.owned ++ o ∷ [])
+    apart_one ready apart = apart_push allowance.repeats given o x.owned
+        (lt_of_not-le (λ low. omega (arith, was, once.above o.ticket.0 low))) ready apart
 
   -- The steps
 
@@ -448,41 +456,51 @@ module _ (given : ℕ) (before : List Carried) (Asked : Ticket → Request → T
       owned = owned;
       ticket = u;
       owns = owns;
-      grows = grows_less ledger ledger refl (λ n. omega arith) (λ n. omega arith);
+      grows = grows_less ledger ledger refl (λ n. omega arith) (λ n. omega arith)
+          (λ n. omega arith);
     }
 
     take_owns : (t : Ticket) (q : Request) → next_taken b.standing ≡ Some (t, q)
-        → Goes ledger s.carried s.late (Some (q, None)) (took b (t, q)).standing b.last
-    take_owns t q next =
+        → s.late ≡ None → Goes ledger s.carried s.late (Some (q, None)) (took b (t, q)).standing
+        b.last
+    take_owns t q next none_late =
         let grows : Grows ledger (tally_of owned u s.late (Some (q, None))
         (took b (t, q)).standing b.last) =
         grows_less ledger _ refl (λ n. omega (arith, waiting_next n b.standing (t, q) next))
-        (λ n. omega arith) in
-        goes_by ledger owned u owns.once grows owns.record_is owns.asked
+        (λ n. omega (arith, waiting_next n b.standing (t, q) next)) (λ n. omega arith) in
+        goes_by ledger owned u owns.once grows owns.record_is owns.apart owns.asked
         (each_rest Asked b.standing.urgent owns.urgent)
         (each_behind Asked b.standing.urgent b.standing.waiting owns.waiting)
         (record {
           ticket = t;
           taken_is = refl;
           asked = each_next Asked b.standing (t, q) next owns.urgent owns.waiting;
-          answered = tt;
+          answered = ready_none allowance.repeats t owned (λ p i is. omega (
+            arith,
+            waiting_next t.0 b.standing (t, q) next,
+            counted_itself t.0,
+            subst (λ (k : Ticket). fresh_times k.0 b.standing b.last ≡ 0) is (owns.once.used p i),
+          ));
         })
-        owns.late_asked (outcomes_then ledger _ grows b.standing.outcomes owns.outcomes)
+        owns.late_fits (inr none_late)
+        (outcomes_then allowance.misreads ledger _ grows b.standing.outcomes owns.outcomes)
 
     -- Where those that wait change, and the outcomes of which no more is said than before
     pub waits_owns : (urgent waiting : List (Ticket × Request))
         (outcomes : List (Ticket × Outcome)) (last : ℕ)
         → ((n : ℕ) → ahead last n + waiting_times n urgent + waiting_times n waiting ≤ ahead
         b.last n + waiting_times n b.standing.urgent + waiting_times n b.standing.waiting)
-        → Each Asked urgent → Each Asked waiting → Each (OutcomeStands ledger) outcomes
+        → Each Asked urgent → Each Asked waiting
+        → Each (OutcomeStands allowance.misreads ledger) outcomes
         → Goes ledger s.carried s.late (sent_of s.job)
         (record b.standing { urgent = urgent; waiting = waiting; outcomes = outcomes }) last
     waits_owns urgent waiting outcomes last less urgent_asked asked stands =
         let grows : Grows ledger (tally_of owned u s.late (sent_of s.job)
         (record b.standing { urgent = urgent; waiting = waiting; outcomes = outcomes }) last) =
-        grows_less ledger _ refl (λ n. omega (arith, less n)) (λ n. omega arith) in
-        goes_by ledger owned u owns.once grows owns.record_is owns.asked urgent_asked asked
-        owns.under_way owns.late_asked (outcomes_then ledger _ grows outcomes stands)
+        grows_less ledger _ refl less (λ n. omega (arith, less n)) (λ n. omega arith) in
+        goes_by ledger owned u owns.once grows owns.record_is owns.apart owns.asked
+        urgent_asked asked owns.under_way owns.late_fits owns.one_open
+        (outcomes_then allowance.misreads ledger _ grows outcomes stands)
 
     deny_owns : (t : Ticket) → GoesTo ledger (denied b t) s
     deny_owns t =
@@ -497,15 +515,16 @@ module _ (given : ℕ) (before : List Carried) (Asked : Ticket → Request → T
         ))
         (each_rest Asked b.standing.urgent owns.urgent)
         (each_behind Asked b.standing.urgent b.standing.waiting owns.waiting)
-        (each_inserted (OutcomeStands ledger) b.standing.outcomes t outcome.NoIsdu tt owns.outcomes)
+        (each_inserted (OutcomeStands allowance.misreads ledger) b.standing.outcomes t
+        outcome.NoIsdu tt owns.outcomes)
 
     reset_owns : Goes ledger s.carried None (sent_of s.job) b.standing b.last
     reset_owns =
         let grows : Grows ledger (tally_of owned u None (sent_of s.job) b.standing b.last) =
-        grows_less ledger _ refl (λ n. omega arith) (λ n. omega arith) in
-        goes_by ledger owned u owns.once grows owns.record_is owns.asked owns.urgent
-        owns.waiting owns.under_way tt
-        (outcomes_then ledger _ grows b.standing.outcomes owns.outcomes)
+        grows_less ledger _ refl (λ n. omega arith) (λ n. omega arith) (λ n. omega arith) in
+        goes_by ledger owned u owns.once grows owns.record_is owns.apart owns.asked
+        owns.urgent owns.waiting owns.under_way tt (inr refl)
+        (outcomes_then allowance.misreads ledger _ grows b.standing.outcomes owns.outcomes)
 
     -- the request under way is the same, with another count of busy replies, or with the mark
     pub same_sent : (job : Option Job) → sent_of job ≡ sent_of s.job
@@ -522,79 +541,121 @@ module _ (given : ℕ) (before : List Carried) (Asked : Ticket → Request → T
     way : UnderWay job.request job.answer b.standing.taken owned
     way = owns.under_way
 
+    -- its ticket, and no other, is to come as the one under way
     was : (n : ℕ) (answer : Option Answer)
-        → open_times n (Some (job.request, answer)) b.standing.taken
-        ≡ unanswered_times n answer way.ticket
+        → open_times n (Some (job.request, answer)) b.standing.taken ≡ counted n way.ticket.0
     was n answer = ap (open_times n (Some (job.request, answer))) way.taken_is
+
+    -- and it neither waits nor is late
+    ended : late_times way.ticket.0 u s.late + fresh_times way.ticket.0 b.standing b.last ≡ 0
+    ended = omega (
+      arith,
+      was way.ticket.0 job.answer,
+      counted_itself way.ticket.0,
+      owns.once.once way.ticket.0,
+    )
+
+    none_late : s.late ≡ None
+    none_late = elim owns.one_open [ inl under_way ↦ absurd (cc) | inr none ↦ none ]
 
     carry_owns : (a : Answer) → job.answer ≡ None → GoesTo under b (carried_out a (Some job) s)
     carry_owns a none =
         goes_by under (owned ++ o ∷ []) u owns.once grows
         (record_push before s.carried owned o owns.record_is)
-        (asked_push owned o owns.asked way.asked) owns.urgent owns.waiting
+        (apart_one under o owns.once here ready owns.apart)
+        (all_push (λ p. Asked p.ticket p.request) owned o owns.asked way.asked) owns.urgent
+        owns.waiting
         (record {
           ticket = way.ticket;
           taken_is = way.taken_is;
           asked = way.asked;
-          answered = (o, one_last o owned, refl, refl);
+          answered = (
+            (o, last_push o owned, refl, refl),
+            λ may. ready_push allowance.repeats o owned may ready,
+          );
         })
-        owns.late_asked (outcomes_then under _ grows b.standing.outcomes owns.outcomes)
+        (subst (LateFits (owned ++ o ∷ []) u) (sym none_late) tt) (inr none_late)
+        (outcomes_then allowance.misreads under _ grows b.standing.outcomes owns.outcomes)
       where
         o : Owned
         o = record { ticket = way.ticket; request = job.request; answer = a }
 
-        here : (n : ℕ) → open_times n (Some (job.request, job.answer)) b.standing.taken
-            ≡ counted n way.ticket.0
-        here n = was n job.answer ∙ ap (λ (x : Option Answer). unanswered_times n x way.ticket) none
+        ready : IsReady allowance.repeats way.ticket owned
+        ready = subst (AnswerFits job.request owned way.ticket) none way.answered
+
+        here : 1 ≤ under.late way.ticket.0 + under.coming way.ticket.0
+        here = omega (arith, was way.ticket.0 job.answer, counted_itself way.ticket.0)
 
         grows : Grows under (tally_of (owned ++ o ∷ []) u s.late (Some (job.request, Some a))
             b.standing b.last)
-        grows = grows_one under _ o refl (λ n. omega (arith, here n, was n (Some a)))
-            (λ n. omega (arith, here n, was n (Some a)))
+        grows = grows_one under o owns.once here _ refl (λ n. omega arith)
+            (λ n. omega (arith, was n job.answer, was n (Some a))) (λ n. omega arith)
+            (omega (arith, ended))
 
-    -- a request that ends comes no more, and is the late one only where it had no answer
-    ended : late_times way.ticket.0 u s.late + ahead b.last way.ticket.0 + waiting_times
-        way.ticket.0 b.standing.urgent + waiting_times way.ticket.0 b.standing.waiting ≡ 0
-    ended = omega (
-      arith,
-      there job.answer way.answered,
-      was way.ticket.0 job.answer,
-      owns.once.once way.ticket.0,
-    )
+    -- it has no answer any more
+    again_owns : IsSome job.answer → IsTrue (allowance.repeats job.request)
+        → GoesTo under b (record s { job = taken_back (Some job) })
+    again_owns some may =
+        goes_by under owned u owns.once grows owns.record_is owns.apart owns.asked
+        owns.urgent owns.waiting
+        (record {
+          ticket = way.ticket;
+          taken_is = way.taken_is;
+          asked = way.asked;
+          answered = ready job.answer some way.answered;
+        })
+        owns.late_fits (inr none_late)
+        (outcomes_then allowance.misreads under _ grows b.standing.outcomes owns.outcomes)
       where
-        there : (answer : Option Answer) → AnswerFits owned way.ticket answer
-            → 1 ≤ owned_times way.ticket.0 owned + unanswered_times way.ticket.0 answer way.ticket
-        there None answered = omega (arith, counted_itself way.ticket.0)
-        there (Some a) (o, i, same, _) = let some =
-            subst (λ (k : Ticket). 1 ≤ owned_times k.0 owned) same (one_counts o owned i) in
-            omega (arith, some)
+        ready : (answer : Option Answer) → IsSome answer
+            → AnswerFits job.request owned way.ticket answer
+            → IsReady allowance.repeats way.ticket owned
+        ready (Some a) some fits = fits.1 may
+        ready None some fits = absurd (cc)
+
+        grows : Grows under (tally_of owned u s.late (Some (job.request, None)) b.standing b.last)
+        grows = grows_less under _ refl (λ n. omega arith)
+            (λ n. omega (arith, was n job.answer, was n None)) (λ n. omega arith)
 
     -- the book has its outcome, and none is under way
-    ended_owns : (out : Outcome) (late : Option Request) (v : Ticket) → LateFits v late
-        → ((n : ℕ) → late_times n v late ≤ late_times n u s.late + unanswered_times n job.answer
-        way.ticket)
-        → OutcomeStands (tally_of owned v late None (record b.standing { taken = None }) b.last)
+    ended_owns : (out : Outcome) (late : Option Request) (v : Ticket) → LateFits owned v late
+        → ((n : ℕ) → late_times n v late ≤ late_times n u s.late + counted n way.ticket.0)
+        → OutcomeStands allowance.misreads
+        (tally_of owned v late None (record b.standing { taken = None }) b.last)
         way.ticket out
         → GoesTo under (posted b out) (record s { job = None; late = late })
-    ended_owns out late v asked less stands =
+    ended_owns out late v fits less stands =
         subst (λ (taken : Option (Ticket × Request)). GoesTo under (ended_with b taken out)
         (record s { job = None; late = late })) (sym way.taken_is)
-        (goes_by under owned v owns.once grows owns.record_is owns.asked owns.urgent
-        owns.waiting tt asked
-        (each_inserted (OutcomeStands after) b.standing.outcomes way.ticket out stands
-        (outcomes_then under after grows b.standing.outcomes owns.outcomes)))
+        (goes_by under owned v owns.once grows owns.record_is owns.apart owns.asked
+        owns.urgent owns.waiting tt fits (inl refl)
+        (each_inserted (OutcomeStands allowance.misreads after) b.standing.outcomes way.ticket
+        out stands
+        (outcomes_then allowance.misreads under after grows b.standing.outcomes owns.outcomes)))
       where
         after : Tally
         after = tally_of owned v late None (record b.standing { taken = None }) b.last
 
         grows : Grows under after
-        grows = grows_none under after refl (λ n. omega arith)
+        grows = grows_none under after refl (λ n. omega arith) (λ n. omega arith)
             (λ n. omega (arith, was n job.answer, less n))
 
-    done_owns : (a : Answer) → job.answer ≡ Some a
+    done_owns : (terms : Terms) (a : Answer) → Allows allowance terms
+        → MayTell terms a job.answer
         → GoesTo under (posted b (outcome.Done a)) (record s { job = None })
-    done_owns a answered = ended_owns (outcome.Done a) s.late u owns.late_asked
-        (λ n. omega arith) (subst (AnswerFits owned way.ticket) answered way.answered)
+    done_owns terms a allows may = ended_owns (outcome.Done a) s.late u owns.late_fits
+        (λ n. omega arith) (
+          by (told_for allowance terms a job.answer allows may),
+          omega (arith, ended),
+        )
+      where
+        by : (carried : Answer) × (job.answer ≡ Some carried)
+            × IsToldAs allowance.misreads a carried
+            → HasAnswer allowance.misreads owned way.ticket a
+        by (carried, answered, tells) =
+            let (o, last, same, is) =
+            (subst (AnswerFits job.request owned way.ticket) answered way.answered).0 in
+            (o, last, same, subst (IsToldAs allowance.misreads a) (sym is) tells)
 
     -- a request that is cut off may be late, or the device has it no more
     lost_owns : (cause : Cause) → leaves_unsure (outcome.Unknown cause) ≡ true
@@ -602,17 +663,18 @@ module _ (given : ℕ) (before : List Carried) (Asked : Ticket → Request → T
         (record s { job = None; late = left_of (Some job) })
     lost_owns cause unsure =
         ended_owns (outcome.Unknown cause) (unanswered job.answer job.request) way.ticket
-        (asks job.answer) (λ n. omega
+        (fits job.answer way.answered) (λ n. omega
         (arith, late_of_unanswered n job.answer way.ticket job.request))
         (omega (arith, ended), λ good. absurd (let k : true ≡ false = sym unsure ∙ good in cc))
       where
-        asks : (answer : Option Answer) → LateFits way.ticket (unanswered answer job.request)
-        asks None = way.asked
-        asks (Some a) = tt
+        fits : (answer : Option Answer) → AnswerFits job.request owned way.ticket answer
+            → LateFits owned way.ticket (unanswered answer job.request)
+        fits None ready = (way.asked, ready)
+        fits (Some a) answered = tt
 
     stopped_owns : (cause : Cause) → GoesTo under (posted b (outcome.Unknown cause))
         (record s { job = None })
-    stopped_owns cause = ended_owns (outcome.Unknown cause) s.late u owns.late_asked
+    stopped_owns cause = ended_owns (outcome.Unknown cause) s.late u owns.late_fits
         (λ n. omega arith) (omega (arith, ended), λ good. omega (arith, ended))
 
     pub cut_owns : (cause : Cause) → GoesTo under (posted b (outcome.Unknown cause))
@@ -629,9 +691,10 @@ module _ (given : ℕ) (before : List Carried) (Asked : Ticket → Request → T
   late_owns a (Some q) b s owned u owns =
       goes_by old (owned ++ o ∷ []) u owns.once grows
       (record_push before s.carried owned o owns.record_is)
-      (asked_push owned o owns.asked owns.late_asked) owns.urgent owns.waiting
-      (fits_more (sent_of s.job) b.standing.taken owned o owns.under_way) tt
-      (outcomes_then old _ grows b.standing.outcomes owns.outcomes)
+      (apart_one old o owns.once here owns.late_fits.1 owns.apart)
+      (all_push (λ p. Asked p.ticket p.request) owned o owns.asked owns.late_fits.0)
+      owns.urgent owns.waiting (rw none_sent tt) tt (inr refl)
+      (outcomes_then allowance.misreads old _ grows b.standing.outcomes owns.outcomes)
     where
       old : Tally
       old = tally_in owned u b (record s { late = Some q })
@@ -639,41 +702,51 @@ module _ (given : ℕ) (before : List Carried) (Asked : Ticket → Request → T
       o : Owned
       o = record { ticket = u; request = q; answer = a }
 
+      none_sent : sent_of s.job ≡ None
+      none_sent = elim owns.one_open [ inl none ↦ none | inr late ↦ absurd (cc) ]
+
+      here : 1 ≤ old.late u.0 + old.coming u.0
+      here = omega (arith, counted_itself u.0)
+
       grows : Grows old (tally_of (owned ++ o ∷ []) u None (sent_of s.job) b.standing b.last)
-      grows = grows_one old _ o refl (λ n. omega arith) (λ n. omega arith)
+      grows = grows_one old o owns.once here _ refl (λ n. omega arith) (λ n. omega arith)
+          (λ n. omega arith) (omega (arith, counted_itself u.0, owns.once.once u.0))
 
   pub step_owns : (m : Moment) (step : Step) (b : BookState) (s : Session) (job : Option Job)
-      (owned : List Owned) (u : Ticket) → MayBook step b
-      → MaySession m step (record s { job = job })
+      (owned : List Owned) (u : Ticket) → Allows allowance m.terms
+      → MayBook step b → MaySession m step (record s { job = job })
       → OwnsAll owned u b (record s { job = job })
       → GoesTo (tally_in owned u b (record s { job = job })) (book_after step b)
       (session_after step (record s { job = job }))
-  step_owns m (Take t q) b s job owned u next may owns =
-      take_owns b (record s { job = job }) owned u owns (ticket_of t) q next
-  step_owns m (Deny t) b s job owned u next may owns =
+  step_owns m (Take t q) b s job owned u only next may owns =
+      take_owns b (record s { job = job }) owned u owns (ticket_of t) q next may.2
+  step_owns m (Deny t) b s job owned u only next may owns =
       deny_owns b (record s { job = job }) owned u owns (ticket_of t)
-  step_owns m (Carry a) b s (Some job) owned u next none owns =
+  step_owns m (Carry a) b s (Some job) owned u only next none owns =
       carry_owns job b s owned u owns a none
-  step_owns m (Carry a) b s None owned u next may owns = absurd may
-  step_owns m (Done a) b s (Some job) owned u next answered owns =
-      done_owns job b s owned u owns a answered
-  step_owns m (Done a) b s None owned u next may owns = absurd may
-  step_owns m (Unknown cause) b s (Some job) owned u next cut owns =
+  step_owns m (Carry a) b s None owned u only next may owns = absurd may
+  step_owns m Again b s (Some job) owned u only next may owns =
+      again_owns job b s owned u owns may.0 (only.0 job.request may.1)
+  step_owns m Again b s None owned u only next may owns = absurd may
+  step_owns m (Done a) b s (Some job) owned u only next may owns =
+      done_owns job b s owned u owns m.terms a only may
+  step_owns m (Done a) b s None owned u only next may owns = absurd may
+  step_owns m (Unknown cause) b s (Some job) owned u only next cut owns =
       cut_owns job b s owned u owns cause
-  step_owns m (Unknown cause) b s None owned u next may owns = absurd may
-  step_owns m (LateCarry a) b s job owned u next may owns =
+  step_owns m (Unknown cause) b s None owned u only next may owns = absurd may
+  step_owns m (LateCarry a) b s job owned u only next may owns =
       late_owns a s.late b (record s { job = job }) owned u owns
-  step_owns m Reset b s job owned u next may owns =
+  step_owns m Reset b s job owned u only next may owns =
       reset_owns b (record s { job = job }) owned u owns
-  step_owns m Busy b s job owned u next may owns =
+  step_owns m Busy b s job owned u only next may owns =
       same_sent b (record s { job = job }) owned u owns (busy_once_more job) (busy_sent job)
-  step_owns m _ b s job owned u next may owns = still b (record s { job = job }) owned u owns
+  step_owns m _ b s job owned u only next may owns = still b (record s { job = job }) owned u owns
 
   -- from a ledger on
   pub goes_step : (x : Tally) (m : Moment) (step : Step) (b : BookState) (s : Session)
-      → MayBook step b → MaySession m step s → GoesTo x b s
+      → Allows allowance m.terms → MayBook step b → MaySession m step s → GoesTo x b s
       → GoesTo x (book_after step b) (session_after step s)
   unfolding goes_then
-  goes_step x m step b s next may g =
+  goes_step x m step b s only next may g =
       goes_then x b s (book_after step b) (session_after step s) g
-      (step_owns m step b s s.job g.owned g.ticket next may g.owns)
+      (step_owns m step b s s.job g.owned g.ticket only next may g.owns)

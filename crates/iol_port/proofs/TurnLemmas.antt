@@ -32,6 +32,7 @@ use Rattle.iol_port.specs.Steps.{MayBookAll, book_after, book_through, kept_thro
 use Rattle.iol_port.specs.Run.{PortState, Pending, TurnOf, CallOf}
 use Rattle.iol_port.specs.View.{Parts, Choice, state_of, Shows, ShowsAt, Follows, BeginsNext, BookDoes, KeepsLimits}
 use Rattle.iol_port.proofs.Filters.{book_through-filter, MayBookAll-filter, kept_through-filter, clash_free-take, clash_free-deny, may_book_said}
+use Rattle.iol_far.specs.declared.kind.Kind.{Kind}
 use Rattle.iol_mode.specs.declared.configuration.Configuration.{Configuration}
 use Rattle.iol_port.proofs.CallLemmas.{does_by_choice, none_pending}
 
@@ -41,21 +42,23 @@ pub none_down : (state : State) (session : SessionState) (g : Ghost) (answer : O
     → job_of (request_in session.current) answer g.request.busy g.request.asked ≡ None
 none_down state session g answer fits down = grind (arith, common_steps)
 
-pub terms_of : (limit was : ℕ) (page old : List ℕ) (asks asked : Configuration)
-    → limit ≡ was → page ≡ old → asks ≡ asked
+pub terms_of : (limit was : ℕ) (page old : List ℕ) (asks asked : Configuration) (kind first : Kind)
+    → limit ≡ was → page ≡ old → asks ≡ asked → kind ≡ first
     → let a : Terms = record {
       devices = asks.devices;
       busy_limit = limit;
       page = page;
+      kind = kind;
       expected = asks.expected;
     } in
     let b : Terms = record {
       devices = asked.devices;
       busy_limit = was;
       page = old;
+      kind = first;
       expected = asked.expected;
     } in a ≡ b
-terms_of limit was page old asks asked same_limit same_page same_asks = cc
+terms_of limit was page old asks asked kind first same_limit same_page same_asks same_kind = cc
 
 module _ {W : Type 0} (facts : WireFacts W) (p next : Parts W) (base : ℕ) (g : Ghost)
     (said : Said) where
@@ -116,7 +119,7 @@ module _ {W : Type 0} (facts : WireFacts W) (p next : Parts W) (base : ℕ) (g :
           fits = x.fits;
           silence = x.silent;
           clash_free = free;
-          terms = terms_of _ _ _ _ _ _ x.terms.0 x.terms.1 x.terms.2;
+          terms = terms_of _ _ _ _ _ _ _ _ x.terms.0 x.terms.1 x.terms.2 x.terms.3;
         },
         record {
           may_book = may_book told.0;

@@ -1,6 +1,6 @@
 -- What a client may conclude of a whole run: which requests the device carried out
--- in it, each once.
-use Rattle.std.specs.Prelude.{◌≡◌, ◌⊎◌, ◌<◌, ℕ, false, List, [], ◌∷◌, ◌++◌, map, Some, ⊤}
+-- in it, each once, or more than once in a row.
+use Rattle.std.specs.Prelude.{◌≡◌, ◌⊎◌, ◌<◌, ℕ, Bool, false, List, [], ◌∷◌, ◌++◌, map, Some, IsTrue, ⊤}
 use Rattle.std.specs.Map.{lookup}
 use Rattle.iol_isdu.specs.declared.values.Request.{Request}
 use Rattle.iol_isdu.specs.declared.values.Answer.{Answer}
@@ -17,6 +17,8 @@ use Rattle.iol_steps.specs.declared.mode.Mode.TheVariants.{Down, Startup}
 use Rattle.iol_port.specs.declared.call.Call.TheVariants as call
 use Rattle.iol_port.specs.declared.call.Answered.{Answered}
 use Rattle.iol_port.specs.declared.call.Answered.TheVariants as answered
+use Rattle.iol_book.specs.Takings.{Allowance, IsToldAs}
+use Rattle.iol_port.specs.Sound.{allowance_of}
 use Rattle.iol_port.specs.Run.{PortState, Piece, Whole, PieceOf, Pieces, opened}
 use Rattle.iol_mode.specs.declared.configuration.Devices.{Devices}
 use Rattle.iol_mode.specs.declared.configuration.Devices.TheVariants.{Any}
@@ -36,11 +38,24 @@ abbrev pub IsOneOf : Owned → List Owned → Type 0
 IsOneOf o [] = ⊥
 IsOneOf o (p ∷ ps) = (p ≡ o) ⊎ IsOneOf o ps
 
--- each ticket is above `low`, and no two are the same
-abbrev pub AreApart : ℕ → List Owned → Type 0
-AreApart low [] = Unit {0}
-AreApart low (o ∷ owned) = (low < o.ticket.0)
-    × ((p : Owned) → IsOneOf p owned → p.ticket ≡ o.ticket → ⊥) × AreApart low owned
+-- one of them, behind which none has its ticket
+abbrev pub IsLastOf : Owned → List Owned → Type 0
+IsLastOf o [] = ⊥
+IsLastOf o (p ∷ ps) = ((p ≡ o) × ((q : Owned) → IsOneOf q ps → q.ticket ≡ o.ticket → ⊥))
+    ⊎ IsLastOf o ps
+
+-- the first of these is of that ticket
+abbrev pub StartsWith : Ticket → List Owned → Type 0
+StartsWith ticket [] = ⊥
+StartsWith ticket (o ∷ owned) = o.ticket ≡ ticket
+
+-- each ticket is above `low`; those of one ticket stand together, and are more than one only where
+-- its request may be carried out more than once
+abbrev pub AreApart : (Request → Bool) → ℕ → List Owned → Type 0
+AreApart repeats low [] = Unit {0}
+AreApart repeats low (o ∷ owned) = (low < o.ticket.0)
+    × ((IsTrue (repeats o.request) × StartsWith o.ticket owned)
+    ⊎ ((p : Owned) → IsOneOf p owned → p.ticket ≡ o.ticket → ⊥)) × AreApart repeats low owned
 
 -- the run has this piece, with this reply
 abbrev pub Happens : List Piece → List Answered → Piece → Answered → Type 0
@@ -56,24 +71,29 @@ IsSubmitted pieces replies ticket request =
     ⊎ Happens pieces replies (Whole (call.SubmitUrgent request)) (answered.Ticket ticket)
 
 -- The record grew by the pairs of these, in this order. Each was submitted in the run under its
--- ticket, and no two have one ticket; each outcome Done that was collected is that of one of them
-pub record CarriesOut (given : ℕ) (before : List Carried) (pieces : List Piece)
-    (replies : List Answered) (carried : List Carried) (owned : List Owned) : Type 0 where
+-- ticket, and those of one ticket stand together; each outcome Done that was collected is that of
+-- the last of its ticket, but for what the allowance is
+pub record CarriesOut (allowance : Allowance) (given : ℕ) (before : List Carried)
+    (pieces : List Piece) (replies : List Answered) (carried : List Carried)
+    (owned : List Owned) : Type 0 where
   pub record_is : carried ≡ before ++ pairs_of owned
-  pub apart : AreApart given owned
+  pub apart : AreApart allowance.repeats given owned
   pub asked : (o : Owned) → IsOneOf o owned → IsSubmitted pieces replies o.ticket o.request
   pub done : (ticket : Ticket) (answer : Answer)
       → Happens pieces replies (Whole (call.Collect ticket)) (answered.Outcome (Done answer))
-      → (o : Owned) × IsOneOf o owned × (o.ticket ≡ ticket) × (o.answer ≡ answer)
+      → (o : Owned) × IsLastOf o owned × (o.ticket ≡ ticket)
+      × IsToldAs allowance.misreads answer o.answer
 
--- so it is in every run of a port that is opened, across losses, restarts and archives
+-- So it is in every run of a port that is opened, across losses, restarts and archives. No piece
+-- changes which requests may be carried out more than once
 abbrev pub EachDoneHasItsPair : Type 0
 EachDoneHasItsPair =
     (devices : Devices) (limits : Limits) (far : Far) (silence : ℕ) (pieces : List Piece)
-    (replies : List Answered)
-    (b : PortState) → Pieces (opened devices limits far silence) pieces replies b
+    (replies : List Answered) (b : PortState)
+    → Pieces (opened devices limits far silence) pieces replies b
     → (owned : List Owned)
-    × CarriesOut limits.given far.carried pieces replies b.session.carried owned
+    × CarriesOut (allowance_of (opened devices limits far silence).terms) limits.given far.carried
+    pieces replies b.session.carried owned
 
 -- the request of a ticket was cut off: that is its outcome, which was collected in
 -- the run, or may still be
@@ -100,8 +120,8 @@ CutForGoodStaysOut =
     (replies others : List Answered) (a c : PortState)
     → Pieces (opened devices limits far silence) pieces replies a → Pieces a more others c
     → (owned later : List Owned) × (a.session.carried ≡ far.carried ++ pairs_of owned)
-    × CarriesOut limits.given far.carried (pieces ++ more) (replies ++ others) c.session.carried
-    (owned ++ later)
+    × CarriesOut (allowance_of (opened devices limits far silence).terms) limits.given far.carried
+    (pieces ++ more) (replies ++ others) c.session.carried (owned ++ later)
     × ((o : Owned) → IsOneOf o later → IsCutForGood pieces replies a o.ticket → ⊥)
 
 -- below the reset of the device: down, and at a port for any device STARTUP too, in which it has it
@@ -130,6 +150,7 @@ LateEnds =
     → Pieces (opened devices limits far silence) pieces replies a → Resets piece a b
     → Pieces b more others c
     → (owned later : List Owned) × (b.session.carried ≡ far.carried ++ pairs_of owned)
-    × CarriesOut limits.given far.carried (pieces ++ piece ∷ more)
-    (replies ++ answered.Nothing ∷ others) c.session.carried (owned ++ later)
+    × CarriesOut (allowance_of (opened devices limits far silence).terms) limits.given far.carried
+    (pieces ++ piece ∷ more) (replies ++ answered.Nothing ∷ others) c.session.carried
+    (owned ++ later)
     × ((o : Owned) → IsOneOf o later → IsCutOff pieces replies a o.ticket → ⊥)

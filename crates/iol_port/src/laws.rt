@@ -18,7 +18,9 @@ use iol_segment::{cut_is_whole, segments_join, texts_join};
 /// turns it has, whole or in two pieces with calls between them. Of a sound port the
 /// journal says where each ticket stands, and the record has, in the order in which
 /// requests were taken, at most one pair for each, and exactly one, with that answer,
-/// for each that is done.
+/// for each that is done. Of a request that the device may carry out more than once, it may have
+/// more pairs just before. At a port for our own devices whose device forgets its answer once the
+/// last segment was sent, the answer that is told may be another than that of the pair.
 ///
 /// Rule BOOK-10.
 pub fn record_fits_journal()
@@ -55,24 +57,32 @@ pub fn runs_join()
 
 /// A law of the definitions, over whole runs of a port that is opened: each pair by which
 /// the device's record grew is that of a request which was submitted under a ticket of its
-/// own, and each outcome Done that was collected has its pair there, with that answer.
+/// own, and each outcome Done that was collected has its pair there, with that answer: the
+/// last one of its ticket.
 ///
 /// The pairs stand behind what the record had at the opening, and no two have one
 /// ticket, across losses, restarts and archives: so each request is carried out
 /// once at most, one that was cut off as well.
+///
+/// It is otherwise only at a port for our own devices whose device hands a request over with its
+/// last segment. There a request whose text fits in one START write may have several pairs, next
+/// to each other. And at a port for our own devices whose device forgets its answer once the last
+/// segment was sent, the answer that is told may be another than that of the pair.
+///
+/// Rule REQ-15.
 #[tactic(auto, using(crate::proofs::OwnedRuns::each_done_has_its_pair))]
 pub fn each_done_has_its_pair()
     ensures { EachDoneHasItsPair }
 {}
 
 /// A law of the definitions, over whole runs of a port that is opened: a request that
-/// was cut off is carried out once at most, and not after a wake that had success; at a port
-/// for any device, not after a start-up that led on, to PREOPERATE or OPERATE.
+/// was cut off is not carried out after a wake that had success; at a port for any device, not
+/// after a start-up that led on, to PREOPERATE or OPERATE.
 ///
 /// The run has a turn, or the second piece of one, that leads out of down; at a port for any
-/// device one that leads out of STARTUP, and not back to down. Over the whole of it each request
-/// that the device carries out has a ticket of its own; and none that it carries out after that
-/// had been cut off before it. One that was cut off for another cause than a lost link or a
+/// device one that leads out of STARTUP, and not back to down. Over the whole of it the pairs are
+/// as [`each_done_has_its_pair`] says; and no request that the device carries out after that had
+/// been cut off before it. One that was cut off for another cause than a lost link or a
 /// restart, as a cancelled one, isn't carried out after that at all.
 ///
 /// Rule REQ-12.

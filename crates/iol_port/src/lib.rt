@@ -2,9 +2,10 @@
 //!
 //! A port has its device carry out the requests that were submitted, the urgent
 //! ones first, each kind in order, and each at most once, over whatever the wire
-//! loses. Each gets one outcome: the device's answer to that very request; or that
-//! it was cut off, also where a client cancels it, so that nobody knows whether it
-//! was carried out; or that it was withdrawn; or that the device has no ISDU.
+//! loses; one exception is told by [`each_done_has_its_pair`]. Each gets one outcome: the
+//! device's answer to that very request; or that it was cut off, also where a client cancels
+//! it, so that nobody knows whether it was carried out; or that it was withdrawn; or that the
+//! device has no ISDU.
 //!
 //! A [`PortCore`] owns no wire and never calls out: it gives the octets to send, and takes
 //! what came. A [`Port`] is such a core and the wire that its turns call.

@@ -556,8 +556,8 @@ impl<W: Wire, A: Handle> Port<W, A> {
     /// A law of each port, without code: at every moment the journal says where each
     /// ticket stands, and the wire is what the one at the opening became by wakes and
     /// exchanges, and by nothing else; its book has the limits of the opening; and the device's
-    /// record fits the journal, if when the port was opened the wire was honest, and the device was
-    /// one that the port is for, and had been handed no request.
+    /// record fits the journal, if when the port was opened the wire was honest, and the device had
+    /// been handed no request; at a port for our own devices it has to see each pulse of a wake.
     ///
     /// Rule PORT-2.
     pub fn keeps_record(&self)

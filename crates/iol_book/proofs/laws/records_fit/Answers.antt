@@ -9,5 +9,5 @@ returns c = record {
   done = done-fits;
   cut_off = cut-off-fits;
   taken = taken-fits;
-  archived = (refl, refl);
+  archived = λ allowance. (refl, refl);
 }
