@@ -4,7 +4,5 @@ pub mod PrintedLemmas
 pub mod RunLemmas
 pub mod Taken
 pub mod ManyLemmas
-pub mod PassingLemmas
 pub mod TraceLemmas
 pub mod CountersLemmas
-pub mod JudgeLemmas

@@ -1,8 +1,7 @@
 -- What is printed for a port's counters, and for the causes that it counts by.
 use Rattle.std.specs.Prelude.{ℕ, List, [], ◌∷◌, ◌++◌, flat_map, codes}
 use Rattle.iol_isdu.specs.declared.values.Cause.{Cause}
-use Rattle.iol_isdu.specs.declared.values.Cause.TheVariants.{LinkLost, Restarted}
-use Rattle.iol_isdu.specs.declared.values.Cause.TheVariants.{BusyTooLong, Protocol, Cancelled}
+use Rattle.iol_isdu.specs.declared.values.Cause.TheVariants.{LinkLost, Restarted, BusyTooLong, Protocol, Cancelled}
 use Rattle.iol_port.specs.declared.counters.Counters.{Counters}
 use Rattle.iol_commands.specs.Printed.{number_text}
 

@@ -1,5 +1,5 @@
 -- What `check` prints.
-use Rattle.std.specs.Prelude.{ℕ, ◌/◌, ◌%◌, Bool, true, if◌then◌else◌, List, [], ◌∷◌, ◌++◌, flat_map, codes}
+use Rattle.std.specs.Prelude.{◌≡◌, ℕ, ◌/◌, ◌%◌, Bool, true, if◌then◌else◌, List, [], ◌∷◌, ◌++◌, flat_map, codes}
 use Rattle.std.specs.Fmt.{decimal, digit_glyph}
 use Rattle.iol_octets.specs.declared.control.Mc.{Mc}
 use Rattle.iol_octets.specs.declared.control.Channel.{Channel}
@@ -10,6 +10,10 @@ use Rattle.iol_mseq.specs.declared.fault.MseqFault.{MseqFault}
 use Rattle.iol_mseq.specs.declared.fault.MseqFault.TheVariants.{UnsupportedCode, BadLength, WrongLength, WrongType, BadChecksum}
 use Rattle.iol_mseq.specs.declared.master.MasterMsg.{MasterMsg}
 use Rattle.iol_mseq.specs.declared.reply.Reply.{Reply}
+
+-- a text stands behind what was printed before, and this holds of it
+abbrev pub Adds : List ℕ → List ℕ → (List ℕ → Type 0) → Type 0
+Adds before after holds = (text : List ℕ) × (after ≡ before ++ text) × holds text
 
 -- an octet in two hexadecimal digits, the letters as capitals
 abbrev pub hexadecimal : ℕ → List ℕ

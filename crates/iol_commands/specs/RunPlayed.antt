@@ -7,7 +7,7 @@ use Rattle.iol_far.specs.declared.kind.Kind.{Kind}
 use Rattle.iol_far.specs.Far.{Far, opened_as}
 use Rattle.iol_far.specs.Isdu.{own}
 use Rattle.iol_link.specs.WireFacts.{WireFacts}
-use Rattle.iol_mode.specs.Kinds.{IsFor, SeesPulses}
+use Rattle.iol_mode.specs.Kinds.{SeesPulses}
 use Rattle.iol_sim.specs.Params.{Stores}
 use Rattle.iol_sim.specs.declared.params.Entry.{Entry}
 use Rattle.iol_sim.specs.Sim.{Simulated, sim_facts}
@@ -17,7 +17,7 @@ use Rattle.iol_port.specs.declared.call.Answered.{Answered}
 use Rattle.iol_port.specs.declared.call.Answered.TheVariants as answered
 use Rattle.iol_port.specs.declared.fault.PortFault.TheVariants as fault
 use Rattle.iol_port.specs.Run.{PortState, Run, opened}
-use Rattle.iol_port.specs.View.{Parts, Opening, Runs, IsOpened, opening_for}
+use Rattle.iol_port.specs.View.{Parts, Runs, IsOpened, opening_for}
 use Rattle.iol_port.specs.EveryWire.{RunGives}
 use Rattle.iol_script.specs.Script.{ScriptValue, script_in, calls_in}
 use Rattle.iol_commands.specs.RunPrinted.{answers_text, record_text, away_text}
@@ -66,11 +66,9 @@ abbrev pub records_text : Simulated (List Entry) → List ℕ
 records_text sim = record_text sim.device.far.carried
     ++ away_text (option_map (λ d. d.far.carried) sim.away)
 
--- a script of one device, which is one of those that its port is for; one of our own sees each
--- pulse
+-- a script of one device, which sees each pulse where the port is for our own
 pub record HasItsDevice (script : ScriptValue) : Type 0 where
   pub one : script.other ≡ None
-  pub for_it : IsFor script.devices script.kind
   pub sees : SeesPulses script.devices
       (first_far script.kind script.misses_pulses script.page)
 
@@ -87,17 +85,6 @@ module _ {W : Type 0} (facts : WireFacts W) where
     pub granted : list_any lacks_memory answers ≡ false
     pub text_is : text ≡ answers_text calls answers
 
--- a port over the wire of a script makes calls, with these answers
-abbrev pub MadeOverWire : Parts (Simulated (List Entry)) → List Call → List Answered
-    → Parts (Simulated (List Entry)) → Type 0
-MadeOverWire p calls answers next =
-    RunGives (sim_facts Stores) p calls answers next
-
--- with what the port of a script is opened
-abbrev pub first_opening : ScriptValue → Opening (Simulated (List Entry))
-first_opening script =
-    opening_for (sim_facts Stores) script.devices script.limits (first_wire script)
-
 -- the abstract port over the new device makes these calls with the same answers, and its
 -- device has the record of this wire's
 pub record RunsAlike (script : ScriptValue) (calls : List Call) (answers : List Answered)
@@ -107,14 +94,15 @@ pub record RunsAlike (script : ScriptValue) (calls : List Call) (answers : List 
   pub carried : wire.device.far.carried ≡ after.session.carried
 
 -- What is printed for calls: what they answer, and then the records. They are made on a
--- new port over the script's wire; with one device, of those that it is for, the abstract port
+-- new port over the script's wire; with one device, as the port wants it, the abstract port
 -- makes them alike.
 pub record PlaysOut (script : ScriptValue) (calls : List Call) (text : List ℕ) : Type 0 where
   pub answers : List Answered
   pub first : Parts (Simulated (List Entry))
-  pub opens : IsOpened (first_opening script) first
+  pub opens : IsOpened
+      (opening_for (sim_facts Stores) script.devices script.limits (first_wire script)) first
   pub last : Parts (Simulated (List Entry))
-  pub made : MadeOverWire first calls answers last
+  pub made : RunGives (sim_facts Stores) first calls answers last
   pub alike : HasItsDevice script → RunsAlike script calls answers (wire_of last.station.link)
   pub granted : list_any lacks_memory answers ≡ false
   pub text_is : text ≡ answers_text calls answers ++ records_text (wire_of last.station.link)

@@ -17,7 +17,7 @@ use Rattle.iol_app.specs.StationState.{wire_of}
 use Rattle.iol_port.specs.declared.call.Call.{Call}
 use Rattle.iol_port.specs.declared.call.Call.TheVariants.{Turn}
 use Rattle.iol_port.specs.declared.call.Answered.{Answered}
-use Rattle.iol_port.specs.View.{Parts, Opening, Runs, IsOpened, opening_for, status_of}
+use Rattle.iol_port.specs.View.{Parts, Runs, IsOpened, opening_for, status_of}
 use Rattle.iol_port.specs.EveryWire.{CallGives, page_shown}
 use Rattle.iol_script.specs.Script.{ScriptValue, script_in, calls_in}
 use Rattle.iol_commands.specs.Passing.{PrintsPassed}
@@ -85,22 +85,11 @@ module _ {W : Type 0} (facts : WireFacts W) where
   Traces s (call ∷ calls) (reply ∷ replies) t text =
       (mid : Stage W) × (first : List ℕ) × (later : List ℕ) × (text ≡ first ++ later)
       × TracesCall s call reply mid first × Traces mid calls replies t later
-  Traces s [] (reply ∷ replies) t text = ⊥
-  Traces s (call ∷ calls) [] t text = ⊥
+  Traces s calls replies t text = ⊥
 
 -- a tap on the wire of a script at first, with nothing noted
 abbrev pub first_tap : ScriptValue → Tapped (Simulated (List Entry))
 first_tap script = record { wire = first_wire script; last = None }
-
--- with what the port of a script is opened, over that tap
-abbrev pub tapped_opening : ScriptValue → Opening (Tapped (Simulated (List Entry)))
-tapped_opening script =
-    opening_for (tap_facts (sim_facts Stores)) script.devices script.limits (first_tap script)
-
--- Calls are traced over the wire of a script.
-abbrev pub TracesOverWire : Stage (Simulated (List Entry)) → List Call → List Answered
-    → Stage (Simulated (List Entry)) → List ℕ → Type 0
-TracesOverWire s calls answers t text = Traces (sim_facts Stores) s calls answers t text
 
 -- What is printed for calls: what passes and what they answer, and then the records. They
 -- are made on a new port over a tap on the script's wire; with one device of our own kind the
@@ -108,10 +97,11 @@ TracesOverWire s calls answers t text = Traces (sim_facts Stores) s calls answer
 pub record TracesOut (script : ScriptValue) (calls : List Call) (text : List ℕ) : Type 0 where
   pub answers : List Answered
   pub first : Parts (Tapped (Simulated (List Entry)))
-  pub opens : IsOpened (tapped_opening script) first
+  pub opens : IsOpened (opening_for (tap_facts (sim_facts Stores))
+      script.devices script.limits (first_tap script)) first
   pub last : Stage (Simulated (List Entry))
   pub calls_text : List ℕ
-  pub traces : TracesOverWire (stage 1 first) calls answers last calls_text
+  pub traces : Traces (sim_facts Stores) (stage 1 first) calls answers last calls_text
   pub alike : HasItsDevice script → RunsAlike script calls answers (wire_at last)
   pub text_is : text ≡ calls_text ++ records_text (wire_at last)
 
@@ -149,18 +139,14 @@ module _ {W : Type 0} (facts : WireFacts W) where
     pub runs : Runs (tap_facts facts) p calls answers next
 
   -- from one place to the next: these calls are traced, and their text is printed behind what waits
-  abbrev pub TracesFrom : Place W → List Call → Place W → Type 0
-  TracesFrom old calls new =
-      (text : List ℕ) × Flows old.written new.written old.waits new.waits text
-      × PortTraces old.number old.port calls new.number new.port text
+  pub record TracesFrom (old : Place W) (calls : List Call) (new : Place W) : Type 0 where
+    pub text : List ℕ
+    pub flows : Flows old.written new.written old.waits new.waits text
+    pub traced : PortTraces old.number old.port calls new.number new.port text
 
 -- what is printed of the note of a wire, once a call was made: of a turn the note
 -- is that of its call of the wire
-abbrev pub PrintsNote : ℕ → Shape → Option Passed → ℕ → List ℕ → Type 0
-PrintsNote number layout None after text = (text ≡ []) × (after ≡ number)
-PrintsNote number layout (Some note) after text = PrintsPassed number layout note text
-    × (after ≡ number + 1)
-
 abbrev pub PrintsNoteOf : Call → ℕ → Shape → Option Passed → ℕ → List ℕ → Type 0
-PrintsNoteOf Turn number layout last after text = PrintsNote number layout last after text
+PrintsNoteOf Turn number layout (Some note) after text = PrintsPassed number layout note text
+    × (after ≡ number + 1)
 PrintsNoteOf other number layout last after text = (text ≡ []) × (after ≡ number)

@@ -5,6 +5,7 @@ ghost use Rattle.std.specs.String.{string_bytes};
 ghost use Rattle.iol_mseq.specs.Shape.{startup_shape};
 ghost use Rattle.iol_commands.specs.declared.fault.ProgramFault.TheVariants.{Line, NoThread, OutOfMemory, TooLong, WriteFailed};
 ghost use Rattle.iol_script.specs.CheckLines.{first_bad, parsed_form};
+ghost use Rattle.iol_commands.specs.Printed.{Adds};
 ghost use Rattle.iol_commands.specs.Checked.{asked_layout, layout_after, Prints, PrintsMessage, PrintsReply, PrintsAll};
 ghost use Rattle.iol_script.specs.Text.{numbered_lines};
 ghost use Rattle.iol_commands.specs.Input.{IsTooLong, OfLines, TakesInput, Writes};
@@ -74,9 +75,8 @@ fn answer<A: Allocator>(
     layout: &mut Layout,
     line: &CheckLine,
 ) -> Result<(), AllocError>
-    ensures printed { OnOk result ((text : List ℕ)
-        × (string_bytes output.new ≡ string_bytes output.old ++ text)
-        × Prints layout.old (parsed_form line.now) text) }
+    ensures printed { OnOk result (Adds (string_bytes output.old) (string_bytes output.new)
+        (Prints layout.old (parsed_form line.now))) }
     ensures layout { layout.new ≡ layout_after layout.old (parsed_form line.now) }
 {
     match line {
@@ -110,9 +110,8 @@ pub(crate) fn answer_message<A: Allocator>(
     layout: &Layout,
     octets: &[u8],
 ) -> Result<(), AllocError>
-    ensures { OnOk result ((text : List ℕ)
-        × (string_bytes output.new ≡ string_bytes output.old ++ text)
-        × PrintsMessage layout.now octets.now text) }
+    ensures { OnOk result (Adds (string_bytes output.old) (string_bytes output.new)
+        (PrintsMessage layout.now octets.now)) }
 {
     match read_master(layout, octets) {
         Ok(message) => print_message(output, &message),
@@ -127,9 +126,8 @@ pub(crate) fn answer_reply<A: Allocator>(
     read: bool,
     octets: &[u8],
 ) -> Result<(), AllocError>
-    ensures { OnOk result ((text : List ℕ)
-        × (string_bytes output.new ≡ string_bytes output.old ++ text)
-        × PrintsReply layout.now read octets.now text) }
+    ensures { OnOk result (Adds (string_bytes output.old) (string_bytes output.new)
+        (PrintsReply layout.now read octets.now)) }
 {
     match read_reply(layout, read, octets) {
         Ok(reply) => print_reply(output, read, &reply),

@@ -1,7 +1,8 @@
 //! What is printed for one call of the wire.
-ghost use Rattle.std.specs.Prelude.{◌≡◌, ◌++◌, ℕ, List, OnOk};
+ghost use Rattle.std.specs.Prelude.{◌≡◌, ◌++◌, OnOk};
 ghost use Rattle.std.specs.String.{string_bytes};
 ghost use Rattle.iol_far.specs.Octets.{octets_in};
+ghost use Rattle.iol_commands.specs.Printed.{Adds};
 ghost use Rattle.iol_commands.specs.Passing.{rate_name, wake_text, line_front, asks_read, PrintsSent, PrintsCame, PrintsPassed};
 
 use crate::check_command::{answer_message, answer_reply};
@@ -22,8 +23,8 @@ pub(crate) fn print_passed<A: Allocator>(
     passed: &Passed,
 ) -> Result<(), AllocError>
     ensures { OnOk result
-        ((text : List ℕ) × (string_bytes output.new ≡ string_bytes output.old ++ text)
-        × PrintsPassed number layout.now passed.now text) }
+        (Adds (string_bytes output.old) (string_bytes output.new)
+        (PrintsPassed number layout.now passed.now)) }
 {
     match passed {
         Passed::Wake(rate) => print_wake(output, number, *rate),
@@ -90,8 +91,8 @@ fn print_sent<A: Allocator>(
     octets: &[u8],
 ) -> Result<(), AllocError>
     ensures { OnOk result
-        ((text : List ℕ) × (string_bytes output.new ≡ string_bytes output.old ++ text)
-        × PrintsSent number layout.now octets.now text) }
+        (Adds (string_bytes output.old) (string_bytes output.new)
+        (PrintsSent number layout.now octets.now)) }
 {
     print_front(output, number, ">", octets)?;
     answer_message(output, layout, octets)
@@ -106,8 +107,8 @@ fn print_came<A: Allocator>(
     answer: &Option<Message>,
 ) -> Result<(), AllocError>
     ensures { OnOk result
-        ((text : List ℕ) × (string_bytes output.new ≡ string_bytes output.old ++ text)
-        × PrintsCame number layout.now read (octets_in answer.now) text) }
+        (Adds (string_bytes output.old) (string_bytes output.new)
+        (PrintsCame number layout.now read (octets_in answer.now))) }
 {
     let Some(octets) = answer else {
         return writeln!(output, "{number} < none");

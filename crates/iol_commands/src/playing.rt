@@ -1,10 +1,11 @@
 //! The calls of a script, made on a port, with what each of them answers.
-ghost use Rattle.std.specs.Prelude.{◌≡◌, ◌++◌, ℕ, List, OnOk, IfOk, replicate};
+ghost use Rattle.std.specs.Prelude.{◌≡◌, ◌++◌, OnOk, IfOk, replicate};
 ghost use Rattle.std.specs.List.{list_any};
 ghost use Rattle.std.specs.String.{string_bytes};
 ghost use Rattle.iol_port.specs.declared.call.Call.TheVariants.{Turn};
 ghost use Rattle.iol_script.specs.Script.{calls_in, line_calls};
 ghost use Rattle.iol_script.specs.Text.{numbered_lines};
+ghost use Rattle.iol_commands.specs.Printed.{Adds};
 ghost use Rattle.iol_commands.specs.RunPlayed.{lacks_memory, PortPlays};
 ghost use Rattle.iol_commands.specs.RunPrinted.{answers_text};
 
@@ -27,10 +28,8 @@ pub(crate) fn play_lines<W: Wire, A: Handle>(
     port: &mut Port<W, A>,
     input: &[u8],
 ) -> Result<(), AllocError>
-    ensures { OnOk result ((text : List ℕ)
-        × (string_bytes output.new ≡ string_bytes output.old ++ text)
-        × PortPlays W.facts
-        port.old.parts (calls_in (numbered_lines input.now)) port.new.parts text) }
+    ensures { OnOk result (Adds (string_bytes output.old) (string_bytes output.new)
+        (PortPlays W.facts port.old.parts (calls_in (numbered_lines input.now)) port.new.parts)) }
 {
     runs_join();
     let turns = turns_of(alloc)?;
@@ -62,10 +61,8 @@ fn play_line<W: Wire, A: Handle>(
     line: &CallLine,
 ) -> Result<(), AllocError>
     requires { turns.now ≡ replicate PIECE Turn }
-    ensures { OnOk result ((text : List ℕ)
-        × (string_bytes output.new ≡ string_bytes output.old ++ text)
-        × PortPlays W.facts
-        port.old.parts (line_calls line.now) port.new.parts text) }
+    ensures { OnOk result (Adds (string_bytes output.old) (string_bytes output.new)
+        (PortPlays W.facts port.old.parts (line_calls line.now) port.new.parts)) }
 {
     match line {
         CallLine::Once(call) => play(alloc, output, port, slice::from_ref(call)),
@@ -82,10 +79,8 @@ fn play_turns<W: Wire, A: Handle>(
     count: usize,
 ) -> Result<(), AllocError>
     requires { turns.now ≡ replicate PIECE Turn }
-    ensures { OnOk result ((text : List ℕ)
-        × (string_bytes output.new ≡ string_bytes output.old ++ text)
-        × PortPlays W.facts
-        port.old.parts (replicate count Turn) port.new.parts text) }
+    ensures { OnOk result (Adds (string_bytes output.old) (string_bytes output.new)
+        (PortPlays W.facts port.old.parts (replicate count Turn) port.new.parts)) }
 {
     runs_join();
     let mut made = 0;
@@ -104,10 +99,8 @@ fn play<W: Wire, A: Handle>(
     port: &mut Port<W, A>,
     calls: &[Call],
 ) -> Result<(), AllocError>
-    ensures { OnOk result ((text : List ℕ)
-        × (string_bytes output.new ≡ string_bytes output.old ++ text)
-        × PortPlays W.facts
-        port.old.parts calls.now port.new.parts text) }
+    ensures { OnOk result (Adds (string_bytes output.old) (string_bytes output.new)
+        (PortPlays W.facts port.old.parts calls.now port.new.parts)) }
 {
     let Ok(answers) = port.run(alloc, calls) else {
         return Err(AllocError);

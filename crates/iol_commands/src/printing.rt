@@ -18,6 +18,7 @@ pub(crate) fn print_hexadecimal<A: Allocator>(
 }
 
 /// The octets, each behind a space.
+#[tactic(auto, using(crate::proofs::PrintedLemmas::joined))]
 pub(crate) fn print_octets<A: Allocator>(
     output: &mut String<A>,
     octets: &[u8],

@@ -1,7 +1,8 @@
 //! The input read whole, and the output written at the end.
-ghost use Rattle.std.specs.Prelude.{◌≡◌, ◌≤◌, ◌<◌, ◌+◌, ◌⊎◌, ℕ, List, length, vec_len, Err, OnOk, IfOk, IfErr, IfSome};
-ghost use Rattle.std.specs.Io.KnownBytes.{Appends, Consumes};
+ghost use Rattle.std.specs.Prelude.{◌≡◌, ◌≤◌, ◌⊎◌, vec_len, Err, OnOk, IfOk, IfErr, IfSome};
+ghost use Rattle.std.specs.Io.KnownBytes.{Appends};
 ghost use Rattle.iol_commands.specs.declared.fault.ProgramFault.TheVariants.{TooLong, ReadFailed, WriteFailed, OutOfMemory};
+ghost use Rattle.iol_commands.specs.Input.{IsTooLong, TakesInput};
 
 use crate::fault::ProgramFault;
 use std::alloc::Allocator;
@@ -21,11 +22,9 @@ pub(crate) fn read_input<A: Allocator, R: Read>(
 ) -> Result<Vec<u8, A>, ProgramFault>
     ensures all { IfOk result (λ v. IfSome (R.remaining reader.old) (λ xs. v.items ≡ xs)) }
     ensures within { IfOk result (λ v. vec_len v ≤ LIMIT) }
-    ensures too_long { result ≡ Err TooLong
-        → IfSome (R.remaining reader.old) (λ xs. LIMIT < length xs) }
+    ensures too_long { result ≡ Err TooLong → IsTooLong (R.remaining reader.old) }
     ensures faults { IfErr result (λ e. (e ≡ TooLong) ⊎ ((e ≡ ReadFailed) ⊎ (e ≡ OutOfMemory))) }
-    ensures taken { (bs : List ℕ) × Consumes (R.remaining reader.old) (R.remaining reader.new) bs
-        × (length bs ≤ LIMIT + 1) }
+    ensures taken { TakesInput (R.remaining reader.old) (R.remaining reader.new) }
 {
     let mut input = Vec::new(alloc);
     let mut piece = [0u8; PIECE];

@@ -1,7 +1,13 @@
-use Rattle.iol_commands.proofs.CheckedLemmas.{prints_message}
+use Rattle.std.proofs.Common.{refl}
+use Rattle.std.proofs.lemmas.Result.{on_ok_weaker}
+use Rattle.iol_commands.specs.Printed.{message_text}
 use Rattle.iol_commands.proofs.check_command.answer_message.Goals as goal
 
 pub returns-in-Ok : goal.returns-in-Ok
-returns-in-Ok g c = prints_message c.print_message.result _ _ c.args.layout.now
-    c.args.octets.now c.in-Ok.message c.in-Ok.ensures.refused c.in-Ok.ensures.spelled
-    c.print_message.ensures
+returns-in-Ok g c =
+    let read = c.in-Ok.ensures in
+    on_ok_weaker c.print_message.result (λ wrote. (
+      message_text c.in-Ok.message,
+      wrote,
+      rw (← read.refused) (c.in-Ok.message, read.spelled, refl),
+    )) c.print_message.ensures

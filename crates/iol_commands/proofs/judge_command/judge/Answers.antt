@@ -1,15 +1,22 @@
-use Rattle.std.proofs.Common.{◌≡◌, sym, ◌∙◌}
-use Rattle.iol_commands.proofs.JudgeLemmas.{judges, written}
+use Rattle.std.proofs.Common.{◌≡◌, false, Result, Ok, Err, OnOk, sym, ◌∙◌}
+use Rattle.std.specs.Prelude.{is_err}
+use Rattle.std.proofs.lemmas.Option.{IfSome_then}
 use Rattle.iol_commands.proofs.judge_command.judge.Goals as goal
+
+no_error : {T E P : Type 0} (r : Result T E) → OnOk r P → is_err r ≡ false → P
+no_error (Ok done) holds good = holds
+no_error (Err fault) holds good = absurd (cc)
 
 pub returns-clause-printed : goal.returns-clause-printed
 returns-clause-printed g c =
-    let text = c.as_str.result.now in (
-      text,
-      written c.write_output.result (g.W.Write.contents c.args.writer.now)
-          (g.W.Write.contents c.write_output.new.writer) text c.write_output.ensures.ok
-          (sym c.if-is_err.false ∙ c.is_err.ensures.value),
-      judges c.args.form c.args.odd c.in_ok-judgement.judgement c.finding.result text
-          (g.R.Read.remaining c.args.reader.now) c.in_ok-judgement.ensures.judged c.finding.ensures
-          (c.as_str.ensures.value ∙ c.in_ok-text.ensures),
+    let judged = c.in_ok-judgement.ensures.judged in (
+      c.as_str.result.now,
+      no_error c.write_output.result c.write_output.ensures.ok
+          (sym c.is_err.ensures.value ∙ c.if-is_err.false),
+      IfSome_then (g.R.Read.remaining c.args.reader.now) judged (λ capture is. record {
+        judging = c.in_ok-judgement.judgement;
+        judged = is;
+        finds = c.finding.ensures;
+        text_is = c.as_str.ensures.value ∙ c.in_ok-text.ensures;
+      }),
     )

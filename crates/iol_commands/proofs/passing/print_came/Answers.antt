@@ -1,11 +1,14 @@
-use Rattle.std.specs.String.{string_bytes}
-use Rattle.iol_commands.proofs.PassingLemmas.{came_printed}
+use Rattle.std.proofs.Common.{refl, codes}
+use Rattle.iol_commands.specs.Checked.{PrintsReply}
+use Rattle.iol_commands.specs.Passing.{line_front}
+use Rattle.iol_commands.proofs.PrintedLemmas.{adds_behind}
 use Rattle.iol_commands.proofs.passing.print_came.Goals as goal
 
 pub returns : goal.returns
 returns g c =
-    came_printed c.answer_reply.result (string_bytes c.args.output.now)
-    (string_bytes c.print_front.new.output) (string_bytes c.answer_reply.new.output)
-    c.args.number c.args.layout.now c.args.read c.args.answer.now c.in-Some.octets
-    c.as_slice.result.now c.as_slice-2.result.now c.in-Some.is c.as_slice.ensures.value
-    c.as_slice-2.ensures.value c.in_ok-print_front.ensures c.answer_reply.ensures
+    let octets = c.in-Some.octets.items in
+    rw c.in-Some.is (adds_behind c.answer_reply.result _ _ _
+    (line_front c.args.number (codes "<") octets)
+    (PrintsReply c.args.layout.now c.args.read octets) _
+    (rw c.as_slice.ensures.value at c.in_ok-print_front.ensures) (λ said is. (said, is, refl))
+    (rw c.as_slice-2.ensures.value at c.answer_reply.ensures))

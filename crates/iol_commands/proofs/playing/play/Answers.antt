@@ -1,11 +1,19 @@
-use Rattle.std.specs.String.{string_bytes}
-use Rattle.iol_commands.proofs.PlayLemmas.{run_played}
+use Rattle.std.proofs.Common.{refl, sym}
+use Rattle.std.proofs.lemmas.Result.{on_ok_weaker}
+use Rattle.iol_commands.specs.RunPrinted.{answers_text}
 use Rattle.iol_commands.proofs.playing.play.Goals as goal
 
 pub returns : goal.returns
 returns g c =
-    run_played g.W.Wire.facts c.print_answers.result c.args.port.now.parts c.run.new.self.parts
-    c.args.calls.now c.in-Ok.answers.items c.as_slice.result.now c.as_slice-2.result.now
-    (string_bytes c.args.output.now) (string_bytes c.print_answers.new.output)
-    c.in-Ok.ensures.gives c.in-Ok.ensures.run c.as_slice.ensures.value
-    c.as_slice-2.ensures.value c.if-any_lacks_memory.ensures c.print_answers.ensures
+    let answers = c.in-Ok.answers.items in
+    on_ok_weaker c.print_answers.result (λ wrote. (
+      answers_text c.args.calls.now answers,
+      wrote,
+      record {
+        answers = answers;
+        made = c.in-Ok.ensures.gives;
+        runs = c.in-Ok.ensures.run;
+        granted = sym (rw c.as_slice.ensures.value at c.if-any_lacks_memory.ensures);
+        text_is = refl;
+      },
+    )) (rw c.as_slice-2.ensures.value at c.print_answers.ensures)

@@ -1,14 +1,15 @@
-use Rattle.std.proofs.Common.{◌≡◌, ◌-◌, ◌≤◌, ◌++◌, ℕ, List, replicate}
+use Rattle.std.proofs.Common.{◌-◌, ◌≤◌, replicate}
 use Rattle.std.specs.String.{string_bytes}
 use Rattle.iol_port.specs.declared.call.Call.TheVariants.{Turn}
+use Rattle.iol_commands.specs.Printed.{Adds}
 use Rattle.iol_commands.specs.RunPlayed.{PortPlays}
 use Rattle.iol_commands.proofs.playing.play_turns.Given as goal
 
 abbrev pub invariant-loop-made : goal.invariant-loop-made
 invariant-loop-made g l = record {
   within : l.made ≤ l.count;
-  played : (text : List ℕ) × (string_bytes l.output ≡ string_bytes l.fn.output ++ text)
-      × PortPlays g.W.Wire.facts l.fn.port.parts (replicate l.made Turn) l.port.parts text;
+  played : Adds (string_bytes l.fn.output) (string_bytes l.output)
+      (PortPlays g.W.Wire.facts l.fn.port.parts (replicate l.made Turn) l.port.parts);
 }
 
 abbrev pub decreases-loop-made : goal.decreases-loop-made

@@ -1,31 +1,31 @@
-use Rattle.std.proofs.Common.{◌≡◌, rules}
-use Rattle.iol_script.specs.Script.{ScriptValue, value_of}
-use Rattle.iol_sim.specs.Sim.{has_one_device}
+use Rattle.std.proofs.Common.{◌≡◌, [], refl, rules}
 use Rattle.std.specs.String.{string_bytes}
-use Rattle.iol_script.specs.Text.{numbered_lines}
-use Rattle.iol_commands.specs.RunPlayed.{HasItsDevice, first_far}
-use Rattle.iol_commands.proofs.RunLemmas.{has_lossy_line, opens_well, opened_first, script_printed}
+use Rattle.iol_app.specs.StationState.{wire_of}
+use Rattle.iol_script.specs.Script.{value_of}
+use Rattle.iol_sim.specs.Params.{Stores}
+use Rattle.iol_sim.specs.Sim.{sim_facts}
+use Rattle.iol_commands.specs.RunPlayed.{first_wire}
+use Rattle.iol_commands.proofs.RunLemmas.{runs_alike}
 use Rattle.iol_commands.proofs.run_command.played.Goals as goal
 
 pub returns-clause-printed : goal.returns-clause-printed
 returns-clause-printed g c =
-    let script = c.in_ok-script.script in
-    let wire = c.in_ok-wire.wire in
-    let opening = c.in-Ok.ensures.opening in
-    let quiet = c.in_ok-wire.ensures.silence in
-    let value : ScriptValue = value_of script in
-    let first = first_far script.kind script.misses_pulses script.page in
-    let new : wire.device.far ≡ first = c.in_ok-wire.ensures.far in
-    let stands = λ (has : HasItsDevice value). c.in-Ok.ensures.stands
-    (opens_well c.in-Ok.port.opening script.devices script.limits wire wire.device.far
-    wire.silence (has_one_device wire) script.misses_pulses script.kind script.page opening
-    (has_lossy_line value wire c.in_ok-wire.ensures.whole has) new has.for_it has.sees) in
-    let more = c.in_ok-play_lines.ensures in
-    script_printed c.in-Ok.port.parts c.play_lines.new.port.parts _ c.in-Ok.port.opening wire
-    c.wire.result.now (numbered_lines c.args.input.now) _ more.0
-    (string_bytes c.new-output.result) (string_bytes c.play_lines.new.output)
-    (string_bytes c.print_records.new.output)
-    c.in_ok-script.ensures.script c.in-Ok.ensures.opening c.in_ok-wire.ensures.whole
-    c.in-Ok.ensures.parts stands (λ has. opened_first script.devices script.limits
-    wire.device.far first wire.silence new quiet) more.2
-    (search rules) (search rules) more.1 c.in_ok-print_records.ensures
+    let script = value_of c.in_ok-script.script in
+    let port = c.in-Ok.ensures in
+    let last = c.play_lines.new.port.parts in
+    let is = c.in_ok-wire.ensures.whole in
+    let (text, wrote, plays) = c.in_ok-play_lines.ensures in
+    let none : string_bytes c.new-output.result ≡ [] = search rules in
+    rw c.in_ok-script.ensures.script record {
+      answers = plays.answers;
+      first = c.in-Ok.port.parts;
+      opens = rw (port.opening, is) at port.parts;
+      last = last;
+      made = plays.made;
+      alike = runs_alike (sim_facts Stores) script (first_wire script) _ _ _ last _ plays.answers
+          (wire_of last.station.link) is port.opening (λ has. rw has.one refl) refl refl
+          port.stands plays.runs refl;
+      granted = plays.granted;
+      text_is = rw (c.in_ok-print_records.ensures, wrote, none, plays.text_is, c.wire.ensures)
+          refl;
+    }

@@ -1,17 +1,24 @@
-use Rattle.std.specs.String.{string_bytes}
+use Rattle.std.proofs.Common.{◌++◌, sym}
+use Rattle.std.proofs.lemmas.Result.{on_ok_weaker}
 use Rattle.iol_port.specs.Asks.{asks_of}
-use Rattle.iol_commands.proofs.TraceLemmas.{call_printed}
+use Rattle.iol_commands.specs.RunPrinted.{answer_text}
+use Rattle.iol_commands.proofs.PrintedLemmas.{behind}
+use Rattle.iol_commands.proofs.TraceLemmas.{call_traced}
 use Rattle.iol_commands.proofs.tracing.Tracer.make.Goals as goal
 
 pub returns-clause-traced : goal.returns-clause-traced
 returns-clause-traced g c =
-    let noted = c.in_ok-note.ensures.printed in
-    call_printed g.W.Wire.facts c.print_answer.result
-    (string_bytes c.args.self.now.output) (string_bytes c.note.new.self.output)
-    (string_bytes c.print_answer.new.output) c.args.self.now.number c.note.new.self.number
-    c.args.port.now.parts c.call-answer.new.self.parts
-    c.args.call.now c.call-answer.result (asks_of c.args.port.now.parts) c.status.result
-    c.page.result c.layout_now-layout.result c.wire.result.now noted.0
-    c.status.ensures.value c.page.ensures.value c.call-answer.ensures.does.follows
-    c.call-answer.ensures.gives c.call-answer.ensures.wire c.if-lacks_memory.ensures
-    c.layout_now-layout.ensures c.wire.ensures noted.2 noted.1 c.print_answer.ensures
+    let (passed, before, printed) = c.in_ok-note.ensures.printed in
+    let made = c.call-answer.ensures in
+    on_ok_weaker c.print_answer.result (λ wrote. (
+      passed ++ answer_text c.args.call.now c.call-answer.result,
+      behind _ _ _ _ _ before wrote,
+      call_traced g.W.Wire.facts _ _ _ _ _ _ (asks_of c.args.port.now.parts) passed
+          made.does.follows made.gives made.wire (sym c.if-lacks_memory.ensures)
+          (rw (
+            c.layout_now-layout.ensures,
+            c.status.ensures.value,
+            c.page.ensures.value,
+            c.wire.ensures,
+          ) at printed),
+    )) c.print_answer.ensures
