@@ -46,6 +46,7 @@ pub mod ReadingOn
 pub mod Missing
 pub mod Exchanging
 pub mod Had
+pub mod CaseFacts
 pub mod Cases
 pub mod Receiving
 pub mod Sending
