@@ -1,5 +1,5 @@
 //! What lies under a port's lock: the port, and its share of the tickets.
-ghost use Rattle.std.specs.Prelude.{◌≡◌, ◌≤◌, None, Some, IfOk, length};
+ghost use Rattle.std.specs.Prelude.{◌≡◌, ◌≤◌, None, Some, IfOk, [], length};
 ghost use Rattle.std.specs.Option.{option_copied};
 ghost use Rattle.std.specs.Result.{result_map_both};
 ghost use Rattle.iol_app.specs.Asking.{IsCall};
@@ -9,6 +9,7 @@ ghost use Rattle.iol_port.specs.declared.call.Call.TheVariants as call;
 ghost use Rattle.iol_port.specs.declared.call.Answered.TheVariants as answered;
 ghost use Rattle.iol_port.specs.View.{Does, IsRun, OpensWell, KeepsRecord, shown_in, status_of};
 ghost use Rattle.iol_port.specs.Asks.{asks_of};
+ghost use Rattle.iol_port.specs.Claim.{Claim};
 ghost use Rattle.iol_port.specs.WireCalls.{ComesFrom};
 ghost use Rattle.iol_port.specs.EveryWire.{CollectGives, WithdrawGives, CancelGives, ArchiveGives};
 ghost use Rattle.iol_port.specs.EveryWire.{TakeEventGives, SetOutputGives};
@@ -355,6 +356,8 @@ impl<W: Wire, K: Ledger, A: Handle> Held<W, K, A> {
     pub fn keeps_record(&self)
         ensures replayed { IsReplayed self.now.parts.book.state }
         ensures run { IsRun W.facts self.now.opening self.now.parts }
+        ensures claim { OpensWell self.now.opening
+            → Claim W.facts self.now.opening [] [] self.now.parts }
         ensures wire { ComesFrom W.facts
             self.now.opening.wire (wire_of self.now.parts.station.link) }
         ensures record_fits { OpensWell self.now.opening → KeepsRecord W.facts self.now.parts }

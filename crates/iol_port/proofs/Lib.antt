@@ -24,4 +24,5 @@ pub mod Crosses
 pub mod Apart
 pub mod OwnedLists
 pub mod OwnedRuns
+pub mod Claims
 pub mod WithoutIsdu

@@ -13,5 +13,6 @@ pub mod Replies
 pub mod Turns
 pub mod Clean
 pub mod Owned
+pub mod Claim
 pub mod Denials
 pub mod CorePort

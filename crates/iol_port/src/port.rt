@@ -1,5 +1,5 @@
 //! One port.
-ghost use Rattle.std.specs.Prelude.{◌≡◌, ◌≤◌, None, Some, IfOk, IfErr, OnErr, length};
+ghost use Rattle.std.specs.Prelude.{◌≡◌, ◌≤◌, None, Some, IfOk, IfErr, OnErr, [], length};
 ghost use Rattle.std.specs.Vec.{vec_capacity};
 ghost use Rattle.std.specs.Option.{option_copied};
 ghost use Rattle.std.specs.Result.{result_map_both};
@@ -15,6 +15,7 @@ ghost use Rattle.iol_app.specs.Asking.{IsCall};
 ghost use Rattle.iol_port.specs.Asks.{asks_of, IsWireCall};
 ghost use Rattle.iol_port.specs.EveryWire.{SubmitGives, CollectGives, WithdrawGives, CancelGives, ArchiveGives};
 ghost use Rattle.iol_port.specs.EveryWire.{TakeEventGives, SetOutputGives, ClearOutputGives, RestartGives};
+ghost use Rattle.iol_port.specs.Claim.{Claim};
 ghost use Rattle.iol_port.specs.EveryWire.{TurnGives, CallGives, RunGives};
 ghost use Rattle.iol_port.specs.EveryWire.{ExpectGives, SetCycleGives, page_shown};
 ghost use Rattle.iol_port.specs.RightDevice.{IsForRightDevice};
@@ -462,6 +463,8 @@ impl<W: Wire, A: Handle> Port<W, A> {
     ) -> Result<Vec<Answered, B>, PortFault>
         ensures run { IfOk result (λ replies. Runs W.facts
             self.old.parts calls.now replies.items self.new.parts) }
+        ensures claim { OpensWell self.old.opening → IfOk result (λ replies. Claim W.facts
+            self.old.opening calls.now replies.items self.new.parts) }
         ensures gives { IfOk result (λ replies. RunGives W.facts
             self.old.parts calls.now replies.items self.new.parts) }
         ensures clean { IfOk result (λ _. CleanRuns W.facts self.old.parts calls.now
@@ -474,6 +477,8 @@ impl<W: Wire, A: Handle> Port<W, A> {
         ensures needs { OnErr result (1 ≤ length calls.now) }
         ensures unchanged { IfErr result (λ _. self.new ≡ self.old) }
     {
+        self.keeps_record();
+        record_fits_journal();
         clean_laws();
         let Ok(mut replies) = Vec::with_capacity(alloc, calls.len()) else {
             return Err(PortFault::Book(BookFault::OutOfMemory));
@@ -567,6 +572,8 @@ impl<W: Wire, A: Handle> Port<W, A> {
             self.now.opening.wire (wire_of self.now.parts.station.link) }
         ensures limits { KeepsLimits (book.opened self.now.opening.limits)
             self.now.parts.book.state }
+        ensures claim { OpensWell self.now.opening
+            → Claim W.facts self.now.opening [] [] self.now.parts }
         ensures record_fits { OpensWell self.now.opening → KeepsRecord W.facts self.now.parts }
         ensures level { OpensWell self.now.opening → IsLevelBetween W.facts self.now.parts }
     {

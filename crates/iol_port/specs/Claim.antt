@@ -1,0 +1,46 @@
+-- The claim, in one record: what those who use a port may rely on over a lossy line.
+use Rattle.std.specs.Prelude.{◌≡◌, List, ◌++◌, map}
+use Rattle.iol_far.specs.Far.{output_of}
+use Rattle.iol_link.specs.WireFacts.{WireFacts}
+use Rattle.iol_app.specs.StationState.{wire_of}
+use Rattle.iol_port.specs.declared.call.Call.{Call}
+use Rattle.iol_port.specs.declared.call.Answered.{Answered}
+use Rattle.iol_port.specs.Run.{PortState, Piece, Whole, Run, opened}
+use Rattle.iol_port.specs.Sound.{RecordFits, allowance_of}
+use Rattle.iol_port.specs.Owned.{Owned, CarriesOut}
+use Rattle.iol_port.specs.View.{Parts, Opening}
+
+-- the abstract port with which a port begins
+abbrev pub opened_with : {W : Type 0} → Opening W → PortState
+opened_with o = opened o.devices o.limits o.far o.silence
+
+module _ {W : Type 0} (facts : WireFacts W) where
+  open facts use {far}
+
+  -- what an abstract port has of this is what is there: the book, the events that are kept, the
+  -- images, and what the device carried out
+  pub record Has (a : PortState) (p : Parts W) : Type 0 where
+    pub book : p.book.state ≡ a.book
+    pub kept : p.kept ≡ a.kept
+    pub image : p.station.session.image ≡ a.images.image
+    pub input : (far (wire_of p.station.link)).input ≡ a.images.input
+    pub output : output_of (far (wire_of p.station.link)) ≡ a.images.output
+    pub carried : (far (wire_of p.station.link)).carried ≡ a.session.carried
+
+  -- All calls since the opening, these the last of them, with what each answered are a run of an
+  -- abstract port, which has what is there. The device carried out only whole requests of these
+  -- calls, each at most once, in the order taken; and each Done tells its answer to that very
+  -- request. Otherwise is only what the allowance says, which is none at a port for any device.
+  -- PORT-4, BOOK-10
+  pub record Claim (o : Opening W) (calls : List Call) (replies : List Answered) (p : Parts W) :
+      Type 0 where
+    pub earlier : List Call
+    pub answered : List Answered
+    pub port : PortState
+    pub run : Run (opened_with o) (earlier ++ calls) (answered ++ replies) port
+    pub has : Has port p
+    pub owned : List Owned
+    pub carries :
+        CarriesOut (allowance_of (opened_with o).terms) o.limits.given o.far.carried
+        (map Whole (earlier ++ calls)) (answered ++ replies) port.session.carried owned
+    pub in_order : RecordFits port
