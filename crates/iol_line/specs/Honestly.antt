@@ -10,7 +10,8 @@ use Rattle.iol_port.specs.declared.call.Answered.{Answered}
 use Rattle.iol_port.specs.Run.{PortState, Piece, Pieces, opened}
 use Rattle.iol_port.specs.View.{Parts, OpensWell, StandsFor, KeepsRecord}
 use Rattle.iol_port.specs.Clean.{IsLevelBetween}
-use Rattle.iol_port.specs.CorePort.{CoreDoes, at_end, opened_at}
+use Rattle.iol_port.specs.CorePort.{at_end, opened_at}
+use Rattle.iol_port.specs.Called.{CoreCalled}
 use Rattle.iol_line.specs.Standing.{Standing}
 
 pub record HonestPort : Type 0 where
@@ -52,8 +53,9 @@ abbrev pub Moves : HonestPort → Standing → HonestPort → Type 0
 Moves p after next = next ≡ record p { parts = next.parts; at = after }
 
 -- a call of the port within, which leaves the line where it stands
-abbrev pub Calls : HonestPort → Call → Answered → HonestPort → Type 0
-Calls p c reply next = CoreDoes p.parts c reply next.parts × Moves p p.at next
+pub record Calls (p next : HonestPort) (c : Call) (reply : Answered) (given : Type 0) : Type 0 where
+  pub call : CoreCalled p.parts next.parts c reply given
+  pub moves : Moves p p.at next
 
 -- The premise: this is what an honest exchange of the octets that are out could bring, and the
 -- line stands there then

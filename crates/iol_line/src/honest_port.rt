@@ -5,22 +5,16 @@ ghost use Rattle.iol_far.specs.Octets.{octets_in};
 ghost use Rattle.iol_far.specs.Far.{Far};
 ghost use Rattle.iol_link.specs.Honest.{HonestWake};
 ghost use Rattle.iol_book.specs.declared.fault.BookFault.TheVariants.{OutOfMemory};
-ghost use Rattle.iol_book.specs.BookModel.{AreLimits, IsReplayed, submitted, submitted_urgent};
+ghost use Rattle.iol_book.specs.BookModel.{AreLimits, IsReplayed};
 ghost use Rattle.iol_app.specs.Pieces.{IsAskedOut};
 ghost use Rattle.iol_port.specs.declared.fault.PortFault.TheVariants as fault;
-ghost use Rattle.iol_port.specs.declared.call.Call.TheVariants as call;
-ghost use Rattle.iol_port.specs.declared.call.Answered.TheVariants as answered;
 ghost use Rattle.iol_port.specs.declared.awaited.Awaited.{Awaited};
 ghost use Rattle.iol_port.specs.Asks.{asks_of};
-ghost use Rattle.iol_port.specs.EveryWire.{SubmitGives, CollectGives, WithdrawGives, CancelGives};
-ghost use Rattle.iol_port.specs.EveryWire.{ArchiveGives, TakeEventGives, SetOutputGives};
-ghost use Rattle.iol_port.specs.EveryWire.{ClearOutputGives, RestartGives};
-ghost use Rattle.iol_port.specs.EveryWire.{ExpectGives, SetCycleGives};
 ghost use Rattle.iol_port.specs.RightDevice.{IsForRightDevice};
 ghost use Rattle.iol_port.specs.CorePort.{IsNew, IsNewFor, CoreOpens, CoreOpensFor, awaited, SendGives, SendDoes};
 ghost use Rattle.iol_port.specs.CorePort.{ReceiveGives, ReceiveDoes, WakeGives, WakeDoes};
-ghost use Rattle.iol_port.specs.Replies.{ticket_reply, outcome_reply, nothing_reply, event_reply};
-ghost use Rattle.iol_port.specs.Replies.{reply_of};
+ghost use Rattle.iol_port.specs.Called.{Submits, SubmitsUrgent, Collects, Withdraws, Cancels, Restarts, SetsOutput};
+ghost use Rattle.iol_port.specs.Called.{ClearsOutput, Expects, SetsCycle, TakesEvent, Archives};
 ghost use Rattle.iol_line.specs.Standing.{Standing};
 
 use crate::place::Place;
@@ -158,40 +152,36 @@ impl<A: Allocator + Copy> HonestPort<A> {
 
     /// As [`PortCore::submit`].
     pub fn submit(&mut self, request: Request) -> Result<Ticket, PortFault>
-        ensures does { Calls self.old (call.Submit request) (ticket_reply result) self.new }
+        ensures is { Submits (Calls self.old self.new) self.old.parts self.new.parts
+            request result }
         ensures lacks { IfErr result (λ e. e ≡ fault.Book OutOfMemory → self.old.parts.book.room
             ≡ 0) }
-        ensures gives { SubmitGives self.old.parts
-            (submitted self.old.parts.book.state request) result self.new.parts }
     {
         self.core.submit(request)
     }
 
     /// As [`PortCore::submit_urgent`].
     pub fn submit_urgent(&mut self, request: Request) -> Result<Ticket, PortFault>
-        ensures does { Calls self.old (call.SubmitUrgent request) (ticket_reply result) self.new }
+        ensures is { SubmitsUrgent (Calls self.old self.new) self.old.parts self.new.parts
+            request result }
         ensures lacks { IfErr result (λ e. e ≡ fault.Book OutOfMemory → self.old.parts.book.room
             ≡ 0) }
-        ensures gives { SubmitGives self.old.parts
-            (submitted_urgent self.old.parts.book.state request) result self.new.parts }
     {
         self.core.submit_urgent(request)
     }
 
     /// As [`PortCore::collect`].
     pub fn collect(&mut self, ticket: Ticket) -> Result<Outcome, PortFault>
-        ensures does { Calls self.old (call.Collect ticket) (outcome_reply result) self.new }
-        ensures gives { CollectGives self.old.parts ticket result self.new.parts }
+        ensures { Collects (Calls self.old self.new) self.old.parts self.new.parts
+            ticket result }
     {
         self.core.collect(ticket)
     }
 
     /// As [`PortCore::collect_into`].
     pub fn collect_into(&mut self, ticket: Ticket, into: &mut Outcome) -> Result<(), PortFault>
-        ensures does { Calls self.old (call.Collect ticket)
-            (outcome_reply (result_map_both (λ _. into.new) (λ why. why) result)) self.new }
-        ensures gives { CollectGives self.old.parts ticket
-            (result_map_both (λ _. into.new) (λ why. why) result) self.new.parts }
+        ensures is { Collects (Calls self.old self.new) self.old.parts self.new.parts
+            ticket (result_map_both (λ _. into.new) (λ why. why) result) }
         ensures kept { IfErr result (λ _. into.new ≡ into.old) }
     {
         self.core.collect_into(ticket, into)
@@ -199,16 +189,16 @@ impl<A: Allocator + Copy> HonestPort<A> {
 
     /// As [`PortCore::withdraw`].
     pub fn withdraw(&mut self, ticket: Ticket) -> Result<(), PortFault>
-        ensures does { Calls self.old (call.Withdraw ticket) (nothing_reply result) self.new }
-        ensures gives { WithdrawGives self.old.parts ticket result self.new.parts }
+        ensures { Withdraws (Calls self.old self.new) self.old.parts self.new.parts
+            ticket result }
     {
         self.core.withdraw(ticket)
     }
 
     /// As [`PortCore::cancel`].
     pub fn cancel(&mut self, ticket: Ticket) -> Result<(), PortFault>
-        ensures does { Calls self.old (call.Cancel ticket) (nothing_reply result) self.new }
-        ensures gives { CancelGives self.old.parts ticket result self.new.parts }
+        ensures { Cancels (Calls self.old self.new) self.old.parts self.new.parts
+            ticket result }
     {
         self.core.cancel(ticket)
     }
@@ -216,68 +206,63 @@ impl<A: Allocator + Copy> HonestPort<A> {
     /// As [`PortCore::restart`]: what was sent has to be answered first.
     pub fn restart(&mut self)
         requires { awaited self.old.parts ≡ Awaited.Nothing }
-        ensures does { Calls self.old call.Restart answered.Nothing self.new }
-        ensures gives { RestartGives self.old.parts self.new.parts }
+        ensures { Restarts (Calls self.old self.new) self.old.parts self.new.parts }
     {
         self.core.restart();
     }
 
     /// As [`PortCore::set_output`].
     pub fn set_output(&mut self, image: &Image) -> Result<(), PortFault>
-        ensures does { Calls self.old (call.SetOutput image.now) (nothing_reply result) self.new }
-        ensures gives { SetOutputGives self.old.parts image.now result self.new.parts }
+        ensures { SetsOutput (Calls self.old self.new) self.old.parts self.new.parts
+            image.now result }
     {
         self.core.set_output(image)
     }
 
     /// As [`PortCore::clear_output`].
     pub fn clear_output(&mut self)
-        ensures does { Calls self.old call.ClearOutput answered.Nothing self.new }
-        ensures gives { ClearOutputGives self.old.parts self.new.parts }
+        ensures { ClearsOutput (Calls self.old self.new) self.old.parts self.new.parts }
     {
         self.core.clear_output();
     }
 
     /// As [`PortCore::expect`].
     pub fn expect(&mut self, identity: Identity) -> Counting
-        ensures does { Calls
-            self.old (call.Expect (Some identity)) (answered.Counts result) self.new }
-        ensures gives { ExpectGives self.old.parts (Some identity) result self.new.parts }
+        ensures { Expects (Calls self.old self.new) self.old.parts self.new.parts
+            (Some identity) result }
     {
         self.core.expect(identity)
     }
 
     /// As [`PortCore::expect_any`].
     pub fn expect_any(&mut self) -> Counting
-        ensures does { Calls self.old (call.Expect None) (answered.Counts result) self.new }
-        ensures gives { ExpectGives self.old.parts None result self.new.parts }
+        ensures { Expects (Calls self.old self.new) self.old.parts self.new.parts
+            None result }
     {
         self.core.expect_any()
     }
 
     /// As [`PortCore::set_cycle`].
     pub fn set_cycle(&mut self, cycle: Option<CycleTime>) -> Counting
-        ensures does { Calls self.old (call.Cycle cycle) (answered.Counts result) self.new }
-        ensures gives { SetCycleGives self.old.parts cycle result self.new.parts }
+        ensures { SetsCycle (Calls self.old self.new) self.old.parts self.new.parts
+            cycle result }
     {
         self.core.set_cycle(cycle)
     }
 
     /// As [`PortCore::take_event`].
     pub fn take_event(&mut self) -> Result<Event, PortFault>
-        ensures does { Calls self.old call.TakeEvent (event_reply result) self.new }
-        ensures gives { TakeEventGives self.old.parts result self.new.parts }
+        ensures { TakesEvent (Calls self.old self.new) self.old.parts self.new.parts
+            result }
     {
         self.core.take_event()
     }
 
     /// As [`PortCore::archive`].
     pub fn archive(&mut self) -> Result<Vec<Entry, A>, PortFault>
-        ensures does { Calls self.old call.Archive
-            (reply_of (λ entries. answered.Archived (length entries.items)) result) self.new }
+        ensures is { Archives (Calls self.old self.new) self.old.parts self.new.parts
+            (λ entries. entries.items) result }
         ensures within { IfOk result (λ entries. length entries.items ≤ 1000000) }
-        ensures gives { ArchiveGives self.old.parts
-            (result_map_both (λ entries. entries.items) (λ why. why) result) self.new.parts }
     {
         self.core.archive()
     }

@@ -9,13 +9,13 @@ use Rattle.iol_app.specs.declared.asked.Asked.TheVariants as asked
 use Rattle.iol_app.specs.Pieces.{IsAskedOut}
 use Rattle.iol_port.specs.declared.awaited.Awaited.{Awaited}
 use Rattle.iol_port.specs.declared.awaited.Awaited.TheVariants.{Nothing, Wake, Reply}
-use Rattle.iol_port.specs.declared.call.Call.TheVariants as call
-use Rattle.iol_port.specs.declared.call.Answered.TheVariants as answered
+use Rattle.iol_port.specs.declared.call.Call.{Call}
+use Rattle.iol_port.specs.declared.call.Answered.{Answered}
 use Rattle.iol_port.specs.Asks.{asks_of}
-use Rattle.iol_port.specs.EveryWire.{RestartGives}
+use Rattle.iol_port.specs.Called.{CoreCalled, Restarts}
 use Rattle.iol_port.specs.View.{Parts}
 use Rattle.iol_port.specs.WireCalls.{AreCalls}
-use Rattle.iol_port.specs.CorePort.{CoreDoes, awaited, SendGives, SendDoes, ReceiveGives, ReceiveDoes, WakeGives, WakeDoes}
+use Rattle.iol_port.specs.CorePort.{awaited, SendGives, SendDoes, ReceiveGives, ReceiveDoes, WakeGives, WakeDoes}
 use Rattle.iol_master.specs.Served.{GateFacts, IsLet}
 
 pub record LineState : Type 0 where
@@ -23,13 +23,19 @@ pub record LineState : Type 0 where
   -- a restart waits until what is out has been answered
   pub restart_waits : Bool
 
+-- The port's own call, which changes nothing but its parts
+pub record LineCalled (old new : LineState) (c : Call) (reply : Answered) (given : Type 0) :
+    Type 0 where
+  pub call : CoreCalled old.parts new.parts c reply given
+  pub rest : new ≡ record old { parts = new.parts }
+
 -- the port's own restart
-abbrev pub Restarts : Parts (Unit {0}) → Parts (Unit {0}) → Type 0
-Restarts p next = CoreDoes p call.Restart answered.Nothing next × RestartGives p next
+abbrev pub CoreRestarts : Parts (Unit {0}) → Parts (Unit {0}) → Type 0
+CoreRestarts p next = Restarts (CoreCalled p next) p next
 
 -- it is made at once where nothing is out, else it waits
 abbrev pub RestartsIn : Awaited → LineState → LineState → Type 0
-RestartsIn Nothing p next = Restarts p.parts next.parts × (next.restart_waits ≡ p.restart_waits)
+RestartsIn Nothing p next = CoreRestarts p.parts next.parts × (next.restart_waits ≡ p.restart_waits)
 RestartsIn Wake p next = next ≡ record p { restart_waits = true }
 RestartsIn Reply p next = next ≡ record p { restart_waits = true }
 
@@ -38,7 +44,7 @@ RestartsOnce p next = RestartsIn (awaited p.parts) p next
 
 -- once what was out has been answered the restart that waited is made, and waits no more
 abbrev pub RestartsWhere : Bool → Parts (Unit {0}) → LineState → Type 0
-RestartsWhere true p next = Restarts p next.parts × (next.restart_waits ≡ false)
+RestartsWhere true p next = CoreRestarts p next.parts × (next.restart_waits ≡ false)
 RestartsWhere false p next = next ≡ record { parts = p; restart_waits = false }
 
 -- The port's own sending, which the restart that waits waits through

@@ -1,14 +1,8 @@
 -- The turns that workers make at ports whose locks are held, while their gate lets them.
 use Rattle.std.specs.Prelude.{◌≡◌, ◌⊎◌, ◌<◌, ◌≤◌, ◌+◌, ℕ, Bool, true, false, List, length, Result, Ok, Err}
 use Rattle.iol_link.specs.WireFacts.{WireFacts}
-use Rattle.iol_app.specs.Asking.{IsCall}
-use Rattle.iol_app.specs.StationState.{wire_of}
-use Rattle.iol_port.specs.declared.call.Call.TheVariants as call
-use Rattle.iol_port.specs.declared.call.Answered.TheVariants as answered
-use Rattle.iol_port.specs.Asks.{asks_of}
-use Rattle.iol_port.specs.Clean.{CleanTurn}
-use Rattle.iol_port.specs.EveryWire.{TurnGives}
-use Rattle.iol_port.specs.View.{Port, Does, shown_in}
+use Rattle.iol_port.specs.View.{Port}
+use Rattle.iol_port.specs.Called.{Turns, Shown}
 use Rattle.iol_master.specs.declared.fault.MasterFault.{MasterFault}
 
 -- What a gate gives: the gate, the port's number, the turn's, the answer
@@ -23,21 +17,11 @@ module _ {G : Type 0} (pass_gives : GateFacts G) (gate : G) (number : ℕ) where
     pub ends : (made ≡ turns) ⊎ ((made < turns) × pass_gives gate number (made + 1) false)
 
 module _ {W : Type 0} (facts : WireFacts W) where
-  -- the port's own turn, as its lock is held
-  pub record Turns (p next : Port W) : Type 0 where
-    pub does : Does facts p.parts call.Turn answered.Nothing next.parts
-    pub clean : CleanTurn facts p.parts next.parts
-    pub asked : IsCall facts (asks_of p.parts) (wire_of p.parts.station.link)
-        (wire_of next.parts.station.link)
-    pub gives : TurnGives facts p.parts next.parts
-    pub opening : next.opening ≡ p.opening
-    pub shown : next.writer ≡ shown_in next.parts.station.session.image p.writer
-
   -- a turn that was made at some port, whose lock was held
   pub record PortTurn : Type 0 where
     pub before : Port W
     pub after : Port W
-    pub turns : Turns before after
+    pub turns : Shown (Turns facts before) before after
 
   -- A worker's turns: a list, of so many, that its gate let pass
   pub record IsWorked {G : Type 0} (pass_gives : GateFacts G) (gate : G) (number turns made : ℕ)

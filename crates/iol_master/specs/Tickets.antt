@@ -3,15 +3,11 @@ use Rattle.std.specs.Prelude.{◌≡◌, ℕ, ◌+◌, ◌^◌, ◌<◌, ◌⊎�
 use Rattle.iol_isdu.specs.declared.values.Request.{Request}
 use Rattle.iol_link.specs.WireFacts.{WireFacts}
 use Rattle.iol_book.specs.declared.entries.Ticket.{Ticket}
-use Rattle.iol_book.specs.BookModel.{BookState, submitted, submitted_urgent}
 use Rattle.iol_book.specs.declared.fault.BookFault.TheVariants.{TicketsSpent, OutOfMemory as NoMemory}
-use Rattle.iol_port.specs.declared.call.Call.{Call}
-use Rattle.iol_port.specs.declared.call.Call.TheVariants as call
 use Rattle.iol_port.specs.declared.fault.PortFault.{PortFault}
 use Rattle.iol_port.specs.declared.fault.PortFault.TheVariants.{Book}
-use Rattle.iol_port.specs.Replies.{ticket_reply}
-use Rattle.iol_port.specs.View.{Port, Does}
-use Rattle.iol_port.specs.EveryWire.{SubmitGives}
+use Rattle.iol_port.specs.Called.{Submits, SubmitsUrgent, Called}
+use Rattle.iol_port.specs.View.{Port}
 use Rattle.iol_master.specs.declared.held.Urgency.{Urgency}
 use Rattle.iol_master.specs.declared.held.Urgency.TheVariants.{Ordinary, Urgent}
 use Rattle.iol_master.specs.declared.fault.MasterFault.{MasterFault}
@@ -40,30 +36,25 @@ pub record WasClosed (W : Type 0) (count : ℕ) (tally : Tally) : Type 0 where
   pub settled : tally.settled ≡ accounts.settled
   pub total : tally.tickets ≡ accounts.total
 
--- the port's call by which a request is entered, and the book that it leaves
-abbrev pub submit_call : Urgency → Request → Call
-submit_call Ordinary request = call.Submit request
-submit_call Urgent request = call.SubmitUrgent request
-
-abbrev pub book_with : Urgency → BookState → Request → BookState
-book_with Ordinary book request = submitted book request
-book_with Urgent book request = submitted_urgent book request
-
 module _ {W : Type 0} (facts : WireFacts W) where
-  -- the port's own submit, with its answer: memory is lacking only where the book had no room left
-  abbrev pub Submits : Port W → Urgency → Request → Result Ticket PortFault → Port W → Type 0
-  Submits p kind request answer p' =
-      Does facts p.parts (submit_call kind request) (ticket_reply answer) p'.parts
-      × (p' ≡ record p { parts = p'.parts })
+  -- the port's own submit, or its urgent one
+  abbrev pub SubmitsBy : Urgency → Port W → Request → Result Ticket PortFault → Port W → Type 0
+  SubmitsBy Ordinary p request answer p' =
+      Submits (Called facts p p') p.parts p'.parts request answer
+  SubmitsBy Urgent p request answer p' =
+      SubmitsUrgent (Called facts p p') p.parts p'.parts request answer
+
+  -- memory is lacking only where the book had no room left
+  abbrev pub SubmitsAs : Port W → Urgency → Request → Result Ticket PortFault → Port W → Type 0
+  SubmitsAs p kind request answer p' = SubmitsBy kind p request answer p'
       × IfErr answer (λ why. why ≡ Book NoMemory → p.parts.book.room ≡ 0)
-      × SubmitGives p.parts (book_with kind p.parts.book.state request) answer p'.parts
 
   -- because the tally is as large as it can be, and then the port isn't asked; or
   -- as the port refuses it
   abbrev pub IsRefused : Port W → AccountState → Urgency → Request → PortFault → Port W → Type 0
   IsRefused p a kind request why p' =
       ((a.total + 1 ≡ 2 ^ 64) × (why ≡ Book TicketsSpent) × (p' ≡ p))
-      ⊎ ((a.total + 1 < 2 ^ 64) × Submits p kind request (Err why) p')
+      ⊎ ((a.total + 1 < 2 ^ 64) × SubmitsAs p kind request (Err why) p')
 
   -- A submit at a desk: the port, the tally and the desk, before and after.
   -- Where a ticket is answered, each counts one more; else none does.
@@ -71,7 +62,7 @@ module _ {W : Type 0} (facts : WireFacts W) where
       → Result Ticket MasterFault
       → Port W → AccountState → DeskState → Type 0
   Enters p a d kind request (Ok ticket) p' a' d' =
-      (a.total + 1 < 2 ^ 64) × Submits p kind request (Ok ticket) p'
+      (a.total + 1 < 2 ^ 64) × SubmitsAs p kind request (Ok ticket) p'
       × (a' ≡ record a { total = a.total + 1 })
       × (d' ≡ record d { accepted = d.accepted + 1 })
   Enters p a d kind request (Err (OfPort why)) p' a' d' = (a' ≡ a) × (d' ≡ d)

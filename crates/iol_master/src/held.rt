@@ -1,24 +1,17 @@
 //! What lies under a port's lock: the port, and its share of the tickets.
 ghost use Rattle.std.specs.Prelude.{◌≡◌, ◌≤◌, None, Some, IfOk, [], length};
 ghost use Rattle.std.specs.Option.{option_copied};
-ghost use Rattle.std.specs.Result.{result_map_both};
-ghost use Rattle.iol_app.specs.Asking.{IsCall};
 ghost use Rattle.iol_app.specs.StationState.{wire_of};
 ghost use Rattle.iol_book.specs.BookModel.{IsReplayed};
-ghost use Rattle.iol_port.specs.declared.call.Call.TheVariants as call;
-ghost use Rattle.iol_port.specs.declared.call.Answered.TheVariants as answered;
-ghost use Rattle.iol_port.specs.View.{Does, IsRun, OpensWell, KeepsRecord, shown_in, status_of};
-ghost use Rattle.iol_port.specs.Asks.{asks_of};
+ghost use Rattle.iol_port.specs.View.{IsRun, OpensWell, KeepsRecord};
+ghost use Rattle.iol_port.specs.Called.{Collects, Withdraws, Cancels, Restarts, SetsOutput, ClearsOutput};
+ghost use Rattle.iol_port.specs.Called.{Expects, SetsCycle, TakesEvent, Archives, Turns, Shown};
+ghost use Rattle.iol_port.specs.Called.{ShowsPage, ShowsCounters, ShowsImage, ShowsStatus, Called, Looked};
 ghost use Rattle.iol_port.specs.Claim.{Claim};
 ghost use Rattle.iol_port.specs.WireCalls.{ComesFrom};
-ghost use Rattle.iol_port.specs.EveryWire.{CollectGives, WithdrawGives, CancelGives, ArchiveGives};
-ghost use Rattle.iol_port.specs.EveryWire.{TakeEventGives, SetOutputGives};
-ghost use Rattle.iol_port.specs.EveryWire.{ClearOutputGives, RestartGives, TurnGives};
-ghost use Rattle.iol_port.specs.EveryWire.{ExpectGives, SetCycleGives, page_shown};
 ghost use Rattle.iol_port.specs.RightDevice.{IsForRightDevice};
-ghost use Rattle.iol_port.specs.Clean.{CleanTurn, IsLevelBetween};
-ghost use Rattle.iol_port.specs.Replies.{outcome_reply, nothing_reply, event_reply, reply_of};
-ghost use Rattle.iol_master.specs.Tickets.{HasGiven, Submits, Enters};
+ghost use Rattle.iol_port.specs.Clean.{IsLevelBetween};
+ghost use Rattle.iol_master.specs.Tickets.{HasGiven, SubmitsAs, Enters};
 
 use crate::accounts::{Accounts, Desk};
 use crate::fault::MasterFault;
@@ -55,7 +48,7 @@ fn submit_as<W: Wire, A: Handle>(
     urgency: Urgency,
     request: Request,
 ) -> Result<Ticket, PortFault>
-    ensures { Submits W.facts port.old urgency request result port.new }
+    ensures { SubmitsAs W.facts port.old urgency request result port.new }
 {
     match urgency {
         Urgency::Ordinary => port.submit(request),
@@ -66,8 +59,8 @@ fn submit_as<W: Wire, A: Handle>(
 /// A port of a master, as it lies under its lock, with its share of the tickets that the master's
 /// ports gave.
 ///
-/// Contracts see it as its port: each call has the clauses of the port's call of that name, word
-/// for word, and so is one call of the abstract port that it stands for (crate iol_port). No call
+/// Contracts see it as its port: each call is the port's call of that name, and
+/// so one call of the abstract port that it stands for (crate iol_port). No call
 /// here allocates, and none takes a lock: who calls holds the port's.
 #[derive(Drop)]
 pub struct Held<W: Wire, K: Ledger, A: Handle = Global> {
@@ -147,10 +140,8 @@ impl<W: Wire, K: Ledger, A: Handle> Held<W, K, A> {
     /// Refused, with nothing changed, by 25 where no such ticket is outstanding, and by 26 where it
     /// has no outcome yet.
     pub fn collect(&mut self, ticket: Ticket) -> Result<Outcome, PortFault>
-        ensures does { Does W.facts self.old.parts
-            (call.Collect ticket) (outcome_reply result) self.new.parts }
-        ensures gives { CollectGives self.old.parts ticket result self.new.parts }
-        ensures rest { self.new ≡ record self.old { parts = self.new.parts } }
+        ensures { Collects (Called W.facts self.old self.new) self.old.parts self.new.parts
+            ticket result }
     {
         self.port.collect(ticket)
     }
@@ -160,10 +151,8 @@ impl<W: Wire, K: Ledger, A: Handle> Held<W, K, A> {
     /// Refused, with nothing changed, by 25 where no such ticket is outstanding, and by 27 where it
     /// waits no longer.
     pub fn withdraw(&mut self, ticket: Ticket) -> Result<(), PortFault>
-        ensures does { Does W.facts self.old.parts
-            (call.Withdraw ticket) (nothing_reply result) self.new.parts }
-        ensures gives { WithdrawGives self.old.parts ticket result self.new.parts }
-        ensures rest { self.new ≡ record self.old { parts = self.new.parts } }
+        ensures { Withdraws (Called W.facts self.old self.new) self.old.parts self.new.parts
+            ticket result }
     {
         self.port.withdraw(ticket)
     }
@@ -176,10 +165,8 @@ impl<W: Wire, K: Ledger, A: Handle> Held<W, K, A> {
     /// that it was cut off for another cause. Refused, with nothing changed, by 25 where
     /// no such ticket is outstanding, and by 36 where it waits, or has an outcome.
     pub fn cancel(&mut self, ticket: Ticket) -> Result<(), PortFault>
-        ensures does { Does W.facts self.old.parts
-            (call.Cancel ticket) (nothing_reply result) self.new.parts }
-        ensures gives { CancelGives self.old.parts ticket result self.new.parts }
-        ensures rest { self.new ≡ record self.old { parts = self.new.parts } }
+        ensures { Cancels (Called W.facts self.old self.new) self.old.parts self.new.parts
+            ticket result }
     {
         self.port.cancel(ticket)
     }
@@ -190,11 +177,8 @@ impl<W: Wire, K: Ledger, A: Handle> Held<W, K, A> {
     /// What waits goes on waiting. The device may still carry the request that was cut off out,
     /// once, until it is reset.
     pub fn restart<R: Wait>(&mut self, rt: &R)
-        ensures does { Does W.facts self.old.parts call.Restart answered.Nothing self.new.parts }
-        ensures gives { RestartGives self.old.parts self.new.parts }
-        ensures opening { self.new.opening ≡ self.old.opening }
-        ensures shown { self.new.writer
-            ≡ shown_in self.new.parts.station.session.image self.old.writer }
+        ensures { Shown (λ new. Restarts (Called W.facts self.old new) self.old.parts new.parts)
+            self.old self.new }
     {
         self.port.restart_shown(rt);
     }
@@ -204,20 +188,15 @@ impl<W: Wire, K: Ledger, A: Handle> Held<W, K, A> {
     /// Refused, with nothing changed, by the first of 34 where no start-up has told the lengths of
     /// the process data yet, and 29 where the image has not the length that was told last.
     pub fn set_output(&mut self, image: &Image) -> Result<(), PortFault>
-        ensures does { Does W.facts self.old.parts
-            (call.SetOutput image.now) (nothing_reply result) self.new.parts }
-        ensures gives { SetOutputGives self.old.parts image.now result self.new.parts }
-        ensures rest { self.new ≡ record self.old { parts = self.new.parts } }
+        ensures { SetsOutput (Called W.facts self.old self.new) self.old.parts self.new.parts
+            image.now result }
     {
         self.port.set_output(image)
     }
 
     /// Wants no output of the device.
     pub fn clear_output(&mut self)
-        ensures does { Does W.facts self.old.parts call.ClearOutput
-            answered.Nothing self.new.parts }
-        ensures gives { ClearOutputGives self.old.parts self.new.parts }
-        ensures rest { self.new ≡ record self.old { parts = self.new.parts } }
+        ensures { ClearsOutput (Called W.facts self.old self.new) self.old.parts self.new.parts }
     {
         self.port.clear_output();
     }
@@ -229,20 +208,16 @@ impl<W: Wire, K: Ledger, A: Handle> Held<W, K, A> {
     /// was written to the device. Requests wait on. A page that was checked already is not checked
     /// again.
     pub fn expect(&mut self, identity: Identity) -> Counting
-        ensures does { Does W.facts self.old.parts
-            (call.Expect (Some identity)) (answered.Counts result) self.new.parts }
-        ensures gives { ExpectGives self.old.parts (Some identity) result self.new.parts }
-        ensures rest { self.new ≡ record self.old { parts = self.new.parts } }
+        ensures { Expects (Called W.facts self.old self.new) self.old.parts self.new.parts
+            (Some identity) result }
     {
         self.port.expect(identity)
     }
 
     /// Expects any device, as a port does that is new.
     pub fn expect_any(&mut self) -> Counting
-        ensures does { Does W.facts self.old.parts
-            (call.Expect None) (answered.Counts result) self.new.parts }
-        ensures gives { ExpectGives self.old.parts None result self.new.parts }
-        ensures rest { self.new ≡ record self.old { parts = self.new.parts } }
+        ensures { Expects (Called W.facts self.old self.new) self.old.parts self.new.parts
+            None result }
     {
         self.port.expect_any()
     }
@@ -250,10 +225,8 @@ impl<W: Wire, K: Ledger, A: Handle> Held<W, K, A> {
     /// Has start-ups write this cycle time to MasterCycleTime, where it is at least the device's
     /// MinCycleTime; else, and with none, they write MinCycleTime as it stands in the page.
     pub fn set_cycle(&mut self, cycle: Option<CycleTime>) -> Counting
-        ensures does { Does W.facts self.old.parts
-            (call.Cycle cycle) (answered.Counts result) self.new.parts }
-        ensures gives { SetCycleGives self.old.parts cycle result self.new.parts }
-        ensures rest { self.new ≡ record self.old { parts = self.new.parts } }
+        ensures { SetsCycle (Called W.facts self.old self.new) self.old.parts self.new.parts
+            cycle result }
     {
         self.port.set_cycle(cycle)
     }
@@ -261,18 +234,14 @@ impl<W: Wire, K: Ledger, A: Handle> Held<W, K, A> {
     /// The device's page, once the start-up of the present session has read it whole and checked
     /// it; none before, and in down.
     pub fn page(&self) -> Option<Page>
-        ensures does { Does W.facts self.now.parts
-            call.Page (answered.Page result) self.now.parts }
-        ensures value { result ≡ page_shown self.now.parts }
+        ensures { ShowsPage (Looked W.facts self.now) self.now.parts result }
     {
         self.port.page()
     }
 
     /// What the port counted since its opening.
     pub fn counters(&self) -> &Counters
-        ensures does { Does W.facts self.now.parts
-            call.Counters (answered.Counters result.now) self.now.parts }
-        ensures value { result.now ≡ self.now.parts.counters }
+        ensures { ShowsCounters (Looked W.facts self.now) self.now.parts result.now }
     {
         self.port.counters()
     }
@@ -283,28 +252,23 @@ impl<W: Wire, K: Ledger, A: Handle> Held<W, K, A> {
     /// This is the read under the port's lock. A seat at the cell in which the port publishes
     /// (crate iol_image) reads the image without it.
     pub fn image(&self) -> Option<&Image>
-        ensures does { Does W.facts self.now.parts
-            call.Look (answered.Image (option_copied result)) self.now.parts }
-        ensures value { option_copied result ≡ self.now.parts.station.session.image }
+        ensures { ShowsImage (Looked W.facts self.now) self.now.parts
+            (option_copied result) }
     {
         self.port.image()
     }
 
     /// Hands out the event that was kept longest. Refused by 30 where none is kept.
     pub fn take_event(&mut self) -> Result<Event, PortFault>
-        ensures does { Does W.facts self.old.parts
-            call.TakeEvent (event_reply result) self.new.parts }
-        ensures gives { TakeEventGives self.old.parts result self.new.parts }
-        ensures rest { self.new ≡ record self.old { parts = self.new.parts } }
+        ensures { TakesEvent (Called W.facts self.old self.new) self.old.parts self.new.parts
+            result }
     {
         self.port.take_event()
     }
 
     /// The mode of the link, and why it is down.
     pub fn status(&self) -> Status
-        ensures does { Does W.facts self.now.parts
-            call.Status (answered.Status result) self.now.parts }
-        ensures value { result ≡ status_of self.now.parts.station }
+        ensures { ShowsStatus (Looked W.facts self.now) self.now.parts result }
     {
         self.port.status()
     }
@@ -315,14 +279,9 @@ impl<W: Wire, K: Ledger, A: Handle> Held<W, K, A> {
     /// cut off by a lost link or a restart and the device wasn't reset since, as it may still carry
     /// that request out.
     pub fn archive(&mut self) -> Result<Vec<Entry, A>, PortFault>
-        ensures does { Does W.facts self.old.parts
-            call.Archive
-            (reply_of (λ entries. answered.Archived (length entries.items)) result)
-            self.new.parts }
+        ensures is { Archives (Called W.facts self.old self.new) self.old.parts self.new.parts
+            (λ entries. entries.items) result }
         ensures within { IfOk result (λ entries. length entries.items ≤ 1000000) }
-        ensures gives { ArchiveGives self.old.parts
-            (result_map_both (λ entries. entries.items) (λ why. why) result) self.new.parts }
-        ensures rest { self.new ≡ record self.old { parts = self.new.parts } }
     {
         self.port.archive()
     }
@@ -335,14 +294,7 @@ impl<W: Wire, K: Ledger, A: Handle> Held<W, K, A> {
     /// in this turn; where the device has no ISDU it is denied, never taken, and IDLE 1 goes out.
     /// At most 64 events are kept, and a list of events is read only where there is room for it.
     pub fn turn<R: Wait>(&mut self, rt: &R)
-        ensures does { Does W.facts self.old.parts call.Turn answered.Nothing self.new.parts }
-        ensures clean { CleanTurn W.facts self.old.parts self.new.parts }
-        ensures asked { IsCall W.facts (asks_of self.old.parts)
-            (wire_of self.old.parts.station.link) (wire_of self.new.parts.station.link) }
-        ensures gives { TurnGives W.facts self.old.parts self.new.parts }
-        ensures opening { self.new.opening ≡ self.old.opening }
-        ensures shown { self.new.writer
-            ≡ shown_in self.new.parts.station.session.image self.old.writer }
+        ensures { Shown (Turns W.facts self.old) self.old self.new }
     {
         self.port.turn_shown(rt);
     }

@@ -5,22 +5,18 @@ ghost use Rattle.std.specs.Option.{option_copied};
 ghost use Rattle.std.specs.Result.{result_map_both};
 ghost use Rattle.iol_far.specs.Octets.{octets_in};
 ghost use Rattle.iol_book.specs.declared.fault.BookFault.TheVariants.{OutOfMemory};
-ghost use Rattle.iol_book.specs.BookModel.{submitted, submitted_urgent};
+ghost use Rattle.iol_book.specs.BookModel.{submitted};
 ghost use Rattle.iol_app.specs.declared.asked.Asked.{Asked};
 ghost use Rattle.iol_app.specs.Asking.{IsCall};
 ghost use Rattle.iol_port.specs.declared.fault.PortFault.TheVariants as fault;
-ghost use Rattle.iol_port.specs.declared.call.Call.TheVariants as call;
 ghost use Rattle.iol_port.specs.declared.call.Answered.TheVariants as answered;
-ghost use Rattle.iol_port.specs.View.{status_of};
-ghost use Rattle.iol_port.specs.EveryWire.{SubmitGives, CollectGives, WithdrawGives, CancelGives};
-ghost use Rattle.iol_port.specs.EveryWire.{ArchiveGives, TakeEventGives, SetOutputGives, ClearOutputGives};
-ghost use Rattle.iol_port.specs.EveryWire.{ExpectGives, SetCycleGives, page_shown};
-ghost use Rattle.iol_port.specs.CorePort.{CoreDoes};
-ghost use Rattle.iol_port.specs.Replies.{ticket_reply, outcome_reply, nothing_reply, event_reply, reply_of};
+ghost use Rattle.iol_port.specs.Called.{Submits, SubmitsUrgent, Collects, Withdraws, Cancels, SetsOutput, ClearsOutput};
+ghost use Rattle.iol_port.specs.Called.{Expects, SetsCycle, TakesEvent, Archives, CoreCalled};
+ghost use Rattle.iol_port.specs.Called.{ShowsPage, ShowsCounters, ShowsImage, ShowsStatus};
 ghost use Rattle.iol_port.specs.declared.awaited.Awaited.TheVariants as Awaited;
 ghost use Rattle.iol_port.specs.CorePort.{awaited};
 ghost use Rattle.iol_master.specs.Ledgers.{IsBlankFor};
-ghost use Rattle.iol_master.specs.Line.{RestartsOnce, Sends, TakesReply, TakesRate};
+ghost use Rattle.iol_master.specs.Line.{LineCalled, RestartsOnce, Sends, TakesReply, TakesRate};
 ghost use Rattle.iol_master.specs.Line.{IsWhole, IsLineTurn, IsServed, IsLineWorked};
 ghost use Rattle.iol_master.specs.Line.{awaited_number, awaited_of};
 
@@ -112,13 +108,10 @@ impl<K: Ledger, A: Allocator + Copy> LinePort<K, A> {
     /// the limit of the opening says, 22 where the journal has no room for the request's entries,
     /// 23 where the last ticket was 2^64 - 1, and 24 where a growth was refused.
     pub fn submit(&mut self, request: Request) -> Result<Ticket, PortFault>
-        ensures does { CoreDoes self.old.parts
-            (call.Submit request) (ticket_reply result) self.new.parts }
+        ensures is { Submits (LineCalled self.old self.new) self.old.parts self.new.parts
+            request result }
         ensures lacks { IfErr result (λ e. e ≡ fault.Book OutOfMemory
             → self.old.parts.book.room ≡ 0) }
-        ensures gives { SubmitGives self.old.parts
-            (submitted self.old.parts.book.state request) result self.new.parts }
-        ensures rest { self.new ≡ record self.old { parts = self.new.parts } }
     {
         self.port.submit(request)
     }
@@ -128,13 +121,10 @@ impl<K: Ledger, A: Allocator + Copy> LinePort<K, A> {
     ///
     /// Refused, with nothing changed, as `submit` is: 21, 22 and 23 count both kinds.
     pub fn submit_urgent(&mut self, request: Request) -> Result<Ticket, PortFault>
-        ensures does { CoreDoes self.old.parts
-            (call.SubmitUrgent request) (ticket_reply result) self.new.parts }
+        ensures is { SubmitsUrgent (LineCalled self.old self.new) self.old.parts self.new.parts
+            request result }
         ensures lacks { IfErr result (λ e. e ≡ fault.Book OutOfMemory
             → self.old.parts.book.room ≡ 0) }
-        ensures gives { SubmitGives self.old.parts
-            (submitted_urgent self.old.parts.book.state request) result self.new.parts }
-        ensures rest { self.new ≡ record self.old { parts = self.new.parts } }
     {
         self.port.submit_urgent(request)
     }
@@ -144,10 +134,8 @@ impl<K: Ledger, A: Allocator + Copy> LinePort<K, A> {
     /// Refused, with nothing changed, by 25 where no such ticket is outstanding, and by 26 where it
     /// has no outcome yet.
     pub fn collect(&mut self, ticket: Ticket) -> Result<Outcome, PortFault>
-        ensures does { CoreDoes self.old.parts
-            (call.Collect ticket) (outcome_reply result) self.new.parts }
-        ensures gives { CollectGives self.old.parts ticket result self.new.parts }
-        ensures rest { self.new ≡ record self.old { parts = self.new.parts } }
+        ensures { Collects (LineCalled self.old self.new) self.old.parts self.new.parts
+            ticket result }
     {
         self.port.collect(ticket)
     }
@@ -156,13 +144,9 @@ impl<K: Ledger, A: Allocator + Copy> LinePort<K, A> {
     /// the caller, which a refusal leaves as it was. Most asks come before the outcome, and cost
     /// little.
     pub fn collect_into(&mut self, ticket: Ticket, into: &mut Outcome) -> Result<(), PortFault>
-        ensures does { CoreDoes self.old.parts (call.Collect ticket)
-            (outcome_reply (result_map_both (λ _. into.new) (λ why. why) result))
-            self.new.parts }
-        ensures gives { CollectGives self.old.parts ticket
-            (result_map_both (λ _. into.new) (λ why. why) result) self.new.parts }
+        ensures is { Collects (LineCalled self.old self.new) self.old.parts self.new.parts
+            ticket (result_map_both (λ _. into.new) (λ why. why) result) }
         ensures kept { IfErr result (λ _. into.new ≡ into.old) }
-        ensures rest { self.new ≡ record self.old { parts = self.new.parts } }
     {
         self.port.collect_into(ticket, into)
     }
@@ -172,10 +156,8 @@ impl<K: Ledger, A: Allocator + Copy> LinePort<K, A> {
     /// Refused, with nothing changed, by 25 where no such ticket is outstanding, and by 27 where it
     /// waits no longer.
     pub fn withdraw(&mut self, ticket: Ticket) -> Result<(), PortFault>
-        ensures does { CoreDoes self.old.parts
-            (call.Withdraw ticket) (nothing_reply result) self.new.parts }
-        ensures gives { WithdrawGives self.old.parts ticket result self.new.parts }
-        ensures rest { self.new ≡ record self.old { parts = self.new.parts } }
+        ensures { Withdraws (LineCalled self.old self.new) self.old.parts self.new.parts
+            ticket result }
     {
         self.port.withdraw(ticket)
     }
@@ -188,10 +170,8 @@ impl<K: Ledger, A: Allocator + Copy> LinePort<K, A> {
     /// cause. Refused, with nothing changed, by 25 where no such ticket is outstanding, and by 36
     /// where it waits, or has an outcome.
     pub fn cancel(&mut self, ticket: Ticket) -> Result<(), PortFault>
-        ensures does { CoreDoes self.old.parts
-            (call.Cancel ticket) (nothing_reply result) self.new.parts }
-        ensures gives { CancelGives self.old.parts ticket result self.new.parts }
-        ensures rest { self.new ≡ record self.old { parts = self.new.parts } }
+        ensures { Cancels (LineCalled self.old self.new) self.old.parts self.new.parts
+            ticket result }
     {
         self.port.cancel(ticket)
     }
@@ -225,20 +205,15 @@ impl<K: Ledger, A: Allocator + Copy> LinePort<K, A> {
     /// Refused, with nothing changed, by the first of 34 where no start-up has told the lengths of
     /// the process data yet, and 29 where the image has not the length that was told last.
     pub fn set_output(&mut self, image: &Image) -> Result<(), PortFault>
-        ensures does { CoreDoes self.old.parts
-            (call.SetOutput image.now) (nothing_reply result) self.new.parts }
-        ensures gives { SetOutputGives self.old.parts image.now result self.new.parts }
-        ensures rest { self.new ≡ record self.old { parts = self.new.parts } }
+        ensures { SetsOutput (LineCalled self.old self.new) self.old.parts self.new.parts
+            image.now result }
     {
         self.port.set_output(image)
     }
 
     /// Wants no output of the device.
     pub fn clear_output(&mut self)
-        ensures does { CoreDoes self.old.parts call.ClearOutput
-            answered.Nothing self.new.parts }
-        ensures gives { ClearOutputGives self.old.parts self.new.parts }
-        ensures rest { self.new ≡ record self.old { parts = self.new.parts } }
+        ensures { ClearsOutput (LineCalled self.old self.new) self.old.parts self.new.parts }
     {
         self.port.clear_output();
     }
@@ -250,20 +225,16 @@ impl<K: Ledger, A: Allocator + Copy> LinePort<K, A> {
     /// was written to the device. Requests wait on. A page that was checked already is not checked
     /// again.
     pub fn expect(&mut self, identity: Identity) -> Counting
-        ensures does { CoreDoes self.old.parts
-            (call.Expect (Some identity)) (answered.Counts result) self.new.parts }
-        ensures gives { ExpectGives self.old.parts (Some identity) result self.new.parts }
-        ensures rest { self.new ≡ record self.old { parts = self.new.parts } }
+        ensures { Expects (LineCalled self.old self.new) self.old.parts self.new.parts
+            (Some identity) result }
     {
         self.port.expect(identity)
     }
 
     /// Expects any device, as a port does that is new.
     pub fn expect_any(&mut self) -> Counting
-        ensures does { CoreDoes self.old.parts
-            (call.Expect None) (answered.Counts result) self.new.parts }
-        ensures gives { ExpectGives self.old.parts None result self.new.parts }
-        ensures rest { self.new ≡ record self.old { parts = self.new.parts } }
+        ensures { Expects (LineCalled self.old self.new) self.old.parts self.new.parts
+            None result }
     {
         self.port.expect_any()
     }
@@ -271,10 +242,8 @@ impl<K: Ledger, A: Allocator + Copy> LinePort<K, A> {
     /// Has start-ups write this cycle time to MasterCycleTime, where it is at least the device's
     /// MinCycleTime; else, and with none, they write MinCycleTime as it stands in the page.
     pub fn set_cycle(&mut self, cycle: Option<CycleTime>) -> Counting
-        ensures does { CoreDoes self.old.parts
-            (call.Cycle cycle) (answered.Counts result) self.new.parts }
-        ensures gives { SetCycleGives self.old.parts cycle result self.new.parts }
-        ensures rest { self.new ≡ record self.old { parts = self.new.parts } }
+        ensures { SetsCycle (LineCalled self.old self.new) self.old.parts self.new.parts
+            cycle result }
     {
         self.port.set_cycle(cycle)
     }
@@ -282,18 +251,15 @@ impl<K: Ledger, A: Allocator + Copy> LinePort<K, A> {
     /// The device's page, once the start-up of the present session has read it whole and checked
     /// it; none before, and in down.
     pub fn page(&self) -> Option<Page>
-        ensures does { CoreDoes self.now.parts
-            call.Page (answered.Page result) self.now.parts }
-        ensures value { result ≡ page_shown self.now.parts }
+        ensures { ShowsPage (CoreCalled self.now.parts self.now.parts) self.now.parts result }
     {
         self.port.page()
     }
 
     /// What the port counted since its opening.
     pub fn counters(&self) -> &Counters
-        ensures does { CoreDoes self.now.parts
-            call.Counters (answered.Counters result.now) self.now.parts }
-        ensures value { result.now ≡ self.now.parts.counters }
+        ensures { ShowsCounters (CoreCalled self.now.parts self.now.parts) self.now.parts
+            result.now }
     {
         self.port.counters()
     }
@@ -301,28 +267,23 @@ impl<K: Ledger, A: Allocator + Copy> LinePort<K, A> {
     /// The device's input by the last good reply in OPERATE: one whole image, or none where it was
     /// not valid. None in every other mode.
     pub fn image(&self) -> Option<&Image>
-        ensures does { CoreDoes self.now.parts
-            call.Look (answered.Image (option_copied result)) self.now.parts }
-        ensures value { option_copied result ≡ self.now.parts.station.session.image }
+        ensures { ShowsImage (CoreCalled self.now.parts self.now.parts) self.now.parts
+            (option_copied result) }
     {
         self.port.image()
     }
 
     /// Hands out the event that was kept longest. Refused by 30 where none is kept.
     pub fn take_event(&mut self) -> Result<Event, PortFault>
-        ensures does { CoreDoes self.old.parts
-            call.TakeEvent (event_reply result) self.new.parts }
-        ensures gives { TakeEventGives self.old.parts result self.new.parts }
-        ensures rest { self.new ≡ record self.old { parts = self.new.parts } }
+        ensures { TakesEvent (LineCalled self.old self.new) self.old.parts self.new.parts
+            result }
     {
         self.port.take_event()
     }
 
     /// The mode of the link, and why it is down.
     pub fn status(&self) -> Status
-        ensures does { CoreDoes self.now.parts
-            call.Status (answered.Status result) self.now.parts }
-        ensures value { result ≡ status_of self.now.parts.station }
+        ensures { ShowsStatus (CoreCalled self.now.parts self.now.parts) self.now.parts result }
     {
         self.port.status()
     }
@@ -333,13 +294,9 @@ impl<K: Ledger, A: Allocator + Copy> LinePort<K, A> {
     /// cut off by a lost link or a restart and the device wasn't reset since, as it may still carry
     /// that request out.
     pub fn archive(&mut self) -> Result<Vec<Entry, A>, PortFault>
-        ensures does { CoreDoes self.old.parts call.Archive
-            (reply_of (λ entries. answered.Archived (length entries.items)) result)
-            self.new.parts }
+        ensures is { Archives (LineCalled self.old self.new) self.old.parts self.new.parts
+            (λ entries. entries.items) result }
         ensures within { IfOk result (λ entries. length entries.items ≤ 1000000) }
-        ensures gives { ArchiveGives self.old.parts
-            (result_map_both (λ entries. entries.items) (λ why. why) result) self.new.parts }
-        ensures rest { self.new ≡ record self.old { parts = self.new.parts } }
     {
         self.port.archive()
     }

@@ -16,3 +16,4 @@ pub mod Owned
 pub mod Claim
 pub mod Denials
 pub mod CorePort
+pub mod Called

@@ -5,25 +5,24 @@ ghost use Rattle.std.specs.Option.{option_copied};
 ghost use Rattle.std.specs.Result.{result_map_both};
 ghost use Rattle.iol_book.specs.declared.fault.BookFault.TheVariants.{OutOfMemory};
 ghost use Rattle.iol_book.specs.BookModel as book;
-ghost use Rattle.iol_book.specs.BookModel.{AreLimits, IsReplayed, submitted, submitted_urgent};
+ghost use Rattle.iol_book.specs.BookModel.{AreLimits, IsReplayed, submitted};
 ghost use Rattle.iol_port.specs.declared.fault.PortFault.TheVariants as fault;
 ghost use Rattle.iol_port.specs.declared.call.Call.TheVariants as call;
 ghost use Rattle.iol_port.specs.declared.call.Answered.TheVariants as answered;
 ghost use Rattle.iol_port.specs.Run.{opened};
 ghost use Rattle.iol_app.specs.StationState.{wire_of};
-ghost use Rattle.iol_app.specs.Asking.{IsCall};
 ghost use Rattle.iol_port.specs.Asks.{asks_of, IsWireCall};
-ghost use Rattle.iol_port.specs.EveryWire.{SubmitGives, CollectGives, WithdrawGives, CancelGives, ArchiveGives};
-ghost use Rattle.iol_port.specs.EveryWire.{TakeEventGives, SetOutputGives, ClearOutputGives, RestartGives};
+ghost use Rattle.iol_port.specs.Called.{Submits, SubmitsUrgent, Collects, Withdraws, Cancels, Restarts, SetsOutput};
+ghost use Rattle.iol_port.specs.Called.{ClearsOutput, Expects, SetsCycle, TakesEvent, Archives, Turns, Shown};
+ghost use Rattle.iol_port.specs.Called.{ShowsPage, ShowsCounters, ShowsImage, ShowsStatus, Called, Looked};
 ghost use Rattle.iol_port.specs.Claim.{Claim};
-ghost use Rattle.iol_port.specs.EveryWire.{TurnGives, CallGives, RunGives};
-ghost use Rattle.iol_port.specs.EveryWire.{ExpectGives, SetCycleGives, page_shown};
+ghost use Rattle.iol_port.specs.EveryWire.{CallGives, RunGives};
 ghost use Rattle.iol_port.specs.RightDevice.{IsForRightDevice};
 ghost use Rattle.iol_port.specs.WireCalls.{ComesFrom};
 ghost use Rattle.iol_port.specs.View.{Does, Runs, StandsFor, IsOpened, IsRun, KeepsLimits, OpensWell, opening_for, opening_of};
-ghost use Rattle.iol_port.specs.View.{KeepsRecord, shown_in, status_of};
+ghost use Rattle.iol_port.specs.View.{KeepsRecord, shown_in};
 ghost use Rattle.iol_port.specs.Clean.{CleanTurn, CleanRuns, CleanServes, IsLevelBetween};
-ghost use Rattle.iol_port.specs.Replies.{ticket_reply, outcome_reply, nothing_reply, event_reply, reply_of};
+ghost use Rattle.iol_port.specs.Replies.{ticket_reply, nothing_reply};
 
 use crate::copies::{copy_of_image, copy_of_request};
 use crate::laws::clean_laws;
@@ -140,13 +139,10 @@ impl<W: Wire, A: Handle> Port<W, A> {
     /// as the limit of the opening says, 22 where the journal has no room for the request's
     /// entries, 23 where the last ticket was 2^64 - 1, and 24 where a growth was refused.
     pub fn submit(&mut self, request: Request) -> Result<Ticket, PortFault>
-        ensures does { Does W.facts
-            self.old.parts (call.Submit request) (ticket_reply result) self.new.parts }
+        ensures is { Submits (Called W.facts self.old self.new) self.old.parts self.new.parts
+            request result }
         ensures lacks { IfErr result (λ e. e ≡ fault.Book OutOfMemory → self.old.parts.book.room
             ≡ 0) }
-        ensures gives { SubmitGives
-            self.old.parts (submitted self.old.parts.book.state request) result self.new.parts }
-        ensures rest { self.new ≡ record self.old { parts = self.new.parts } }
     {
         self.core.submit(request)
     }
@@ -156,14 +152,10 @@ impl<W: Wire, A: Handle> Port<W, A> {
     ///
     /// Refused, with nothing changed, as `submit` is: 21, 22 and 23 count both kinds.
     pub fn submit_urgent(&mut self, request: Request) -> Result<Ticket, PortFault>
-        ensures does { Does W.facts
-            self.old.parts (call.SubmitUrgent request) (ticket_reply result) self.new.parts }
+        ensures is { SubmitsUrgent (Called W.facts self.old self.new) self.old.parts self.new.parts
+            request result }
         ensures lacks { IfErr result (λ e. e ≡ fault.Book OutOfMemory → self.old.parts.book.room
             ≡ 0) }
-        ensures gives { SubmitGives
-            self.old.parts
-            (submitted_urgent self.old.parts.book.state request) result self.new.parts }
-        ensures rest { self.new ≡ record self.old { parts = self.new.parts } }
     {
         self.core.submit_urgent(request)
     }
@@ -173,10 +165,8 @@ impl<W: Wire, A: Handle> Port<W, A> {
     /// Refused, with nothing changed, by 25 where no such ticket is outstanding,
     /// and by 26 where it has no outcome yet.
     pub fn collect(&mut self, ticket: Ticket) -> Result<Outcome, PortFault>
-        ensures does { Does W.facts
-            self.old.parts (call.Collect ticket) (outcome_reply result) self.new.parts }
-        ensures gives { CollectGives self.old.parts ticket result self.new.parts }
-        ensures rest { self.new ≡ record self.old { parts = self.new.parts } }
+        ensures { Collects (Called W.facts self.old self.new) self.old.parts self.new.parts
+            ticket result }
     {
         self.core.collect(ticket)
     }
@@ -185,12 +175,9 @@ impl<W: Wire, A: Handle> Port<W, A> {
     /// caller, which a refusal leaves as it was. Most asks come before the outcome, and cost
     /// little.
     pub fn collect_into(&mut self, ticket: Ticket, into: &mut Outcome) -> Result<(), PortFault>
-        ensures does { Does W.facts self.old.parts (call.Collect ticket)
-            (outcome_reply (result_map_both (λ _. into.new) (λ why. why) result)) self.new.parts }
-        ensures gives { CollectGives self.old.parts ticket
-            (result_map_both (λ _. into.new) (λ why. why) result) self.new.parts }
+        ensures is { Collects (Called W.facts self.old self.new) self.old.parts self.new.parts
+            ticket (result_map_both (λ _. into.new) (λ why. why) result) }
         ensures kept { IfErr result (λ _. into.new ≡ into.old) }
-        ensures rest { self.new ≡ record self.old { parts = self.new.parts } }
     {
         self.core.collect_into(ticket, into)
     }
@@ -200,10 +187,8 @@ impl<W: Wire, A: Handle> Port<W, A> {
     /// Refused, with nothing changed, by 25 where no such ticket is outstanding,
     /// and by 27 where it waits no longer.
     pub fn withdraw(&mut self, ticket: Ticket) -> Result<(), PortFault>
-        ensures does { Does W.facts
-            self.old.parts (call.Withdraw ticket) (nothing_reply result) self.new.parts }
-        ensures gives { WithdrawGives self.old.parts ticket result self.new.parts }
-        ensures rest { self.new ≡ record self.old { parts = self.new.parts } }
+        ensures { Withdraws (Called W.facts self.old self.new) self.old.parts self.new.parts
+            ticket result }
     {
         self.core.withdraw(ticket)
     }
@@ -218,10 +203,8 @@ impl<W: Wire, A: Handle> Port<W, A> {
     /// Refused, with nothing changed, by 25 where no such ticket is outstanding,
     /// and by 36 where it waits, or has an outcome.
     pub fn cancel(&mut self, ticket: Ticket) -> Result<(), PortFault>
-        ensures does { Does W.facts
-            self.old.parts (call.Cancel ticket) (nothing_reply result) self.new.parts }
-        ensures gives { CancelGives self.old.parts ticket result self.new.parts }
-        ensures rest { self.new ≡ record self.old { parts = self.new.parts } }
+        ensures { Cancels (Called W.facts self.old self.new) self.old.parts self.new.parts
+            ticket result }
     {
         self.core.cancel(ticket)
     }
@@ -232,9 +215,7 @@ impl<W: Wire, A: Handle> Port<W, A> {
     /// once, until it is reset: by a wake that succeeds; at a port for any device, once it has left
     /// its mode.
     pub fn restart(&mut self)
-        ensures does { Does W.facts self.old.parts call.Restart answered.Nothing self.new.parts }
-        ensures gives { RestartGives self.old.parts self.new.parts }
-        ensures rest { self.new ≡ record self.old { parts = self.new.parts } }
+        ensures { Restarts (Called W.facts self.old self.new) self.old.parts self.new.parts }
     {
         self.core.restart();
     }
@@ -244,20 +225,15 @@ impl<W: Wire, A: Handle> Port<W, A> {
     /// Refused, with nothing changed, by the first of 34 where no start-up has told the lengths
     /// of the process data yet, and 29 where the image has not the length that was told last.
     pub fn set_output(&mut self, image: &Image) -> Result<(), PortFault>
-        ensures does { Does W.facts
-            self.old.parts (call.SetOutput image.now) (nothing_reply result) self.new.parts }
-        ensures gives { SetOutputGives self.old.parts image.now result self.new.parts }
-        ensures rest { self.new ≡ record self.old { parts = self.new.parts } }
+        ensures { SetsOutput (Called W.facts self.old self.new) self.old.parts self.new.parts
+            image.now result }
     {
         self.core.set_output(image)
     }
 
     /// Wants no output of the device.
     pub fn clear_output(&mut self)
-        ensures does { Does W.facts self.old.parts call.ClearOutput
-            answered.Nothing self.new.parts }
-        ensures gives { ClearOutputGives self.old.parts self.new.parts }
-        ensures rest { self.new ≡ record self.old { parts = self.new.parts } }
+        ensures { ClearsOutput (Called W.facts self.old self.new) self.old.parts self.new.parts }
     {
         self.core.clear_output();
     }
@@ -269,20 +245,16 @@ impl<W: Wire, A: Handle> Port<W, A> {
     /// was written to the device. Requests wait on. A page that was checked already is not checked
     /// again.
     pub fn expect(&mut self, identity: Identity) -> Counting
-        ensures does { Does W.facts self.old.parts (call.Expect (Some identity))
-            (answered.Counts result) self.new.parts }
-        ensures gives { ExpectGives self.old.parts (Some identity) result self.new.parts }
-        ensures rest { self.new ≡ record self.old { parts = self.new.parts } }
+        ensures { Expects (Called W.facts self.old self.new) self.old.parts self.new.parts
+            (Some identity) result }
     {
         self.core.expect(identity)
     }
 
     /// Expects any device, as a port does that is new.
     pub fn expect_any(&mut self) -> Counting
-        ensures does { Does W.facts self.old.parts (call.Expect None)
-            (answered.Counts result) self.new.parts }
-        ensures gives { ExpectGives self.old.parts None result self.new.parts }
-        ensures rest { self.new ≡ record self.old { parts = self.new.parts } }
+        ensures { Expects (Called W.facts self.old self.new) self.old.parts self.new.parts
+            None result }
     {
         self.core.expect_any()
     }
@@ -290,10 +262,8 @@ impl<W: Wire, A: Handle> Port<W, A> {
     /// Has start-ups write this cycle time to MasterCycleTime, where it is at least the device's
     /// MinCycleTime; else, and with none, they write MinCycleTime as it stands in the page.
     pub fn set_cycle(&mut self, cycle: Option<CycleTime>) -> Counting
-        ensures does { Does W.facts self.old.parts (call.Cycle cycle)
-            (answered.Counts result) self.new.parts }
-        ensures gives { SetCycleGives self.old.parts cycle result self.new.parts }
-        ensures rest { self.new ≡ record self.old { parts = self.new.parts } }
+        ensures { SetsCycle (Called W.facts self.old self.new) self.old.parts self.new.parts
+            cycle result }
     {
         self.core.set_cycle(cycle)
     }
@@ -301,18 +271,14 @@ impl<W: Wire, A: Handle> Port<W, A> {
     /// The device's page, once the start-up of the present session has read it whole and checked
     /// it; none before, and in down.
     pub fn page(&self) -> Option<Page>
-        ensures does { Does W.facts
-            self.now.parts call.Page (answered.Page result) self.now.parts }
-        ensures value { result ≡ page_shown self.now.parts }
+        ensures { ShowsPage (Looked W.facts self.now) self.now.parts result }
     {
         self.core.page()
     }
 
     /// What was counted since the opening.
     pub fn counters(&self) -> &Counters
-        ensures does { Does W.facts self.now.parts
-            call.Counters (answered.Counters result.now) self.now.parts }
-        ensures value { result.now ≡ self.now.parts.counters }
+        ensures { ShowsCounters (Looked W.facts self.now) self.now.parts result.now }
     {
         self.core.counters()
     }
@@ -320,28 +286,23 @@ impl<W: Wire, A: Handle> Port<W, A> {
     /// The device's input by the last good reply in OPERATE: one whole image, or
     /// none where it was not valid. None in every other mode.
     pub fn image(&self) -> Option<&Image>
-        ensures does { Does W.facts
-            self.now.parts call.Look (answered.Image (option_copied result)) self.now.parts }
-        ensures value { option_copied result ≡ self.now.parts.station.session.image }
+        ensures { ShowsImage (Looked W.facts self.now) self.now.parts
+            (option_copied result) }
     {
         self.core.image()
     }
 
     /// Hands out the event that was kept longest. Refused by 30 where none is kept.
     pub fn take_event(&mut self) -> Result<Event, PortFault>
-        ensures does { Does W.facts
-            self.old.parts call.TakeEvent (event_reply result) self.new.parts }
-        ensures gives { TakeEventGives self.old.parts result self.new.parts }
-        ensures rest { self.new ≡ record self.old { parts = self.new.parts } }
+        ensures { TakesEvent (Called W.facts self.old self.new) self.old.parts self.new.parts
+            result }
     {
         self.core.take_event()
     }
 
     /// The mode of the link, and why it is down.
     pub fn status(&self) -> Status
-        ensures does { Does W.facts
-            self.now.parts call.Status (answered.Status result) self.now.parts }
-        ensures value { result ≡ status_of self.now.parts.station }
+        ensures { ShowsStatus (Looked W.facts self.now) self.now.parts result }
     {
         self.core.status()
     }
@@ -353,12 +314,9 @@ impl<W: Wire, A: Handle> Port<W, A> {
     /// since, as it may still carry that request out. A wake that succeeds resets it; at
     /// a port for any device it is reset once it has left its mode.
     pub fn archive(&mut self) -> Result<Vec<Entry, A>, PortFault>
-        ensures does { Does W.facts self.old.parts call.Archive
-            (reply_of (λ entries. answered.Archived (length entries.items)) result) self.new.parts }
+        ensures is { Archives (Called W.facts self.old self.new) self.old.parts self.new.parts
+            (λ entries. entries.items) result }
         ensures within { IfOk result (λ entries. length entries.items ≤ 1000000) }
-        ensures gives { ArchiveGives self.old.parts
-            (result_map_both (λ entries. entries.items) (λ why. why) result) self.new.parts }
-        ensures rest { self.new ≡ record self.old { parts = self.new.parts } }
     {
         self.core.archive()
     }
@@ -383,12 +341,7 @@ impl<W: Wire, A: Handle> Port<W, A> {
     ///
     /// Rules PORT-4, REQ-13.
     pub fn turn(&mut self)
-        ensures does { Does W.facts self.old.parts call.Turn answered.Nothing self.new.parts }
-        ensures clean { CleanTurn W.facts self.old.parts self.new.parts }
-        ensures gives { TurnGives W.facts self.old.parts self.new.parts }
-        ensures rest { self.new ≡ record self.old { parts = self.new.parts } }
-        ensures asked { IsCall W.facts (asks_of self.old.parts)
-            (wire_of self.old.parts.station.link) (wire_of self.new.parts.station.link) }
+        ensures { Turns W.facts self.old self.new }
     {
         self.core.turn(&mut self.wire);
     }
@@ -500,14 +453,7 @@ impl<W: Wire, A: Handle> Port<W, A> {
 
     /// A turn, after which the image is published, once, where a writer was given.
     pub fn turn_shown<R: Wait>(&mut self, rt: &R)
-        ensures does { Does W.facts self.old.parts call.Turn answered.Nothing self.new.parts }
-        ensures clean { CleanTurn W.facts self.old.parts self.new.parts }
-        ensures asked { IsCall W.facts (asks_of self.old.parts)
-            (wire_of self.old.parts.station.link) (wire_of self.new.parts.station.link) }
-        ensures gives { TurnGives W.facts self.old.parts self.new.parts }
-        ensures opening { self.new.opening ≡ self.old.opening }
-        ensures shown { self.new.writer
-            ≡ shown_in self.new.parts.station.session.image self.old.writer }
+        ensures { Shown (Turns W.facts self.old) self.old self.new }
     {
         self.turn();
         self.show(rt);
@@ -516,11 +462,8 @@ impl<W: Wire, A: Handle> Port<W, A> {
     /// A restart, after which the image, which is none, is published, once, where a
     /// writer was given.
     pub fn restart_shown<R: Wait>(&mut self, rt: &R)
-        ensures does { Does W.facts self.old.parts call.Restart answered.Nothing self.new.parts }
-        ensures gives { RestartGives self.old.parts self.new.parts }
-        ensures opening { self.new.opening ≡ self.old.opening }
-        ensures shown { self.new.writer
-            ≡ shown_in self.new.parts.station.session.image self.old.writer }
+        ensures { Shown (λ new. Restarts (Called W.facts self.old new) self.old.parts new.parts)
+            self.old self.new }
     {
         self.restart();
         self.show(rt);
