@@ -1,6 +1,8 @@
 -- What octets make of a device.
-use Rattle.std.specs.Prelude.{ℕ, List}
-use Rattle.iol_far.specs.Far.{hear}
+use Rattle.std.specs.Prelude.{◌≡◌, ℕ, Bool, false, List, [], is_some}
+use Rattle.arrayvec.specs.ArrayVec.{ArrayVec}
+use Rattle.iol_far.specs.Far.{hear, accepted}
+use Rattle.iol_far.specs.Octets.{buffered}
 use Rattle.iol_device.specs.Device.{Running}
 use Rattle.iol_device.specs.Number.{number_after}
 use Rattle.iol_device.specs.Silence.{silent_after}
@@ -13,3 +15,15 @@ heard device octets = record device {
   number = number_after device.number device.far (hear device.far octets).far;
   silent = silent_after device.silent device.far octets;
 }
+
+-- octets came, and this stands in the buffer of the reply: there is one exactly where the device
+-- accepts them, and else the buffer is empty and the far end as it was
+-- DEV-2
+pub record HearsInto {P : Type 0} (old : Running P) (octets : List ℕ) (answers : Bool)
+    (buffer : ArrayVec ℕ) (new : Running P) : Type 0 where
+  pub device : new ≡ heard old octets
+  pub far : new.far ≡ (hear old.far octets).far
+  pub reply : buffered answers buffer ≡ (hear old.far octets).reply
+  pub unanswered : answers ≡ false → buffer.items ≡ []
+  pub accepts : answers ≡ is_some (accepted old.far octets)
+  pub unheard : answers ≡ false → new.far ≡ old.far
