@@ -1,24 +1,27 @@
--- What hearing and local steps keep, whatever is under way.
-use Rattle.std.proofs.Common.{◌≡◌, ◌⊎◌, inl, inr, ℕ, suc, ◌+◌, ◌≤◌, Bool, true, false, ◌&&◌, List, [], ◌∷◌, ◌++◌, refl, sym, ◌∙◌, ap, subst, arith}
+-- What hearing and local steps keep, whatever is under way, and what a reply tells of the mode.
+use Rattle.std.proofs.Common.{◌≡◌, suc, ◌⊎◌, inl, inr, ℕ, ◌+◌, ◌≤◌, Bool, true, false, ◌&&◌, List, [], ◌∷◌, ◌++◌, refl, sym, ap, subst, arith}
+use Rattle.std.proofs.lemmas.Bool.{cond_both}
 use Rattle.std.proofs.lemmas.Bool.Decides.{nat_tests}
 use Rattle.std.proofs.lemmas.Grind.{common_steps}
 use Rattle.std.proofs.lemmas.Slice.Eq.{bytes_eq-Decides}
-use Rattle.std.specs.Prelude.{Option, Some, None, IfSome, IsTrue, if◌then◌else◌, ◌==◌, bytes_eq, option_map}
+use Rattle.std.specs.Prelude.{Option, Some, None, IfSome, IsTrue, if◌then◌else◌, ◌==◌, bytes_eq}
 use Rattle.iol_mseq.specs.Shape.{Shape}
 use Rattle.iol_mseq.specs.declared.master.MasterMsg.{MasterMsg}
 use Rattle.iol_event.specs.declared.event.Event.{Event}
-use Rattle.iol_event.specs.Memory.{raised}
+use Rattle.iol_event.specs.Memory.{raised, Events}
 use Rattle.iol_isdu.specs.declared.values.Request.{Request}
 use Rattle.iol_isdu.specs.declared.values.Answer.{Answer}
 use Rattle.iol_far.specs.declared.mode.Mode.{Mode}
-use Rattle.iol_far.specs.Codec.{message_in}
+use Rattle.iol_far.specs.Codec.{message_in, layout_in}
 use Rattle.iol_far.specs.Isdu.{IsduState, Handed, Answered, fits}
-use Rattle.iol_far.specs.Far.{Far, WaitingCommand, Heard, layout_of, accepted, accepted_by, accepted_now, moved, worked, hear, heard_as, replied}
+use Rattle.iol_far.specs.Far.{Far, WaitingCommand, Heard, layout_of, accepted, accepted_by, moved, worked, hear, heard_as, replied}
 use Rattle.iol_far.specs.Local.{LocalStep, Carry, Raise, Input, NoInput, Power, local, carried_by, has_room, is_input}
-use Rattle.iol_far.specs.Level.{grown_by, Happening, Own, Hears, happened, hearings}
+use Rattle.iol_far.specs.Level.{grown_by, Happening, Own, Hears, happened, hearings, Link, taken, turned}
+use Rattle.iol_far.specs.Linked.{IsAt, IsLinked, LinkSays, LinkLaws}
+use Rattle.iol_far.specs.declared.carried.Carried.{Carried}
 
-pub bytes_of : (xs ys : List ℕ) → bytes_eq xs ys ≡ true → xs ≡ ys
-bytes_of xs ys same = grind (arith, common_steps, bytes_eq-Decides xs ys)
+pub same_octets : (o : List ℕ) (w : WaitingCommand) → bytes_eq o w.octets ≡ true → w.octets ≡ o
+same_octets o w same = grind (arith, common_steps, bytes_eq-Decides o w.octets)
 
 pub bytes_same : (xs : List ℕ) → bytes_eq xs xs ≡ true
 bytes_same [] = refl
@@ -31,10 +34,11 @@ abbrev pub IsHere : Far → Far → Type 0
 IsHere far there = (there ≡ far)
     ⊎ ((w : WaitingCommand) × (far.waits ≡ Some w) × (there ≡ moved far w.into))
 
-pub kept_here : (P : Far → Type 0) (far there : Far) → ((mode : Mode) → P (moved far mode)) → P far
+pub kept_here : (P : Far → Type 0) (far there : Far)
+    → ((w : WaitingCommand) → far.waits ≡ Some w → P (moved far w.into)) → P far
     → IsHere far there → P there
 kept_here P far there moves h (inl e) = subst P (sym e) h
-kept_here P far there moves h (inr (w, waits, e)) = subst P (sym e) (moves w.into)
+kept_here P far there moves h (inr (w, waits, e)) = subst P (sym e) (moves w waits)
 
 -- the far end in which octets are accepted: the message is one of its layout, and what waits there
 -- are these octets
@@ -46,43 +50,7 @@ pub record Accepts (far : Far) (o : List ℕ) (there : Far) (m : MasterMsg) : Ty
 
 pub accepts : (far : Far) (o : List ℕ) (there : Far) (m : MasterMsg)
     → accepted far o ≡ Some (there, m) → Accepts far o there m
-accepts far o there m h = by_awake far.awake refl h
-  where
-    by_message : (g : Far) → IsHere far g → g.awake ≡ true → IfSome g.waits (λ w. w.octets ≡ o)
-        → (q : Option MasterMsg) → message_in (layout_of g) o ≡ q
-        → option_map {U = Far × MasterMsg} (λ n. (g, n)) q ≡ Some (there, m)
-        → Accepts far o there m
-    by_message g here awake mine None reads e = absurd (cc)
-    by_message g here awake mine (Some n) reads e =
-        let pair : ◌≡◌ {A = Far × MasterMsg} (g, n) (there, m) = cc in
-        subst (λ (f : Far). Accepts far o f m) (ap (λ (p : Far × MasterMsg). p.0) pair) (record {
-          awake = awake;
-          here = here;
-          reads = reads ∙ ap (λ (p : Far × MasterMsg). Some (p.1)) pair;
-          mine = mine;
-        })
-
-    by_waits : far.awake ≡ true → (w : Option WaitingCommand) → far.waits ≡ w
-        → accepted_by w far o ≡ Some (there, m) → Accepts far o there m
-    by_waits awake None e h =
-        by_message far (inl refl) awake (rw e tt) (message_in (layout_of far) o) refl h
-    by_waits awake (Some w) e h = split (bytes_eq o w.octets) refl h
-      where
-        split : (b : Bool) → bytes_eq o w.octets ≡ b
-            → (if b then accepted_now far o else accepted_now (moved far w.into) o)
-            ≡ Some (there, m) → Accepts far o there m
-        split true same h =
-            by_message far (inl refl) awake (rw e (sym (bytes_of o w.octets same)))
-            (message_in (layout_of far) o) refl h
-        split false same h =
-            by_message (moved far w.into) (inr (w, e, refl)) awake tt
-            (message_in (layout_of (moved far w.into)) o) refl h
-
-    by_awake : (b : Bool) → far.awake ≡ b
-        → (if b then accepted_by far.waits far o else None) ≡ Some (there, m)
-        → Accepts far o there m
-    by_awake true e h = by_waits e far.waits refl h
-    by_awake false e h = absurd (cc)
+accepts far o there m h = grind (arith, common_steps, same_octets o)
 
 -- what hearing leaves, where the octets are accepted and where they are not
 pub heard_found : (P : Heard → Type 0) (far : Far) (o : List ℕ)
@@ -104,22 +72,21 @@ pub keeps_hear : (P : Far → Type 0) (o : List ℕ)
 keeps_hear P o works moves far h =
     heard_found (λ (x : Heard). P x.far) far o h (λ there m a.
     works there m (layout_of there) a.reads
-    (kept_here P far there (λ mode. moves far mode h) h a.here))
+    (kept_here P far there (λ w waits. moves far w.into h) h a.here))
 
 -- asleep it hears nothing
 pub hear_asleep : (g : Far) (o : List ℕ) → g.awake ≡ false
     → hear g o ≡ record { far = g; reply = None }
 hear_asleep g o w = ap (λ (b : Bool). heard_as g o (if b then accepted_by g.waits g o else None)) w
 
-pub awake_accepts : (g : Far) (o : List ℕ) → g.awake ≡ true
-    → accepted g o ≡ accepted_by g.waits g o
-awake_accepts g o awake = ap (λ (b : Bool). if b then accepted_by g.waits g o else None) awake
+pub asleep_silent : (g : Far) (o r : List ℕ) → g.awake ≡ false → (hear g o).reply ≡ Some r → ⊥
+asleep_silent g o r w e = grind (arith, common_steps)
 
 -- a message of the present layout is accepted, where what waits are its octets
 pub accepted_again : (o : List ℕ) (m : MasterMsg) (g : Far) → g.awake ≡ true
     → IfSome g.waits (λ w. w.octets ≡ o) → message_in (layout_of g) o ≡ Some m
     → accepted g o ≡ Some (g, m)
-accepted_again o m g given given2 given3 = grind (arith, common_steps, bytes_same o)
+accepted_again o m g awake mine reads = grind (arith, common_steps, bytes_same o)
 
 -- Local steps
 
@@ -132,41 +99,27 @@ module _ (P : Far → Type 0) (g : Far)
     → P (record g { input = image }))
     (power : P (local g Power)) where
   keeps_carried : (a : Answer) (s : IsduState) → g.isdu ≡ s → P g → P (carried_by s g a)
-  keeps_carried a (Handed q) e h = split (has_room g && fits q a) refl
-    where
-      split : (b : Bool) → (has_room g && fits q a) ≡ b
-          → P (if b then record g { isdu = Answered q a None; carried = grown_by g.carried q a }
-          else g)
-      split true k = carries q a e
-          (let z : fits q a ≡ true = grind (arith, nat_tests, common_steps) in z)
-      split false k = h
+  keeps_carried a (Handed q) e h = cond_both (has_room g && fits q a) _ _ P
+      (λ k. carries q a e (grind (arith, nat_tests, common_steps))) (λ k. h)
   keeps_carried a s e h = h
 
   pub keeps_local : (step : LocalStep) → P g → P (local g step)
   keeps_local (Carry a) h = keeps_carried a g.isdu refl h
   keeps_local (Raise e) h = raises e
-  keeps_local (Input image) h = split (is_input g image) refl
-    where
-      split : (b : Bool) → is_input g image ≡ b
-          → P (if b then record g { input = Some image } else g)
-      split true e = inputs (Some image) e
-      split false e = h
+  keeps_local (Input image) h =
+      cond_both (is_input g image) _ _ P (inputs (Some image)) (λ e. h)
   keeps_local NoInput h = inputs None tt
   keeps_local Power h = power
 
 -- While a message is out
 
 happened_more : (rest more : List Happening) (g : Far) (o : List ℕ)
-    → happened g o (rest ++ more) ≡ happened (happened g o rest) o more
-happened_more [] more g o = refl
+    → (happened g o (rest ++ more) ≡ happened (happened g o rest) o more)
+    × (hearings (rest ++ more) ≡ hearings rest + hearings more)
+happened_more [] more g o = (refl, omega arith)
 happened_more (Own step ∷ rest) more g o = happened_more rest more (local g step) o
-happened_more (Hears ∷ rest) more g o = happened_more rest more (hear g o).far o
-
-hearings_more : (rest more : List Happening)
-    → hearings (rest ++ more) ≡ hearings rest + hearings more
-hearings_more [] more = omega arith
-hearings_more (Own step ∷ rest) more = hearings_more rest more
-hearings_more (Hears ∷ rest) more = let e = hearings_more rest more in omega arith
+happened_more (Hears ∷ rest) more g o =
+    let both = happened_more rest more (hear g o).far o in (both.0, omega arith)
 
 -- the far end rests, or it comes from a state before the message that is out by local steps and at
 -- most that many hearings of it
@@ -179,33 +132,117 @@ module _ (Rests Before : Far → Type 0) (o : List ℕ) where
   pub out_begins : (g : Far) → Before g → IsOut 0 g
   out_begins g h = inr (g, [], h, omega arith, refl)
 
-  pub out_local : (most : ℕ) (g : Far) (step : LocalStep) → (Rests g → Rests (local g step))
-      → IsOut most g → IsOut most (local g step)
-  out_local most g step rests (inl h) = inl (rests h)
-  out_local most g step rests (inr h) =
-      inr (
-        h.0,
-        h.1 ++ Own step ∷ [],
-        h.2,
-        (let e = hearings_more h.1 (Own step ∷ []) in let k : hearings h.1 ≤ most = h.3 in
-            omega arith),
-        rw (happened_more h.1 (Own step ∷ []) h.0 o) (ap (λ (f : Far). local f step) h.4),
-      )
+  -- whatever happens
+  pub out_after : (more : List Happening) (most limit : ℕ) (g : Far)
+      → most + hearings more ≤ limit → (Rests g → Rests (happened g o more))
+      → IsOut most g → IsOut limit (happened g o more)
+  out_after more most limit g few rests (inl h) = inl (rests h)
+  out_after more most limit g few rests (inr (before, rest, h, low, e)) =
+      let both = happened_more rest more before o in
+      inr (before, rest ++ more, h, omega arith, rw (e, ← both.0) refl)
 
-  pub out_hears : (most : ℕ) (g : Far) → (Rests g → g.awake ≡ false) → IsOut most g
-      → IsOut (suc most) (hear g o).far
-  out_hears most g asleep (inl h) = rw (hear_asleep g o (asleep h)) (inl h)
-  out_hears most g asleep (inr h) =
-      inr (
-        h.0,
-        h.1 ++ Hears ∷ [],
-        h.2,
-        (let e = hearings_more h.1 (Hears ∷ []) in let k : hearings h.1 ≤ most = h.3 in
-            omega arith),
-        rw (happened_more h.1 (Hears ∷ []) h.0 o) (ap (λ (f : Far). (hear f o).far) h.4),
-      )
+-- What one good reply tells of the far end's mode, and what keeps both ends in one layout
 
-  pub out_lost : (most : ℕ) (g : Far) → IsOut most g → IsOut (suc most) g
-  out_lost most g (inl h) = inl h
-  out_lost most g (inr h) = inr
-      (h.0, h.1, h.2, (let k : hearings h.1 ≤ most = h.3 in omega arith), h.4)
+-- the far end in the layout in which it accepts the octets
+abbrev pub there_by : Option WaitingCommand → Far → List ℕ → Far
+there_by None g o = g
+there_by (Some w) g o = if bytes_eq o w.octets then g else moved g w.into
+
+-- local steps but a power cycle change neither the link nor whether it is awake
+pub at_beside : {page : List ℕ} {link : Link} {g : Far} {s : IsduState} {carried : List Carried}
+    {events : Events} {input : Option (List ℕ)} → IsAt page link g
+    → IsAt page link (record g { isdu = s; carried = carried; events = events; input = input })
+at_beside h = record { awake = h.awake; page_is = h.page_is; link_is = h.link_is }
+
+module _ (page : List ℕ) (link : Link) (o : List ℕ) (m : MasterMsg)
+    (spells : message_in (layout_in page (taken link o).mode) o ≡ Some m) where
+  -- where the message wasn't heard yet
+  module _ (g : Far) (at : IsAt page link g) where
+    pub first_accepted : accepted g o ≡ Some (there_by g.waits g o, m)
+    first_accepted = grind (arith, common_steps)
+
+    pub first_says : LinkSays page link o m (replied (worked (there_by g.waits g o) o m) m)
+    first_says = grind (arith, common_steps)
+
+  -- and where it was
+  module _ (g : Far) (at : IsAt page (turned page link o m) g) where
+    pub again_accepted : accepted g o ≡ Some (g, m)
+    again_accepted = grind (arith, common_steps, same_octets o, bytes_same o)
+
+    pub again_says : LinkSays page link o m (replied (worked g o m) m)
+    again_says = grind (arith, common_steps)
+
+  data Linking (g : Far) : Type 0 where
+    asleep : g.awake ≡ false → g.page ≡ page → Linking g
+    unheard : IsAt page link g → Linking g
+    heard : IsAt page (turned page link o m) g → Linking g
+
+  hear_linking : (g : Far) → Linking g → (g.awake ≡ false) ⊎ LinkSays page link o m (hear g o)
+  hear_linking g (asleep w s) = inl w
+  hear_linking g (unheard h) =
+      inr (subst (LinkSays page link o m) (sym (ap (heard_as g o) (first_accepted g h)))
+      (first_says g h))
+  hear_linking g (heard h) =
+      inr (subst (LinkSays page link o m) (sym (ap (heard_as g o) (again_accepted g h)))
+      (again_says g h))
+
+  linking_hear : (g : Far) → Linking g → Linking (hear g o).far
+  linking_hear g d = elim (hear_linking g d) [
+    | inl w ↦ rw (hear_asleep g o w) d
+    | inr says ↦ heard says.at
+  ]
+
+  linking_local : (g : Far) (step : LocalStep) → Linking g → Linking (local g step)
+  linking_local g step d = grind (arith, common_steps)
+
+  linking_happened : (rest : List Happening) (g : Far) → Linking g → Linking (happened g o rest)
+  linking_happened [] g d = d
+  linking_happened (Own step ∷ rest) g d =
+      linking_happened rest (local g step) (linking_local g step d)
+  linking_happened (Hears ∷ rest) g d =
+      linking_happened rest (hear g o).far (linking_hear g d)
+
+  linking : (most : ℕ) (g : Far) → IsLinked page link o most g → Linking g
+  linking most g (inl h) = asleep h.0 h.1
+  linking most g (inr (before, rest, h, few, e)) = rw e (linking_happened rest before (unheard h))
+
+  -- another message in its place
+  linking_replaced : (most : ℕ) (g : Far) → IsLinked page link o most g → (other : List ℕ)
+      → IsLinked page link other 0 g ⊎ IsLinked page (turned page link o m) other 0 g
+  linking_replaced most g l other = elim (linking most g l) [
+    | asleep w s ↦ inl (inl (w, s))
+    | unheard h ↦ inl (inr (g, [], h, omega arith, refl))
+    | heard h ↦ inr (inr (g, [], h, omega arith, refl))
+  ]
+
+-- What keeps both ends so
+
+abbrev Sleeps : List ℕ → Far → Type 0
+Sleeps page g = (g.awake ≡ false) × (g.page ≡ page)
+
+happened_unheard : (g : Far) (o other : List ℕ) (rest : List Happening) → hearings rest ≤ 0
+    → happened g o rest ≡ happened g other rest
+happened_unheard g o other [] h = refl
+happened_unheard g o other (Own step ∷ rest) h = happened_unheard (local g step) o other rest h
+happened_unheard g o other (Hears ∷ rest) h = absurd (omega (arith, h))
+
+pub link_laws : LinkLaws
+link_laws = record {
+  stays = λ page link o.
+      let after = out_after (Sleeps page) (IsAt page link) o in
+      record {
+        begins = out_begins (Sleeps page) (IsAt page link) o;
+        steps = λ most g step. after (Own step ∷ []) most most g (omega arith)
+            (λ h. grind (arith, common_steps));
+        hears = λ most g. after (Hears ∷ []) most (suc most) g (omega arith)
+            (λ h. rw (hear_asleep g o h.0, happened) h);
+        loses = λ most g. after [] most (suc most) g (omega arith) (λ h. h);
+      };
+  replies = λ page link o m spells most g l r e.
+      elim (hear_linking page link o m spells g (linking page link o m spells most g l)) [
+        | inl w ↦ absurd (asleep_silent g o r w e)
+        | inr says ↦ says
+      ];
+  replaced = linking_replaced;
+  unheard = happened_unheard;
+}

@@ -1,15 +1,4 @@
-mod Pages
-mod Segments
-mod Replies
-mod Once
 mod Hearings
-mod Zeros
 mod Standing
-mod Moves
 mod Levels
-mod Sized
-mod Eventful
 mod LawProofs
-mod Orderly
-mod Linking
-mod Regularly

@@ -28,7 +28,7 @@ pub fn messages_are_heard()
 }
 
 /// The layout of each mode, whatever the page, is a layout, and has on-request data.
-#[tactic(auto, using(crate::proofs::Pages::modes_have_layouts))]
+#[tactic(auto, using(crate::proofs::LawProofs::modes_have_layouts))]
 pub fn modes_have_layouts()
     ensures { ModesHaveLayouts }
 {
@@ -36,7 +36,7 @@ pub fn modes_have_layouts()
 }
 
 /// What a device answers, in the layout that it speaks, is read back as that reply.
-#[tactic(auto, using(crate::proofs::Replies::replies_are_read, crate::proofs::LawProofs::input_stays_sized))]
+#[tactic(auto, using(crate::proofs::LawProofs::replies_are_read, crate::proofs::LawProofs::input_stays_sized))]
 pub fn replies_are_read()
     ensures read { RepliesAreRead }
     ensures sized { InputStaysSized }
@@ -90,7 +90,7 @@ pub fn events_stay_until_confirmed()
 /// one good reply, whatever is under way on the ISDU channel.
 ///
 /// Rule LINK-9.
-#[tactic(auto, using(crate::proofs::Linking::link_laws))]
+#[tactic(auto, using(crate::proofs::Hearings::link_laws))]
 pub fn links_stay_level()
     ensures { LinkLaws }
 {}
@@ -108,7 +108,7 @@ pub fn texts_are_heard()
 /// and the event memory is one that events and messages lead to.
 ///
 /// Rule WIRE-6.
-#[tactic(auto, using(crate::proofs::Regularly::regular_stays))]
+#[tactic(auto, using(crate::proofs::LawProofs::regular_stays))]
 pub fn parts_stay_regular()
     ensures { RegularStays }
 {
@@ -121,7 +121,7 @@ pub fn parts_stay_regular()
 /// or leaves its mode for it with the next other message.
 ///
 /// Rule LINK-13.
-#[tactic(auto, using(crate::proofs::Orderly::orderly_laws))]
+#[tactic(auto, using(crate::proofs::LawProofs::orderly_laws))]
 pub fn devices_leave_their_mode()
     ensures { OrderlyLaws }
 {

@@ -1,4 +1,4 @@
-use Rattle.iol_far.proofs.Segments.{segment_laws}
+use Rattle.iol_far.proofs.Standing.{segment_laws}
 use Rattle.iol_far.proofs.laws.requests_are_received.Goals as goal
 
 pub returns : goal.returns
