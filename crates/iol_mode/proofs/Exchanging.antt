@@ -1,116 +1,300 @@
--- One exchange, whatever the mode.
+-- What a turn in OPERATE keeps of how both ends stand; and one exchange, whatever the mode.
+use Rattle.std.proofs.Common.{◌≡◌, inl, inr, ℕ, ◌+◌, ◌/◌, ◌<◌, ◌≤◌, true, false, List, length, slice_index, refl, sym, ◌∙◌, ap, arith, [], Option, IsTrue}
+use Rattle.std.specs.Prelude.{Some, None, bytes_eq, IfSome, IsSome}
+use Rattle.std.proofs.lemmas.Bool.Decides.{nat_tests}
+use Rattle.std.proofs.lemmas.Grind.{common_steps}
+use Rattle.std.proofs.lemmas.Slice.Eq.{bytes_eq-Decides}
+use Rattle.iol_octets.specs.Control.{control_of}
+use Rattle.iol_mseq.specs.Shape.{Shape, IsLayout, kind_of, startup_shape}
 use Rattle.iol_mseq.specs.Master.{HasMasterParts}
-use Rattle.iol_mseq.specs.declared.reply.Reply.{Reply}
 use Rattle.iol_mseq.specs.Texts.{master_text}
-use Rattle.iol_mode.proofs.Outs.{outcome_state}
-use Rattle.std.proofs.Common.{◌≡◌, ℕ, ◌<◌, List, Option, refl, ◌∙◌, ap, sym, IsTrue, subst}
-use Rattle.std.specs.Prelude.{true, false, Some, None, IfSome, IsSome}
-use Rattle.arrayvec.specs.ArrayVec.{ArrayVec}
-use Rattle.iol_mseq.specs.Shape.{startup_shape, Shape}
 use Rattle.iol_mseq.specs.declared.master.MasterMsg.{MasterMsg}
+use Rattle.iol_mseq.specs.declared.reply.Reply.{Reply}
 use Rattle.iol_page.specs.declared.page.Layouts.{Layouts}
-use Rattle.iol_far.specs.Far.{Far}
+use Rattle.iol_page.specs.declared.master_command.MasterCommand.TheVariants.{DeviceOperate}
+use Rattle.iol_far.specs.declared.mode.Mode.{Mode}
+use Rattle.iol_far.specs.declared.mode.Mode.TheVariants.{Operate as FarOperate}
+use Rattle.iol_far.specs.Codec.{message_in}
+use Rattle.iol_far.specs.Far.{Far, WaitingCommand, waits_after, mode_asked, command_in, known_mode}
+use Rattle.iol_far.specs.Level.{Link, taken, turned, hearings}
+use Rattle.iol_far.specs.Linked.{IsLinked}
+use Rattle.iol_link.specs.Attempts.{Sending, good_reply, attempt_of}
+use Rattle.iol_link.specs.Honest.{HonestExchange}
+use Rattle.iol_mode.specs.Messages.{command_message, stays, stays_by}
+use Rattle.iol_page.specs.Page.{AreLayouts, IsPlain}
+use Rattle.iol_mode.specs.States.{operate_by, OperateFits, counted, Outcome, OutFits, StateFits, Takes, is_starting, sending_of, outcome_with}
+use Rattle.iol_mode.specs.Stands.{entering_link, operate_link, IsOperating, IsTold, IsAccepted, OperateStands, entering_mode, entering_layout, StateStands, OutcomeStands}
+use Rattle.iol_mode.specs.Turns.{IsMet, IsEnd, IsOperateTurn, IsStartTurn, IsStartTried, IsExchange}
+use Rattle.iol_mode.specs.Laws.{Laws}
+use Rattle.iol_mode.proofs.Controls.{write_parts}
+use Rattle.iol_mode.proofs.Outs.{entering_is, layout_told, missed_by, out_text, outcome_state}
+use Rattle.arrayvec.specs.ArrayVec.{ArrayVec}
 use Rattle.iol_far.specs.Octets.{octets_in}
 use Rattle.iol_link.specs.declared.handler.Attempt.{Attempt}
-use Rattle.iol_link.specs.Attempts.{Sending, good_reply}
 use Rattle.iol_link.specs.WireFacts.{WireFacts, Passes}
 use Rattle.iol_mode.specs.declared.configuration.Configuration.{Configuration}
 use Rattle.iol_mode.specs.declared.configuration.Devices.TheVariants.{Own}
 use Rattle.iol_mode.specs.Kinds.{IsHonestFor}
 use Rattle.iol_mode.specs.declared.states.State.{State}
 use Rattle.iol_mode.specs.declared.states.State.TheVariants.{Down as AtDown, Startup as AtStartup, Preoperate as AtPreoperate, Operate as AtOperate}
-use Rattle.iol_mode.specs.States.{Outcome, any_device, OperateFits, StateFits, Takes, is_starting, counted, operate_by, sending_of, outcome_with, OutFits}
-use Rattle.iol_mode.specs.Stands.{StateStands, OutcomeStands, IsTold}
-use Rattle.iol_mode.specs.Turns.{IsEnd, IsOperateTurn, IsStartTurn, IsStartTried, IsExchange}
-use Rattle.iol_mode.specs.Exchanges.{IsSending, IsOperateSending, AreFew, text_out, putting, instead, putting_instead, judged, attempted, OutGives, StateGives, ExchangeGives, StandsOn, OutAccepted, AcceptedBy}
-use Rattle.iol_mode.specs.Laws.{Laws}
-use Rattle.iol_mode.specs.Messages.{stays}
-use Rattle.iol_mode.proofs.Leaving.{startup_risen}
-use Rattle.iol_mode.proofs.Preoperates.{preoperate_risen}
-use Rattle.iol_mode.proofs.Operates.{accepted, replaced_stands, operate_both}
+use Rattle.iol_mode.specs.Exchanges.{IsSending, AreFew, putting, instead, putting_instead, judged, judged_out, OutGives, StateGives, ExchangeGives, StandsOn, OutAccepted, AcceptedBy, IsExchanged}
+use Rattle.iol_mode.proofs.Startups.{preoperate_risen, startup_risen}
 
--- the message that is out is accepted
-accepts_out : (laws : Laws) (out : Option Sending) (layouts : Layouts)
-    → OperateFits (record { out = out; layouts = layouts }) → (far : Far) → IsTold layouts far
-    → OutAccepted out layouts far
-accepts_out laws None layouts fits far told = tt
-accepts_out laws (Some sent) layouts fits far told =
-    λ link operating. accepted laws layouts sent.message far told fits.layouts fits.out.0
-    fits.out.1 link operating
+bytes_of : (xs ys : List ℕ) → bytes_eq xs ys ≡ true → xs ≡ ys
+bytes_of xs ys same = grind (arith, common_steps, bytes_eq-Decides xs ys)
 
-out_gives : (laws : Laws) (c : Configuration) (out : Option Sending) (layouts : Layouts)
-    → OperateFits (record { out = out; layouts = layouts })
-    → IfSome out (λ sent. sent.tries < 3) → (came : Option (List ℕ))
-    → ExchangeGives (AtOperate (record { out = out; layouts = layouts })) came
-    (judged c (AtOperate (record { out = out; layouts = layouts })) came)
-out_gives laws c None layouts fits few came = λ far far' n n' h x. tt
-out_gives laws c (Some sent) layouts fits few came = λ far far' n n' h x. (
-  operate_both laws sent layouts n n' far far' came fits few h x
-      (good_reply layouts.run sent.message came) refl,
-  accepts_out laws (Some sent) layouts fits far h.told,
-)
+-- Octets that are well-formed in two layouts
 
-pub exchange_gives : (laws : Laws) (c : Configuration) (s : State) → StateFits s → AreFew s
-    → (came : Option (List ℕ)) → ExchangeGives s came (judged c s came)
-exchange_gives laws c (AtDown s) fits few came = λ far far' n n' h x. tt
-exchange_gives laws c (AtStartup s) fits few came =
-    λ far far' n n' h x. startup_risen laws c s n n' far far' came fits few h x
-    (good_reply startup_shape s.sent.message came) refl
-exchange_gives laws c (AtPreoperate s) fits few came =
-    λ far far' n n' h x. preoperate_risen laws s n n' far far' came fits few h x
-    (good_reply s.pre s.sent.message came) refl
-exchange_gives laws c (AtOperate s) fits few came = out_gives laws c s.out s.layouts fits few came
+-- what is known of octets that spell a message; a write alone has all on-request data
+record IsSpelled (layout : Shape) (o : List ℕ) (m : MasterMsg) : Type 0 where
+  pub kind : slice_index o 1 / 64 ≡ layout.kind
+  pub size : slice_index o 0 < 128 → length o ≡ 2 + layout.pd_out + layout.od
+  pub control : m.mc ≡ control_of (slice_index o 0)
 
-pub accepts : (laws : Laws) (s : State) → StateFits s → (far : Far) → AcceptedBy s far
-accepts laws (AtOperate s) fits far = accepts_out laws s.out s.layouts fits far
-accepts laws s fits far = tt
+spelled : (layout : Shape) (o : List ℕ) (m : MasterMsg) → message_in layout o ≡ Some m
+    → IsSpelled layout o m
+unfolding message_in
+spelled layout o m e = grind (arith, nat_tests, common_steps)
 
-sending_fits : (run : Shape) (out : Option Sending) (m : MasterMsg) → OutFits run out
-    → HasMasterParts run m → IsTrue (stays m) → OutFits run (Some (sending_of out m))
-sending_fits run None m h parts stay = (parts, stay)
-sending_fits run (Some sent) m h parts stay = h
+-- a kind without process data is that of no layout with it
+no_data : (kind od od' pd_in pd_out : ℕ) → kind ≡ kind_of od 0 0 → kind ≡ kind_of od' pd_in pd_out
+    → pd_in + pd_out ≡ 0
+no_data kind od od' pd_in pd_out plain other = grind (arith, nat_tests, common_steps)
 
-pub put_fits : (s : State) (m : MasterMsg) → StateFits s → Takes s m → IsTrue (stays m)
-    → StateFits (putting m s)
-put_fits (AtOperate s) m fits takes stay = record {
-  out = sending_fits s.layouts.run s.out m fits.out takes stay;
-  layouts = fits.layouts;
-}
-put_fits s m fits takes stay = absurd takes
+-- where one write is well-formed in a layout without process data and in another, these are one
+one_layout : {pre run : Shape} {o : List ℕ} {d m : MasterMsg} → IsPlain pre → IsLayout run
+    → slice_index o 0 < 128 → IsSpelled pre o d → IsSpelled run o m → pre ≡ run
+one_layout {pre = pre} {run = run} plain valid write d m =
+    let size = d.size write in
+    let size' = m.size write in
+    let same : pre.kind ≡ run.kind = sym d.kind ∙ m.kind in
+    let none = no_data run.kind pre.od run.od run.pd_in run.pd_out
+    (sym same ∙ rw (plain.pd_in, plain.pd_out) at plain.valid.kind) valid.kind in
+    let out : pre.pd_out ≡ run.pd_out = omega (arith, none, plain.pd_out) in
+    let input : pre.pd_in ≡ run.pd_in = omega (arith, none, plain.pd_in) in
+    let od : pre.od ≡ run.od = omega (arith, size, size', out) in
+    λ i. record { kind = same i; od = od i; pd_in = input i; pd_out = out i }
 
--- another message in place of the one that is out: both ends stand on
-instead_on : (laws : Laws) (out : Option Sending) (layouts : Layouts) (m : MasterMsg)
+-- A message in OPERATE
+
+-- a message that stays asks for no mode, or for OPERATE
+staying : (P : Option Mode → Type 0) → P None → P (Some FarOperate) → (asked : Option Mode)
+    → stays_by asked ≡ true → P asked
+staying P none operate None e = none
+staying P none operate (Some FarOperate) e = operate
+staying P none operate asked e = absurd (let z : false ≡ true = e in cc)
+
+abbrev waits_in : Mode → Option WaitingCommand → Link
+waits_in mode waits = record { mode = mode; waits = waits }
+
+module _ (laws : Laws) {layouts : Layouts} {m : MasterMsg} (far : Far) (told : IsTold layouts far)
+    (proper : AreLayouts layouts) (parts : HasMasterParts layouts.run m)
+    (stay : stays m ≡ true) where
+  abbrev octets : List ℕ
+  octets = master_text layouts.run m
+
+  -- DeviceOperate, as it was sent
+  abbrev entry : Shape
+  entry = entering_layout layouts
+
+  abbrev command : MasterMsg
+  command = command_message entry DeviceOperate
+
+  abbrev command_text : List ℕ
+  command_text = master_text entry command
+
+  -- the mode that it asks a device of this page for
+  asks : (P : Option Mode → Type 0) → P None → P (Some FarOperate)
+      → P (known_mode far.page (mode_asked (command_in m)))
+  asks P none operate = staying (λ q. P (known_mode far.page q)) none operate
+      (mode_asked (command_in m)) stay
+
+  -- in OPERATE
+  run_next : {link : Link} → taken link octets ≡ operate_link → IsAccepted layouts far.page link m
+  run_next e = record {
+    out = out_text laws proper.run parts e (layout_told far told FarOperate);
+    next = inr (rw e (asks
+        (λ q. waits_in FarOperate (waits_after FarOperate None octets q) ≡ operate_link) refl
+        refl));
+  }
+
+  -- there the octets of DeviceOperate again have it wait on
+  waits_on : octets ≡ command_text → (pre : Option Shape) →
+      let waits : Option WaitingCommand =
+      Some (record { into = FarOperate; octets = command_text }) in
+      waits_after (entering_mode pre) waits octets (Some FarOperate) ≡ waits
+  waits_on e None = rw e
+  waits_on e (Some pre) = rw e
+
+  -- where the very octets of DeviceOperate go out again, both layouts are one, and the command
+  -- waits on
+  run_waits : bytes_eq octets command_text ≡ true
+      → IsAccepted layouts far.page (entering_link layouts) m
+  unfolding control_of
+  run_waits same =
+      let (plain, speaks) = entering_is far told layouts.pre refl proper.pre in
+      let e = bytes_of octets command_text same in
+      let pre_spells : message_in entry octets ≡ Some command =
+      rw e (laws.heard entry command
+      (write_parts entry 0 0x99 plain.valid plain.pd_out (omega arith))) in
+      let d = spelled entry octets command pre_spells in
+      let s = spelled layouts.run octets m (laws.heard layouts.run m parts) in
+      let first : slice_index octets 0 ≡ 0x20 = ap (λ (ys : List ℕ). slice_index ys 0) e in
+      let one = one_layout plain proper.run (omega (arith, first)) d s in
+      let taken_is : taken (entering_link layouts) octets ≡ entering_link layouts = rw same in
+      record {
+        out = out_text laws proper.run parts taken_is (speaks ∙ one);
+        next = inl (
+          rw taken_is (ap (waits_in (entering_mode layouts.pre)) (asks (λ q. waits_after
+              (entering_mode layouts.pre) (entering_link layouts).waits octets q
+              ≡ (entering_link layouts).waits) refl (waits_on e layouts.pre))),
+          rw (s.control ∙ sym d.control),
+        );
+      }
+
+  accepted : (link : Link) → IsOperating layouts link → IsAccepted layouts far.page link m
+  accepted link (inl e) = rw e ((elim (bytes_eq octets command_text) as (λ b.
+      bytes_eq octets command_text ≡ b → IsAccepted layouts far.page (entering_link layouts) m) [
+        | true ↦ λ same. run_waits same
+        | false ↦ λ other. run_next (rw other)
+      ]) refl)
+  accepted link (inr e) = rw e (run_next refl)
+
+-- the message that is out then is accepted
+pub put_accepted : Laws → (s new : State) (far : Far) (m : MasterMsg) → new ≡ putting m s
+    → StateFits s → Takes s m → IsTrue (stays m) → AcceptedBy new far
+put_accepted laws (AtOperate s) new far m is fits takes stay = rw is (λ told. (elim (s.out) as
+    (λ out. OutFits s.layouts.run out → OutAccepted (Some (sending_of out m)) s.layouts far) [
+      | None ↦ λ _. accepted laws far told fits.layouts takes stay
+      | Some sent ↦ λ out. accepted laws far told fits.layouts out.0 out.1
+    ]) fits.out)
+put_accepted laws s new far m is fits takes stay = absurd takes
+
+-- behind a message that is accepted OPERATE goes on
+operating_next : {layouts : Layouts} {page : List ℕ} {link : Link} {m : MasterMsg}
+    → IsAccepted layouts page link m
+    → IsOperating layouts (turned page link (master_text layouts.run m) m)
+operating_next at = elim (at.next) [ inl k ↦ inl k.0 | inr k ↦ inr k ]
+
+-- Another message goes out in place of the one that is out
+
+replaced_on : (laws : Laws) (out : Option Sending) (layouts : Layouts) (m : MasterMsg)
     → OperateFits (record { out = out; layouts = layouts })
     → StandsOn (AtOperate (record { out = out; layouts = layouts }))
     (AtOperate (record { out = instead m out; layouts = layouts }))
-instead_on laws None layouts m fits = λ far n stands. stands
-instead_on laws (Some sent) layouts m fits =
-    λ far n stands. replaced_stands laws layouts sent m n far fits stands
+replaced_on laws None layouts m fits far n h = h
+replaced_on laws (Some sent) layouts m fits far n h =
+    let is = accepted laws far h.told fits.layouts fits.out.0 fits.out.1 h.link h.operating in
+    elim (laws.links.replaced far.page h.link (master_text layouts.run sent.message) sent.message
+    (rw is.out.accepted is.out.spells) sent.tries far h.linked (master_text layouts.run m)) [
+      | inl k ↦ stands h.link h.operating k
+      | inr k ↦ stands _ (operating_next is) k
+    ]
+  where
+    -- nothing of it was heard yet
+    stands : (link : Link) → IsOperating layouts link
+        → IsLinked far.page link (master_text layouts.run m) 0 far
+        → OperateStands (record { out = Some (record sent { message = m }); layouts = layouts }) n
+        far
+    stands link operating k = record {
+      tries = h.tries;
+      told = h.told;
+      link = link;
+      operating = operating;
+      linked = elim k [
+        | inl u ↦ inl u
+        | inr u ↦ inr (u.0, u.1, u.2, (let few : hearings u.1 ≤ 0 = u.3 in omega arith), u.4)
+      ];
+    }
 
-pub instead_stands : (laws : Laws) (s : State) (m : MasterMsg) → StateFits s
-    → StandsOn s (putting_instead m s)
-instead_stands laws (AtOperate s) m fits = instead_on laws s.out s.layouts m fits
-instead_stands laws s m fits = λ far n stands. stands
+pub instead_stands : Laws → (s new : State) (m : MasterMsg) → new ≡ putting_instead m s
+    → StateFits s → StandsOn s new
+instead_stands laws (AtOperate s) new m is fits = rw is (replaced_on laws s.out s.layouts m fits)
+instead_stands laws s new m is fits = rw is (λ far n stands. stands)
 
-pub starts_sending : (s : State) → is_starting s ≡ true → IsSending s
-starts_sending (AtDown s) e = absurd (cc)
-starts_sending (AtOperate s) e = absurd (cc)
-starts_sending s e = tt
+-- A turn
 
-pub operates_sending : (s : State) → IsOperateSending s → IsSending s
-operates_sending (AtOperate s) h = h
-operates_sending s h = absurd h
+module _ {sent : Sending} {layouts : Layouts} {n n' : ℕ} {far far' : Far} {a : Option (List ℕ)}
+    (laws : Laws) (fits : OperateFits (record { out = Some sent; layouts = layouts }))
+    (few : sent.tries < 3)
+    (h : OperateStands (record { out = Some sent; layouts = layouts }) n far)
+    (x : HonestExchange far n (master_text layouts.run sent.message) a far' n') where
+  at : IsAccepted layouts far.page h.link sent.message
+  at = accepted laws far h.told fits.layouts fits.out.0 fits.out.1 h.link h.operating
+
+  told : IsTold layouts far'
+  told = let e = laws.device.page _ _ _ _ _ _ x in rw e h.told
+
+  operate_both : (q : Option Reply) → good_reply layouts.run sent.message a ≡ q
+      → IsMet (operate_by (counted sent q) layouts (attempt_of sent.tries q)) n' far'
+  operate_both (Some r) good =
+      let met = (laws.link.met _ _ _ _ _ _ x h.link sent.message layouts.run sent.tries at.out
+      h.linked r good).at in
+      let next = turned far.page h.link (master_text layouts.run sent.message) sent.message in
+      record {
+        stands = record {
+          tries = omega arith;
+          told = told;
+          link = next;
+          operating = operating_next at;
+          linked = (laws.links.stays far'.page next []).begins far' met;
+        };
+        met = (next, operating_next at, met);
+        lost = λ e. absurd (cc);
+      }
+  operate_both None bad =
+      let missed = laws.link.missed _ _ _ _ _ _ x h.link sent.message layouts.run sent.tries at.out
+      h.linked few h.tries bad in
+      let more = missed.few in
+      missed_by
+      (λ tries attempt. IsMet (operate_by (record sent { tries = tries }) layouts attempt) n' far')
+      sent.tries
+      (λ two. record { stands = tt; met = tt; lost = λ _. omega (arith, two, more) })
+      (record {
+        stands = record {
+          tries = more;
+          told = told;
+          link = h.link;
+          operating = h.operating;
+          linked = missed.linked;
+        };
+        met = tt;
+        lost = λ e. absurd (cc);
+      })
+
+-- One exchange, whatever the mode
+
+out_gives : (laws : Laws) (out : Option Sending) (layouts : Layouts)
+    → OperateFits (record { out = out; layouts = layouts })
+    → IfSome out (λ sent. sent.tries < 3) → (came : Option (List ℕ))
+    → ExchangeGives (AtOperate (record { out = out; layouts = layouts })) came
+    (judged_out out layouts came)
+out_gives laws None layouts fits few came far far' n n' h x = tt
+out_gives laws (Some sent) layouts fits few came far far' n n' h x = (
+  operate_both laws fits few h x (good_reply layouts.run sent.message came) refl,
+  accepted laws far h.told fits.layouts fits.out.0 fits.out.1,
+)
+
+pub exchange_gives : Laws → (c : Configuration) (s : State) (came : Option (List ℕ))
+    (outcome : Outcome) → outcome ≡ judged c s came → StateFits s → AreFew s
+    → ExchangeGives s came outcome
+exchange_gives laws c (AtDown s) came outcome is fits few = λ far far' n n' h x. tt
+exchange_gives laws c (AtStartup s) came outcome is fits few = λ far far' n n' h x.
+    rw is (startup_risen laws c fits few h x (good_reply startup_shape s.sent.message came) refl)
+exchange_gives laws c (AtPreoperate s) came outcome is fits few = λ far far' n n' h x.
+    rw is (preoperate_risen laws fits few h x (good_reply s.pre s.sent.message came) refl)
+exchange_gives laws c (AtOperate s) came outcome is fits few =
+    rw is (out_gives laws s.out s.layouts fits few came)
 
 -- both ends stand afterwards
-pub given_stands : (s : State) (outcome : Outcome) (far far' : Far) (n' : ℕ) → IsSending s
+given_stands : (s : State) (outcome : Outcome) (far far' : Far) (n' : ℕ) → IsSending s
     → StateGives s far outcome n' far' → OutcomeStands outcome n' far'
 given_stands (AtDown s) outcome far far' n' sends h = absurd sends
-given_stands (AtOperate s) outcome far far' n' sends h = by s.out sends h
-  where
-    by : (out : Option Sending) → IsSome out → OutGives out s.layouts far outcome n' far'
-        → OutcomeStands outcome n' far'
-    by None sends h = absurd (cc)
-    by (Some sent) sends h = h.0.stands
+given_stands (AtOperate s) outcome far far' n' sends h = (elim (s.out) as (λ out. IsSome out
+    → OutGives out s.layouts far outcome n' far' → OutcomeStands outcome n' far') [
+      | None ↦ λ none. absurd (cc)
+      | Some sent ↦ λ _ given. given.0.stands
+    ]) sends h
 given_stands s outcome far far' n' sends h = h.both.stands
 
 -- the device of a wire that sees each pulse did so before
@@ -119,90 +303,83 @@ pub saw_pulses : {W : Type 0} (facts : WireFacts W) → Laws → (wire new : W) 
     → facts.honest new ≡ facts.honest wire → IsHonestFor facts Own new
     → IsHonestFor facts Own wire
 saw_pulses facts laws wire new o answer passes honesty h =
-    let up : IsTrue (facts.honest wire) = sym honesty ∙ h.0 in (
-      up,
-      sym (laws.device.misses (facts.far wire) (facts.silence wire) o (octets_in answer)
-          (facts.far new) (facts.silence new) (passes up)) ∙ h.1,
-    )
+    let up : IsTrue (facts.honest wire) = rw (← honesty) h.0 in
+    (up, sym (laws.device.misses _ _ _ _ _ _ (passes up)) ∙ h.1)
 
-module _ {W : Type 0} (facts : WireFacts W) where
+module _ {W : Type 0} (facts : WireFacts W) {wire new : W} {attempt : Attempt} {s state : State}
+    (called : IsExchanged facts wire s new attempt state) where
   open facts use {honest, far, silence}
 
-  -- one exchange of the message that is out, and the mode after it
-  abbrev pub Called : W → State → W → Attempt → State → Type 0
-  Called wire s new attempt state = (answer : Option (ArrayVec ℕ))
-      × facts.exchange_gives wire (text_out s) answer new
-      × Passes facts wire (text_out s) answer new
-      × (outcome_with attempt state ≡ judged any_device s (octets_in answer))
-      × (attempt ≡ attempted s (octets_in answer))
-      × ExchangeGives s (octets_in answer) (outcome_with attempt state)
+  abbrev after : Outcome
+  after = outcome_with attempt state
 
-  module _ (wire new : W) (attempt : Attempt) (state : State) where
-    -- both ends stand afterwards
-    pub exchange_stands : (s : State) → IsSending s → StateStands s (silence wire) (far wire)
-        → IsTrue (honest wire) → Called wire s new attempt state
-        → StateStands state (silence new) (far new)
-    exchange_stands s sends stood up called =
-        subst (λ (t : State). StateStands t (silence new) (far new)) (outcome_state attempt state)
-        (given_stands s (outcome_with attempt state) (far wire) (far new) (silence new) sends
-        (called.5 (far wire) (far new) (silence wire) (silence new) stood (called.2 up)))
+  -- what an honest wire gives
+  given : (IsHonestFor facts Own wire → StateStands s (silence wire) (far wire))
+      → IsHonestFor facts Own wire → StateGives s (far wire) after (silence new) (far new)
+  given stood h = called.gives _ _ _ _ (stood h) (called.passes h.0)
 
-    module _ (honesty : honest new ≡ honest wire) (fits : StateFits state) where
-      exchange_told : {layout : Shape} {message : MasterMsg} {turned : Option Reply → Outcome}
-          (answer : Option (ArrayVec ℕ))
-          → facts.exchange_gives wire (master_text layout message) answer new
-          → Passes facts wire (master_text layout message) answer new
-          → outcome_with attempt state ≡ turned (good_reply layout message (octets_in answer))
-          → IsExchange facts wire layout message turned (outcome_with attempt state) new
-      exchange_told answer called passes is = record {
-        answer = answer;
-        called = called;
-        passes = passes;
-        honesty = honesty;
-        outcome_is = is;
-        fits = subst StateFits (sym (outcome_state attempt state)) fits;
-      }
+  -- both ends stand afterwards
+  pub exchange_stands : (IsHonestFor facts Own wire → StateStands s (silence wire) (far wire))
+      → IsHonestFor facts Own new → StateStands state (silence new) (far new)
+  exchange_stands stood h = rw outcome_state at (given_stands s after (far wire) (far new)
+      (silence new) called.sends (given stood (called.saw h)))
 
-      -- a turn of a start-up, and how its attempt ended
-      pub start_turn : (s : State) → is_starting s ≡ true
-          → (IsHonestFor facts Own wire → StateStands s (silence wire) (far wire))
-          → Called wire s new attempt state
-          → IsStartTurn facts wire s (outcome_with attempt state) new
-          × IsStartTried facts wire s attempt new
-      start_turn (AtDown s) starts stood called = absurd (let z : false ≡ true = starts in cc)
-      start_turn (AtOperate s) starts stood called = absurd (let z : false ≡ true = starts in cc)
-      start_turn s starts stood called = (
-        record {
-          exchange = exchange_told called.0 called.1 called.2 called.3;
-          risen = λ h. called.5 (far wire) (far new) (silence wire) (silence new) (stood h)
-              (called.2 h.0);
-        },
-        (called.0, called.1, called.4),
-      )
+  exchange_told : {layout : Shape} {message : MasterMsg} {turned : Option Reply → Outcome}
+      → facts.exchange_gives wire (master_text layout message) called.answer new
+      → Passes facts wire (master_text layout message) called.answer new
+      → after ≡ turned (good_reply layout message (octets_in called.answer))
+      → IsExchange facts wire layout message turned after new
+  exchange_told gives passes is = record {
+    answer = called.answer;
+    called = gives;
+    passes = passes;
+    honesty = called.honesty;
+    outcome_is = is;
+    fits = rw outcome_state called.judged.fits;
+  }
 
-      -- a turn in OPERATE, whose attempt alone says what becomes of the mode
-      pub operate_turn : (s : State) (m : MasterMsg) → StateFits s → Takes s m
-          → (IsHonestFor facts Own wire → StateStands s (silence wire) (far wire))
-          → StandsOn s (putting m s) → AreFew (putting m s)
-          → Called wire (putting m s) new attempt state
-          → IsOperateTurn facts wire s m (outcome_with attempt state) new
-          × IsEnd attempt (outcome_with attempt state)
-      operate_turn (AtOperate s) m before takes stood on few called =
-          let given : IsHonestFor facts Own wire
-          → OutGives (Some (sending_of s.out m)) s.layouts (far wire) (outcome_with attempt state)
-          (silence new) (far new) =
-          λ h. called.5 (far wire) (far new) (silence wire) (silence new)
-          (on (far wire) (silence wire) (stood h)) (called.2 h.0) in
-          let old = sending_of s.out m in
-          let sent = counted old (good_reply s.layouts.run old.message (octets_in called.0)) in (
-            record {
-              exchange = exchange_told called.0 called.1 called.2 called.3;
-              both = λ h. (given h).0;
-              fits = before;
-              stood = stood;
-              few = few;
-              accepted = λ h. (given h).1;
-            },
-            (sent, s.layouts, called.3 ∙ ap (operate_by sent s.layouts) (sym called.4)),
-          )
-      operate_turn s m before takes stood on few called = absurd takes
+-- a turn of a start-up, and how its attempt ended
+pub start_turn : {W : Type 0} (facts : WireFacts W) {wire new : W} {attempt : Attempt}
+    {state : State}
+    (s : State) (called : IsExchanged facts wire s new attempt state) → is_starting s ≡ true
+    → (IsHonestFor facts Own wire → StateStands s (facts.silence wire) (facts.far wire))
+    → IsStartTurn facts wire s (outcome_with attempt state) new
+    × IsStartTried facts wire s attempt new
+start_turn facts (AtDown s) called starts stood = absurd (let z : false ≡ true = starts in cc)
+start_turn facts (AtOperate s) called starts stood = absurd (let z : false ≡ true = starts in cc)
+start_turn facts s called starts stood = (
+  record {
+    exchange = exchange_told facts called called.called called.passes called.judged.state;
+    risen = given facts called stood;
+  },
+  (called.answer, called.called, called.judged.attempt_is),
+)
+
+-- a turn in OPERATE, whose attempt alone says what becomes of the mode
+pub operate_turn : {W : Type 0} (facts : WireFacts W) {wire new : W} {attempt : Attempt}
+    {state : State} (s : State) (m : MasterMsg)
+    → IsExchanged facts wire (putting m s) new attempt state
+    → StateFits s → Takes s m
+    → (IsHonestFor facts Own wire → StateStands s (facts.silence wire) (facts.far wire))
+    → StandsOn s (putting m s)
+    → IsOperateTurn facts wire s m (outcome_with attempt state) new
+    × IsEnd attempt (outcome_with attempt state)
+operate_turn facts {wire = wire} (AtOperate s) m called before takes stood on =
+    let old = sending_of s.out m in
+    let sent = counted old (good_reply s.layouts.run old.message (octets_in called.answer)) in
+    let gives = given facts called (λ h. on (facts.far wire) (facts.silence wire) (stood h)) in (
+      record {
+        exchange = exchange_told facts called called.called called.passes called.judged.state;
+        both = λ h. (gives h).0;
+        fits = before;
+        stood = stood;
+        few = called.judged.few;
+        accepted = λ h. (gives h).1;
+      },
+      (
+        sent,
+        s.layouts,
+        called.judged.state ∙ ap (operate_by sent s.layouts) (sym called.judged.attempt_is),
+      ),
+    )
+operate_turn facts s m called before takes stood on = absurd takes

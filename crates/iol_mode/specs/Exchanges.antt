@@ -1,24 +1,28 @@
 -- What goes out in a mode, what is made of what comes back, and what one exchange
 -- over an honest wire gives: plain data, without the wire.
-use Rattle.std.specs.Prelude.{ℕ, ◌<◌, List, [], Option, Some, None, IsSome, IfSome, ⊤, Bool, true}
+use Rattle.std.specs.Prelude.{◌≡◌, ℕ, ◌<◌, List, [], Option, Some, None, IsSome, IfSome, ⊤, Bool, true}
+use Rattle.arrayvec.specs.ArrayVec.{ArrayVec}
 use Rattle.iol_mseq.specs.Shape.{Shape, startup_shape}
 use Rattle.iol_mseq.specs.Texts.{master_text}
 use Rattle.iol_mseq.specs.declared.master.MasterMsg.{MasterMsg}
 use Rattle.iol_page.specs.declared.page.Layouts.{Layouts}
 use Rattle.iol_far.specs.Far.{Far}
+use Rattle.iol_far.specs.Octets.{octets_in}
 use Rattle.iol_far.specs.Level.{Link}
 use Rattle.iol_link.specs.declared.handler.Attempt.{Attempt}
 use Rattle.iol_link.specs.declared.handler.Attempt.TheVariants.{Again}
 use Rattle.iol_link.specs.Attempts.{Sending, good_reply, attempt_of}
 use Rattle.iol_link.specs.Honest.{HonestWake, HonestExchange}
+use Rattle.iol_link.specs.WireFacts.{WireFacts, Passes}
 use Rattle.iol_mode.specs.declared.configuration.Configuration.{Configuration}
 use Rattle.iol_mode.specs.declared.configuration.Devices.{Devices}
+use Rattle.iol_mode.specs.declared.configuration.Devices.TheVariants.{Own}
 use Rattle.iol_mode.specs.declared.states.State.{State}
 use Rattle.iol_mode.specs.declared.states.State.TheVariants.{Down as AtDown, Startup as AtStartup, Preoperate as AtPreoperate, Operate as AtOperate}
-use Rattle.iol_mode.specs.States.{Outcome, InDown, InOperate, is_behind, counted, operate_by, startup_turned, preoperate_turned, sending_of, state_of, waked}
+use Rattle.iol_mode.specs.States.{Outcome, InDown, InOperate, StateFits, any_device, is_behind, counted, operate_by, outcome_with, startup_turned, preoperate_turned, sending_of, state_of, waked}
 use Rattle.iol_mode.specs.Stands.{IsOperating, IsAccepted, IsTold, StateStands, text_in}
 use Rattle.iol_mode.specs.Turns.{IsMet, IsRisen}
-use Rattle.iol_mode.specs.Kinds.{SeesPulses}
+use Rattle.iol_mode.specs.Kinds.{SeesPulses, IsHonestFor}
 
 -- a message is out
 abbrev pub IsSending : State → Type 0
@@ -107,6 +111,14 @@ AreFew (AtStartup s) = s.sent.tries < 3
 AreFew (AtPreoperate s) = s.sent.tries < 3
 AreFew (AtOperate s) = IfSome s.out (λ sent. sent.tries < 3)
 
+-- what came back to the message that was out is judged, and this is how the attempt ends
+pub record IsJudged (c : Configuration) (old : State) (came : Option (List ℕ))
+    (attempt : Attempt) (new : State) : Type 0 where
+  pub state : outcome_with attempt new ≡ judged c old came
+  pub fits : StateFits new
+  pub few : AreFew old
+  pub attempt_is : attempt ≡ attempted old came
+
 -- Over an honest wire, whose far end and silence were and are these
 
 -- in OPERATE it accepts the message that is out, in whichever link it is
@@ -151,3 +163,15 @@ abbrev pub WakeStands : Devices → Bool → Type 0
 WakeStands devices answered =
     (far far_new : Far) (silence : ℕ) → SeesPulses devices far → HonestWake far answered far_new
     → StateStands (state_of (waked devices answered)) silence far_new
+
+-- one exchange over this wire of the message that is out, at a link that expects any device
+pub record IsExchanged {W : Type 0} (facts : WireFacts W) (wire : W) (old : State) (new : W)
+    (attempt : Attempt) (state : State) : Type 0 where
+  pub sends : IsSending old
+  pub answer : Option (ArrayVec ℕ)
+  pub called : facts.exchange_gives wire (text_out old) answer new
+  pub passes : Passes facts wire (text_out old) answer new
+  pub judged : IsJudged any_device old (octets_in answer) attempt state
+  pub gives : ExchangeGives old (octets_in answer) (outcome_with attempt state)
+  pub honesty : facts.honest new ≡ facts.honest wire
+  pub saw : IsHonestFor facts Own new → IsHonestFor facts Own wire

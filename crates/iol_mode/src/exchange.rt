@@ -9,7 +9,7 @@ ghost use Rattle.iol_far.specs.Octets.{octets_in};
 ghost use Rattle.iol_link.specs.Attempts.{attempt_in, attempt_of, good_reply};
 ghost use Rattle.iol_mode.specs.Messages.{stays};
 ghost use Rattle.iol_mode.specs.States.{StateFits, Takes, IsDown, IsStartup, IsPreoperate, outcome_with, state_of, waked, counted, left_by, any_device};
-ghost use Rattle.iol_mode.specs.Exchanges.{IsSending, IsOperateSending, AreFew, text_out, layout_out, putting, putting_instead, judged, attempted, ExchangeGives, StandsOn, AcceptedBy, WakeStands};
+ghost use Rattle.iol_mode.specs.Exchanges.{IsSending, IsOperateSending, AreFew, text_out, layout_out, putting, putting_instead, judged, attempted, IsJudged, ExchangeGives, StandsOn, AcceptedBy, WakeStands};
 ghost use Rattle.iol_mode.specs.Laws.{Laws};
 
 use crate::configuration::{Configuration, Devices};
@@ -88,6 +88,7 @@ impl State {
     /// In OPERATE: this message is out from now on, where none is out.
     ///
     /// Nothing went out yet: both ends stand as before, and the far end accepts the octets.
+    #[tactic(auto, using(crate::proofs::Exchanging::put_accepted))]
     pub fn put_out(&mut self, message: MasterMsg)
         requires fits { StateFits self.old }
         requires takes { Takes self.old message }
@@ -103,6 +104,7 @@ impl State {
     }
 
     /// In OPERATE: this message is out in place of the one that is, whose attempts count on.
+    #[tactic(auto, using(crate::proofs::Exchanging::instead_stands))]
     pub fn put_instead(&mut self, message: MasterMsg)
         requires fits { StateFits self.old }
         requires sends { IsOperateSending self.old }
@@ -126,6 +128,7 @@ impl State {
     /// device counts where its page becomes whole.
     ///
     /// Rule LINK-2.
+    #[tactic(auto, using(crate::proofs::Exchanging::exchange_gives))]
     pub fn receives<'a>(
         &mut self,
         came: &'a Option<Message>,
@@ -158,6 +161,7 @@ impl State {
     /// In a port for any device STARTUP begins with DeviceStartup, else with the page.
     ///
     /// Rules LINK-1, LINK-13.
+    #[tactic(auto, using(crate::proofs::Startups::wake_stands))]
     pub fn receives_wake(&mut self, rate: Option<Rate>, devices: Devices)
         requires { IsDown self.old }
         ensures state { self.new ≡ state_of (waked devices (is_some rate)) }
@@ -178,11 +182,8 @@ fn received<'a>(
 ) -> AttemptView<'a>
     requires fits { StateFits state.old }
     requires sends { IsSending state.old }
-    ensures state { outcome_with (attempt_in result) state.new
-        ≡ judged configuration.now state.old (octets_in came.now) }
-    ensures fits { StateFits state.new }
-    ensures few { AreFew state.old }
-    ensures attempt { attempt_in result ≡ attempted state.old (octets_in came.now) }
+    ensures { IsJudged configuration.now state.old (octets_in came.now) (attempt_in result)
+        state.new }
 {
     match state {
         State::Startup(_) => startup_receives(state, came, configuration),
@@ -223,11 +224,8 @@ fn startup_receives<'a>(
     configuration: &Configuration,
 ) -> AttemptView<'a>
     requires { IsStartup state.old }
-    ensures state { outcome_with (attempt_in result) state.new
-        ≡ judged configuration.now state.old (octets_in came.now) }
-    ensures fits { StateFits state.new }
-    ensures few { AreFew state.old }
-    ensures attempt { attempt_in result ≡ attempted state.old (octets_in came.now) }
+    ensures { IsJudged configuration.now state.old (octets_in came.now) (attempt_in result)
+        state.new }
 {
     let State::Startup(Startup { sent, .. }) = state else {
         unreachable!()
@@ -240,11 +238,8 @@ fn startup_receives<'a>(
 /// What came back in PREOPERATE.
 fn preoperate_receives<'a>(state: &mut State, came: &'a Option<Message>) -> AttemptView<'a>
     requires { IsPreoperate state.old }
-    ensures state { outcome_with (attempt_in result) state.new
-        ≡ judged any_device state.old (octets_in came.now) }
-    ensures fits { StateFits state.new }
-    ensures few { AreFew state.old }
-    ensures attempt { attempt_in result ≡ attempted state.old (octets_in came.now) }
+    ensures { IsJudged any_device state.old (octets_in came.now) (attempt_in result)
+        state.new }
 {
     let State::Preoperate(preoperate) = state else {
         unreachable!()
@@ -258,11 +253,8 @@ fn preoperate_receives<'a>(state: &mut State, came: &'a Option<Message>) -> Atte
 fn operate_receives<'a>(state: &mut State, came: &'a Option<Message>) -> AttemptView<'a>
     requires fits { StateFits state.old }
     requires sends { IsOperateSending state.old }
-    ensures state { outcome_with (attempt_in result) state.new
-        ≡ judged any_device state.old (octets_in came.now) }
-    ensures fits { StateFits state.new }
-    ensures few { AreFew state.old }
-    ensures attempt { attempt_in result ≡ attempted state.old (octets_in came.now) }
+    ensures { IsJudged any_device state.old (octets_in came.now) (attempt_in result)
+        state.new }
 {
     let State::Operate(operate) = state else {
         unreachable!()

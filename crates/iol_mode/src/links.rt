@@ -15,7 +15,7 @@ ghost use Rattle.iol_mode.specs.States.{StateFits, IsDown, Takes, is_behind, is_
 ghost use Rattle.iol_mode.specs.Stands.{OutcomeStands, IsTold};
 ghost use Rattle.iol_mode.specs.Next.{wire_of, outcome_of, told_by, message_out};
 ghost use Rattle.iol_mode.specs.Turns.{IsStartTurn, IsStartTried, IsOperateTurn, IsRise, IsCycle, IsEnd};
-ghost use Rattle.iol_mode.specs.Exchanges.{IsSending, AreFew, text_out, judged, attempted, ExchangeGives};
+ghost use Rattle.iol_mode.specs.Exchanges.{IsSending, text_out, IsJudged, ExchangeGives, IsExchanged};
 
 use crate::configuration::{Configuration, Devices};
 use crate::exchange::laws;
@@ -66,20 +66,11 @@ pub enum Next<W: Wire> {
 }
 
 /// One exchange of the message that is out.
-#[tactic(auto, using(crate::proofs::Exchanging::saw_pulses))]
+#[tactic(auto, using(crate::proofs::Exchanging::saw_pulses, crate::proofs::Exchanging::exchange_gives))]
 fn exchanged<W: Wire>(state: &mut State, wire: &mut W) -> Attempt
     requires fits { StateFits state.old }
     requires sends { IsSending state.old }
-    ensures called { (answer : Option (ArrayVec ℕ))
-        × W.facts.exchange_gives wire.old (text_out state.old) answer wire.new
-        × Passes W.facts wire.old (text_out state.old) answer wire.new
-        × (outcome_with result state.new ≡ judged any_device state.old (octets_in answer))
-        × (result ≡ attempted state.old (octets_in answer))
-        × ExchangeGives state.old (octets_in answer) (outcome_with result state.new) }
-    ensures honesty { W.facts.honest wire.new ≡ W.facts.honest wire.old }
-    ensures saw { IsHonestFor W.facts Own wire.new → IsHonestFor W.facts Own wire.old }
-    ensures fits { StateFits state.new }
-    ensures few { AreFew state.old }
+    ensures { IsExchanged W.facts wire.old state.old wire.new result state.new }
 {
     laws();
     let came = pass(state, wire);
@@ -90,12 +81,7 @@ fn exchanged<W: Wire>(state: &mut State, wire: &mut W) -> Attempt
 fn receive(state: &mut State, came: &Option<Message>) -> Attempt
     requires fits { StateFits state.old }
     requires sends { IsSending state.old }
-    ensures state { outcome_with result state.new
-        ≡ judged any_device state.old (octets_in came.now) }
-    ensures fits { StateFits state.new }
-    ensures few { AreFew state.old }
-    ensures attempt { result ≡ attempted state.old (octets_in came.now) }
-    ensures gives { ExchangeGives state.old (octets_in came.now) (outcome_with result state.new) }
+    ensures { IsJudged any_device state.old (octets_in came.now) result state.new }
 {
     state.receives(came, &Configuration::any()).copied()
 }

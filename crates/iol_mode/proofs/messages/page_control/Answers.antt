@@ -3,4 +3,4 @@ use Rattle.iol_mode.proofs.Controls.{page_control_is}
 use Rattle.iol_mode.proofs.messages.page_control.Goals as goal
 
 pub returns : goal.returns
-returns c = page_control_is _ c.args.read c.args.address refl refl refl
+returns c = page_control_is _ refl
