@@ -59,9 +59,9 @@ fn submit_as<W: Wire, A: Handle>(
 /// A port of a master, as it lies under its lock, with its share of the tickets that the master's
 /// ports gave.
 ///
-/// Contracts see it as its port: each call is the port's call of that name, and
-/// so one call of the abstract port that it stands for (crate iol_port). No call
-/// here allocates, and none takes a lock: who calls holds the port's.
+/// Contracts see it as its port: each call is the port's call of that name, and so one call of the
+/// abstract port that it stands for (crate iol_port). No call here allocates, and none takes a
+/// lock: who calls holds the port's.
 #[derive(Drop)]
 pub struct Held<W: Wire, K: Ledger, A: Handle = Global> {
     port: Port<W, A>,
