@@ -1,24 +1,22 @@
 -- What the far end does by itself, and at a wake-up, leaves of what a state says.
-use Rattle.std.proofs.Common.{◌≡◌, ℕ, Bool, true, false, List, [], ◌∷◌, refl, sym, ◌∙◌, subst, ◌⊎◌, inl, inr}
+use Rattle.std.proofs.Common.{◌≡◌, ℕ, Bool, true, false, List, [], ◌∷◌, refl, ◌∙◌, ◌⊎◌, inl, inr}
 use Rattle.std.proofs.lemmas.Bool.{cond_both}
-use Rattle.std.specs.Prelude.{Option, Some, None, IfSome, if◌then◌else◌, ◌&&◌}
+use Rattle.std.specs.Prelude.{Option, None, if◌then◌else◌, ◌&&◌}
 use Rattle.iol_isdu.specs.declared.values.Answer.{Answer}
-use Rattle.iol_far.specs.declared.kind.Kind.{Kind}
 use Rattle.iol_far.specs.Isdu.{IsduState, Handed, Answered, fits}
-use Rattle.iol_far.specs.Far.{Far, layout_of}
+use Rattle.iol_far.specs.Far.{Far}
 use Rattle.iol_far.specs.Level.{link_of, grown_by}
-use Rattle.iol_far.specs.Local.{LocalStep, Carry, Raise, Input, NoInput, Power, local, locals, carried_by, has_room, is_input, woken}
+use Rattle.iol_far.specs.Local.{LocalStep, Carry, Raise, Input, NoInput, Power, local, locals, carried_by, has_room, woken}
 use Rattle.iol_judge.specs.declared.events.Shown.{Shown}
 use Rattle.iol_judge.specs.declared.events.Shown.TheVariants.{Fresh}
 use Rattle.iol_judge.specs.declared.transfer.Transfer.{Transfer}
 use Rattle.iol_judge.specs.declared.transfer.Transfer.TheVariants.{Quiet}
 use Rattle.iol_judge.specs.Events.{shown_after}
-use Rattle.iol_judge.specs.Family.{has_kind}
-use Rattle.iol_judge.specs.UnderWay.{HasUnderWay, IsUnderWay}
+use Rattle.iol_judge.specs.UnderWay.{HasUnderWay}
 use Rattle.iol_judge.specs.State.{State, startup_state, woken_state, powered_state}
-use Rattle.iol_judge.specs.Admitted.{Admits, AdmitsOne, Agrees, AreShown}
+use Rattle.iol_judge.specs.Admitted.{Admits, AdmitsOne, AreShown}
 use Rattle.iol_judge.proofs.Shown.{raised_shown, released_shown, none_shown}
-use Rattle.iol_judge.proofs.Covering.{handed_answers}
+use Rattle.iol_judge.proofs.Sets.{handed_answers}
 
 -- the parts that a state and the page's octets speak of are the same, and what is known of its
 -- events holds
@@ -44,12 +42,11 @@ with_input far input =
     }
 
 itself : (far : Far) → Alike far far
-itself far = with_input far far.input
+itself far = with_input far _
 
 carried_alike : (state : IsduState) (far : Far) (answer : Answer) → far.isdu ≡ state
     → Alike far (carried_by state far answer)
-carried_alike (Handed request) far answer is =
-    split (has_room far) (fits request answer) refl
+carried_alike (Handed request) far answer is = split (has_room far) (fits request answer) refl
   where
     split : (room fit : Bool) → fits request answer ≡ fit
         → Alike far (if (room && fit) then record far {
@@ -62,28 +59,24 @@ carried_alike (Handed request) far answer is =
       cycle = refl;
       page = refl;
       events = λ known s. s;
-      isdu = λ known h. handed_answers far.kind.hands_over far.counted (layout_of far).od
-          (if far.awake then known else Quiet) request answer e
-          (subst (λ (s : IsduState). IsUnderWay far.kind.hands_over far.counted (layout_of far).od
-          (if far.awake then known else Quiet) s) is h);
+      isdu = λ known h. handed_answers _ _ _ _ _ _ e (rw is at h);
     }
     split true false e = itself far
     split false fit e = itself far
 carried_alike state far answer is = itself far
 
 local_alike : (far : Far) (step : LocalStep) → Alike far (local far step)
-local_alike far (Carry answer) = carried_alike far.isdu far answer refl
+local_alike far (Carry answer) = carried_alike _ far _ refl
 local_alike far (Raise event) = record {
   kind = refl;
   link = refl;
   cycle = refl;
   page = refl;
-  events = λ known s. raised_shown (if far.awake then known else Fresh) far.events event s;
+  events = λ known s. raised_shown _ _ event s;
   isdu = λ known h. h;
 }
 local_alike far (Input image) =
-    cond_both (is_input far image) (record far { input = Some image }) far (Alike far)
-    (λ e. with_input far (Some image)) (λ e. itself far)
+    cond_both _ _ far (Alike far) (λ e. with_input far _) (λ e. itself far)
 local_alike far NoInput = with_input far None
 local_alike far Power = record {
   kind = refl;
@@ -107,21 +100,15 @@ then_alike a b c l r =
 
 pub locals_alike : (far : Far) (steps : List LocalStep) → Alike far (locals far steps)
 locals_alike far [] = itself far
-locals_alike far (step ∷ steps) =
-    then_alike far (local far step) (locals (local far step) steps)
+locals_alike far (step ∷ steps) = then_alike far _ _
     (local_alike far step) (locals_alike (local far step) steps)
-
-pub cycle_kept : (known : Option ℕ) (a b : ℕ) → b ≡ a → IfSome known (λ octet. a ≡ octet)
-    → IfSome known (λ octet. b ≡ octet)
-cycle_kept None a b e h = tt
-cycle_kept (Some octet) a b e h = e ∙ h
 
 pub admits_alike : (state : State) (far new : Far) → Alike far new → Admits state far
     → Admits state new
 admits_alike state far new same h = record {
-  kind = subst (λ (k : Kind). has_kind state.kinds k ≡ true) (sym same.kind) h.kind;
+  kind = rw same.kind h.kind;
   link = same.link ∙ h.link;
-  cycle = cycle_kept state.cycle far.cycle_time new.cycle_time same.cycle h.cycle;
+  cycle = rw same.cycle h.cycle;
   events = same.events state.events h.events;
   isdu = same.isdu state.transfer h.isdu;
 }
@@ -129,15 +116,10 @@ admits_alike state far new same h = record {
 pub one_alike : (states : List State) (far new : Far) → Alike far new → AdmitsOne states far
     → AdmitsOne states new
 one_alike [] far new same h = absurd h
-one_alike (state ∷ states) far new same h =
-    elim h [
-      | inl here ↦ inl (admits_alike state far new same here)
-      | inr there ↦ inr (one_alike states far new same there)
-    ]
-
-pub agrees_alike : (seen : List (Option ℕ)) (far new : Far) → Alike far new → Agrees seen far.page
-    → Agrees seen new.page
-agrees_alike seen far new same h = subst (λ (page : List ℕ). Agrees seen page) (sym same.page) h
+one_alike (state ∷ states) far new same h = elim h [
+  | inl here ↦ inl (admits_alike state far new same here)
+  | inr there ↦ inr (one_alike states far new same there)
+]
 
 woken_as : (state : State) (far : Far) → Admits state far → (shown : Shown)
     → AreShown shown far.events
@@ -147,7 +129,7 @@ woken_as state far h shown s =
       kind = h.kind;
       link = refl;
       cycle = h.cycle;
-      events = released_shown shown far.events s;
+      events = released_shown shown _ s;
       isdu = refl;
     }
 
@@ -157,5 +139,5 @@ woken_admits state far h = split far.awake h.events
   where
     split : (b : Bool) → AreShown (if b then state.events else Fresh) far.events
         → Admits (woken_state state) (woken far) ⊎ (Admits (powered_state state) (woken far) ⊎ ⊥)
-    split true s = inl (woken_as state far h state.events s)
+    split true s = inl (woken_as state far h _ s)
     split false s = inr (inl (woken_as state far h Fresh s))

@@ -1,58 +1,421 @@
--- A state explains each reply of a device that it stands for.
-use Rattle.std.proofs.Common.{◌≡◌, ℕ, ◌-◌, ◌≤◌, length, Bool, true, false, List, [], refl, sym, ◌∙◌, ap, subst, replicate, eqb-true}
-use Rattle.std.specs.Prelude.{Option, Some, None, IfSome, is_some, unwrap_or, not, ◌&&◌, ◌==◌, nat_le, slice_index, slice_index_or, slice_set, if◌then◌else◌}
-use Rattle.std.specs.Option.{option_or}
-use Rattle.iol_octets.specs.declared.control.Mc.{Mc}
+-- A state explains each reply of a device that it stands for, and what is known of an ISDU transfer
+-- holds once the reply was had.
+use Rattle.std.proofs.Common.{◌≡◌, inl, inr, ℕ, zero, suc, ◌+◌, ◌-◌, ◌*◌, ◌%◌, ◌<◌, ◌≤◌, Bool, true, false, List, ◌∷◌, ◌++◌, length, take, drop, replicate, refl, sym, ◌∙◌, ap, arith, eqb-true, ⊎_elim, []}
+use Rattle.std.proofs.Math.Nat.{add-mul}
+use Rattle.std.proofs.lemmas.Bool.{and_parts, cases_lt, cond_both, leb-false, ltb-true, leb-true}
+use Rattle.std.specs.Prelude.{Option, Some, None, Result, Ok, Err, is_some, not, IfSome, ◌&&◌, ◌||◌, ◌==◌, nat_eq, nat_lt, nat_le, IsTrue, if◌then◌else◌, unwrap_or, slice_index}
+use Rattle.std.specs.Cmp.Lexicographic.{pointwise}
 use Rattle.iol_octets.specs.declared.control.Channel.{Channel}
-use Rattle.iol_octets.specs.declared.control.Channel.TheVariants.{Process, Page, Diagnosis, Isdu}
+use Rattle.iol_octets.specs.declared.control.Channel.TheVariants.{Process, Isdu, Page, Diagnosis}
+use Rattle.iol_octets.specs.declared.flow_control.Flow.{Flow}
+use Rattle.iol_octets.specs.declared.flow_control.Flow.TheVariants.{Start, Count}
+use Rattle.iol_isdu.specs.declared.values.Request.{Request}
+use Rattle.iol_isdu.specs.declared.values.Answer.{Answer}
+use Rattle.iol_isdu.specs.Answers.{is_read, answer_fault}
+use Rattle.iol_isdu.specs.Frame.{total_at}
+use Rattle.iol_segment.specs.Cut.{segment}
+use Rattle.iol_segment.specs.TextLaws.{joined, HoldsLength}
+use Rattle.iol_far.specs.declared.kind.Kind.{Kind}
+use Rattle.iol_far.specs.declared.kind.HandsOver.{HandsOver}
+use Rattle.iol_far.specs.Isdu.{IsduState, Empty, Receiving, Whole, Handed, Answered, answer_text, fits, has_segment, isdu_read, isdu_data}
+use Rattle.iol_far.specs.Far.{Far, isdu_after, layout_of, worked, reply_to, data_of, page_octet}
+use Rattle.iol_far.specs.Codec.{flow_of, message_in, octets_of}
+use Rattle.iol_mseq.specs.declared.master.MasterMsg.{MasterMsg}
+use Rattle.iol_page.specs.Page.{knows_isdu}
+use Rattle.std.specs.Option.{option_or}
+use Rattle.iol_isdu.specs.declared.fault.IsduFault.{IsduFault}
+use Rattle.iol_segment.specs.Join.{Stage}
+use Rattle.iol_judge.specs.declared.had.Ahead.{Ahead}
+use Rattle.iol_judge.specs.declared.had.Had.{Had}
+use Rattle.iol_judge.specs.declared.had.TheConstants.{MOST_HAD}
+use Rattle.iol_judge.specs.declared.reason.Reason.{Reason}
+use Rattle.iol_judge.specs.declared.reason.Reason.TheVariants.{SegmentChanged, AnswerPadding, InvalidNotZero, PageZero, CycleTime}
+use Rattle.iol_judge.specs.declared.transfer.Transfer.{Transfer}
+use Rattle.iol_judge.specs.declared.transfer.Transfer.TheVariants as known
+use Rattle.iol_judge.specs.Octets.{are_zeros}
+use Rattle.iol_judge.specs.Answers.{ahead_fault, behind_fault, first_had, had_with, is_busy, next_fault, open_fault, same_fault, segment_fault, text_fault, text_fault_at, again_fault, ahead_told, ahead_with, one_ahead}
+use Rattle.iol_judge.specs.Transfers.{asked_told, isdu_fault, told_by, transfer_told}
+use Rattle.iol_judge.specs.UnderWay.{AreHad, first_ones, IsUnderWay, IsAnswered, IsAsked, AreAhead, later_ones}
+use Rattle.iol_segment.proofs.TextLaws.{joined-front}
+use Rattle.iol_judge.proofs.Sending.{begun_fits, first_grow, length_first, part_of_first, pointwise_self, zeros_behind, zeros_within, length_later, part_of_later, total_of_first, AreTexts, below_by, has_octets, same_by}
+use Rattle.std.proofs.lemmas.Bool.Decides.{nat_tests}
 use Rattle.iol_mseq.specs.Shape.{Shape}
 use Rattle.iol_mseq.specs.Replies.{reply_in}
-use Rattle.iol_mseq.specs.declared.master.MasterMsg.{MasterMsg}
 use Rattle.iol_mseq.specs.declared.reply.Reply.{Reply}
 use Rattle.iol_page.specs.Page as sheet
 use Rattle.iol_event.specs.Memory.{IsEventMemory, is_empty}
-use Rattle.iol_page.specs.Page.{knows_isdu}
-use Rattle.iol_far.specs.Codec.{flow_of, message_in, octets_of}
-use Rattle.iol_far.specs.Far.{Far, layout_of, worked, reply_to, data_of, page_octet}
-use Rattle.iol_judge.specs.declared.reason.Reason.{Reason}
-use Rattle.iol_judge.specs.declared.reason.Reason.TheVariants.{StatusWithoutData, InvalidNotZero, PageChanged, PageZero, CycleTime, ProcessNotZero, RestNotZero}
 use Rattle.iol_judge.specs.declared.verdict.Odd.{Odd}
 use Rattle.iol_judge.specs.declared.verdict.Odd.TheVariants.{Blamed, PassedOver}
 use Rattle.iol_judge.specs.declared.taken.Taken.{Taken}
 use Rattle.iol_judge.specs.declared.taken.Explained.TheVariants.{By}
 use Rattle.iol_judge.specs.declared.events.Shown.{Shown}
-use Rattle.iol_judge.specs.declared.events.Shown.TheVariants.{Fresh}
-use Rattle.iol_judge.specs.declared.transfer.Transfer.{Transfer}
-use Rattle.iol_judge.specs.declared.transfer.Transfer.TheVariants.{Quiet}
-use Rattle.iol_judge.specs.Octets.{are_zeros, is_other}
-use Rattle.iol_judge.specs.Transfers.{transfer_told}
-use Rattle.iol_judge.specs.UnderWay.{HasUnderWay, IsUnderWay}
-use Rattle.iol_judge.specs.Events.{flag_fault, flag_told}
+use Rattle.iol_judge.specs.Events.{flag_told}
 use Rattle.iol_judge.specs.Seen.{page_noted}
 use Rattle.iol_judge.specs.State.{State}
 use Rattle.iol_judge.specs.Replies.{cycle_told, data_fault, data_oddity, explained, explained_by, explained_if, held_against, is_of_page, learned, no_zeros, other_than, page_fault, page_oddity, reply_fault, reply_oddity, shown_told}
 use Rattle.iol_judge.specs.Judged.{noted, noted_at}
 use Rattle.iol_judge.specs.Admitted.{Admits, Agrees, AreShown}
-use Rattle.iol_judge.proofs.Sending.{AreTexts}
 use Rattle.iol_judge.proofs.Hearing.{control_is, shown_awake, under_way_awake}
-use Rattle.iol_judge.proofs.Telling.{IsSentBy, isdu_fits, neither, told_under_way, worked_sent, zeros_are}
 use Rattle.iol_judge.proofs.Shown.{events_fit, flag_fits, flagged_shown, same_known, set_agrees, told_shown}
 
+-- Behind a read of the ISDU channel an answer was sent, if there is one
+
+abbrev pub IsSent : IsduState → Type 0
+IsSent (Answered request answer None) = ⊥
+IsSent state = Unit {0}
+
+abbrev pub IsSentBy : Bool → Channel → IsduState → Type 0
+IsSentBy read Process state = Unit {0}
+IsSentBy true Isdu state = IsSent state
+IsSentBy read channel state = Unit {0}
+
+read_sent : (size : ℕ) (state : IsduState) (flow : Flow) → IsSent (isdu_read size state flow)
+read_sent size Empty Start = tt
+read_sent size (Receiving text last) Start = tt
+read_sent size (Whole request last) Start = tt
+read_sent size (Handed request) Start = tt
+read_sent size (Answered request answer last) Start = tt
+read_sent size (Answered request answer (Some i)) (Count count) =
+    let more = (count == (i + 1) % 16) && has_segment size (answer_text request answer) (i + 1) in
+    cond_both (nat_lt 0 i && (count == i % 16)) (Answered request answer (Some i))
+    (if more then Answered request answer (Some (i + 1)) else Empty) IsSent (λ e. tt)
+    (λ e. cond_both more (Answered request answer (Some (i + 1))) Empty IsSent (λ e. tt) (λ e. tt))
+read_sent size state flow = tt
+
+sent_by : (kind : Kind) (counted : Option ℕ) (knows : Bool) (size : ℕ) (state : IsduState)
+    (channel : Channel) (read : Bool) (flow : Flow) (octets : List ℕ)
+    → IsSentBy read channel (isdu_after kind counted knows size state channel read flow octets)
+sent_by kind counted true size state Isdu true flow octets = read_sent size _ flow
+sent_by kind counted false size state Isdu true flow octets = tt
+sent_by kind counted knows size state channel read flow octets = tt
+
+pub worked_sent : (there : Far) (octets : List ℕ) (message : MasterMsg)
+    → IsSentBy message.mc.read message.mc.channel (worked there octets message).isdu
+worked_sent there octets message = sent_by there.kind there.counted (knows_isdu there.page)
+    (layout_of there).od there.isdu message.mc.channel message.mc.read
+    (flow_of message.mc.address) message.od.items
+
+-- What it brings
+
+pub zeros_are : (n : ℕ) → are_zeros (replicate n 0) ≡ true
+zeros_are zero = refl
+zeros_are (suc n) = zeros_are n
+
+busy_is : (size : ℕ) → is_busy (1 ∷ replicate (size - 1) 0) ≡ true
+busy_is size = zeros_are (size - 1)
+
+pub neither : (a b : Option Reason) → a ≡ None → b ≡ None → option_or a b ≡ None
+neither None b e f = f
+neither (Some x) b e f = absurd (cc)
+
+abbrev pub IsNone : Option Reason → Type 0
+IsNone fault = fault ≡ None
+
+module _ (size : ℕ) (law : AreTexts size) (request : Request) (answer : Answer)
+    (fit : IsTrue (fits request answer)) where
+  abbrev its_text : List ℕ
+  its_text = answer_text request answer
+
+  not_busy : is_busy (segment size its_text 0) ≡ false
+  not_busy = ap (λ (b : Bool). b && are_zeros (drop 1 (segment size its_text 0)))
+      (law.texts.busy (is_read request) answer (law.fitting request answer fit))
+
+  holds : HoldsLength its_text
+  holds = law.texts.answers (is_read request) answer (law.fitting request answer fit)
+
+  accepted : answer_fault (is_read request) its_text ≡ None
+  accepted = law.texts.accepted (is_read request) answer (law.fitting request answer fit)
+
+  -- its segments are no fault
+  text_fits : (last : ℕ) → last * size < length its_text
+      → text_fault (is_read request) (joined size its_text last) ≡ None
+  text_fits last begins = ⊎_elim before ended (cases_lt _ _)
+    where
+      before : suc last * size < length its_text
+          → text_fault (is_read request) (joined size its_text last) ≡ None
+      before more =
+          ap (λ (s : Stage). text_fault_at (is_read request) s (joined size its_text last))
+          (law.texts.grows its_text last holds more) ∙ ap (open_fault (is_read request))
+          (joined-front size _ last (omega arith))
+          ∙ begun_fits _ _ _ holds accepted (omega arith) more
+
+      ended : length its_text ≤ suc last * size
+          → text_fault (is_read request) (joined size its_text last) ≡ None
+      ended most = ap (λ (s : Stage). text_fault_at (is_read request) s (joined size its_text last))
+          (law.texts.ends its_text last holds (begins, most))
+          ∙ rw (accepted, zeros_behind law.sized size its_text last (omega arith) most) refl
+
+  module _ (had : Had) (sent : ℕ) (are : AreHad size had its_text sent)
+      (read : is_read request ≡ had.read) where
+    -- the segment that was sent
+    abbrev its_segment : List ℕ
+    its_segment = segment size its_text sent
+
+    long : length had.text.items ≡ are.many * size
+    long = ap (λ (l : List ℕ). length l) are.octets ∙ length_first law.sized size its_text are.many
+
+    not_again : (had.at == 0 && is_busy its_segment) ≡ false
+    not_again = split (had.at == 0) refl
+      where
+        split : (b : Bool) → (had.at == 0) ≡ b → (b && is_busy its_segment) ≡ false
+        split false e = refl
+        split true e = rw (same_by size law.some sent 0 (omega (arith, eqb-true _ 0 e))) not_busy
+
+    -- it is the same as octets that begin with it
+    same_part : (octets : List ℕ) → take size octets ≡ its_segment
+        → same_fault octets its_segment ≡ None
+    same_part octets part = ap (λ (b : Bool). if b then None else Some SegmentChanged)
+        (ap (λ (l : List ℕ). pointwise nat_eq its_segment l) (ap (λ n. take n octets)
+        (law.sized size its_text sent) ∙ part) ∙ pointwise_self its_segment)
+
+    -- a segment that was had before
+    same_again : had.at < length had.text.items → same_fault (drop had.at had.text.items)
+        its_segment ≡ None
+    same_again lt =
+        let before : sent < are.many = below_by size law.some sent are.many (omega (arith, long)) in
+        same_part _ (ap (λ n. take size (drop n had.text.items)) are.at
+        ∙ ap (λ (l : List ℕ). take size (drop (sent * size) l)) are.octets
+        ∙ part_of_first law.sized size its_text are.many sent before)
+
+    long_ahead : (ahead : Ahead) (is : AreAhead size its_text ahead)
+        → length ahead.octets.items ≡ is.many * size
+    long_ahead ahead is = ap (λ (l : List ℕ). length l) is.octets
+        ∙ length_later law.sized size its_text is.number is.many
+
+    -- so is one behind others that weren't
+    again_fits : (ahead : Ahead) → AreAhead size its_text ahead → nat_le ahead.at had.at ≡ true
+        → nat_lt (had.at - ahead.at) (length ahead.octets.items) ≡ true
+        → same_fault (drop (had.at - ahead.at) ahead.octets.items) its_segment ≡ None
+    again_fits ahead is e f =
+        let from = leb-true ahead.at had.at e in
+        let below = ltb-true (had.at - ahead.at) (length ahead.octets.items) f in
+        let behind = sent - is.number in
+        let first : is.number < suc sent = below_by size law.some is.number (suc sent)
+        (omega arith) in
+        let last : sent < is.number + is.many = below_by size law.some sent (is.number + is.many)
+        (omega (arith, long_ahead ahead is, add-mul is.number is.many size)) in
+        let sum : is.number + behind ≡ sent = omega arith in
+        let place : had.at - ahead.at ≡ behind * size =
+        omega (arith, add-mul is.number behind size, ap (λ i. i * size) sum) in
+        same_part _ (ap (λ n. take size (drop n ahead.octets.items)) place ∙ ap (λ
+        (l : List ℕ). take size (drop (behind * size) l)) is.octets ∙ part_of_later law.sized size
+        its_text is.number is.many behind (omega arith) ∙ ap (λ i. segment size its_text i) sum)
+
+    ahead_again : (ahead : Option Ahead) → IfSome ahead (AreAhead size its_text)
+        → ahead_fault ahead had.at its_segment ≡ None
+    ahead_again None is = refl
+    ahead_again (Some ahead) is =
+        cond_both _ _ _ (λ (p : Option ℕ). again_fault ahead p its_segment ≡ None)
+        (λ e. let within = and_parts _ _ e in again_fits ahead is within.0 within.1) (λ e. refl)
+
+    -- the next one
+    next_is : had.at ≡ length had.text.items → sent ≡ are.many
+    next_is e = same_by size law.some sent _ (omega (arith, long))
+
+    grown : had.at ≡ length had.text.items → (had.text.items ++ its_segment)
+        ≡ joined size its_text are.many
+    grown e = ap (λ (l : List ℕ). l ++ its_segment) are.octets
+        ∙ ap (λ i. first_ones size its_text are.many ++ segment size its_text i) (next_is e)
+        ∙ first_grow law.sized size its_text are.many
+
+    begins_next : had.at ≡ length had.text.items → are.many * size < length its_text
+    begins_next e = rw (next_is e) at are.within
+
+    -- one behind a segment that wasn't had: there are zeros behind the text
+    behind_fits : (total : Result ℕ IsduFault) → total_at had.text.items ≡ total
+        → behind_fault total had.at its_segment ≡ None
+    behind_fits (Err fault) t = refl
+    behind_fits (Ok total) t = split (nat_le (had.at + length its_segment) total) refl
+      where
+        is_total : total ≡ length its_text
+        is_total = total_of_first size _ _ total holds are.begins (sym (ap total_at are.octets) ∙ t)
+
+        split : (b : Bool) → nat_le (had.at + length its_segment) total ≡ b → (if b || are_zeros
+            (drop (total - had.at) its_segment) then None else Some AnswerPadding) ≡ None
+        split true e = refl
+        split false e =
+            let piece = law.sized size its_text sent in
+            let past = leb-false _ total e in
+            let zeros : are_zeros (drop (total - had.at) its_segment) ≡ true =
+            ap (λ n. are_zeros (drop (n - had.at) its_segment)) is_total
+            ∙ ap (λ n. are_zeros (drop (length its_text - n) its_segment)) are.at ∙ zeros_within
+            law.sized size _ sent (omega arith) (omega (arith, is_total, past)) in
+            ap (λ (z : Bool). if z then None else Some AnswerPadding) zeros
+
+    next_fits : next_fault had its_segment ≡ None
+    next_fits = cond_both _ _ _ IsNone (λ e.
+        let here : had.at ≡ length had.text.items = eqb-true _ _ e in
+        ap (λ (r : Bool). text_fault r (had.text.items ++ its_segment)) (sym read)
+        ∙ ap (λ (l : List ℕ). text_fault (is_read request) l) (grown here)
+        ∙ text_fits _ (begins_next here)) (λ e. behind_fits _ refl)
+
+    segment_fits : segment_fault had its_segment ≡ None
+    segment_fits = rw not_again (cond_both _ _ _ IsNone (λ e. same_again (ltb-true _ _ e))
+        (λ e. neither _ _ (ahead_again _ are.ahead) next_fits))
+
+    -- and once it was had
+
+    one_holds : AreAhead size its_text (one_ahead had.at its_segment)
+    one_holds =
+        let none : sent ≡ sent + 0 = omega arith in
+        record {
+          number = sent;
+          many = 1;
+          at = are.at;
+          octets = ap (λ i. segment size its_text i) none;
+        }
+
+    with_holds : (ahead : Ahead) → AreAhead size its_text ahead → AreAhead size its_text
+        (ahead_with ahead had.at its_segment)
+    unfolding one_holds
+    with_holds ahead is = cond_both _ _ _ (AreAhead size its_text) (λ e.
+        let here : ahead.at + length ahead.octets.items ≡ had.at =
+        eqb-true _ _ (and_parts _ _ e).0 in
+        let number : sent ≡ is.number + is.many = same_by size law.some sent _
+        (omega (arith, long_ahead ahead is, add-mul is.number is.many size)) in
+        record {
+          number = is.number;
+          many = suc is.many;
+          at = is.at;
+          octets = ap (λ (l : List ℕ). l ++ its_segment) is.octets ∙ ap
+              (λ i. later_ones size its_text is.number is.many ++ segment size its_text i) number;
+        }) (λ e. one_holds)
+
+    ahead_holds : (ahead : Option Ahead) → IfSome ahead (AreAhead size its_text)
+        → AreAhead size its_text (ahead_told ahead had.at its_segment)
+    unfolding one_holds
+    ahead_holds None is = one_holds
+    ahead_holds (Some ahead) is =
+        cond_both _ ahead _ (AreAhead size its_text) (λ e. is) (λ e. with_holds ahead is)
+
+    had_holds : AreHad size (had_with had its_segment) its_text sent
+    had_holds = split (nat_lt (length had.text.items) had.at) (had.at == length had.text.items)
+        (nat_le (length had.text.items + length its_segment) MOST_HAD) refl
+      where
+        split : (missed new room : Bool) → (had.at == length had.text.items) ≡ new
+            → AreHad size (if missed then record had {
+              ahead = Some (ahead_told had.ahead had.at its_segment);
+            } else if (new && room) then record had {
+              text = record { items = had.text.items ++ its_segment };
+            } else had) its_text sent
+        split true new room e = record {
+          many = are.many;
+          octets = are.octets;
+          begins = are.begins;
+          ahead = ahead_holds _ are.ahead;
+          within = are.within;
+          at = are.at;
+          count = are.count;
+        }
+        split false false room e = are
+        split false true false e = are
+        split false true true e =
+            let here : had.at ≡ length had.text.items = eqb-true _ _ e in
+            let begins = begins_next here in
+            record {
+              many = suc are.many;
+              octets = grown here;
+              begins = omega arith;
+              ahead = are.ahead;
+              within = are.within;
+              at = are.at;
+              count = are.count;
+            }
+
+  -- the first segment was had
+  first_holds : AreHad size (first_had (is_read request) (segment size its_text 0)) its_text 0
+  first_holds =
+      let some = has_octets its_text
+      (law.texts.begins (is_read request) answer (law.fitting request answer fit)) in
+      record {
+        many = 1;
+        octets = refl;
+        begins = omega (arith, some);
+        ahead = tt;
+        within = omega (arith, some);
+        at = omega arith;
+        count = refl;
+      }
+
+answered_fits : (size : ℕ) → AreTexts size → (had : Had) (state : IsduState)
+    → IsAnswered size had state → segment_fault had (isdu_data size state) ≡ None
+answered_fits size law had (Answered request answer (Some i)) h =
+    segment_fits size law request answer h.1 had i h.2 h.0
+answered_fits size law had state h = absurd h
+
+had_read : (had : Had) (od : List ℕ) → (had_with had od).read ≡ had.read
+had_read had od = split (nat_lt (length had.text.items) had.at)
+    (had.at == length had.text.items && nat_le (length had.text.items + length od) MOST_HAD)
+  where
+    split : (missed b : Bool) → (if missed
+        then record had { ahead = Some (ahead_told had.ahead had.at od) } else if b
+        then record had { text = record { items = had.text.items ++ od } } else had).read ≡ had.read
+    split true b = refl
+    split false true = refl
+    split false false = refl
+
+told_answered : (size : ℕ) → AreTexts size → (had : Had) (state : IsduState)
+    → IsAnswered size had state → IsAnswered size (had_with had (isdu_data size state)) state
+told_answered size law had (Answered request answer (Some i)) h = (
+  h.0 ∙ sym (had_read had _),
+  h.1,
+  had_holds size law _ _ h.1 had i h.2 h.0,
+)
+told_answered size law had state h = absurd h
+
+module _ (hands_over : HandsOver) (counted : Option ℕ) (size : ℕ) (law : AreTexts size) where
+  pub isdu_fits : (transfer : Transfer) (state : IsduState) → IsUnderWay hands_over counted size
+      transfer state → IsSent state → isdu_fault transfer (isdu_data size state) ≡ None
+  unfolding first_holds
+  isdu_fits known.Quiet state h s = rw (h, zeros_are size) refl
+  isdu_fits (known.Receiving text last) state h s = rw (h, zeros_are size) refl
+  isdu_fits (known.Whole read last) state h s = refl
+  isdu_fits (known.Handed read last) (Handed request) h s = rw (busy_is size) refl
+  isdu_fits (known.Handed read last) (Answered request answer None) h s = absurd s
+  isdu_fits (known.Asked read last) (Handed request) h s = rw (busy_is size) refl
+  isdu_fits (known.Asked read last) (Answered request answer (Some zero)) h s =
+      rw (not_busy size law _ _ h.1, ← h.0)
+      (text_fits size law _ _ h.1 0 (first_holds size law _ _ h.1).within)
+  isdu_fits (known.Asked read last) (Answered request answer None) h s = absurd s
+  isdu_fits (known.Answered had) state h s = answered_fits size law had state h
+  isdu_fits (known.Perhaps had) state h s = elim h [
+    | inl is ↦ cond_both _ _ _ IsNone (λ e. refl) (λ e. answered_fits size law had state is)
+    | inr none ↦ rw (none, zeros_are size) refl
+  ]
+  isdu_fits known.Free state h s = refl
+  isdu_fits transfer state h s = absurd h
+
+  told_asked : (read : Bool) (last : Option ℕ) (state : IsduState)
+      → IsAsked hands_over counted read last state → IsSent state
+      → IsUnderWay hands_over counted size (asked_told read last (isdu_data size state)) state
+  told_asked read last (Handed request) h s = rw (busy_is size) h
+  told_asked read last (Answered request answer (Some zero)) h s =
+      rw (not_busy size law _ _ h.1) (rw (← h.0) (refl, h.1, first_holds size law _ _ h.1))
+  told_asked read last (Answered request answer None) h s = absurd s
+  told_asked read last state h s = absurd h
+
+  pub told_under_way : (transfer : Transfer) (state : IsduState)
+      → IsUnderWay hands_over counted size transfer state → IsSent state
+      → IsUnderWay hands_over counted size (told_by transfer (isdu_data size state)) state
+  told_under_way (known.Asked read last) state h s = told_asked read last state h s
+  told_under_way (known.Answered had) state h s = told_answered size law had state h
+  -- where it was sent, or the answer had ended before
+  told_under_way (known.Perhaps had) state h s = elim h [
+    | inl is ↦
+        let kept = had_with had (isdu_data size state) in
+        rw (answered_fits size law had state is) (cond_both (not (are_zeros (isdu_data size state)))
+        (known.Answered kept) (known.Perhaps kept)
+        (λ (t : Transfer). IsUnderWay hands_over counted size t state)
+        (λ e. told_answered size law had state is) (λ e. inl (told_answered size law had state is)))
+    | inr none ↦
+        let zeros = replicate size 0 in
+        rw (none, zeros_are size) (cond_both (is_some (segment_fault had zeros)) known.Quiet
+        (known.Perhaps (had_with had zeros))
+        (λ (t : Transfer). IsUnderWay hands_over counted size t Empty) (λ e. refl) (λ e. inr refl))
+  ]
+  told_under_way transfer state h s = h
+
 -- The checks of a reply
-
-zeros_alike : (octets : List ℕ) (reason : Reason) → are_zeros octets ≡ true
-    → no_zeros octets reason ≡ None
-zeros_alike octets reason e = ap (λ (b : Bool). if b then None else Some reason) e
-
-none_other : (known : Option ℕ) (octet : ℕ) (reason : Reason) → is_other known octet ≡ false
-    → other_than known octet reason ≡ None
-none_other known octet reason e = ap (λ (b : Bool). if b then Some reason else None) e
-
--- both checks for faults are passed
-two_pass : (a : Bool) (x : Reason) (c d : Option Reason) → a ≡ false → c ≡ None → d ≡ None
-    → (if a then Some x else option_or c d) ≡ None
-two_pass false x c d e f g = neither c d f g
-two_pass true x c d e f g = absurd (cc)
 
 status_fits : (a b : Bool) → ((not a && b) && a) ≡ false
 status_fits true b = refl
@@ -62,41 +425,32 @@ status_fits false false = refl
 invalid_zeros : (input : Option (List ℕ)) (size : ℕ) → (if not (size == 0) && not (is_some input)
     then no_zeros (if size == 0 then [] else unwrap_or input (replicate size 0)) InvalidNotZero
     else None) ≡ None
-invalid_zeros (Some image) size = split (size == 0)
+invalid_zeros input size = split (size == 0) input
   where
-    split : (b : Bool) → (if not b && false
-        then no_zeros (if b then [] else image) InvalidNotZero else None) ≡ None
-    split true = refl
-    split false = refl
-invalid_zeros None size = split (size == 0)
-  where
-    split : (b : Bool) → (if not b && true
-        then no_zeros (if b then [] else replicate size 0) InvalidNotZero else None) ≡ None
-    split true = refl
-    split false = zeros_alike (replicate size 0) InvalidNotZero (zeros_are size)
+    split : (b : Bool) (input : Option (List ℕ)) → (if not b && not (is_some input) then no_zeros
+        (if b then [] else unwrap_or input (replicate size 0)) InvalidNotZero else None) ≡ None
+    split true input = refl
+    split false None = rw (zeros_are size) refl
+    split false (Some image) = refl
+
+one_outside : (address : ℕ) → is_of_page address ≡ true → (address == 1) ≡ false
+one_outside address e = grind (arith, nat_tests)
 
 -- the octet at an address, by whether that is the cycle time's, and one of the page
 abbrev octet_if : Far → ℕ → Bool → Bool → ℕ
 octet_if far address one range =
     if one then far.cycle_time else if range then slice_index far.page (address - 2) else 0
 
--- an address of the page reads as what is known of it
+-- an address of the page reads as its octet there
+page_at : (far : Far) (address : ℕ) → is_of_page address ≡ true
+    → page_octet far address ≡ slice_index far.page (address - 2)
+page_at far address e = rw (one_outside _ e, e) refl
+
+-- that is what is known of it
 seen_fits : (seen : List (Option ℕ)) (far : Far) (address : ℕ) → Agrees seen far.page
     → (if is_of_page address then page_fault seen address (page_octet far address) else None) ≡ None
-seen_fits seen far address agrees = split (is_of_page address) (address == 1) refl refl
-  where
-    split : (range one : Bool) → is_of_page address ≡ range → (address == 1) ≡ one
-        → (if range then other_than
-        (if range then slice_index_or seen (address - 2) None else Some 0)
-        (octet_if far address one range) PageChanged else None) ≡ None
-    split false one e f = refl
-    split true true e f =
-        let is : address ≡ 1 = eqb-true address 1 f in
-        absurd (let no : is_of_page 1 ≡ true = subst (λ (a : ℕ). is_of_page a ≡ true) is e in cc)
-    split true false e f = none_other (slice_index_or seen (address - 2) None)
-        (slice_index far.page (address - 2)) PageChanged
-        (same_known (slice_index_or seen (address - 2) None)
-        (slice_index far.page (address - 2)) (agrees (address - 2)))
+seen_fits seen far address agrees = cond_both _ _ _ IsNone
+    (λ e. rw (page_at far address e, e, same_known _ _ (agrees (address - 2))) refl) (λ e. refl)
 
 -- and nothing is odd in it
 page_even : (cycle : Option ℕ) (far : Far) (address : ℕ) → IfSome cycle (λ o. far.cycle_time ≡ o)
@@ -106,8 +460,7 @@ page_even cycle far address at = split (address == 1) (is_of_page address)
     split : (one range : Bool) → (if one then other_than cycle (octet_if far address one range)
         CycleTime else if range then None else other_than (Some 0) (octet_if far address one range)
         PageZero) ≡ None
-    split true range =
-        none_other cycle far.cycle_time CycleTime (same_known cycle far.cycle_time at)
+    split true range = rw (same_known cycle _ at) refl
     split false true = refl
     split false false = refl
 
@@ -123,22 +476,17 @@ module _ (seen : List (Option ℕ)) (state : State) (far : Far) (size : ℕ) (la
       → (if read then data_fault seen state (not (is_empty far.events.frozen)) channel address
       (brought far size read channel address) else None) ≡ None
   data_fits true Page address sent = seen_fits seen far address agrees
-  data_fits true Diagnosis address sent = events_fit state.events far.events six shown address
-  data_fits true Isdu address sent =
-      isdu_fits far.kind.hands_over far.counted size law state.transfer far.isdu under_way sent
+  data_fits true Diagnosis address sent = events_fit _ _ six shown address
+  data_fits true Isdu address sent = isdu_fits _ _ size law _ _ under_way sent
   data_fits read channel address sent = refl
 
 data_even : (cycle : Option ℕ) (far : Far) (size : ℕ) (read : Bool) (channel : Channel)
     (address : ℕ) → IfSome cycle (λ o. far.cycle_time ≡ o) → (if read
     then data_oddity cycle channel address (brought far size read channel address) else None) ≡ None
-data_even cycle far size true Process address at =
-    zeros_alike (replicate size 0) ProcessNotZero (zeros_are size)
+data_even cycle far size true Process address at = rw (zeros_are size) refl
 data_even cycle far size true Page address at =
-    neither (page_oddity cycle address (page_octet far address))
-    (no_zeros (replicate (size - 1) 0) RestNotZero) (page_even cycle far address at)
-    (zeros_alike (replicate (size - 1) 0) RestNotZero (zeros_are (size - 1)))
-data_even cycle far size true Diagnosis address at =
-    zeros_alike (replicate (size - 1) 0) RestNotZero (zeros_are (size - 1))
+    neither _ _ (page_even cycle far address at) (rw (zeros_are (size - 1)) refl)
+data_even cycle far size true Diagnosis address at = rw (zeros_are _) refl
 data_even cycle far size read channel address at = refl
 
 none_held : (odd : Odd) → held_against odd None None ≡ None
@@ -163,60 +511,32 @@ module _ (seen : List (Option ℕ)) (there : Far) (octets : List ℕ) (message :
   abbrev its_answer : Reply
   its_answer = reply_to worked_far (layout_of there) message
 
-  abbrev its_data : List ℕ
-  its_data = brought worked_far (layout_of there).od message.mc.read message.mc.channel
-      message.mc.address
-
   no_fault : (state : State) → Admits state worked_far
       → reply_fault seen state (layout_of there) message.mc its_answer ≡ None
   no_fault state admits =
-      let size = (layout_of there).pd_in in
-      let flag = not (is_empty worked_far.events.frozen) in
       let shown = shown_awake state worked_far awake admits in
-      two_pass ((not (size == 0) && not (is_some there.input)) && (size == 0)) StatusWithoutData
-      (flag_fault state.events flag)
-      (if message.mc.read
-      then data_fault seen state flag message.mc.channel message.mc.address its_data else None)
-      (status_fits (size == 0) (not (is_some there.input)))
-      (flag_fits state.events worked_far.events shown)
-      (data_fits seen state worked_far (layout_of there).od law agrees memory.frozen shown
-      (under_way_awake state worked_far awake admits) message.mc.read message.mc.channel
-      message.mc.address
-      (worked_sent there.kind there.counted (knows_isdu there.page) (layout_of there).od
-      there.isdu message.mc.channel message.mc.read (flow_of message.mc.address)
-      message.od.items))
+      rw (status_fits ((layout_of there).pd_in == 0) (not (is_some there.input))) (neither _ _
+      (flag_fits state.events worked_far.events shown) (data_fits seen state worked_far (layout_of
+      there).od law agrees memory.frozen shown (under_way_awake state worked_far awake admits)
+      message.mc.read message.mc.channel message.mc.address (worked_sent there octets message)))
 
   -- nor is anything odd
   no_oddity : (state : State) → Admits state worked_far
       → reply_oddity state.cycle message.mc its_answer ≡ None
-  no_oddity state admits =
-      let size = (layout_of there).pd_in in
-      neither
-      (if not (size == 0) && not (is_some there.input)
-      then no_zeros (if size == 0 then [] else unwrap_or there.input (replicate size 0))
-      InvalidNotZero else None)
-      (if message.mc.read
-      then data_oddity state.cycle message.mc.channel message.mc.address its_data else None)
-      (invalid_zeros there.input size)
+  no_oddity state admits = neither _ _ (invalid_zeros there.input (layout_of there).pd_in)
       (data_even state.cycle worked_far (layout_of there).od message.mc.read message.mc.channel
       message.mc.address admits.cycle)
 
   pub explains : (odd : Odd) (found : Taken) (reply : List ℕ) → found.message ≡ message
       → found.layout ≡ layout_of there → Admits found.kept worked_far
       → reply_in (layout_of there) message.mc.read reply ≡ Some its_answer
-      → explained odd seen (Some found) reply
-      ≡ By (learned found.kept message.mc its_answer) None
+      → explained odd seen (Some found) reply ≡ By (learned found.kept message.mc its_answer) None
   explains odd found reply same_message same_layout admits reads =
       ap (λ (m : MasterMsg). explained_by odd seen found.kept found.layout m
-      (reply_in found.layout m.mc.read reply)) same_message
-      ∙ ap (λ (l : Shape). explained_by odd seen found.kept l message
-      (reply_in l message.mc.read reply)) same_layout
-      ∙ ap (λ (r : Option Reply). explained_by odd seen found.kept (layout_of there) message r)
-      reads
-      ∙ nothing_said odd (learned found.kept message.mc its_answer)
-      (reply_fault seen found.kept (layout_of there) message.mc its_answer)
-      (reply_oddity found.kept.cycle message.mc its_answer)
-      (no_fault found.kept admits) (no_oddity found.kept admits)
+      (reply_in found.layout m.mc.read reply)) same_message ∙ ap (λ (l : Shape). explained_by odd
+      seen found.kept l message (reply_in l message.mc.read reply)) same_layout ∙ ap
+      (λ (r : Option Reply). explained_by odd seen found.kept (layout_of there) message r) reads
+      ∙ nothing_said odd _ _ _ (no_fault _ admits) (no_oddity _ admits)
 
 -- What a reply tells
 
@@ -224,22 +544,21 @@ cycle_said : (old : Option ℕ) (far : Far) (size : ℕ) (read : Bool) (channel 
     (address : ℕ) → IfSome old (λ o. far.cycle_time ≡ o)
     → IfSome (cycle_told old read channel address
     (slice_index (brought far size read channel address) 0)) (λ o. far.cycle_time ≡ o)
-cycle_said old far size true Page address h = split (address == 1) old h
+cycle_said None far size true Page address h = split (address == 1)
   where
-    split : (b : Bool) (old : Option ℕ) → IfSome old (λ o. far.cycle_time ≡ o) → IfSome
-        (if b then option_or old
-        (Some (if b then far.cycle_time else sheet.page_octet far.page address)) else old)
-        (λ o. far.cycle_time ≡ o)
-    split true None h = refl
-    split b old h = h
+    split : (b : Bool) → IfSome (if b then Some (if b then far.cycle_time
+        else sheet.page_octet far.page address) else None) (λ o. far.cycle_time ≡ o)
+    split true = refl
+    split false = tt
+cycle_said (Some old) far size true Page address h = cond_both (address == 1) (Some old) (Some old)
+    (λ (c : Option ℕ). IfSome c (λ o. far.cycle_time ≡ o)) (λ e. h) (λ e. h)
 cycle_said old far size read channel address h = h
 
 events_said : (events : Shown) (far : Far) (size : ℕ) (read : Bool) (channel : Channel)
     (address : ℕ) → length far.events.frozen ≤ 6 → AreShown events far.events
     → AreShown (shown_told events read channel address
     (slice_index (brought far size read channel address) 0)) far.events
-events_said events far size true Diagnosis address six s =
-    told_shown events far.events six s address
+events_said events far size true Diagnosis address six s = told_shown _ _ six s _
 events_said events far size read channel address six s = s
 
 isdu_said : (size : ℕ) → AreTexts size → (transfer : Transfer) (far : Far) (read : Bool)
@@ -248,8 +567,7 @@ isdu_said : (size : ℕ) → AreTexts size → (transfer : Transfer) (far : Far)
     → IsSentBy read channel far.isdu
     → IsUnderWay far.kind.hands_over far.counted size (transfer_told transfer read channel
     (brought far size read channel address)) far.isdu
-isdu_said size law transfer far true Isdu address h sent =
-    told_under_way far.kind.hands_over far.counted size law transfer far.isdu h sent
+isdu_said size law transfer far true Isdu address h sent = told_under_way _ _ size law _ _ h sent
 isdu_said size law transfer far read channel address h sent = h
 
 pub learned_admits : (state : State) (far : Far) (message : MasterMsg)
@@ -270,31 +588,14 @@ learned_admits state far message law awake memory sent h =
       link = h.link;
       cycle = cycle_said state.cycle far (layout_of far).od message.mc.read message.mc.channel
           message.mc.address h.cycle;
-      events = subst (λ (b : Bool). AreShown (if b
-          then shown_told (flag_told state.events (not (is_empty far.events.frozen)))
-          message.mc.read message.mc.channel message.mc.address
-          (slice_index (reply_to far (layout_of far) message).od.items 0)
-          else Fresh) far.events) (sym awake) said;
-      isdu = subst (λ (b : Bool). HasUnderWay far (if b
-          then transfer_told state.transfer message.mc.read message.mc.channel
-          (reply_to far (layout_of far) message).od.items else Quiet)) (sym awake) isdu;
+      events = rw awake said;
+      isdu = rw awake isdu;
     }
 
 page_told : (seen : List (Option ℕ)) (far : Far) (address : ℕ) → Agrees seen far.page
     → Agrees (page_noted seen address (page_octet far address)) far.page
-page_told seen far address agrees =
-    split (nat_le 2 address && nat_le address 11) (address == 1) refl refl
-  where
-    split : (range one : Bool) → (nat_le 2 address && nat_le address 11) ≡ range → (address == 1)
-        ≡ one → Agrees (if range then slice_set seen (address - 2)
-        (Some (octet_if far address one range)) else seen) far.page
-    split false one e f = agrees
-    split true true e f =
-        let is : address ≡ 1 = eqb-true address 1 f in
-        absurd (let no : (nat_le 2 1 && nat_le 1 11)
-        ≡ true = subst (λ (a : ℕ). (nat_le 2 a && nat_le a 11) ≡ true) is e in cc)
-    split true false e f = set_agrees seen (λ k. slice_index far.page k) (address - 2)
-        (slice_index far.page (address - 2)) agrees refl
+page_told seen far address agrees = cond_both _ _ _ (λ (s : List (Option ℕ)). Agrees s far.page)
+    (λ e. rw (page_at far address e) (set_agrees seen _ _ _ agrees refl)) (λ e. agrees)
 
 noted_told : (seen : List (Option ℕ)) (far : Far) (reply : Reply) (size : ℕ) (read : Bool)
     (channel : Channel) (address : ℕ) → reply.od.items ≡ (brought far size read channel address)
@@ -305,17 +606,13 @@ noted_told seen far reply size true Page address e agrees =
     let first : slice_index (octets_of reply) 0 ≡ page_octet far address =
     ap (λ (od : List ℕ). slice_index (octets_of (record reply { od = record { items = od } })) 0) e
     in
-    subst (λ (octet : ℕ). Agrees (page_noted seen address octet) far.page) (sym first)
-    (page_told seen far address agrees)
+    rw first (page_told seen far address agrees)
 noted_told seen far reply size read channel address e agrees = agrees
 
 pub noted_agrees : (seen : List (Option ℕ)) (far : Far) (sent : List ℕ) (layout : Shape)
     (message : MasterMsg) → message_in layout sent ≡ Some message → (size : Shape)
     → Agrees seen far.page
     → Agrees (noted seen sent (octets_of (reply_to far size message))) far.page
-noted_agrees seen far sent layout message h size agrees =
-    subst (λ (mc : Mc). Agrees (noted_at seen mc.read mc.channel mc.address
-    (slice_index (octets_of (reply_to far size message)) 0)) far.page)
-    (control_is layout sent message h)
-    (noted_told seen far (reply_to far size message) size.od message.mc.read message.mc.channel
-    message.mc.address refl agrees)
+noted_agrees seen far sent layout message h size agrees = rw (← control_is layout sent message h)
+    (noted_told seen far (reply_to far size message) size.od message.mc.read
+    message.mc.channel message.mc.address refl agrees)

@@ -1,41 +1,128 @@
 -- What a state makes of octets is what the device makes of them that it stands for.
-use Rattle.std.proofs.Common.{◌≡◌, ◌⊎◌, inl, inr, ℕ, Bool, true, false, List, refl, sym, ◌∙◌, ap, subst}
+use Rattle.std.proofs.Common.{◌≡◌, ℕ, Bool, true, false, List, [], ◌∷◌, refl, sym, ◌∙◌, ap, subst, ◌⊎◌, inl, inr, ◌++◌, map}
+use Rattle.std.specs.Prelude.{Option, Some, None, IfSome, Result, Ok, Err, is_some, not, slice_index, if◌then◌else◌, ◌==◌, bytes_eq}
+use Rattle.iol_mseq.specs.Shape.{Shape}
+use Rattle.iol_page.specs.Page.{layouts_of, is_old, knows_isdu, IsAskedBy, PagesAskForLayouts}
+use Rattle.iol_page.specs.declared.page.Layouts.{Layouts}
+use Rattle.iol_page.specs.declared.fault.PageFault.{PageFault}
+use Rattle.iol_far.specs.declared.mode.Mode.{Mode}
+use Rattle.iol_far.specs.declared.mode.Mode.TheVariants.{Startup, Preoperate, Operate}
+use Rattle.iol_far.specs.Codec.{layout_in, layout_by, flow_of, message_in}
+use Rattle.iol_far.specs.Far.{known_mode, Far, WaitingCommand, layout_of, accepted, accepted_by, accepted_now, moved, worked, command_in, mode_asked, waits_after, cycle_time_after, is_confirm}
+use Rattle.iol_judge.specs.declared.open.Open.{Open}
+use Rattle.iol_judge.specs.Seen.{asked_for, layouts_by, layouts_known, layouts_seen}
+use Rattle.iol_judge.specs.Taking.{mode_layout, mode_known, cycle_after, state_after, taken_message, taken_asked}
+use Rattle.iol_judge.specs.Transfers.{isdu_known, is_apart, transfer_after, transfer_in, apart}
+use Rattle.iol_judge.specs.Admitted.{Agrees, Admits, AreShown}
 use Rattle.std.proofs.lemmas.Bool.{cond_both}
-use Rattle.std.specs.Prelude.{Option, Some, None, IfSome, is_some, Result, Ok, Err, slice_index, if◌then◌else◌, ◌==◌, bytes_eq}
 use Rattle.iol_octets.specs.Control.{control_of}
-use Rattle.iol_octets.specs.declared.control.Mc.{Mc}
 use Rattle.iol_octets.specs.declared.flow_control.Flow.{Flow}
 use Rattle.iol_octets.specs.declared.control.Channel.{Channel}
 use Rattle.iol_octets.specs.declared.control.Channel.TheVariants.{Page, Isdu}
-use Rattle.iol_mseq.specs.Shape.{Shape}
 use Rattle.iol_mseq.specs.Master.{master_fault, message_of}
 use Rattle.iol_mseq.specs.declared.master.MasterMsg.{MasterMsg}
-use Rattle.iol_page.specs.Page.{knows_isdu}
-use Rattle.iol_page.specs.declared.page.Layouts.{Layouts}
-use Rattle.iol_event.specs.Memory.{Events}
-use Rattle.iol_far.specs.declared.mode.Mode.{Mode}
-use Rattle.iol_far.specs.Codec.{flow_of, layout_in, message_in}
 use Rattle.iol_far.specs.declared.kind.Kind.{Kind}
-use Rattle.iol_far.specs.Far.{Far, WaitingCommand, layout_of, accepted, accepted_by, accepted_now, moved, worked, command_in, mode_asked, known_mode, waits_after, cycle_time_after, events_after, is_confirm}
 use Rattle.iol_far.specs.Level.{Link, link_of, taken, taken_by}
-use Rattle.iol_judge.specs.declared.open.Open.{Open}
 use Rattle.iol_judge.specs.declared.taken.Taken.{Taken}
-use Rattle.iol_judge.specs.declared.events.Shown.TheVariants.{Fresh}
-use Rattle.iol_judge.specs.Events.{shown_after}
 use Rattle.iol_judge.specs.declared.transfer.Transfer.{Transfer}
 use Rattle.iol_judge.specs.declared.transfer.Transfer.TheVariants.{Quiet}
-use Rattle.iol_judge.specs.Transfers.{is_apart, isdu_known, transfer_after, transfer_in}
-use Rattle.iol_judge.specs.Family.{has_kind, kind_in}
-use Rattle.iol_judge.specs.State.{State, tells_apart}
+use Rattle.iol_judge.specs.Family.{has_kind, kind_in, all_kinds, has_by, only_by, only_kind}
+use Rattle.iol_judge.specs.State.{State, tells_apart, all_parts, parts, parts_of, state_of}
 use Rattle.iol_judge.specs.Taking as take
-use Rattle.iol_judge.specs.Taking.{mode_layout, mode_known, cycle_after, state_after, taken_in, taken_message, taken_asked}
-use Rattle.iol_judge.specs.Admitted.{Admits, AreShown}
 use Rattle.iol_judge.specs.UnderWay.{HasUnderWay}
-use Rattle.iol_judge.proofs.Layouts.{Knows}
+use Rattle.iol_judge.proofs.Sets.{bound, One, of_kinds}
 use Rattle.iol_judge.proofs.Shown.{worked_shown}
-use Rattle.iol_judge.proofs.Sending.{AllTexts, AreTexts}
-use Rattle.iol_judge.proofs.Transferring.{transfer_worked}
-use Rattle.iol_judge.proofs.Alike.{alike_after}
+use Rattle.iol_judge.proofs.Sending.{AllTexts, manner}
+use Rattle.iol_judge.proofs.Transferring.{transfer_worked, alike_after, OneUnderWay, apart_under_way}
+use Rattle.iol_far.specs.declared.kind.HandsOver.{HandsOver}
+use Rattle.iol_far.specs.declared.kind.HandsOver.TheVariants.{FirstRead, LastSegment}
+use Rattle.iol_far.specs.declared.kind.Recalls.{Recalls}
+use Rattle.iol_far.specs.declared.kind.Recalls.TheVariants.{UntilLeft, UntilSent}
+
+-- Layouts that are known are the device's
+
+pub record Knows (known : Result Layouts Open) (page : List ℕ) : Type 0 where
+  pub layout : (mode : Mode) (layout : Shape) → mode_layout known mode ≡ Ok layout
+      → layout_in page mode ≡ layout
+  pub mode : (asked found : Option Mode) → mode_known known asked ≡ Ok found
+      → known_mode page asked ≡ found
+  pub isdu : IfSome (isdu_known known) (λ there. knows_isdu page ≡ there)
+
+asked_ok : (asked : Result Layouts PageFault) (layouts : Layouts) → asked_for asked ≡ Ok layouts
+    → asked ≡ Ok layouts
+asked_ok (Ok l) layouts h = let e : l ≡ layouts = cc in ap Ok e
+asked_ok (Err fault) layouts h = absurd (cc)
+
+abbrev Told : List ℕ → ℕ → Option ℕ → Type 0
+Told page place known = IfSome known (λ octet. slice_index page place ≡ octet)
+
+known_by : (page : List ℕ) (layouts : Layouts) (c r i o : Option ℕ) → Told page 1 c → Told page 2 r
+    → Told page 3 i → Told page 4 o → layouts_known c r i o ≡ Ok layouts
+    → layouts_of page ≡ Ok layouts
+unfolding layouts_by
+known_by page layouts (Some c) (Some r) (Some i) (Some o) tc tr ti to h =
+    rw (tc, tr, ti, to) (asked_ok _ _ h)
+known_by page layouts c r i o tc tr ti to h = absurd (cc)
+
+seen_layouts : (seen : List (Option ℕ)) (page : List ℕ) (layouts : Layouts) → Agrees seen page
+    → layouts_seen seen ≡ Ok layouts → layouts_of page ≡ Ok layouts
+seen_layouts seen page layouts agrees h =
+    known_by page _ _ _ _ _ (agrees 1) (agrees 2) (agrees 3) (agrees 4) h
+
+layout_known : (page : List ℕ) (layouts : Layouts) → layouts_of page ≡ Ok layouts
+    → (mode : Mode) (layout : Shape) → mode_layout (Ok layouts) mode ≡ Ok layout
+    → layout_by mode (layouts_of page) ≡ layout
+layout_known page layouts asks mode layout h = rw asks (split mode h)
+  where
+    split : (mode : Mode) → mode_layout (Ok layouts) mode ≡ Ok layout → layout_by mode (Ok layouts)
+        ≡ layout
+    split Startup h = cc
+    split mode h = cc
+
+mode_found : (page : List ℕ) (layouts : Layouts) → IsAskedBy page layouts
+    → (asked found : Option Mode) → mode_known (Ok layouts) asked ≡ Ok found
+    → known_mode page asked ≡ found
+mode_found page layouts asks (Some Preoperate) found h = split (is_old page) (rw asks.old at h)
+  where
+    split : (old : Bool) → ◌≡◌ {A = Result (Option Mode) Open}
+        (Ok (if not old then Some Preoperate else None)) (Ok found)
+        → (if old then None else Some Preoperate) ≡ found
+    split true h = cc
+    split false h = cc
+mode_found page layouts asks asked found h = cc
+
+knows_none : (page : List ℕ) (why : Open) → Knows (Err why) page
+unfolding layout_in
+knows_none page why = record { layout = layouts; mode = modes; isdu = tt }
+  where
+    layouts : (mode : Mode) (layout : Shape) → mode_layout (Err why) mode ≡ Ok layout
+        → layout_by mode (layouts_of page) ≡ layout
+    layouts Startup layout h = cc
+    layouts mode layout h = absurd (cc)
+
+    modes : (asked found : Option Mode) → mode_known (Err why) asked ≡ Ok found
+        → known_mode page asked ≡ found
+    modes (Some Preoperate) found h = absurd (cc)
+    modes (Some Operate) found h = absurd (cc)
+    modes asked found h = cc
+
+pub knows : PagesAskForLayouts → (seen : List (Option ℕ)) (page : List ℕ) → Agrees seen page
+    → Knows (layouts_seen seen) page
+unfolding layout_in
+knows law seen page agrees = split (layouts_seen seen) refl
+  where
+    split : (known : Result Layouts Open) → layouts_seen seen ≡ known → Knows known page
+    split (Ok layouts) e =
+        let asks : layouts_of page ≡ Ok layouts = seen_layouts seen page _ agrees e in
+        let by : IsAskedBy page layouts = rw asks at (law page) in
+        record {
+          layout = layout_known page _ asks;
+          mode = mode_found page _ by;
+          isdu = sym by.isdu;
+        }
+    split (Err why) e = knows_none page why
+
+-- Hearing
 
 -- the device as it accepts the octets, if it does, by the command that waits
 pub record AcceptingBy (waits : Option WaitingCommand) (far there : Far) (octets : List ℕ) : Type 0
@@ -79,40 +166,34 @@ accepting_by (Some command) far octets = split (bytes_eq octets command.octets) 
     split true e = (
       far,
       record {
-        link = ap (λ (b : Bool). if b then link_of far else record
-            { mode = command.into; waits = None }) (sym e);
+        link = rw e refl;
         page = refl;
         kind = refl;
         cycle = refl;
         events = refl;
-        isdu = λ transfer h. subst (λ (b : Bool). HasUnderWay far
-            (if b then transfer else Quiet)) (sym e) h;
+        isdu = λ transfer h. rw e h;
         awake = refl;
-        accepts = ap (λ (b : Bool). if b then accepted_now far octets else accepted_now
-            (moved far command.into) octets) e;
+        accepts = rw e refl;
       },
     )
     split false e = (
       moved far command.into,
       record {
-        link = ap (λ (b : Bool). if b then link_of far else record
-            { mode = command.into; waits = None }) (sym e);
+        link = rw e refl;
         page = refl;
         kind = refl;
         cycle = refl;
         events = refl;
-        isdu = λ transfer h. subst (λ (b : Bool). HasUnderWay (moved far command.into)
-            (if b then transfer else Quiet)) (sym e) refl;
+        isdu = λ transfer h. rw e refl;
         awake = refl;
-        accepts = ap (λ (b : Bool). if b then accepted_now far octets else accepted_now
-            (moved far command.into) octets) e;
+        accepts = rw e refl;
       },
     )
 
 pub accepting : (far : Far) (octets : List ℕ) → far.awake ≡ true
     → (there : Far) × Accepting far there octets
 accepting far octets awake =
-    let found = accepting_by far.waits far octets in (
+    let found = accepting_by _ far _ in (
       found.0,
       record {
         by = found.1;
@@ -131,8 +212,7 @@ Fits there octets (Some message) (Some found) = (found.message ≡ message)
     × (found.layout ≡ layout_of there) × Admits found.kept (worked there octets message)
 
 cycle_admits : (old : ℕ) (known : Option ℕ) (channel : Channel) (read : Bool) (address octet : ℕ)
-    → IfSome known (λ o. old ≡ o)
-    → IfSome (cycle_after known channel read address octet)
+    → IfSome known (λ o. old ≡ o) → IfSome (cycle_after known channel read address octet)
     (λ o. cycle_time_after old channel read address octet ≡ o)
 cycle_admits old known Page false address octet h = split (address == 1)
   where
@@ -148,13 +228,7 @@ worked_link : (there : Far) (link : Link) (octets : List ℕ) (asked : Option Mo
     → link_of there ≡ link → known_mode there.page (mode_asked (command_in message)) ≡ asked
     → link_of (worked there octets message)
     ≡ record { mode = link.mode; waits = waits_after link.mode link.waits octets asked }
-worked_link there link octets asked message at finds =
-    ap (λ (a : Option Mode). record {
-      mode = there.mode;
-      waits = waits_after there.mode there.waits octets a;
-    }) finds
-    ∙ ap (λ (l : Link). record { mode = l.mode; waits = waits_after l.mode l.waits octets asked })
-    at
+worked_link there link octets asked message at finds = rw (finds, ← at) refl
 
 -- all devices of the state do the same on these octets, or the state is of one kind
 abbrev pub Moves : State → Kind → List ℕ → Type 0
@@ -184,159 +258,181 @@ in_alike : (waits : Option WaitingCommand) (octets : List ℕ) (transfer : Trans
     → is_apart (transfer_in waits octets transfer) channel read flow ≡ false
 in_alike None octets transfer channel read flow e = e
 in_alike (Some command) octets transfer channel read flow e =
-    cond_both (bytes_eq octets command.octets) transfer Quiet
-    (λ (t : Transfer). is_apart t channel read flow ≡ false)
-    (λ same. e) (λ other. quiet_alike channel read flow)
+    cond_both _ _ Quiet (λ (t : Transfer). is_apart t channel read flow ≡ false) (λ same. e)
+    (λ other. quiet_alike _ read flow)
 
-module _ (known : Result Layouts Open) (page : List ℕ) (knows : Knows known page) (there : Far)
-    (link : Link) (state : State) (octets : List ℕ) (there_page : there.page ≡ page)
-    (at : link_of there ≡ link) (admits : IfSome state.cycle (λ o. there.cycle_time ≡ o))
-    (awake : there.awake ≡ true) (shown : AreShown state.events there.events)
-    (under_way : HasUnderWay there (transfer_in state.link.waits octets state.transfer))
-    (texts : AreTexts (layout_of there).od) (kind : has_kind state.kinds there.kind ≡ true)
-    (moves : Moves state there.kind octets) where
-  shown_worked : (confirm : Bool)
-      → AreShown (if there.awake then shown_after state.events confirm else Fresh)
-      (events_after there.events confirm)
-  shown_worked confirm =
-      subst (λ (b : Bool). AreShown (if b then shown_after state.events confirm else Fresh)
-      (events_after there.events confirm)) (sym awake)
-      (worked_shown state.events there.events confirm shown)
+-- the events of a device that is awake
+pub shown_awake : (state : State) (far : Far) → far.awake ≡ true → Admits state far
+    → AreShown state.events far.events
+shown_awake state far awake admits = rw awake at admits.events
 
-  -- what is known of its transfer once a device of a kind worked the message
+-- and its transfer
+pub under_way_awake : (state : State) (far : Far) → far.awake ≡ true → Admits state far
+    → HasUnderWay far state.transfer
+under_way_awake state far awake admits = rw awake at admits.isdu
+
+module _ (known : Result Layouts Open) (far there : Far) (octets : List ℕ) (state : State)
+    (texts : AllTexts) (knows : Knows known far.page) (accepting : Accepting far there octets)
+    (admits : Admits state far) (moves : Moves state far.kind octets) where
+  abbrev its_link : Link
+  its_link = taken state.link octets
+
+  at : link_of there ≡ its_link
+  at = accepting.by.link ∙ ap (λ (l : Link). taken l octets) admits.link
+
+  -- what is known of its transfer, and what is once a device of a kind worked the message
+  abbrev its_transfer : Transfer
+  its_transfer = transfer_in state.link.waits octets state.transfer
+
   abbrev moved_by : Kind → ℕ → MasterMsg → Transfer
-  moved_by by size message = transfer_after by (isdu_known known) size
-      (transfer_in state.link.waits octets state.transfer) message.mc.channel message.mc.read
-      (flow_of message.mc.address) message.od.items
+  moved_by by size message = transfer_after by (isdu_known known) size its_transfer
+      message.mc.channel message.mc.read (flow_of message.mc.address) message.od.items
 
   -- its transfer moves as that of a device of this kind does
   moves_alike : (size : ℕ) (message : MasterMsg) → message.mc ≡ control_of (slice_index octets 0)
       → moved_by there.kind size message ≡ moved_by (kind_in state.kinds) size message
   moves_alike size message mc = elim moves [
-    | inl is ↦ ap (λ (k : Kind). moved_by k size message) (sym is)
+    | inl is ↦ ap (λ (k : Kind). moved_by k size message) (accepting.by.kind ∙ sym is)
     | inr same ↦ alike_after there.kind (kind_in state.kinds) (isdu_known known) size
-        (transfer_in state.link.waits octets state.transfer) message.mc.channel message.mc.read
-        (flow_of message.mc.address) message.od.items
-        (in_alike state.link.waits octets state.transfer message.mc.channel message.mc.read
-        (flow_of message.mc.address)
-        (subst (λ (m : Mc). is_apart state.transfer m.channel m.read (flow_of m.address) ≡ false)
-        (sym mc) same))
+        its_transfer message.mc.channel message.mc.read
+        (flow_of message.mc.address) message.od.items (in_alike state.link.waits octets
+        state.transfer message.mc.channel message.mc.read (flow_of message.mc.address) (rw mc same))
   ]
 
   transfer_after_it : (layout : Shape) (message : MasterMsg)
       → message.mc ≡ control_of (slice_index octets 0) → layout ≡ layout_of there
       → HasUnderWay (worked there octets message) (if there.awake
-      then (state_after known link state octets layout message None).transfer else Quiet)
+      then (state_after known its_link state octets layout message None).transfer else Quiet)
   transfer_after_it layout message mc l =
-      subst (λ (b : Bool). HasUnderWay (worked there octets message) (if b
-      then (state_after known link state octets layout message None).transfer else Quiet))
-      (sym awake)
-      (subst (λ (s : Shape). HasUnderWay (worked there octets message)
-      (state_after known link state octets s message None).transfer) (sym l)
-      (subst (λ (t : Transfer). HasUnderWay (worked there octets message) t)
-      (moves_alike (layout_of there).od message mc)
-      (transfer_worked there.kind there.counted (isdu_known known) (knows_isdu there.page)
-      (layout_of there).od texts
-      (subst (λ (p : List ℕ). IfSome (isdu_known known) (λ b. knows_isdu p ≡ b)) (sym there_page)
-      knows.isdu)
-      (transfer_in state.link.waits octets state.transfer) there.isdu message.mc.channel
-      message.mc.read (flow_of message.mc.address) message.od.items under_way)))
+      rw accepting.awake (rw l (rw (moves_alike (layout_of there).od message mc) at
+      (transfer_worked (manner there (texts there)) (isdu_known known) (knows_isdu there.page)
+      (rw accepting.by.page knows.isdu) its_transfer there.isdu message.mc.channel message.mc.read
+      (flow_of message.mc.address) message.od.items (rw (← admits.link)
+      (accepting.by.isdu state.transfer (under_way_awake state far accepting.hears admits))))))
 
   fits_asked : (layout : Shape) (message : MasterMsg) (asked : Result (Option Mode) Open)
       → message.mc ≡ control_of (slice_index octets 0)
       → mode_known known (mode_asked (command_in message)) ≡ asked → layout ≡ layout_of there
-      → (found : Option Taken) → taken_asked known link state octets layout message asked ≡ Ok found
-      → Fits there octets (Some message) found
+      → (found : Option Taken) → taken_asked known its_link state octets layout message asked
+      ≡ Ok found → Fits there octets (Some message) found
   unfolding Fits
   fits_asked layout message (Ok asked) mc e l (Some found) h =
       let is : ◌≡◌ {A = Taken} (record {
-        kept = state_after known link state octets layout message asked;
-        layout
-            = layout;
+        kept = state_after known its_link state octets layout message asked;
+        layout = layout;
         message = message;
-      }) found = cc in
-      let finds : known_mode there.page (mode_asked (command_in message)) ≡ asked =
-      subst (λ (p : List ℕ). known_mode p (mode_asked (command_in message)) ≡ asked)
-      (sym there_page)
-      (knows.mode (mode_asked (command_in message)) asked e) in
-      let all : (message ≡ message) × (layout ≡ layout_of there)
-      × Admits (state_after known link state octets layout message asked)
-      (worked there octets message) = (
-        refl,
-        l,
-        record {
-          kind = kind;
-          link = worked_link there link octets asked message at finds;
+      }) found = cc in (
+        ap (λ (t : Taken). t.message) (sym is),
+        ap (λ (t : Taken). t.layout) (sym is) ∙ l,
+        subst (λ (t : Taken). Admits t.kept (worked there octets message)) is (record {
+          kind = rw accepting.by.kind admits.kind;
+          link = worked_link there its_link octets asked message at
+              (rw accepting.by.page (knows.mode (mode_asked (command_in message)) asked e));
           cycle = cycle_admits there.cycle_time state.cycle message.mc.channel message.mc.read
-              message.mc.address
-              (slice_index message.od.items 0) admits;
-          events = shown_worked
-              (is_confirm message.mc.channel message.mc.read message.mc.address);
+              message.mc.address (slice_index message.od.items 0)
+              (rw accepting.by.cycle admits.cycle);
+          events = rw accepting.awake (worked_shown state.events there.events
+              (is_confirm message.mc.channel message.mc.read message.mc.address)
+              (rw accepting.by.events (shown_awake state far accepting.hears admits)));
           isdu = transfer_after_it layout message mc l;
-        },
-      ) in
-      subst (λ (t : Taken). (t.message ≡ message) × (t.layout ≡ layout_of there) × Admits t.kept
-      (worked there octets message)) is all
+        }),
+      )
   fits_asked layout message asked mc e l found h = absurd (cc)
 
-  fits_message : (layout : Shape) (message : Option MasterMsg)
-      → message_in layout octets ≡ message → layout ≡ layout_of there
-      → (found : Option Taken) → taken_message known link state octets layout message ≡ Ok found
-      → Fits there octets message found
+  fits_message : (layout : Shape) (message : Option MasterMsg) → message_in layout octets ≡ message
+      → layout ≡ layout_of there → (found : Option Taken) → taken_message known its_link state
+      octets layout message ≡ Ok found → Fits there octets message found
   unfolding Fits
   fits_message layout None e l found h = cc
   fits_message layout (Some message) e l found h =
-      fits_asked layout message (mode_known known (mode_asked (command_in message)))
-      (control_is layout octets message e) refl l found h
+      fits_asked _ _ _ (control_is _ _ _ e) refl l found h
 
-  fits_layout : (layout : Result Shape Open) → mode_layout known link.mode ≡ layout
-      → (found : Option Taken) → taken_in known link state octets layout ≡ Ok found
+  -- a state that stands for the device makes of the octets what it makes of them
+  pub state_fits : (found : Option Taken) → take.taken_by known state octets ≡ Ok found
       → Fits there octets (message_in (layout_of there) octets) found
-  fits_layout (Err why) e found h = absurd (cc)
-  fits_layout (Ok layout) e found h =
-      let in_page : layout_in page link.mode ≡ layout = knows.layout link.mode layout e in
-      let mode : link.mode ≡ there.mode = ap (λ (l : Link). l.mode) (sym at) in
-      let l : layout ≡ layout_of there =
-      sym in_page ∙ ap (λ (m : Mode). layout_in page m) mode
-      ∙ ap (λ (p : List ℕ). layout_in p there.mode) (sym there_page) in
-      subst (λ (s : Shape). Fits there octets (message_in s octets) found) l
-      (fits_message layout (message_in layout octets) refl l found h)
+  state_fits found h =
+      let s = bound _ _ h in
+      let l : s.0 ≡ layout_of there = sym (knows.layout its_link.mode s.0 s.1)
+      ∙ ap (λ (l : Link). layout_in far.page l.mode) (sym at)
+      ∙ ap (λ (p : List ℕ). layout_in p there.mode) (sym accepting.by.page) in
+      rw l at (fits_message s.0 _ refl l found s.2)
 
--- the events of a device that is awake
-pub shown_awake : (state : State) (far : Far) → far.awake ≡ true → Admits state far
-    → AreShown state.events far.events
-shown_awake state far awake admits =
-    subst (λ (b : Bool). AreShown (if b then state.events else Fresh) far.events) awake
-    admits.events
+-- What a state stands for is told apart by kinds where a message tells them apart
 
--- and its transfer
-pub under_way_awake : (state : State) (far : Far) → far.awake ≡ true → Admits state far
-    → HasUnderWay far state.transfer
-under_way_awake state far awake admits =
-    subst (λ (b : Bool). HasUnderWay far (if b then state.transfer else Quiet)) awake admits.isdu
+-- a state stands for the device, and moves as it does
+abbrev pub IsPart : Far → List ℕ → State → Type 0
+IsPart far sent part = Admits part far × Moves part far.kind sent
 
--- a state that stands for the device makes of the octets what it makes of them
-pub state_fits : (known : Result Layouts Open) (far there : Far) (octets : List ℕ) (state : State)
-    (found : Option Taken) → AllTexts → Knows known far.page → Accepting far there octets
-    → Admits state far → Moves state far.kind octets
-    → take.taken_by known state octets ≡ Ok found
-    → Fits there octets (message_in (layout_of there) octets) found
-state_fits known far there octets state found texts knows accepting admits moves h =
-    let shown = shown_awake state far accepting.hears admits in
-    let before = under_way_awake state far accepting.hears admits in
-    let at : link_of there ≡ taken state.link octets =
-    accepting.by.link ∙ ap (λ (l : Link). taken l octets) admits.link in
-    fits_layout known far.page knows there (taken state.link octets) state octets
-    accepting.by.page
-    at (let P : ℕ → Type 0 = λ c. IfSome state.cycle (λ o. c ≡ o) in
-    subst P (sym accepting.by.cycle)
-    admits.cycle)
-    accepting.awake (subst (λ (m : Events). AreShown state.events m) (sym accepting.by.events)
-    shown)
-    (subst (λ (l : Link). HasUnderWay there
-    (transfer_in l.waits octets state.transfer)) admits.link
-    (accepting.by.isdu state.transfer before))
-    (texts there) (subst (λ (k : Kind). has_kind state.kinds k ≡ true) (sym accepting.by.kind)
-    admits.kind)
-    (subst (λ (k : Kind). Moves state k octets) (sym accepting.by.kind) moves)
-    (mode_layout known (taken state.link octets).mode) refl found h
+pub all_have : (kind : Kind) → has_kind all_kinds kind ≡ true
+all_have kind = of_kinds (λ o r. has_by all_kinds o r ≡ true) refl refl refl refl
+    kind.hands_over kind.recalls
+
+only_has : (kind : Kind) → has_kind (only_kind kind) kind ≡ true
+only_has kind = of_kinds (λ o r. has_by (only_by o r) o r ≡ true) refl refl refl refl
+    kind.hands_over kind.recalls
+
+abbrev kind_of : HandsOver → Recalls → Kind
+kind_of hands_over recalls = record { hands_over = hands_over; recalls = recalls }
+
+only_in : (kind : Kind) → kind_in (only_kind kind) ≡ kind
+only_in kind = of_kinds (λ o r. kind_in (only_by o r) ≡ kind_of o r) refl refl refl refl
+    kind.hands_over kind.recalls
+
+-- one of more
+first_one : {S : Type 0} (Q : S → Type 0) (xs ys : List S) → One Q xs → One Q (xs ++ ys)
+first_one Q [] ys h = absurd h
+first_one Q (x ∷ xs) ys (inl h) = inl h
+first_one Q (x ∷ xs) ys (inr h) = inr (first_one Q xs ys h)
+
+later_one : {S : Type 0} (Q : S → Type 0) (xs ys : List S) → One Q ys → One Q (xs ++ ys)
+later_one Q [] ys h = h
+later_one Q (x ∷ xs) ys h = inr (later_one Q xs ys h)
+
+module _ (far : Far) (sent : List ℕ) (texts : AllTexts) (awake : far.awake ≡ true)
+    (state : State) (admits : Admits state far) where
+  -- of its own kind
+  its_parts : (kind : Kind) → far.kind ≡ kind → (transfers : List Transfer)
+      → OneUnderWay far.kind.hands_over far.counted (layout_of far).od transfers far.isdu
+      → One (IsPart far sent) (map (state_of state kind) transfers)
+  its_parts kind is [] h = absurd h
+  its_parts kind is (transfer ∷ transfers) (inr h) = inr (its_parts kind is transfers h)
+  its_parts kind is (transfer ∷ transfers) (inl h) = inl (
+    record {
+      kind = rw is (only_has kind);
+      link = admits.link;
+      cycle = admits.cycle;
+      events = admits.events;
+      isdu = rw awake h;
+    },
+    inl (only_in kind ∙ sym is),
+  )
+
+  kind_parts : (kind : Kind) → far.kind ≡ kind → One (IsPart far sent) (parts_of state kind)
+  kind_parts kind is =
+      let has = rw is at admits.kind in
+      rw has (its_parts kind is (apart state.transfer) (apart_under_way far.kind.hands_over
+      far.counted (layout_of far).od (texts far) state.transfer far.isdu (rw awake at admits.isdu)))
+
+  abbrev its : HandsOver → Recalls → List State
+  its hands_over recalls = parts_of state (kind_of hands_over recalls)
+
+  abbrev two : List State
+  two = its FirstRead UntilLeft ++ its FirstRead UntilSent
+
+  abbrev three : List State
+  three = two ++ its LastSegment UntilLeft
+
+  of_all : One (IsPart far sent) (all_parts state)
+  of_all =
+      let Q = IsPart far sent in
+      let to_three : One Q two → One Q three = first_one Q two _ in
+      let to_all : One Q three → One Q (all_parts state) = first_one Q three _ in
+      of_kinds (λ o r. far.kind ≡ kind_of o r → One Q (all_parts state))
+      (λ is. to_all (to_three (first_one Q _ _ (kind_parts _ is))))
+      (λ is. to_all (to_three (later_one Q _ _ (kind_parts _ is)))) (λ is. to_all
+      (later_one Q two _ (kind_parts _ is))) (λ is. later_one Q three _ (kind_parts _ is)) _ _ refl
+
+  -- the device is one of those that a part stands for
+  pub parts_admit : One (IsPart far sent) (parts state sent)
+  parts_admit = cond_both _ _
+      (state ∷ []) (One (IsPart far sent)) (λ e. of_all) (λ e. inl (admits, inr e))

@@ -1,19 +1,8 @@
-mod Turns
 mod Shown
-mod Segments
-mod Totals
-mod Begun
-mod Covering
-mod Writing
 mod Sending
 mod Transferring
-mod Alike
-mod Telling
 mod Alone
 mod Sets
-mod Layouts
 mod Hearing
-mod Apart
 mod Answering
-mod Reading
 pub mod Fairness

@@ -1,20 +1,31 @@
--- Which segments of an answer were sent, once a device worked a read.
-use Rattle.std.proofs.Common.{◌≡◌, inl, inr, ℕ, zero, suc, ◌+◌, ◌*◌, ◌%◌, ◌<◌, ◌≤◌, Bool, true, false, List, [], ◌∷◌, length, refl, sym, ◌∙◌, ap, subst, arith, eqb-true, ⊎_elim, Result, Ok, Err}
-use Rattle.std.proofs.lemmas.Bool.{cases_lt, lt-ltb, le-ltb, ltb-true, ltb-false}
-use Rattle.std.proofs.lemmas.Bool.Decides.{nat_tests}
+-- Which segments of an answer were sent, once a device worked a read, and what they say.
+use Rattle.std.proofs.Common.{◌≡◌, ℕ, zero, suc, ◌*◌, ◌<◌, ◌≤◌, ⊎_elim, true, List, [], ◌∷◌, length, take, drop, refl, sym, ◌∙◌, ap, arith, replicate, ◌-◌, ◌+◌, ◌++◌, ◌/◌, ◌%◌, Bool, false, Result, Ok, Err, inl, inr, eqb-true}
+use Rattle.std.specs.Prelude.{nat_eq, Option, Some, None, not, ◌&&◌, ◌==◌, nat_le, if◌then◌else◌, slice_index, ◌/◌, nat_lt, IsTrue}
+use Rattle.std.specs.Cmp.Lexicographic.{pointwise}
+use Rattle.std.proofs.lemmas.Bool.{and_from, cases_lt, eq-eqb, and_parts, cond_both, lt-ltb, ltb-true, ltb-false}
+use Rattle.std.proofs.lemmas.List.{length-append, length-drop, drop_at, drop-append-le, take-append-le, take_all, drop-drop, drop-take}
 use Rattle.std.proofs.Math.Nat.{mul-le-mul_right}
-use Rattle.std.specs.Prelude.{Option, Some, ◌&&◌, ◌==◌, nat_lt, IsTrue, if◌then◌else◌, slice_index}
+use Rattle.iol_segment.specs.Cut.{segment, SegmentsHaveSize}
+use Rattle.iol_segment.specs.TextLaws.{joined, HoldsLength, TextLaws}
+use Rattle.iol_judge.specs.Octets.{are_zeros}
+use Rattle.iol_judge.specs.UnderWay.{first_ones, later_ones, AreHad, IsUnderWay, IsAnswered}
+use Rattle.std.proofs.lemmas.Bool.Decides.{nat_tests}
+use Rattle.iol_isdu.specs.declared.fault.IsduFault.{IsduFault}
+use Rattle.iol_isdu.specs.declared.fault.IsduFault.TheVariants.{BadIsduLength, Truncated}
+use Rattle.iol_isdu.specs.Answers.{answer_accepts, answer_fault, kind_fault, is_read}
+use Rattle.iol_isdu.specs.Frame.{first_of, front_by, text_at, total_at}
+use Rattle.iol_judge.specs.declared.reason.Reason.TheVariants.{AnswerKind}
+use Rattle.iol_judge.specs.Answers.{is_answered_by, open_fault, same_read, total_begun, is_next, is_open, was_sent}
+use Rattle.iol_segment.proofs.Growing.{total-bounds, total_at-more}
+use Rattle.iol_segment.proofs.TextLaws.{joined-front, joined-whole}
+use Rattle.iol_judge.specs.Transfers.{longest_answer, answered_read, first_again, further, missed_further, or_ended, sent_again, while_further}
 use Rattle.iol_octets.specs.declared.flow_control.Flow.{Flow}
 use Rattle.iol_octets.specs.declared.flow_control.Flow.TheVariants.{Start, Count}
-use Rattle.iol_isdu.specs.declared.fault.IsduFault.{IsduFault}
 use Rattle.iol_isdu.specs.declared.values.Request.{Request}
 use Rattle.iol_isdu.specs.declared.values.Answer.{Answer}
-use Rattle.iol_isdu.specs.Answers.{is_read}
-use Rattle.iol_isdu.specs.Frame.{total_at}
-use Rattle.iol_segment.specs.Cut.{SegmentsHaveSize}
 use Rattle.iol_segment.specs.Join.{Open, Complete, stage}
-use Rattle.iol_segment.specs.TextLaws.{TextLaws, HoldsLength, joined}
 use Rattle.iol_far.specs.Isdu.{IsduState, Empty, Answered, answer_text, fits, has_segment, isdu_read, recalled}
+use Rattle.iol_far.specs.declared.kind.Kind.{Kind}
 use Rattle.iol_far.specs.declared.kind.HandsOver.{HandsOver}
 use Rattle.iol_far.specs.declared.kind.Recalls.{Recalls}
 use Rattle.iol_far.specs.declared.kind.Recalls.TheVariants.{UntilLeft, UntilSent}
@@ -26,13 +37,228 @@ use Rattle.iol_judge.specs.declared.had.Further.TheVariants.{GoesOn, MayEnd, End
 use Rattle.iol_judge.specs.declared.had.Had.{Had}
 use Rattle.iol_judge.specs.declared.transfer.Transfer.{Transfer}
 use Rattle.iol_judge.specs.declared.transfer.Transfer.TheVariants as known
-use Rattle.iol_judge.specs.Answers.{is_next, is_open, was_sent}
-use Rattle.iol_judge.specs.Transfers.{answered_read, first_again, further, longest_answer, missed_further, or_ended, sent_again, while_further}
-use Rattle.iol_judge.specs.UnderWay.{AreHad, first_ones, IsUnderWay, IsAnswered}
-use Rattle.iol_judge.proofs.Segments.{length_first}
-use Rattle.iol_segment.proofs.Growing.{total-bounds}
 use Rattle.iol_judge.specs.declared.transfer.TheConstants.{SHORTEST}
-use Rattle.iol_judge.proofs.Totals.{most_octets, total_of_first}
+
+pub pointwise_self : (xs : List ℕ) → pointwise nat_eq xs xs ≡ true
+pointwise_self [] = refl
+pointwise_self (x ∷ xs) = and_from _ _ (eq-eqb x x refl) (pointwise_self xs)
+
+module _ (sized : SegmentsHaveSize) (size : ℕ) (text : List ℕ) where
+  -- so many from one on
+
+  pub length_later : (number many : ℕ) → length (later_ones size text number many) ≡ many * size
+  length_later number zero = omega arith
+  length_later number (suc many) =
+      let whole = length-append (later_ones size text number many)
+      (segment size text (number + many)) in
+      let front = length_later number many in
+      let piece = sized size text (number + many) in
+      omega (arith, whole)
+
+  pub part_of_later : (number many i : ℕ) → i < many → take size
+      (drop (i * size) (later_ones size text number many)) ≡ segment size text (number + i)
+  part_of_later number zero i h = absurd (omega arith)
+  part_of_later number (suc many) i h = ⊎_elim (λ lt.
+      let own = length_later number many in
+      let fits : suc i * size ≤ many * size = mul-le-mul_right size (omega arith) in
+      let rest = length-drop (i * size) (later_ones size text number many) in
+      ap (take size) (drop-append-le (i * size) (later_ones size text number many)
+      (segment size text (number + many)) (omega (arith, fits)))
+      ∙ take-append-le size (drop (i * size) (later_ones size text number many))
+      (segment size text (number + many)) (omega (arith, fits)) ∙ part_of_later number many i lt)
+      (λ le.
+      let same : i ≡ many = omega arith in
+      let own = sized size text (number + many) in
+      let last : take size (drop (many * size) (later_ones size text number (suc many)))
+      ≡ segment size text (number + many) =
+      ap (take size) (drop_at _ _ _ (length_later number many)) ∙ take_all size _ (omega arith) in
+      rw same last) (cases_lt i many)
+
+  -- and from the first on
+
+  first_is_later : (many : ℕ) → first_ones size text many ≡ later_ones size text 0 many
+  first_is_later zero = refl
+  first_is_later (suc zero) = refl
+  first_is_later (suc (suc last)) =
+      let number : suc last ≡ 0 + suc last = omega arith in
+      ap (λ (l : List ℕ). l ++ segment size text (suc last)) (first_is_later (suc last))
+      ∙ ap (λ n. later_ones size text 0 (suc last) ++ segment size text n) number
+
+  pub length_first : (many : ℕ) → length (first_ones size text many) ≡ many * size
+  length_first many = ap (λ (l : List ℕ). length l) (first_is_later many) ∙ length_later 0 many
+
+  pub first_grow : (many : ℕ) → first_ones size text many ++ segment size text many
+      ≡ joined size text many
+  first_grow zero = refl
+  first_grow (suc last) = refl
+
+  pub part_of_first : (many i : ℕ) → i < many
+      → take size (drop (i * size) (first_ones size text many)) ≡ segment size text i
+  part_of_first many i h =
+      let number : 0 + i ≡ i = omega arith in
+      ap (λ (l : List ℕ). take size (drop (i * size) l)) (first_is_later many)
+      ∙ part_of_later 0 many i h ∙ ap (segment size text) number
+
+  last_of_joined : (last : ℕ) → drop (last * size) (joined size text last) ≡ segment size text last
+  last_of_joined zero =
+      let none : 0 * size ≡ 0 = omega arith in
+      ap (λ n. drop n (segment size text 0)) none
+  last_of_joined (suc last) = drop_at _ _ _ (length_first _)
+
+  zeros_taken : (k n : ℕ) → are_zeros (take k (replicate n 0)) ≡ true
+  zeros_taken zero n = refl
+  zeros_taken (suc k) zero = refl
+  zeros_taken (suc k) (suc n) = zeros_taken k n
+
+  -- behind the text there are zeros: in its last segment
+  rest_is_zeros : (last : ℕ) → last * size ≤ length text → length text ≤ suc last * size
+      → drop (length text - last * size) (segment size text last)
+      ≡ take (size - (length text - last * size)) (replicate size 0)
+  unfolding segment
+  rest_is_zeros last low high =
+      let rest = length text - last * size in
+      let front = length-drop (last * size) text in
+      let fits : rest + (size - rest) ≡ size = omega arith in
+      ap (λ n. drop rest (take n (drop (last * size) text ++ replicate size 0))) (sym fits)
+      ∙ drop-take rest _ _ ∙ ap (take (size - rest)) (drop_at _ _ rest front)
+
+  pub zeros_within : (last : ℕ) → last * size ≤ length text → length text ≤ suc last * size
+      → are_zeros (drop (length text - last * size) (segment size text last)) ≡ true
+  zeros_within last low high = ap are_zeros (rest_is_zeros last low high) ∙ zeros_taken _ size
+
+  -- and so in all that were joined
+  pub zeros_behind : (last : ℕ) → last * size ≤ length text → length text ≤ suc last * size
+      → are_zeros (drop (length text) (joined size text last)) ≡ true
+  zeros_behind last low high =
+      let rest = length text - last * size in
+      let sum : last * size + rest ≡ length text = omega arith in
+      let whole : drop (length text) (joined size text last) ≡ take (size - rest) (replicate size 0)
+      = ap (λ n. drop n (joined size text last)) (sym sum) ∙ sym (drop-drop rest _ _)
+      ∙ ap (drop rest) (last_of_joined last) ∙ rest_is_zeros last low high in
+      ap are_zeros whole ∙ zeros_taken _ size
+
+-- What an answer begins with is no fault of it
+
+both_none : (a b : Option IsduFault) → first_of a b ≡ None → (a ≡ None) × (b ≡ None)
+both_none None b e = (refl, e)
+both_none (Some fault) b e = absurd (cc)
+
+kind_is : (read other : Bool) → kind_fault read other ≡ None → same_read read other ≡ true
+kind_is true true e = refl
+kind_is false false e = refl
+kind_is true false e = absurd (cc)
+kind_is false true e = absurd (cc)
+
+is_accepted : (b : Bool) (fault : IsduFault) (rest : Option IsduFault)
+    → (if not b then Some fault else rest) ≡ None → b ≡ true
+is_accepted true fault rest e = refl
+is_accepted false fault rest e = absurd (cc)
+
+-- a whole text
+pub answered : (read : Bool) (text : List ℕ) → total_at text ≡ Ok (length text) → answer_fault read
+    text ≡ None → is_answered_by read (slice_index text 0 / 16) (length text) ≡ true
+answered read text holds accepted =
+    let parts = both_none _ _ accepted in
+    let further = both_none _ _ parts.0 in
+    let whole : text_at text ≡ text = ap (λ (r : Result ℕ IsduFault). front_by r text) holds
+    ∙ take_all _ text (omega arith) in
+    let service : answer_accepts (slice_index text 0 / 16) (length (text_at text)) ≡ true =
+    is_accepted _ _ _ further.1 in
+    and_from _ _ (rw whole at service) (kind_is read _ parts.1)
+
+-- of all long ones the shortest is answered, if any is
+long_accepted : (service total : ℕ) → 17 ≤ total → answer_accepts service total ≡ true
+    → answer_accepts service 17 ≡ true
+long_accepted service total long e = grind (arith, nat_tests)
+
+long_answered : (read : Bool) (service total : ℕ) → 17 ≤ total
+    → is_answered_by read service total ≡ true → is_answered_by read service 17 ≡ true
+long_answered read service total long e =
+    let parts = and_parts _ _ e in
+    and_from _ _ (long_accepted service total long parts.0) parts.1
+
+-- its first octet alone
+first_answered : (read : Bool) (a b n : ℕ) (none long fits : Bool) → (fits ≡ true → 17 ≤ b)
+    → (if none then Err BadIsduLength
+    else (if long then (if fits then Ok b else Err BadIsduLength) else Ok (a % 16))) ≡ Ok n
+    → is_answered_by read (a / 16) n ≡ true → is_answered_by read (a / 16) (total_begun
+    (if none then Err BadIsduLength else (if long then Err Truncated else Ok (a % 16)))) ≡ true
+first_answered read a b n false true true least e h =
+    let same : b ≡ n = cc in
+    let low = least refl in
+    long_answered read (a / 16) n (omega (arith, same)) h
+first_answered read a b n false false fits least e h =
+    let same : n ≡ a % 16 = cc in
+    rw same at h
+first_answered read a b n none long fits least e h = absurd (cc)
+
+least_long : (b : ℕ) → (nat_le 17 b && nat_le b 238) ≡ true → 17 ≤ b
+least_long b e = grind (arith, nat_tests)
+
+pub begun_fits : (read : Bool) (text : List ℕ) (n : ℕ) → total_at text ≡ Ok (length text)
+    → answer_fault read text ≡ None → 1 ≤ n → n < length text → open_fault read (take n text) ≡ None
+begun_fits read [] n holds accepted some less = absurd (omega arith)
+begun_fits read (a ∷ text) zero holds accepted some less = absurd (omega (arith, some))
+begun_fits read (a ∷ []) (suc n) holds accepted some less = absurd (omega arith)
+begun_fits read (a ∷ b ∷ more) (suc zero) holds accepted some less =
+    ap (λ (c : Bool). if c then None else Some AnswerKind)
+    (first_answered read a b (length (a ∷ b ∷ more)) (a % 16 == 0) (a % 16 == 1) (nat_le 17 b
+    && nat_le b 238) (least_long b) holds (answered read (a ∷ b ∷ more) holds accepted))
+begun_fits read (a ∷ b ∷ more) (suc (suc k)) holds accepted some less =
+    ap (λ (r : Result ℕ IsduFault). if is_answered_by read (a / 16) (total_begun r) then None
+    else Some AnswerKind) holds ∙ ap (λ (c : Bool). if c then None else Some AnswerKind)
+    (answered read (a ∷ b ∷ more) holds accepted)
+
+-- The total length that the first segments of a text tell is its own
+
+-- a first octet alone
+first_total : (a b n t : ℕ) (none long fits : Bool) → (if none then Err BadIsduLength else
+    (if long then (if fits then Ok b else Err BadIsduLength) else Ok (a % 16))) ≡ Ok n
+    → (if none then Err BadIsduLength else (if long then Err Truncated else Ok (a % 16))) ≡ Ok t
+    → t ≡ n
+first_total a b n t false false fits e f = cc
+first_total a b n t none long fits e f = absurd (cc)
+
+front_total : (text : List ℕ) (k n t : ℕ) → total_at text ≡ Ok n → total_at (take k text) ≡ Ok t
+    → t ≡ n
+front_total [] k n t e f = absurd (cc)
+front_total (a ∷ text) zero n t e f = absurd (cc)
+front_total (a ∷ b ∷ text) (suc zero) n t e f = first_total a b n t _ _ _ e f
+front_total (a ∷ []) (suc zero) n t e f = cc
+front_total (a ∷ []) (suc (suc k)) n t e f = cc
+front_total (a ∷ b ∷ text) (suc (suc k)) n t e f = cc
+
+same_total : (a b : ℕ) → ◌≡◌ {A = Result ℕ IsduFault} (Ok a) (Ok b) → a ≡ b
+same_total a b e = cc
+
+pub total_of_first : (size : ℕ) (text : List ℕ) (many total : ℕ) → HoldsLength text → many * size <
+    length text + size → total_at (first_ones size text many) ≡ Ok total → total ≡ length text
+total_of_first size text zero total holds begins e = absurd (cc)
+total_of_first size text (suc last) total holds begins e = ⊎_elim ended within (cases_lt _ _)
+  where
+    within : suc last * size ≤ length text → total ≡ length text
+    within le = front_total text _ _ total holds
+        (sym (ap total_at (joined-front size text last le)) ∙ e)
+
+    ended : length text < suc last * size → total ≡ length text
+    ended lt =
+        let whole = joined-whole size text last (omega arith) (omega arith) in
+        same_total total _ (sym e ∙ ap total_at whole.1
+        ∙ total_at-more text whole.0 (total-bounds text (length text) holds).0 ∙ holds)
+
+-- no answer is longer than the longest
+
+answered_most : (read : Bool) (service total : ℕ) → is_answered_by read service total ≡ true
+    → total ≤ longest_answer read
+answered_most true service total e = grind (arith, nat_tests)
+answered_most false service total e = grind (arith, nat_tests)
+
+pub most_octets : (read : Bool) (text : List ℕ) → HoldsLength text
+    → answer_fault read text ≡ None → length text ≤ longest_answer read
+most_octets read text holds accepted = answered_most read (slice_index text 0 / 16) (length text)
+    (answered read text holds accepted)
+
+-- Which segments were sent, once a device worked a read
 
 -- what the crates below say of the segments of a text
 pub record AreTexts (size : ℕ) : Type 0 where
@@ -58,7 +284,7 @@ texts_of modes texts requests sized device =
 
 -- a text whose first octet is as an answer's has octets
 pub has_octets : (text : List ℕ) → 2 ≤ slice_index text 0 → 0 < length text
-has_octets [] h = absurd (omega (arith, h))
+has_octets [] h = absurd (omega arith)
 has_octets (x ∷ text) h = omega arith
 
 -- the COUNT behind another
@@ -67,34 +293,30 @@ counted_up sent = grind (arith, nat_tests)
 
 above_zero : (size : ℕ) → 1 ≤ size → (sent at : ℕ) → at ≡ sent * size → nat_lt 0 at ≡ nat_lt 0 sent
 above_zero size some zero at e =
-    let none : at ≡ 0 = omega (arith, e) in ap (λ n. nat_lt 0 n) none
+    let none : at ≡ 0 = omega arith in ap (λ n. nat_lt 0 n) none
 above_zero size some (suc sent) at e =
-    lt-ltb 0 at (omega (arith, e, some)) ∙ sym (lt-ltb 0 (suc sent) (omega arith))
+    lt-ltb 0 at (omega (arith, some)) ∙ sym (lt-ltb 0 _ (omega arith))
+
+by_lt : (a b : ℕ) → (b ≤ a → ⊥) → a < b
+by_lt a b never = ⊎_elim (λ lt. lt) (λ le. absurd (never le)) (cases_lt a b)
+
+by_le : (a b : ℕ) → (a < b → ⊥) → b ≤ a
+by_le a b never = ⊎_elim (λ lt. absurd (never lt)) (λ le. le) (cases_lt a b)
 
 -- of two segments
 pub below_by : (size : ℕ) → 1 ≤ size → (a b : ℕ) → a * size < b * size → a < b
-below_by size some a b h = ⊎_elim (λ lt. lt) past (cases_lt a b)
-  where
-    past : b ≤ a → a < b
-    past le =
-        let more : b * size ≤ a * size = mul-le-mul_right size le in
-        absurd (omega (arith, more, h))
+below_by size some a b h =
+    by_lt a b (λ le. let more : b * size ≤ a * size = mul-le-mul_right size le in omega arith)
 
 pub same_by : (size : ℕ) → 1 ≤ size → (a b : ℕ) → a * size ≡ b * size → a ≡ b
-same_by size some a b h = ⊎_elim below past (cases_lt a b)
+same_by size some a b h =
+    let le = by_le b a (λ lt. apart b a lt (sym h)) in
+    let ge = by_le a b (λ lt. apart a b lt h) in
+    omega arith
   where
-    below : a < b → a ≡ b
-    below lt =
-        let more : suc a * size ≤ b * size = mul-le-mul_right size lt in
-        absurd (omega (arith, more, h, some))
-
-    above : b < a → a ≡ b
-    above lt =
-        let more : suc b * size ≤ a * size = mul-le-mul_right size lt in
-        absurd (omega (arith, more, h, some))
-
-    past : b ≤ a → a ≡ b
-    past le = ⊎_elim above (λ ge. omega (arith, le, ge)) (cases_lt b a)
+    apart : (a b : ℕ) → a < b → a * size ≡ b * size → ⊥
+    apart a b lt h =
+        let more : suc a * size ≤ b * size = mul-le-mul_right size lt in omega (arith, some)
 
 module _ (size : ℕ) (law : AreTexts size) (request : Request) (answer : Answer) (had : Had)
     (sent : ℕ) (read : is_read request ≡ had.read) (fit : IsTrue (fits request answer))
@@ -109,64 +331,49 @@ module _ (size : ℕ) (law : AreTexts size) (request : Request) (answer : Answer
   length_had = ap (λ (l : List ℕ). length l) are.octets
       ∙ length_first law.sized size its_text are.many
 
-  -- the next segment, where there is one
-  next_had : (count : ℕ) → count ≡ (sent + 1) % 16 → (sent + 1) * size < length its_text
-      → IsAnswered size (record had { at = had.at + size; count = count })
-      (Answered request answer (Some (sent + 1)))
-  next_had count e within =
-      let at = are.at in (
-        read,
-        fit,
-        record {
-          many = are.many;
-          octets = are.octets;
-          begins = are.begins;
-          ahead = are.ahead;
-          within = within;
-          at = omega (arith, at);
-          count = e;
-        },
-      )
+  -- this segment was sent
+  sent_at : (number at count : ℕ) → number * size < length its_text → at ≡ number * size
+      → count ≡ number % 16 → IsAnswered size (record had { at = at; count = count })
+      (Answered request answer (Some number))
+  sent_at number at count within e f = (
+    read,
+    fit,
+    record {
+      many = are.many;
+      octets = are.octets;
+      begins = are.begins;
+      ahead = are.ahead;
+      within = within;
+      at = e;
+      count = f;
+    },
+  )
 
   counts : ((had.count + 1) % 16) ≡ ((sent + 1) % 16)
   counts = let count = are.count in ap (λ c. (c + 1) % 16) count ∙ counted_up sent
 
   -- all up to the one sent last were had
   joined_had : suc sent ≡ are.many → had.text.items ≡ joined size its_text sent
-  joined_had same = subst (λ n. had.text.items ≡ first_ones size its_text n) (sym same) are.octets
+  joined_had same = rw (← same) at are.octets
 
   -- there is a next segment where the octets had are no whole text
   open_within : suc sent ≡ are.many → is_open (stage had.text.items) ≡ true
       → (sent + 1) * size < length its_text
-  open_within same e = ⊎_elim fits whole (cases_lt ((sent + 1) * size) (length its_text))
-    where
-      fits : (sent + 1) * size < length its_text → (sent + 1) * size < length its_text
-      fits lt = lt
-
-      whole : length its_text ≤ (sent + 1) * size → (sent + 1) * size < length its_text
-      whole le =
-          let begins = are.within in
-          let most : length its_text ≤ suc sent * size = omega (arith, le) in
-          let ended : stage had.text.items ≡ Complete its_text = ap stage (joined_had same)
-          ∙ law.texts.ends its_text sent holds (begins, most) in
-          absurd (let no : false ≡ true = sym (ap is_open ended) ∙ e in cc)
+  open_within same e = by_lt _ _ (λ le.
+      let begins = are.within in
+      let most : length its_text ≤ suc sent * size = omega arith in
+      let ended : stage had.text.items ≡ Complete its_text = ap stage (joined_had same)
+      ∙ law.texts.ends its_text sent holds (begins, most) in
+      let no : false ≡ true = sym (ap is_open ended) ∙ e in cc)
 
   -- and none where they are
   closed_within : suc sent ≡ are.many → is_open (stage had.text.items) ≡ false
-      → nat_lt ((sent + 1) * size) (length its_text) ≡ false
-  closed_within same e = ⊎_elim fits whole (cases_lt ((sent + 1) * size) (length its_text))
-    where
-      whole : length its_text ≤ (sent + 1) * size
-          → nat_lt ((sent + 1) * size) (length its_text) ≡ false
-      whole le = le-ltb ((sent + 1) * size) (length its_text) le
-
-      fits : (sent + 1) * size < length its_text
-          → nat_lt ((sent + 1) * size) (length its_text) ≡ false
-      fits lt =
-          let before : suc sent * size < length its_text = omega (arith, lt) in
-          let grows : stage had.text.items ≡ Open =
-          ap stage (joined_had same) ∙ law.texts.grows its_text sent holds before in
-          absurd (let no : true ≡ false = sym (ap is_open grows) ∙ e in cc)
+      → length its_text ≤ (sent + 1) * size
+  closed_within same e = by_le _ _ (λ lt.
+      let before : suc sent * size < length its_text = omega arith in
+      let grows : stage had.text.items ≡ Open =
+      ap stage (joined_had same) ∙ law.texts.grows its_text sent holds before in
+      let no : true ≡ false = sym (ap is_open grows) ∙ e in cc)
 
   -- whether there is a next segment is as the octets had say
   Says : Further → Type 0
@@ -177,88 +384,40 @@ module _ (size : ℕ) (law : AreTexts size) (request : Request) (answer : Answer
   missed_says : (total : Result ℕ IsduFault) → total_at had.text.items ≡ total
       → Says (missed_further had.read total (had.at + size))
   unfolding Says
-  missed_says (Ok total) t = split (nat_lt (had.at + size) total) refl
-    where
-      long : total ≡ length its_text
-      long = total_of_first size its_text are.many total holds are.begins
-          (sym (ap total_at are.octets) ∙ t)
-
-      split : (b : Bool) → nat_lt (had.at + size) total ≡ b → Says (if b then GoesOn else Ends)
-      split true b =
-          let at = are.at in
-          let own = long in
-          let less = ltb-true (had.at + size) total b in
-          omega (arith, at, own, less)
-      split false b =
-          let at = are.at in
-          let own = long in
-          let more = ltb-false (had.at + size) total b in
-          omega (arith, at, own, more)
-  missed_says (Err fault) t = split (nat_lt (had.at + size) SHORTEST)
-      (nat_lt (had.at + size) (longest_answer had.read)) refl refl
-    where
-      split : (a b : Bool) → nat_lt (had.at + size) SHORTEST ≡ a
-          → nat_lt (had.at + size) (longest_answer had.read) ≡ b
-          → Says (if a then GoesOn else if b then MayEnd else Ends)
-      split true c a b =
-          let at = are.at in
-          let least = (total-bounds its_text (length its_text) holds).0 in
-          let short = ltb-true (had.at + size) SHORTEST a in
-          omega (arith, at, least, short)
-      split false true a b = tt
-      split false false a b =
-          let at = are.at in
-          let most : length its_text ≤ longest_answer had.read =
-          subst (λ (r : Bool). length its_text ≤ longest_answer r) read
-          (most_octets (is_read request) its_text holds
-          (law.texts.accepted (is_read request) answer (law.fitting request answer fit))) in
-          let more = ltb-false (had.at + size) (longest_answer had.read) b in
-          omega (arith, at, most, more)
+  missed_says (Ok total) t =
+      let long : total ≡ length its_text =
+      total_of_first size _ _ total holds are.begins (sym (ap total_at are.octets) ∙ t) in
+      cond_both (nat_lt (had.at + size) total) GoesOn Ends Says (λ b. let less =
+      ltb-true _ total b in omega arith) (λ b. let more = ltb-false _ total b in omega arith)
+  missed_says (Err fault) t =
+      let next = had.at + size in
+      let least = (total-bounds its_text (length its_text) holds).0 in
+      let most : length its_text ≤ longest_answer had.read = rw (← read) (most_octets _ _ holds
+      (law.texts.accepted (is_read request) answer (law.fitting request answer fit))) in
+      cond_both (nat_lt next SHORTEST) GoesOn (if nat_lt next (longest_answer had.read) then MayEnd
+      else Ends) Says (λ a. let short = ltb-true next SHORTEST a in omega arith)
+      (λ a. cond_both (nat_lt next (longest_answer had.read)) MayEnd Ends Says (λ b. tt)
+      (λ b. let more = ltb-false next (longest_answer had.read) b in omega arith))
 
   further_says : Says (further had (had.at + size))
   unfolding Says
-  further_says = split (nat_lt (length had.text.items) (had.at + size))
-      (nat_lt (had.at + size) (length had.text.items)) (is_open (stage had.text.items)) refl
-      refl refl
-    where
-      -- by where the next segment begins
-      earlier : had.at + size < length had.text.items → suc sent < are.many
-      earlier lt =
-          let at = are.at in
-          let long = length_had in
-          below_by size law.some (suc sent) are.many (omega (arith, lt, at, long))
-
-      equal : length had.text.items ≤ had.at + size → had.at + size ≤ length had.text.items
-          → suc sent ≡ are.many
-      equal le ge =
-          let at = are.at in
-          let long = length_had in
-          same_by size law.some (suc sent) are.many (omega (arith, le, ge, at, long))
-
-      split : (past before opened : Bool) → nat_lt (length had.text.items) (had.at + size) ≡ past
-          → nat_lt (had.at + size) (length had.text.items) ≡ before
-          → is_open (stage had.text.items) ≡ opened
-          → Says (if past then missed_further had.read (total_at had.text.items) (had.at + size)
-          else if before then GoesOn else if opened then GoesOn else Ends)
-      split true before opened p b o = missed_says (total_at had.text.items) refl
-      split false true opened p b o =
-          let lt : suc sent < are.many =
-          earlier (ltb-true (had.at + size) (length had.text.items) b) in
-          let begins = are.begins in
-          let under : suc (suc sent) * size ≤ are.many * size =
-          mul-le-mul_right size (omega (arith, lt)) in
-          omega (arith, begins, under)
-      split false false true p b o =
-          let same : suc sent ≡ are.many =
-          equal (ltb-false (had.at + size) (length had.text.items) b)
-          (ltb-false (length had.text.items) (had.at + size) p) in
-          open_within same o
-      split false false false p b o =
-          let same : suc sent ≡ are.many =
-          equal (ltb-false (had.at + size) (length had.text.items) b)
-          (ltb-false (length had.text.items) (had.at + size) p) in
-          let closed = ltb-false ((sent + 1) * size) (length its_text) (closed_within same o) in
-          omega (arith, closed)
+  further_says =
+      let next = had.at + size in
+      let octets = had.text.items in
+      cond_both (nat_lt (length octets) next) (missed_further had.read (total_at octets) next) (if
+      nat_lt next (length octets) then GoesOn else if is_open (stage octets) then GoesOn else Ends)
+      Says (λ p. missed_says _ refl) (λ p. cond_both (nat_lt next (length octets)) GoesOn
+      (if is_open (stage octets) then GoesOn else Ends) Says (λ b.
+      let less = ltb-true next (length octets) b in
+      let before : suc sent < are.many =
+      below_by size law.some (suc sent) are.many (omega (arith, length_had)) in
+      let under : suc (suc sent) * size ≤ are.many * size = mul-le-mul_right size (omega arith) in
+      omega arith) (λ b.
+      let le = ltb-false (length octets) next p in
+      let ge = ltb-false next (length octets) b in
+      let same : suc sent ≡ are.many =
+      same_by size law.some (suc sent) are.many (omega (arith, length_had)) in
+      cond_both (is_open (stage octets)) GoesOn Ends Says (open_within same) (closed_within same)))
 
   module _ (hands_over : HandsOver) (counted : Option ℕ) where
     abbrev its_state : IsduState
@@ -292,14 +451,10 @@ module _ (size : ℕ) (law : AreTexts size) (request : Request) (answer : Answer
             → nat_lt ((sent + 1) * size) (length its_text) ≡ b
             → IsUnderWay hands_over counted size (while_further f kept) (if b then state else Empty)
         split GoesOn more true e = holds more
-        split GoesOn more false e =
-            let none = ltb-false ((sent + 1) * size) (length its_text) e in
-            absurd (omega (arith, more, none))
-        split MayEnd more true e = inl (holds (ltb-true ((sent + 1) * size) (length its_text) e))
+        split GoesOn more false e = absurd (omega (arith, ltb-false _ _ e))
+        split MayEnd more true e = inl (holds (ltb-true _ _ e))
         split MayEnd more false e = inr refl
-        split Ends more true e =
-            let some = ltb-true ((sent + 1) * size) (length its_text) e in
-            absurd (omega (arith, more, some))
+        split Ends more true e = absurd (omega (arith, ltb-true _ _ e))
         split Ends more false e = refl
 
     -- a segment is sent again
@@ -309,13 +464,9 @@ module _ (size : ℕ) (law : AreTexts size) (request : Request) (answer : Answer
         → next Empty ≡ Empty
         → IsUnderWay hands_over counted size (sent_again recalls size had again)
         (next (recalled recalls size its_state))
-    again_goes UntilLeft again number holds next e f =
-        subst (λ (s : IsduState). IsAnswered size again s) (sym e) holds
+    again_goes UntilLeft again number holds next e f = rw e holds
     again_goes UntilSent again number holds next e f =
-        subst (λ (s : IsduState). IsUnderWay hands_over counted size
-        (while_further (further had (had.at + size)) again) s)
-        (sym (split (has_segment size its_text (sent + 1))))
-        (goes_on again (Answered request answer (Some number)) (λ more. holds))
+        rw (split (has_segment size its_text (sent + 1))) (goes_on again _ (λ more. holds))
       where
         split : (b : Bool) → next (if b then its_state else Empty)
             ≡ (if b then Answered request answer (Some number) else Empty)
@@ -326,147 +477,116 @@ module _ (size : ℕ) (law : AreTexts size) (request : Request) (answer : Answer
     start_goes : (recalls : Recalls)
         → IsUnderWay hands_over counted size (first_again recalls size had)
         (isdu_read size (recalled recalls size its_state) Start)
-    start_goes recalls =
-        let within = are.within in
-        again_goes recalls (record had { at = 0; count = 0 }) 0 (
-          read,
-          fit,
-          record {
-            many = are.many;
-            octets = are.octets;
-            begins = are.begins;
-            ahead = are.ahead;
-            within = omega (arith, within);
-            at = omega arith;
-            count = refl;
-          },
-        ) (λ (s : IsduState). isdu_read size s Start) refl refl
+    start_goes recalls = again_goes recalls (record had { at = 0; count = 0 }) 0
+        (sent_at 0 0 0 (let within = are.within in omega arith) (omega arith) refl)
+        (λ (s : IsduState). isdu_read size s Start) refl refl
 
     -- a read under COUNT of another segment than that sent last
-    left_read : (count : ℕ) (a b : Bool)
-        → (nat_lt 0 sent && count == sent % 16) ≡ a → (count == (sent + 1) % 16) ≡ b → a ≡ false
-        → isdu_read size its_state (Count count) ≡ next_if b
-    left_read count a b p q none = ap (λ (x : Bool). if x then its_state else
-        next_if (count == (sent + 1) % 16)) (p ∙ none) ∙ ap (λ (x : Bool). next_if x) q
-
-    sent_read : (recalls : Recalls) (count : ℕ) (a b : Bool)
-        → (nat_lt 0 sent && count == sent % 16) ≡ a → (count == (sent + 1) % 16) ≡ b → a ≡ false
+    sent_read : (recalls : Recalls) (count : ℕ) (b : Bool)
+        → (nat_lt 0 sent && count == sent % 16) ≡ false → (count == (sent + 1) % 16) ≡ b
         → isdu_read size (recalled recalls size its_state) (Count count) ≡ next_if b
-    sent_read UntilLeft count a b p q none = left_read count a b p q none
-    sent_read UntilSent count a b p q none = split (has_segment size its_text (sent + 1)) refl
+    sent_read UntilLeft count b p q = rw (p, q) refl
+    sent_read UntilSent count b p q = split (has_segment size its_text (sent + 1)) b q refl
       where
-        ended : (x : Bool) → Empty
-            ≡ (if (x && false) then Answered request answer (Some (sent + 1)) else Empty)
-        ended true = refl
-        ended false = refl
-
-        split : (h : Bool) → has_segment size its_text (sent + 1) ≡ h
-            → isdu_read size (if h then its_state else Empty)
-            (Count count) ≡ (if (b && h) then Answered request answer (Some (sent + 1)) else Empty)
-        split true e = left_read count a b p q none ∙ ap (λ (x : Bool). if (b && x)
-            then Answered request answer (Some (sent + 1)) else Empty) e
-        split false e = ended b
+        split : (h b : Bool) → (count == (sent + 1) % 16) ≡ b → has_segment size its_text (sent + 1)
+            ≡ h → isdu_read size (if h then its_state else Empty) (Count count)
+            ≡ (if (b && h) then Answered request answer (Some (sent + 1)) else Empty)
+        split true b q e = rw (p, q, e) refl
+        split false true q e = refl
+        split false false q e = refl
 
     -- a read under COUNT
     pub count_goes : (recalls : Recalls) (count : ℕ)
         → IsUnderWay hands_over counted size (answered_read recalls size had count)
         (isdu_read size (recalled recalls size its_state) (Count count))
-    count_goes recalls count =
-        subst (λ (x : Bool). Goes recalls count x (is_next had count)) (sym was)
-        (subst (λ (x : Bool). Goes recalls count (nat_lt 0 sent && count == sent % 16) x)
-        (sym next) (going (nat_lt 0 sent && count == sent % 16) (count == (sent + 1) % 16)
-        refl refl))
+    count_goes recalls count = rw (was, next)
+        (going (nat_lt 0 sent && count == sent % 16) (count == (sent + 1) % 16) refl refl)
       where
         was : was_sent had count ≡ (nat_lt 0 sent && count == sent % 16)
-        was = ap (λ c. nat_lt 0 had.at && count == c) are.count
-            ∙ ap (λ b. b && count == sent % 16) (above_zero size law.some sent had.at are.at)
+        was = rw (are.count, above_zero size law.some sent had.at are.at) refl
 
         next : is_next had count ≡ (count == (sent + 1) % 16)
         next = ap (λ c. count == c) counts
 
         going : (a b : Bool) → (nat_lt 0 sent && count == sent % 16) ≡ a
             → (count == (sent + 1) % 16) ≡ b → Goes recalls count a b
-        going true b p q = again_goes recalls had sent (read, fit, are)
-            (λ (s : IsduState). isdu_read size s (Count count))
-            (ap (λ (x : Bool). if x then its_state else next_if (count == (sent + 1) % 16)) p) refl
-        going false true p q = subst (λ (s : IsduState). IsUnderWay hands_over counted size
-            (while_further (further had (had.at + size)) (had_next count)) s)
-            (sym (sent_read recalls count false true p q refl))
-            (goes_on (had_next count) (Answered request answer (Some (sent + 1)))
-            (λ more. next_had count (eqb-true count ((sent + 1) % 16) q) more))
-        going false false p q = sent_read recalls count false false p q refl
+        going true b p q = again_goes _ had sent (read, fit, are)
+            (λ (s : IsduState). isdu_read size s (Count count)) (rw p refl) refl
+        going false true p q = rw (sent_read _ count true p q) (goes_on _ _ (λ more.
+            sent_at _ _ count more (omega arith) (eqb-true count _ q)))
+        going false false p q = sent_read _ count false p q
 
-module _ (hands_over : HandsOver) (counted : Option ℕ) (recalls : Recalls) (size : ℕ)
-    (law : AreTexts size) where
-  pub answered_start : (had : Had) (state : IsduState) → IsAnswered size had state
-      → IsUnderWay hands_over counted size (first_again recalls size had)
-      (isdu_read size (recalled recalls size state) Start)
+-- how a device transfers: by its kind, with the COUNT that it keeps of the last write, and in
+-- segments of this size
+pub record Manner : Type 0 where
+  pub kind : Kind
+  pub counted : Option ℕ
+  pub size : ℕ
+  pub law : AreTexts size
+
+abbrev pub manner : (far : Far) → AreTexts (layout_of far).od → Manner
+manner far law =
+    record { kind = far.kind; counted = far.counted; size = (layout_of far).od; law = law }
+
+-- the state is as known
+abbrev pub Holds : Manner → Transfer → IsduState → Type 0
+Holds by transfer state = IsUnderWay by.kind.hands_over by.counted by.size transfer state
+
+-- the state once a read was worked
+abbrev pub read_by : Manner → IsduState → Flow → IsduState
+read_by by state flow = isdu_read by.size (recalled by.kind.recalls by.size state) flow
+
+-- what a device knows that has sent nothing of an answer, stays
+abbrev pub Unsent : IsduState → Type 0
+Unsent (Answered request answer (Some sent)) = ⊥
+Unsent state = Unit {0}
+
+pub stays : (recalls : Recalls) (size : ℕ) (state : IsduState) → Unsent state
+    → recalled recalls size state ≡ state
+stays UntilSent size (Answered request answer (Some sent)) u = absurd u
+stays recalls size state u = refl
+
+module _ (by : Manner) where
+  pub answered_start : (had : Had) (state : IsduState) → IsAnswered by.size had state
+      → Holds by (first_again by.kind.recalls by.size had) (read_by by state Start)
   answered_start had (Answered request answer (Some sent)) h =
-      start_goes size law request answer had sent h.0 h.1 h.2 hands_over counted recalls
+      start_goes by.size by.law request answer had sent h.0 h.1 h.2 _ _ by.kind.recalls
   answered_start had state h = absurd h
 
-  pub answered_count : (had : Had) (state : IsduState) (count : ℕ) → IsAnswered size had state
-      → IsUnderWay hands_over counted size (answered_read recalls size had count)
-      (isdu_read size (recalled recalls size state) (Count count))
+  pub answered_count : (had : Had) (state : IsduState) (count : ℕ) → IsAnswered by.size had state
+      → Holds by (answered_read by.kind.recalls by.size had count) (read_by by state (Count count))
   answered_count had (Answered request answer (Some sent)) count h =
-      count_goes size law request answer had sent h.0 h.1 h.2 hands_over counted recalls count
+      count_goes by.size by.law request answer had sent h.0 h.1 h.2 _ _ by.kind.recalls count
   answered_count had state count h = absurd h
 
   -- or the answer had ended before
-  pub still_goes : (transfer : Transfer) (state : IsduState)
-      → IsUnderWay hands_over counted size transfer state
-      → IsUnderWay hands_over counted size (or_ended transfer) state
+  pub still_goes : (transfer : Transfer) (state : IsduState) → Holds by transfer state
+      → Holds by (or_ended transfer) state
   still_goes (known.Answered had) state h = inl h
   still_goes transfer state h = h
 
-  further_ended : (f : Further) (had : Had)
-      → IsUnderWay hands_over counted size (or_ended (while_further f had)) Empty
+  further_ended : (f : Further) (had : Had) → Holds by (or_ended (while_further f had)) Empty
   further_ended Ends had = refl
   further_ended f had = inr refl
 
-  pub again_ended : (by : Recalls) (had again : Had)
-      → IsUnderWay hands_over counted size (or_ended (sent_again by size had again)) Empty
+  pub again_ended : (recalls : Recalls) (had again : Had)
+      → Holds by (or_ended (sent_again recalls by.size had again)) Empty
   again_ended UntilLeft had again = inr refl
-  again_ended UntilSent had again = further_ended (further had (had.at + size)) again
+  again_ended UntilSent had again = further_ended _ again
 
   pub had_ended : (had : Had) (count : ℕ)
-      → IsUnderWay hands_over counted size (or_ended (answered_read recalls size had count)) Empty
+      → Holds by (or_ended (answered_read by.kind.recalls by.size had count)) Empty
   had_ended had count = split (was_sent had count) (is_next had count)
     where
-      split : (was next : Bool) → IsUnderWay hands_over counted size (or_ended
-          (if was then sent_again recalls size had had else if next
-          then while_further (further had (had.at + size))
-          (record had { at = had.at + size; count = count }) else known.Quiet)) Empty
-      split true next = again_ended recalls had had
-      split false true = further_ended (further had (had.at + size))
-          (record had { at = had.at + size; count = count })
+      split : (was next : Bool) → Holds by (or_ended (if was then sent_again by.kind.recalls by.size
+          had had else if next then while_further (further had (had.at + by.size))
+          (record had { at = had.at + by.size; count = count }) else known.Quiet)) Empty
+      split true next = again_ended _ had had
+      split false true = further_ended _ _
       split false false = refl
 
-  -- of nothing comes nothing
-  recalled_empty : (by : Recalls) → recalled by size Empty ≡ Empty
-  recalled_empty UntilLeft = refl
-  recalled_empty UntilSent = refl
-
-  pub quiet_read : (flow : Flow) (state : IsduState) → state ≡ Empty
-      → isdu_read size (recalled recalls size state) flow ≡ isdu_read size Empty flow
-  quiet_read flow state e = ap (λ (s : IsduState). isdu_read size (recalled recalls size s) flow) e
-      ∙ ap (λ (s : IsduState). isdu_read size s flow) (recalled_empty recalls)
-
-  -- what a device knows that has sent nothing of an answer, stays
-  unfoldable pub Unsent : IsduState → Type 0
-  Unsent (Answered request answer (Some sent)) = ⊥
-  Unsent state = Unit {0}
-
-  unsent_recalled : (by : Recalls) (state : IsduState) → Unsent state
-      → recalled by size state ≡ state
-  unfolding Unsent
-  unsent_recalled UntilSent (Answered request answer (Some sent)) u = absurd u
-  unsent_recalled by state u = refl
-
-  pub unsent_read : (transfer : Transfer) (flow : Flow) (state : IsduState) → Unsent state
-      → IsUnderWay hands_over counted size transfer (isdu_read size state flow)
-      → IsUnderWay hands_over counted size transfer
-      (isdu_read size (recalled recalls size state) flow)
-  unsent_read transfer flow state u h =
-      subst (λ (s : IsduState). IsUnderWay hands_over counted size transfer
-      (isdu_read size s flow)) (sym (unsent_recalled recalls state u)) h
+  -- a segment isn't read of a state that has sent none
+  pub none_read : (state : IsduState) (count : ℕ) → Unsent state
+      → read_by by state (Count count) ≡ Empty
+  none_read (Answered request answer (Some sent)) count u = absurd u
+  none_read state count u = rw (stays _ _ state u) refl

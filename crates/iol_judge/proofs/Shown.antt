@@ -1,6 +1,6 @@
 -- What is known of a device's events holds through all that it does, and explains what it shows.
-use Rattle.std.proofs.Common.{◌≡◌, ℕ, zero, suc, ◌+◌, ◌-◌, ◌/◌, ◌%◌, ◌^◌, ◌<◌, ◌≤◌, max, Bool, true, false, List, [], ◌∷◌, ◌++◌, length, take, drop, replicate, get_or, set, refl, sym, ◌∙◌, ap, subst, arith, eq-eqb, eqb-true, leb-true, le-leb, lt-ltb, ltb-true, ltb-false}
-use Rattle.std.proofs.lemmas.Bool.{and_from, and_parts, cond_both, or_right}
+use Rattle.std.proofs.Common.{◌≡◌, ℕ, zero, suc, ◌+◌, ◌-◌, ◌/◌, ◌%◌, ◌^◌, ◌<◌, ◌≤◌, max, Bool, true, false, List, [], ◌∷◌, ◌++◌, length, take, drop, replicate, get_or, set, refl, sym, ◌∙◌, ap, subst, arith, eq-eqb, eqb-true, leb-true, le-leb, lt-ltb, ⊎_elim}
+use Rattle.std.proofs.lemmas.Bool.{and_parts, cases_lt, cond_both, or_right}
 use Rattle.std.specs.Prelude.{Option, Some, None, IfSome, not, ◌&&◌, ◌||◌, ◌==◌, nat_le, nat_lt, if◌then◌else◌, slice_get, slice_index_or}
 use Rattle.std.specs.Cmp.Lexicographic.{pointwise}
 use Rattle.iol_event.specs.declared.event.Event.{Event}
@@ -9,9 +9,9 @@ use Rattle.iol_far.specs.Far.{events_after}
 use Rattle.iol_judge.specs.declared.events.Places.{Places}
 use Rattle.iol_judge.specs.declared.events.Shown.{Shown}
 use Rattle.iol_judge.specs.declared.events.Shown.TheVariants.{Held, Any, Fresh, Filled}
-use Rattle.iol_judge.specs.declared.reason.Reason.TheVariants.{StatusCode, EventOctet}
+use Rattle.iol_judge.specs.declared.reason.Reason.{Reason}
 use Rattle.iol_judge.specs.Octets.{is_known_in, is_other}
-use Rattle.iol_judge.specs.Events.{covers_events, covers_places, shown_after, flag_fault, flag_told, marked, status_fault, place_known, fills, places_fault, no_places, places_of, events_fault, marks_told, octet_told, places_told, events_told}
+use Rattle.iol_judge.specs.Events.{covers_events, covers_places, shown_after, flag_fault, flag_told, marked, place_known, places_fault, no_places, places_of, events_fault, octet_told, places_told, events_told}
 use Rattle.iol_judge.specs.Admitted.{IsReleased, AreIn, AreShown}
 
 abbrev events_of : List Event → List Event → Bool → Events
@@ -45,8 +45,7 @@ frozen_shown Held [] w false event e s = absurd (let no : false ≡ true = s.0 i
 frozen_shown Any [] w false event e s = first_released event w
 frozen_shown Fresh [] w false event e s =
     let one : 1 ≤ 1 = omega arith in (first_released event w, one)
-frozen_shown (Filled places) [] w false event e s =
-    absurd (let no : 1 ≤ 0 = s.1 in omega (arith, no))
+frozen_shown (Filled places) [] w false event e s = absurd (let no : 1 ≤ 0 = s.1 in omega arith)
 frozen_shown shown f w h event e s = absurd (cc)
 
 pub raised_shown : (shown : Shown) (memory : Events) (event : Event) → AreShown shown memory
@@ -57,11 +56,9 @@ raised_shown shown memory event s =
     split : (b : Bool) → (is_empty memory.frozen && not memory.held) ≡ b → (c : Bool)
         → AreShown shown (if b then record memory { frozen = event ∷ [] } else
         if (not b && c) then memory else record memory { waiting = memory.waiting ++ event ∷ [] })
-    split true e c = frozen_shown shown memory.frozen memory.waiting memory.held event e s
+    split true e c = frozen_shown shown _ _ _ event e s
     split false e true = s
-    split false e false =
-        waiting_shown shown memory.frozen memory.waiting (memory.waiting ++ event ∷ []) memory.held
-        e s
+    split false e false = waiting_shown shown _ _ _ _ e s
 
 pub none_shown : AreShown Fresh (record { frozen = []; waiting = []; held = false })
 none_shown = (record { free = refl; waits = λ n. refl }, let no : 0 ≤ 1 = omega arith in no)
@@ -77,9 +74,8 @@ held_none (Filled places) memory s e = absurd (let no : true ≡ false = sym e �
 
 confirmed_shown : (shown : Shown) (memory : Events) → AreShown shown memory
     → AreShown Held (confirmed memory)
-confirmed_shown shown memory s = cond_both memory.held memory
-    (record { frozen = []; waiting = memory.waiting; held = true }) (AreShown Held)
-    (λ e. (e, held_none shown memory s e)) (λ e. (refl, refl))
+confirmed_shown shown memory s =
+    cond_both _ _ _ (AreShown Held) (λ e. (e, held_none shown _ s e)) (λ e. (refl, refl))
 
 taken_none : (w : List Event) → take 6 w ≡ [] → drop 6 w ≡ []
 taken_none [] e = refl
@@ -95,13 +91,13 @@ fresh_released : (f w : List Event) (h : Bool) → IsReleased (events_of f w h) 
 fresh_released [] w h s few =
     let none : w ≡ [] = s.waits refl in
     let no : 0 ≤ 1 = omega arith in
-    subst (λ (x : List Event). length (take 6 x) ≤ 1) (sym none) no
+    rw none no
 fresh_released (x ∷ f) w h s few = few
 
 filled_released : (places : Places) (f w : List Event) (h : Bool) → 1 ≤ length f → AreIn places f
     → (1 ≤ length (released (events_of f w h)).frozen)
     × AreIn places (released (events_of f w h)).frozen
-filled_released places [] w h some s = absurd (let no : 1 ≤ 0 = some in omega (arith, no))
+filled_released places [] w h some s = absurd (let no : 1 ≤ 0 = some in omega arith)
 filled_released places (x ∷ f) w h some s = (some, s)
 
 pub released_shown : (shown : Shown) (memory : Events) → AreShown shown memory
@@ -118,8 +114,8 @@ released_shown (Filled places) memory s =
 
 pub worked_shown : (shown : Shown) (memory : Events) (confirm : Bool) → AreShown shown memory
     → AreShown (shown_after shown confirm) (events_after memory confirm)
-worked_shown shown memory true s = confirmed_shown shown memory s
-worked_shown shown memory false s = released_shown shown memory s
+worked_shown shown memory true s = confirmed_shown shown _ s
+worked_shown shown memory false s = released_shown shown _ s
 
 -- What the first allows whatever the second does
 
@@ -132,26 +128,22 @@ known_in_keeps (Some a) None P h s = absurd (cc)
 known_in_all : (a b : List (Option ℕ)) (k : ℕ) (P : ℕ → Type 0) → pointwise is_known_in a b ≡ true
     → IfSome (slice_index_or b k None) P → IfSome (slice_index_or a k None) P
 known_in_all [] [] k P h p = p
-known_in_all (x ∷ a) (y ∷ b) zero P h p =
-    known_in_keeps x y P (and_parts (is_known_in x y) (pointwise is_known_in a b) h).0 p
-known_in_all (x ∷ a) (y ∷ b) (suc k) P h p =
-    known_in_all a b k P (and_parts (is_known_in x y) (pointwise is_known_in a b) h).1 p
+known_in_all (x ∷ a) (y ∷ b) zero P h p = known_in_keeps x y P (and_parts _ _ h).0 p
+known_in_all (x ∷ a) (y ∷ b) (suc k) P h p = known_in_all a b k P (and_parts _ _ h).1 p
 known_in_all a b k P h p = absurd (cc)
 
 covers_in : (a b : Places) (f : List Event) → covers_places a b ≡ true → AreIn b f → AreIn a f
 covers_in a b f h s =
-    let outer = and_parts (nat_le a.least b.least && nat_le b.most a.most)
-    (pointwise is_known_in a.octets b.octets) h in
-    let inner = and_parts (nat_le a.least b.least) (nat_le b.most a.most) outer.0 in
-    let least : a.least ≤ b.least = leb-true a.least b.least inner.0 in
-    let most : b.most ≤ a.most = leb-true b.most a.most inner.1 in
+    let outer = and_parts _ _ h in
+    let inner = and_parts _ _ outer.0 in
+    let least : a.least ≤ b.least = leb-true _ _ inner.0 in
+    let most : b.most ≤ a.most = leb-true _ _ inner.1 in
     let more : b.least ≤ length f = s.least in
     let fewer : length f ≤ b.most = s.most in
     record {
-      least = omega (arith, least, more);
-      most = omega (arith, most, fewer);
-      octets = λ k. known_in_all a.octets b.octets k (λ octet. event_octet f (suc k) ≡ octet)
-          outer.1 (s.octets k);
+      least = omega arith;
+      most = omega arith;
+      octets = λ k. known_in_all _ _ k _ outer.1 (s.octets k);
     }
 
 pub covers_shown : (a b : Shown) (memory : Events) → covers_events a b ≡ true → AreShown b memory
@@ -161,20 +153,20 @@ covers_shown Any Any memory h s = s
 covers_shown Any Fresh memory h s = s.0
 covers_shown Any (Filled b) memory h s = s.0
 covers_shown Fresh Fresh memory h s = s
-covers_shown (Filled a) (Filled b) memory h s = (s.0, s.1, covers_in a b memory.frozen h s.2)
+covers_shown (Filled a) (Filled b) memory h s = (s.0, s.1, covers_in a b _ h s.2)
 covers_shown a b memory h s = absurd (cc)
 
 -- The Event flag
 
 some_not_empty : (f : List Event) → 1 ≤ length f → is_empty f ≡ false
-some_not_empty [] some = absurd (let no : 1 ≤ 0 = some in omega (arith, no))
+some_not_empty [] some = absurd (let no : 1 ≤ 0 = some in omega arith)
 some_not_empty (x ∷ f) some = refl
 
 pub flag_fits : (shown : Shown) (memory : Events) → AreShown shown memory
     → flag_fault shown (not (is_empty memory.frozen)) ≡ None
 flag_fits Held memory s = ap (λ (f : List Event). flag_fault Held (not (is_empty f))) s.1
 flag_fits (Filled places) memory s =
-    ap (λ (b : Bool). flag_fault (Filled places) (not b)) (some_not_empty memory.frozen s.1)
+    ap (λ (b : Bool). flag_fault (Filled places) (not b)) (some_not_empty _ s.1)
 flag_fits shown memory s =
     elim (is_empty memory.frozen) as (λ (b : Bool). flag_fault shown (not b) ≡ None) [
       | true ↦ refl
@@ -191,14 +183,14 @@ unread_in : (least most : ℕ) (f : List Event) → least ≤ length f → lengt
 unread_in least most f more fewer = record {
   least = more;
   most = fewer;
-  octets = λ k. nothing_known 18 k (λ octet. event_octet f (suc k) ≡ octet);
+  octets = λ k. nothing_known 18 k _;
 }
 
 first_in : (most : ℕ) (x : Event) (f : List Event) → length (x ∷ f) ≤ most → (1 ≤ length (x ∷ f))
     × AreIn (record { least = 1; most = most; octets = replicate 18 None }) (x ∷ f)
 first_in most x f fewer =
     let some : 1 ≤ suc (length f) = omega arith in
-    (some, unread_in 1 most (x ∷ f) some fewer)
+    (some, unread_in 1 most _ some fewer)
 
 flagged_by : (shown : Shown) (f w : List Event) (h : Bool) → length f ≤ 6
     → AreShown shown (events_of f w h)
@@ -212,7 +204,7 @@ flagged_by shown f w h six s = s
 
 pub flagged_shown : (shown : Shown) (memory : Events) → length memory.frozen ≤ 6
     → AreShown shown memory → AreShown (flag_told shown (not (is_empty memory.frozen))) memory
-flagged_shown shown memory six s = flagged_by shown memory.frozen memory.waiting memory.held six s
+flagged_shown shown memory six s = flagged_by shown _ _ _ six s
 
 -- The octets of the diagnosis channel
 
@@ -237,39 +229,23 @@ marks_length (suc (suc (suc zero))) h = refl
 marks_length (suc (suc (suc (suc zero)))) h = refl
 marks_length (suc (suc (suc (suc (suc zero))))) h = refl
 marks_length (suc (suc (suc (suc (suc (suc zero)))))) h = refl
-marks_length (suc (suc (suc (suc (suc (suc (suc n))))))) h = absurd (omega (arith, h))
+marks_length (suc (suc (suc (suc (suc (suc (suc n))))))) h = absurd (omega arith)
 
 get_none : (f : List Event) (i : ℕ) → length f ≤ i → slice_get f i ≡ None
 get_none [] i h = refl
-get_none (x ∷ f) zero h = absurd (let no : suc (length f) ≤ 0 = h in omega (arith, no))
-get_none (x ∷ f) (suc i) h =
-    get_none f i (let more : suc (length f) ≤ suc i = h in omega (arith, more))
+get_none (x ∷ f) zero h = absurd (let no : suc (length f) ≤ 0 = h in omega arith)
+get_none (x ∷ f) (suc i) h = get_none f i (let more : suc (length f) ≤ suc i = h in omega arith)
 
 -- an octet that isn't 0 stands in a filled place
 filled_or : (f : List Event) (i part most : ℕ) → length f ≤ most
     → (place_octet (slice_get f i) part == 0 || nat_lt i most) ≡ true
-filled_or f i part most fewer = split (nat_lt i (length f)) refl
-  where
-    split : (b : Bool) → nat_lt i (length f) ≡ b
-        → (place_octet (slice_get f i) part == 0 || nat_lt i most) ≡ true
-    split true e =
-        let within : i < length f = ltb-true i (length f) e in
-        or_right (place_octet (slice_get f i) part == 0) (nat_lt i most)
-        (lt-ltb i most (omega (arith, within, fewer)))
-    split false e = ap (λ (event : Option Event). place_octet event part == 0 || nat_lt i most)
-        (get_none f i (ltb-false i (length f) e))
+filled_or f i part most fewer = ⊎_elim (λ within. or_right _ _ (lt-ltb i most (omega arith)))
+    (λ past. rw (get_none f i past) refl) (cases_lt i _)
 
 filled_below : (f : List Event) (i part : ℕ) → (place_octet (slice_get f i) part == 0) ≡ false
     → i < length f
-filled_below f i part h = split (nat_lt i (length f)) refl
-  where
-    split : (b : Bool) → nat_lt i (length f) ≡ b → i < length f
-    split true e = ltb-true i (length f) e
-    split false e =
-        let none : slice_get f i ≡ None = get_none f i (ltb-false i (length f) e) in
-        let no : true ≡ false =
-        sym (ap (λ (event : Option Event). place_octet event part == 0) none) ∙ h in
-        absurd (cc)
+filled_below f i part h = ⊎_elim (λ within. within) (λ past. let no : true ≡ false =
+    rw (get_none f i past) at h in absurd (cc)) (cases_lt i _)
 
 pub same_known : (known : Option ℕ) (octet : ℕ) → IfSome known (λ o. octet ≡ o)
     → is_other known octet ≡ false
@@ -289,108 +265,71 @@ set_agrees (x ∷ seen) page zero octet agrees e zero = e
 set_agrees (x ∷ seen) page zero octet agrees e (suc k) = agrees (suc k)
 set_agrees (x ∷ seen) page (suc place) octet agrees e zero = agrees zero
 set_agrees (x ∷ seen) page (suc place) octet agrees e (suc k) =
-    set_agrees seen (λ j. page (suc j)) place octet (λ j. agrees (suc j)) e k
+    set_agrees seen _ place octet (λ j. agrees (suc j)) e k
 
 module _ (f : List Event) (address : ℕ) where
   is_status : (address == 0) ≡ true → event_octet f address ≡ status_code f
   unfolding event_octet
-  is_status e = ap (λ (b : Bool). if b then status_code f else
-      place_octet (slice_get f ((address - 1) / 3)) ((address - 1) % 3)) e
+  is_status e = rw e refl
 
   is_place : (address == 0) ≡ false
       → event_octet f address ≡ place_octet (slice_get f ((address - 1) / 3)) ((address - 1) % 3)
   unfolding event_octet
-  is_place e = ap (λ (b : Bool). if b then status_code f else
-      place_octet (slice_get f ((address - 1) / 3)) ((address - 1) % 3)) e
+  is_place e = rw e refl
 
   module _ (places : Places) (six : length f ≤ 6) (s : AreIn places f) where
     marks : (address == 0) ≡ true → marked (event_octet f address) ≡ Some (length f)
-    marks e = ap marked (is_status e) ∙ marks_length (length f) six
+    marks e = ap marked (is_status e) ∙ marks_length _ six
 
     known_there : (address == 0) ≡ false
         → is_other (place_known places.octets address) (event_octet f address) ≡ false
-    known_there e = split (nat_le 1 address && nat_le address 18)
-      where
-        split : (b : Bool) → is_other
-            (if b then slice_index_or places.octets (address - 1) None else None)
-            (event_octet f address) ≡ false
-        split true = same_known (slice_index_or places.octets (address - 1) None)
-            (event_octet f address)
-            (subst (λ (a : ℕ). IfSome (slice_index_or places.octets (address - 1) None)
-            (λ o. event_octet f a ≡ o)) (above_zero address e) (s.octets (address - 1)))
-        split false = refl
+    known_there e = cond_both _ _ None
+        (λ (k : Option ℕ). is_other k (event_octet f address) ≡ false)
+        (λ g. same_known _ _ (rw (above_zero address e) at (s.octets (address - 1)))) (λ g. refl)
 
     filled_there : (address == 0) ≡ false
         → (event_octet f address == 0 || nat_lt ((address - 1) / 3) places.most) ≡ true
-    filled_there e = subst (λ (o : ℕ). (o == 0 || nat_lt ((address - 1) / 3) places.most) ≡ true)
-        (sym (is_place e)) (filled_or f ((address - 1) / 3) ((address - 1) % 3) places.most s.most)
+    filled_there e = rw (is_place e) (filled_or f _ _ _ s.most)
 
     pub octet_fits : places_fault places address (event_octet f address) ≡ None
-    octet_fits = split (address == 0) refl
-      where
-        split : (b : Bool) → (address == 0) ≡ b
-            → (if b then status_fault places (marked (event_octet f address)) else
-            if fills places address (event_octet f address) then None else Some EventOctet) ≡ None
-        split true e = ap (λ (m : Option ℕ). status_fault places m) (marks e)
-            ∙ ap (λ (b : Bool). if b then None else Some StatusCode)
-            (and_from (nat_le places.least (length f)) (nat_le (length f) places.most)
-            (le-leb places.least (length f) s.least) (le-leb (length f) places.most s.most))
-        split false e = ap (λ (b : Bool). if b then None else Some EventOctet)
-            (and_from (event_octet f address == 0 || nat_lt ((address - 1) / 3) places.most)
-            (not (is_other (place_known places.octets address) (event_octet f address)))
-            (filled_there e) (ap not (known_there e)))
+    octet_fits = cond_both _ _ _ (λ (r : Option Reason). r ≡ None)
+        (λ e. rw (marks e, le-leb _ _ s.least, le-leb _ _ s.most) refl)
+        (λ e. rw (filled_there e, known_there e) refl)
 
-    marks_in : (count : Option ℕ) → count ≡ Some (length f) → AreIn (marks_told places count) f
-    marks_in count e =
-        let same : length f ≤ length f = omega arith in
-        let is : AreIn (marks_told places (Some (length f))) f =
-        record { least = same; most = same; octets = s.octets } in
-        subst (λ (m : Option ℕ). AreIn (marks_told places m) f) (sym e) is
-
-    least_in : (address == 0) ≡ false → (b : Bool) → (event_octet f address == 0) ≡ b
-        → (if b then places.least else max places.least ((address - 1) / 3 + 1)) ≤ length f
-    least_in e true g = s.least
-    least_in e false g =
-        let there : (place_octet (slice_get f ((address - 1) / 3)) ((address - 1) % 3) == 0)
-        ≡ false = sym (ap (λ (o : ℕ). o == 0) (is_place e)) ∙ g in
-        let below : (address - 1) / 3 < length f =
-        filled_below f ((address - 1) / 3) ((address - 1) % 3) there in
-        let least : places.least ≤ length f = s.least in
-        most_of places.least ((address - 1) / 3) (length f) least below
+    least_in : (address == 0) ≡ false → (if event_octet f address == 0 then places.least
+        else max places.least ((address - 1) / 3 + 1)) ≤ length f
+    least_in e = cond_both _ _ _ (λ n. n ≤ length f) (λ g. s.least) (λ g.
+        let below : (address - 1) / 3 < length f = filled_below f _ _ (rw (is_place e) at g) in
+        most_of places.least ((address - 1) / 3) (length f) s.least below)
       where
         most_of : (a i n : ℕ) → a ≤ n → i < n → max a (i + 1) ≤ n
-        most_of a i n h g = omega (arith, h, g)
+        most_of a i n h g = omega arith
 
     octet_in : (address == 0) ≡ false → AreIn (octet_told places address (event_octet f address)) f
     octet_in e = record {
-      least = least_in e (event_octet f address == 0) refl;
+      least = least_in e;
       most = s.most;
-      octets = set_agrees places.octets (λ k. event_octet f (suc k)) (address - 1)
-          (event_octet f address) s.octets (ap (event_octet f) (above_zero address e));
+      octets = set_agrees _ _ _ _ s.octets (ap (event_octet f) (above_zero address e));
     }
 
     pub told_in : AreIn (places_told places address (event_octet f address)) f
-    told_in = split (address == 0) refl (nat_le address 18)
-      where
-        split : (b : Bool) → (address == 0) ≡ b → (c : Bool)
-            → AreIn (if b then marks_told places (marked (event_octet f address)) else
-            if c then octet_told places address (event_octet f address) else places) f
-        split true e c = marks_in (marked (event_octet f address)) (marks e)
-        split false e true = octet_in e
-        split false e false = s
+    told_in =
+        let octet = event_octet f address in
+        let same : length f ≤ length f = omega arith in
+        cond_both _ _ _ (λ (p : Places). AreIn p f)
+        (λ e. rw (marks e) (record { least = same; most = same; octets = s.octets }))
+        (λ e. cond_both _ _ _ (λ (p : Places). AreIn p f) (λ g. octet_in e) (λ g. s))
 
 -- a reply to a read of the diagnosis channel
 pub events_fit : (shown : Shown) (memory : Events) → length memory.frozen ≤ 6
     → AreShown shown memory → (address : ℕ)
     → events_fault (flag_told shown (not (is_empty memory.frozen))) address
     (event_octet memory.frozen address) ≡ None
-events_fit shown memory six s address =
-    octet_fits memory.frozen address (places_of (flag_told shown (not (is_empty memory.frozen))))
-    six (places_in shown memory.frozen memory.waiting memory.held six s)
+events_fit shown memory six s address = octet_fits memory.frozen address
+    (places_of (flag_told shown (not (is_empty memory.frozen)))) six (places_in shown _ _ _ six s)
 
 pub told_shown : (shown : Shown) (memory : Events) → length memory.frozen ≤ 6
     → AreShown shown memory → (address : ℕ)
     → AreShown (events_told shown address (event_octet memory.frozen address)) memory
-told_shown (Filled places) memory six s address =
-    (s.0, s.1, told_in memory.frozen address places six s.2)
+told_shown (Filled places) memory six s address = (s.0, s.1, told_in _ address places six s.2)
 told_shown shown memory six s address = s
