@@ -10,7 +10,7 @@ pub(crate) fn first_octet(octets: &[u8]) -> u8
 }
 
 /// Whether all octets are zeros.
-pub(crate) fn are_zeros(octets: &[u8]) -> bool
+pub fn are_zeros(octets: &[u8]) -> bool
     ensures { result ≡ are_zeros octets.now }
 {
     octets.iter().all(|octet| *octet == 0)

@@ -384,7 +384,7 @@ fn perhaps_told(had: Had, od: &[u8]) -> Transfer
 /// The COUNT behind the last.
 ///
 /// Rule SEG-2.
-fn next_count(last: Option<u8>) -> u8
+pub fn next_count(last: Option<u8>) -> u8
     ensures { result ≡ next_count last }
 {
     match last {

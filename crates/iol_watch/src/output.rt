@@ -4,7 +4,7 @@ ghost use Rattle.iol_watch.specs.Outputs.{aged, allows_octets, carried, no_outpu
 ghost use Rattle.iol_watch.specs.Results.{result_with};
 
 use crate::fault::MasterFault;
-use crate::transfer::are_zeros;
+use iol_judge::are_zeros;
 use iol_mseq::{Part, part_of};
 use iol_page::MasterCommand;
 

@@ -2,14 +2,13 @@
 ghost use Rattle.std.specs.Prelude.{◌≡◌, ◌≤◌, ◌++◌, length};
 ghost use Rattle.iol_isdu.specs.Answers.{is_read};
 ghost use Rattle.iol_isdu.specs.Parse.{request_of};
-ghost use Rattle.iol_segment.specs.Join.{next_count};
 ghost use Rattle.iol_far.specs.Codec.{flow_of};
-ghost use Rattle.iol_judge.specs.Octets.{are_zeros};
 ghost use Rattle.iol_watch.specs.Transfers.{abort_sent, answer_begun, answer_joined, answered, asked_again, asked_told, asks_instead, begun, count_asked, count_sent, doubted, doubted_told, idle_sent, moved, start_asked, start_sent, told, whole, written};
 
 use crate::fault::MasterFault;
 use arrayvec::ArrayVec;
 use iol_isdu::{IsduFault, Octets, Place, Request, Text, read_answer, read_request, total_of};
+use iol_judge::{are_zeros, next_count};
 use iol_mseq::first;
 use iol_octets::{Flow, Mc};
 
@@ -210,18 +209,6 @@ fn flow_of(mc: Mc) -> Flow
     }
 }
 
-/// The COUNT behind the last.
-///
-/// Rule SEG-2.
-fn next_count(last: Option<u8>) -> u8
-    ensures { result ≡ next_count last }
-{
-    match last {
-        Some(count) => ((count as u16 + 1) % 16) as u8,
-        None => 1,
-    }
-}
-
 /// Octets behind those of a text.
 fn joined(text: &Text, octets: &[u8]) -> Joined
     requires { length octets.now ≤ 32 }
@@ -268,13 +255,6 @@ fn whole(text: &[u8], rest: &[u8]) -> Result<Transfer, MasterFault>
         Ok(Request::Write(..)) if are_zeros(rest) => Ok(Transfer::Asked(false)),
         _ => Err(MasterFault::RequestText),
     }
-}
-
-/// Whether all octets are zeros.
-pub(crate) fn are_zeros(octets: &[u8]) -> bool
-    ensures { result ≡ are_zeros octets.now }
-{
-    octets.iter().all(|octet| *octet == 0)
 }
 
 /// The reply to a START read: busy, no service, or the answer's first segment.
